@@ -1,0 +1,194 @@
+//! The rules of the compensating automaton, on an accepted plan and a sound
+//! ledger. A refused call changes nothing.
+
+use crate::ledger::{Entry, Ledger, Mode, Track};
+use crate::plan::{members, Plan, Transition, NONE};
+use crate::refusal::{demand, Refusal};
+
+/// Event's figures: tracks moved, scopes closed.
+#[derive(Clone, Copy, Debug, PartialEq, Eq)]
+pub struct Moved {
+    pub moved: u16,
+    pub closed: u16,
+}
+
+/// Begin: roots forward in their first states, others asleep.
+pub fn begin(plan: &Plan) -> Ledger {
+    let mut ledger = Ledger::asleep(plan.track_count());
+    for root in plan.roots() {
+        wake(plan, &mut ledger, root);
+    }
+    ledger
+}
+
+/// Wakes a track forward in its first state, holding nothing.
+fn wake(plan: &Plan, ledger: &mut Ledger, track: usize) {
+    let first = plan.first_state(track);
+    ledger.tracks[track] = Track::awake(Mode::Forward, first);
+    open_scope(plan, ledger, first);
+}
+
+/// Opens the scope of a state just entered, if it hosts.
+fn open_scope(plan: &Plan, ledger: &mut Ledger, state: u16) {
+    for track in members(plan.scope(state)) {
+        wake(plan, ledger, track);
+    }
+}
+
+/// Event: the chosen moves, then closing, then finish.
+pub fn event(plan: &Plan, ledger: &mut Ledger, event: u16) -> Result<Moved, Refusal> {
+    demand(event != 0, Refusal::EventZero)?;
+    demand(!ledger.is_over(), Refusal::Over)?;
+    let moves = chosen_moves(plan, ledger, event);
+    let mut after = ledger.clone();
+    for &(track, transition) in &moves {
+        take(plan, &mut after, track, transition)?;
+    }
+    let closed = close(plan, &mut after)?;
+    finish(plan, &mut after);
+    *ledger = after;
+    Ok(Moved {
+        moved: moves.len() as u16,
+        closed,
+    })
+}
+
+/// The moves an event makes, each track with its transition.
+pub fn chosen_moves<'p>(
+    plan: &'p Plan,
+    ledger: &Ledger,
+    event: u16,
+) -> Vec<(usize, &'p Transition)> {
+    let chosen = |t: usize| {
+        let transition = plan.transition(ledger.tracks[t].state, event)?;
+        may_move(plan, ledger, t).then_some((t, transition))
+    };
+    (0..plan.track_count()).filter_map(chosen).collect()
+}
+
+/// Forward and without an open scope.
+pub fn may_move(plan: &Plan, ledger: &Ledger, track: usize) -> bool {
+    ledger.tracks[track].mode == Mode::Forward && !ledger.has_open_scope(plan, track)
+}
+
+/// One move: installs its entry and enters the destination.
+fn take(plan: &Plan, ledger: &mut Ledger, track: usize, x: &Transition) -> Result<(), Refusal> {
+    install(&mut ledger.tracks[track], x.code, x.deviation)?;
+    ledger.tracks[track].state = x.destination;
+    open_scope(plan, ledger, x.destination);
+    Ok(())
+}
+
+/// Installs a code other than 0; 21 where the track holds 32.
+fn install(track: &mut Track, code: u16, deviation: u16) -> Result<(), Refusal> {
+    if code == 0 {
+        return Ok(());
+    }
+    demand(!track.is_full(), Refusal::Full)?;
+    track.install(Entry { code, deviation });
+    Ok(())
+}
+
+/// Closing, until nothing is left to close. Answers the scopes closed.
+fn close(plan: &Plan, ledger: &mut Ledger) -> Result<u16, Refusal> {
+    let mut closed = 0;
+    while let Some(hosting) = plan.hosting_states().find(|&s| closes(plan, ledger, s)) {
+        sleep(ledger, plan.scope(hosting));
+        let host = &mut ledger.tracks[plan.track_of(hosting)];
+        install(host, plan.replacement(hosting), NONE)?;
+        closed += 1;
+    }
+    Ok(closed)
+}
+
+/// An open forward scope whose tracks are all in final states.
+fn closes(plan: &Plan, ledger: &Ledger, hosting: u16) -> bool {
+    members(plan.scope(hosting)).all(|t| in_final_forward(plan, &ledger.tracks[t]))
+}
+
+fn in_final_forward(plan: &Plan, track: &Track) -> bool {
+    track.mode == Mode::Forward && plan.is_final(track.state)
+}
+
+/// Finish: all roots forward in final states put every track to sleep.
+fn finish(plan: &Plan, ledger: &mut Ledger) {
+    let done = plan
+        .roots()
+        .all(|t| in_final_forward(plan, &ledger.tracks[t]));
+    if done {
+        ledger.tracks.fill(Track::ASLEEP);
+    }
+}
+
+/// Puts the tracks of a scope to sleep; their entries are dropped.
+fn sleep(ledger: &mut Ledger, scope: u32) {
+    for track in members(scope) {
+        ledger.tracks[track] = Track::ASLEEP;
+    }
+}
+
+/// Signal: every forward track turns; then abandoning. Answers how many turned.
+pub fn signal(plan: &Plan, ledger: &mut Ledger) -> Result<u16, Refusal> {
+    demand(!ledger.is_over(), Refusal::Over)?;
+    let mut turned = 0;
+    for track in &mut ledger.tracks {
+        if track.mode == Mode::Forward {
+            track.mode = Mode::Undoing;
+            turned += 1;
+        }
+    }
+    abandon(plan, ledger);
+    Ok(turned)
+}
+
+/// Abandoning, until nothing changes.
+fn abandon(plan: &Plan, ledger: &mut Ledger) {
+    while let Some(hosting) = plan.hosting_states().find(|&s| is_spent(plan, ledger, s)) {
+        sleep(ledger, plan.scope(hosting));
+    }
+}
+
+/// A scope whose tracks are all undoing, hold nothing and have no open scope.
+fn is_spent(plan: &Plan, ledger: &Ledger, hosting: u16) -> bool {
+    members(plan.scope(hosting)).all(|t| {
+        ledger.tracks[t].mode == Mode::Undoing
+            && ledger.tracks[t].held() == 0
+            && !ledger.has_open_scope(plan, t)
+    })
+}
+
+/// Fire: the newest entry is removed; a deviation turns the track forward;
+/// then abandoning. Answers the entry.
+pub fn fire(plan: &Plan, ledger: &mut Ledger, track: u16) -> Result<Entry, Refusal> {
+    demand(!ledger.is_over(), Refusal::Over)?;
+    let track = usize::from(track);
+    demand(may_fire(plan, ledger, track), Refusal::NotReady)?;
+    let entry = ledger.tracks[track].remove().ok_or(Refusal::NotReady)?;
+    if entry.deviation != NONE {
+        deviate(plan, ledger, track, entry.deviation);
+    }
+    abandon(plan, ledger);
+    Ok(entry)
+}
+
+/// The track goes forward in the deviation state, entering it.
+fn deviate(plan: &Plan, ledger: &mut Ledger, track: usize, state: u16) {
+    ledger.tracks[track].mode = Mode::Forward;
+    ledger.tracks[track].state = state;
+    open_scope(plan, ledger, state);
+}
+
+/// Exists, undoing, holds an entry and has no open scope.
+pub fn may_fire(plan: &Plan, ledger: &Ledger, track: usize) -> bool {
+    track < plan.track_count()
+        && ledger.tracks[track].mode == Mode::Undoing
+        && ledger.tracks[track].held() > 0
+        && !ledger.has_open_scope(plan, track)
+}
+
+/// Ready: bit n set exactly if track n may be fired.
+pub fn ready(plan: &Plan, ledger: &Ledger) -> u32 {
+    (0..plan.track_count())
+        .filter(|&t| may_fire(plan, ledger, t))
+        .fold(0, |bits, t| bits | 1 << t)
+}

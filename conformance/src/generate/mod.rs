@@ -1,0 +1,8 @@
+//! Seeded generation of plans, journals, ledgers and calls, good and damaged.
+
+pub mod damage;
+pub mod journals;
+pub mod ledgers;
+pub mod plans;
+pub mod rng;
+pub mod singles;

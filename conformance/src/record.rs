@@ -1,0 +1,49 @@
+//! Records, as plans and journals lay them out: 16-bit length (itself
+//! included), 16-bit kind, then 16-bit fields, little-endian.
+
+/// Bytes of length and kind.
+pub const HEADER: usize = 4;
+
+/// The length and kind at the start of a record.
+#[derive(Clone, Copy, Debug, PartialEq, Eq)]
+pub struct Header {
+    pub length: u16,
+    pub kind: u16,
+}
+
+impl Header {
+    /// The header at the front of `bytes`; `None` if fewer than 4 remain.
+    pub fn read(bytes: &[u8]) -> Option<Header> {
+        if bytes.len() < HEADER {
+            return None;
+        }
+        Some(Header {
+            length: word(bytes, 0),
+            kind: word(bytes, 2),
+        })
+    }
+}
+
+/// The little-endian word at byte `at`.
+fn word(bytes: &[u8], at: usize) -> u16 {
+    u16::from_le_bytes([bytes[at], bytes[at + 1]])
+}
+
+/// Field `n` (from 0) of the whole record at the front of `bytes`.
+pub fn field(bytes: &[u8], n: usize) -> u16 {
+    word(bytes, HEADER + 2 * n)
+}
+
+/// Appends one record.
+pub fn put(out: &mut Vec<u8>, kind: u16, fields: &[u16]) {
+    let length = (HEADER + 2 * fields.len()) as u16;
+    put_words(out, &[length, kind]);
+    put_words(out, fields);
+}
+
+/// Appends words, little-endian.
+pub fn put_words(out: &mut Vec<u8>, words: &[u16]) {
+    for word in words {
+        out.extend_from_slice(&word.to_le_bytes());
+    }
+}

@@ -1,0 +1,44 @@
+-- Each case of a call's answer as the paper's number and values. Assumes nothing.
+use mathlib.Core.List.{List, [], _∷_}
+use Prim.Native.Nat.{ℕ}
+use Rattle.rules.specs.declared.PlanAnswer.{PlanAnswer}
+use Rattle.rules.specs.declared.BeginAnswer.{BeginAnswer}
+use Rattle.rules.specs.declared.EventAnswer.{EventAnswer}
+use Rattle.rules.specs.declared.SignalAnswer.{SignalAnswer}
+use Rattle.rules.specs.declared.FireAnswer.{FireAnswer}
+use Rattle.rules.specs.declared.ReadyAnswer.{ReadyAnswer}
+use Rattle.rules.specs.declared.PlanAnswer.the-variants as plan
+use Rattle.rules.specs.declared.BeginAnswer.the-variants as begin
+use Rattle.rules.specs.declared.EventAnswer.the-variants as event
+use Rattle.rules.specs.declared.SignalAnswer.the-variants as signal
+use Rattle.rules.specs.declared.FireAnswer.the-variants as fire
+use Rattle.rules.specs.declared.ReadyAnswer.the-variants as ready
+use Rattle.rules.specs.Acceptance.{Reading, turnedBack, accepted}
+use Rattle.rules.specs.Call.{Answer, refusal, done}
+
+unfoldable pub planTold : PlanAnswer → Reading
+planTold (plan.Accepted c) = accepted c
+planTold (plan.Refused n) = turnedBack n
+
+unfoldable pub beginTold : BeginAnswer → Answer
+beginTold begin.Begun = done []
+beginTold (begin.Refused n) = refusal n
+
+-- tracks moved, scopes closed
+unfoldable pub eventTold : EventAnswer → Answer
+eventTold (event.Moved moved closed) = done (moved ∷ closed ∷ [])
+eventTold (event.Refused n) = refusal n
+
+-- how many turned
+unfoldable pub signalTold : SignalAnswer → Answer
+signalTold (signal.Turned n) = done (n ∷ [])
+signalTold (signal.Refused n) = refusal n
+
+-- code and deviation
+unfoldable pub fireTold : FireAnswer → Answer
+fireTold (fire.Fired code deviation) = done (code ∷ deviation ∷ [])
+fireTold (fire.Refused n) = refusal n
+
+unfoldable pub readyTold : ReadyAnswer → Answer
+readyTold (ready.Ready bits) = done (bits ∷ [])
+readyTold (ready.Refused n) = refusal n

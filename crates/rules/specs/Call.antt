@@ -1,0 +1,147 @@
+-- The calls: from the plan's bytes, the ledger's words and the arguments to the answer and the words afterwards. Assumes nothing.
+use mathlib.Core.Path.{_≡_}
+use mathlib.Core.Bool.{Bool, true, false, cond, not, _&&_}
+use mathlib.Core.List.{List, [], _∷_, _++_}
+use Prim.Native.Nat.{ℕ, zero, suc, _*_}
+use lib.ListN.{length, take, drop}
+use lib.Dec.{ltb, eqb}
+use Rattle.rules.specs.Fold.{countBelow, firstRefusal}
+use Rattle.rules.specs.Plan.{Plan, trackCount, planOf}
+use Rattle.rules.specs.Acceptance.{turnedBack, accepted, readPlan}
+use Rattle.rules.specs.Layout.{entryWidth, entriesPlace, wordCount}
+use Rattle.rules.specs.Ledger.{Ledger, ledgerAt, written}
+use Rattle.rules.specs.Scope.{isOver}
+use Rattle.rules.specs.Opening.{begun}
+use Rattle.rules.specs.Event.{moves, moved, closings, isFull, afterEvent}
+use Rattle.rules.specs.Signal.{turnings, afterSignal}
+use Rattle.rules.specs.Fire.{mayFire, newest, afterFire, ready}
+use Rattle.rules.specs.Soundness.{isSound}
+
+-- "an answer is either the result with its figures or a refusal with its number and nothing else"
+pub data Answer : Type 0 where
+  refusal : ℕ → Answer
+  done : List ℕ → Answer
+
+-- an answer, and the lent words afterwards
+pub record Outcome : Type 0 where
+  pub answer : Answer
+  pub words : List ℕ
+
+-- what each call is given beside the plan and the ledger
+pub record EventArguments : Type 0 where
+  pub event : ℕ
+
+pub data SignalArguments : Type 0 where
+  nothing : SignalArguments
+
+pub record FireArguments : Type 0 where
+  pub track : ℕ
+
+pub data Call : Type 0 where
+  event : EventArguments → Call
+  signal : SignalArguments → Call
+  fire : FireArguments → Call
+
+-- "Refused calls change no word."
+unfoldable pub refusedOr : List ℕ → Outcome → ℕ → Outcome
+refusedOr ws o zero = o
+refusedOr ws o (suc r) = record { answer = refusal (suc r); words = ws }
+
+-- under its plan: 2 to 16, and then what the call does with the plan
+unfoldable pub underPlan : List ℕ → List ℕ → (Plan → Outcome) → Outcome
+underPlan bs ws f =
+    elim (readPlan bs) [ turnedBack r ↦ record { answer = refusal r; words = ws } | accepted c ↦ f (planOf bs c) ]
+
+-- `limit` is the most entries that a track holds
+module _ (limit : ℕ) where
+  -- 17 "The ledger has too few words."
+  unfoldable pub tooShort : Plan → List ℕ → Bool
+  tooShort p ws = ltb (length ws) (wordCount limit (trackCount p))
+
+  -- 17, and 18 "The ledger is not sound."
+  unfoldable pub ledgerRefusals : Plan → List ℕ → List (ℕ × Bool)
+  ledgerRefusals p ws = (17, tooShort p ws) ∷ (18, not (isSound limit p ws)) ∷ []
+
+  -- 19 "The event given is 0." 20 "The ledger is over (event, signal, fire)." 21 as under `isFull`.
+  -- 22 "The track may not be fired, or does not exist."
+  unfoldable pub callRefusals : Plan → Ledger → Call → List (ℕ × Bool)
+  callRefusals p l (event a) = (19, eqb (a .event) 0) ∷ (20, isOver p l) ∷ (21, isFull p limit l (a .event)) ∷ []
+  callRefusals p l (signal a) = (20, isOver p l) ∷ []
+  callRefusals p l (fire a) = (20, isOver p l) ∷ (22, not (mayFire p l (a .track))) ∷ []
+
+  -- the first of them that applies to the ledger, 0 where the call is accepted
+  unfoldable pub callRefusal : Plan → Ledger → Call → ℕ
+  callRefusal p l c = firstRefusal (callRefusals p l c)
+
+  -- "Answer: tracks moved, scopes closed"; "how many turned"; "code and deviation"
+  unfoldable pub figures : Plan → Ledger → Call → List ℕ
+  figures p l (event a) = countBelow (trackCount p) (moves p l (a .event)) ∷ closings p (moved p l (a .event)) ∷ []
+  figures p l (signal a) = turnings p l ∷ []
+  figures p l (fire a) = newest (l (a .track) .held) .code ∷ newest (l (a .track) .held) .deviation ∷ []
+
+  -- the ledger after an accepted call
+  unfoldable pub after : Plan → Ledger → Call → Ledger
+  after p l (event a) = afterEvent p l (a .event)
+  after p l (signal a) = afterSignal p l
+  after p l (fire a) = afterFire p l (a .track)
+
+  -- the ledger after a call, a refused one too
+  unfoldable pub next : Plan → Ledger → Call → Ledger
+  next p l c = cond (eqb (callRefusal p l c) 0) (after p l c) l
+
+  -- event, signal and fire
+  unfoldable pub callOutcome : List ℕ → List ℕ → Call → Outcome
+  callOutcome bs ws c =
+      underPlan bs ws
+      (λ p.
+      let l : Ledger = ledgerAt limit ws (trackCount p) in
+      refusedOr ws
+      (record { answer = done (figures p l c); words = written limit (trackCount p) (after p l c) ws })
+      (firstRefusal (ledgerRefusals p ws ++ callRefusals p l c)))
+
+  unfoldable pub eventOutcome : List ℕ → List ℕ → EventArguments → Outcome
+  eventOutcome bs ws a = callOutcome bs ws (event a)
+
+  unfoldable pub signalOutcome : List ℕ → List ℕ → SignalArguments → Outcome
+  signalOutcome bs ws a = callOutcome bs ws (signal a)
+
+  unfoldable pub fireOutcome : List ℕ → List ℕ → FireArguments → Outcome
+  fireOutcome bs ws a = callOutcome bs ws (fire a)
+
+  -- "begin skips 18"
+  unfoldable pub beginOutcome : List ℕ → List ℕ → Outcome
+  beginOutcome bs ws =
+      underPlan bs ws
+      (λ p.
+      refusedOr ws
+      (record { answer = done []; words = written limit (trackCount p) (begun p) ws })
+      (firstRefusal ((17, tooShort p ws) ∷ [])))
+
+  -- Ready changes no word.
+  unfoldable pub readyOutcome : List ℕ → List ℕ → Outcome
+  readyOutcome bs ws =
+      underPlan bs ws
+      (λ p.
+      refusedOr ws
+      (record { answer = done (ready p (ledgerAt limit ws (trackCount p)) ∷ []); words = ws })
+      (firstRefusal (ledgerRefusals p ws)))
+
+  -- "the part of the caller's ledger that holds one track's pairs, those held and no unused ones"
+  unfoldable pub heldPart : Plan → List ℕ → ℕ → List ℕ
+  heldPart p ws t =
+      take (entryWidth * length (ledgerAt limit ws (trackCount p) t .held)) (drop (entriesPlace limit t) ws)
+
+  -- "the empty part if the plan or ledger is refused, the track does not exist, or it holds nothing"
+  unfoldable pub entriesPart : List ℕ → List ℕ → ℕ → List ℕ
+  entriesPart bs ws t =
+      elim (readPlan bs) [
+        | turnedBack r ↦ []
+        | accepted c ↦
+            cond (eqb (firstRefusal (ledgerRefusals (planOf bs c) ws)) 0 && ltb t (trackCount (planOf bs c)))
+            (heldPart (planOf bs c) ws t) []
+      ]
+
+-- What a call's contract promises of its answer, as the paper tells it, and of every lent word afterwards.
+pub record Meets (o : Outcome) (told : Answer) (words : List ℕ) : Type 0 where
+  pub answered : told ≡ o .answer
+  pub left : words ≡ o .words

@@ -1,0 +1,34 @@
+-- Where the ledger's words stand: the only place for these numbers. Assumes nothing.
+use Prim.Native.Nat.{ℕ, _+_, _*_}
+
+-- "count of entries held (0 to 32)": the most that a track holds. Everything else takes the limit as a parameter
+unfoldable pub entryLimit : ℕ
+entryLimit = 32
+
+-- words before the first track
+unfoldable pub leadingWords : ℕ
+leadingWords = 0
+
+-- "mode, state, count of entries held"
+unfoldable pub headWords : ℕ
+headWords = 3
+
+-- "pairs of retraction code and deviation state"
+unfoldable pub entryWidth : ℕ
+entryWidth = 2
+
+module _ (limit : ℕ) where
+  -- "67 for each track"
+  unfoldable pub trackWidth : ℕ
+  trackWidth = headWords + entryWidth * limit
+
+  -- where a track's words start, and where its entries do
+  unfoldable pub trackPlace : ℕ → ℕ
+  trackPlace t = leadingWords + trackWidth * t
+
+  unfoldable pub entriesPlace : ℕ → ℕ
+  entriesPlace t = trackPlace t + headWords
+
+  -- the words of so many tracks
+  unfoldable pub wordCount : ℕ → ℕ
+  wordCount tracks = trackPlace tracks

@@ -1,0 +1,22 @@
+-- Document 01 as definitions, in its order: the plan file, the ledger, what each call does, refusals, the program, property 3.
+pub mod Fold
+pub mod Record
+pub mod Plan
+pub mod Acceptance
+pub mod Layout
+pub mod Ledger
+pub mod Scope
+pub mod Opening
+pub mod Event
+pub mod Signal
+pub mod Fire
+pub mod Soundness
+pub mod Call
+pub mod Answers
+pub mod Text
+pub mod Journal
+pub mod Transcript
+pub mod FinishedRun
+pub mod Books
+pub mod ReferenceRun
+pub mod History

@@ -1,0 +1,174 @@
+-- The plan that the records hold: tracks (the report's automata), states and transitions, each numbered from 0 in file order.
+-- Assumes nothing.
+use mathlib.Core.Bool.{Bool, true, false, cond, not, _&&_, _||_}
+use mathlib.Core.List.{List, [], _∷_}
+use mathlib.Core.Option.{Option, none, some}
+use Prim.Native.Nat.{ℕ, zero, suc, _+_, _*_}
+use lib.ListN.{length, getD}
+use lib.Dec.{leb, ltb, eqb}
+use Rattle.rules.specs.declared.Counts.{Counts}
+use Rattle.rules.specs.Fold.{someBelow, everyBelow, greatestBelow, firstBelow, tabulate}
+use Rattle.rules.specs.Record.{word, lengthOf}
+
+-- 65535 stands for no state: a root has no host, an entry no deviation
+unfoldable pub noState : ℕ
+noState = 65535
+
+unfoldable pub optional : ℕ → Option ℕ
+optional w = cond (eqb w noState) none (some w)
+
+pub record State : Type 0 where
+  pub track : ℕ
+  pub final : ℕ
+  pub replacement : ℕ
+
+pub record Transition : Type 0 where
+  pub source : ℕ
+  pub event : ℕ
+  pub code : ℕ
+  pub deviation : ℕ
+  pub destination : ℕ
+
+pub record Plan : Type 0 where
+  pub hosts : List ℕ
+  pub states : List State
+  pub transitions : List Transition
+
+-- where the record of a track, a state and a transition starts: kinds never fall, so each kind's records follow one another
+unfoldable pub trackRecord : ℕ → ℕ
+trackRecord t = lengthOf 1 * t
+
+unfoldable pub stateRecord : Counts → ℕ → ℕ
+stateRecord c s = trackRecord (c .tracks) + lengthOf 2 * s
+
+unfoldable pub transitionRecord : Counts → ℕ → ℕ
+transitionRecord c x = stateRecord c (c .states) + lengthOf 3 * x
+
+-- "track, final (0 or 1), replacement code (0 for none)"
+unfoldable pub stateAt : List ℕ → ℕ → State
+stateAt bs at = record { track = word bs (at + 4); final = word bs (at + 6); replacement = word bs (at + 8) }
+
+-- "source state, event, retraction code (0 for none), deviation state (65535 for none), destination state"
+unfoldable pub transitionAt : List ℕ → ℕ → Transition
+transitionAt bs at =
+    record {
+      source = word bs (at + 4);
+      event = word bs (at + 6);
+      code = word bs (at + 8);
+      deviation = word bs (at + 10);
+      destination = word bs (at + 12);
+    }
+
+-- the plan in bytes that hold so many records of each kind
+unfoldable pub planOf : List ℕ → Counts → Plan
+planOf bs c =
+    record {
+      hosts = tabulate (c .tracks) (λ t. word bs (trackRecord t + 4));
+      states = tabulate (c .states) (λ s. stateAt bs (stateRecord c s));
+      transitions = tabulate (c .transitions) (λ x. transitionAt bs (transitionRecord c x));
+    }
+
+module _ (p : Plan) where
+  unfoldable pub trackCount : ℕ
+  trackCount = length (p .hosts)
+
+  unfoldable pub stateCount : ℕ
+  stateCount = length (p .states)
+
+  unfoldable pub transitionCount : ℕ
+  transitionCount = length (p .transitions)
+
+  -- the fields of a record by its number; beyond the last there is nothing
+  unfoldable pub hostWord : ℕ → ℕ
+  hostWord t = getD (p .hosts) t noState
+
+  unfoldable pub state : ℕ → State
+  state s = getD (p .states) s (record { track = noState; final = 0; replacement = 0 })
+
+  unfoldable pub transition : ℕ → Transition
+  transition x = getD (p .transitions) x (record { source = noState; event = 0; code = 0; deviation = noState; destination = noState })
+
+  -- the state that hosts a track; a root has none
+  unfoldable pub host : ℕ → Option ℕ
+  host t = optional (hostWord t)
+
+  -- the track of a state
+  unfoldable pub owner : ℕ → ℕ
+  owner s = state s .track
+
+  unfoldable pub replacement : ℕ → ℕ
+  replacement s = state s .replacement
+
+  unfoldable pub isRoot : ℕ → Bool
+  isRoot t = elim (host t) [ none ↦ true | some h ↦ false ]
+
+  -- s is a state of the track t
+  unfoldable pub isStateOf : ℕ → ℕ → Bool
+  isStateOf t s = ltb s stateCount && eqb (owner s) t
+
+  unfoldable pub isFinal : ℕ → Bool
+  isFinal s = not (eqb (state s .final) 0)
+
+  -- "A scope is a hosting state's set of tracks": t is in the scope of s
+  unfoldable pub isIn : ℕ → ℕ → Bool
+  isIn s t = elim (host t) [ none ↦ false | some h ↦ eqb h s ]
+
+  -- t is in the scope of some state of the track u: u hosts t
+  unfoldable pub isHostedBy : ℕ → ℕ → Bool
+  isHostedBy u t = elim (host t) [ none ↦ false | some h ↦ eqb (owner h) u ]
+
+  -- the state hosts some track
+  unfoldable pub isHosting : ℕ → Bool
+  isHosting s = someBelow trackCount (isIn s)
+
+  -- every track in the scope of s passes the test; some track does
+  unfoldable pub everyIn : ℕ → (ℕ → Bool) → Bool
+  everyIn s f = everyBelow trackCount (λ t. not (isIn s t) || f t)
+
+  unfoldable pub someIn : ℕ → (ℕ → Bool) → Bool
+  someIn s f = someBelow trackCount (λ t. isIn s t && f t)
+
+  -- "A track starts in its lowest-numbered state"
+  unfoldable pub first : ℕ → Option ℕ
+  first t = firstBelow stateCount (isStateOf t)
+
+  unfoldable pub firstState : ℕ → ℕ
+  firstState t = elim (first t) [ none ↦ noState | some s ↦ s ]
+
+  -- the transition of a state for an event
+  unfoldable pub transitionFor : ℕ → ℕ → Option ℕ
+  transitionFor s event = firstBelow transitionCount (λ x. eqb (transition x .source) s && eqb (transition x .event) event)
+
+  -- the track that a transition moves
+  unfoldable pub mover : ℕ → ℕ
+  mover x = owner (transition x .source)
+
+  -- "A state's reach is the greatest height of the tracks it hosts, 0 where it hosts none", given those heights
+  unfoldable pub reachBy : (ℕ → ℕ) → ℕ → ℕ
+  reachBy heights s = greatestBelow trackCount (λ t. let h : ℕ = heights t in cond (isIn s t) h 0)
+
+  -- "a track's height is one more than the greatest reach of its states", as far as n levels show it
+  unfoldable pub heightTo : ℕ → ℕ → ℕ
+  heightTo zero t = 0
+  heightTo (suc n) t = suc (greatestBelow stateCount (λ s. let r : ℕ = reachBy (heightTo n) s in cond (isStateOf t s) r 0))
+
+  -- a hosted track's number is above its host's, so as many levels as tracks show it whole
+  unfoldable pub height : ℕ → ℕ
+  height t = heightTo trackCount t
+
+  -- What holds going up from a track to its host's track and on: `step t h r` says it of track t with host h, where r says it of h's
+  -- track; of a root it does not hold. A host's track has a lower number, so a track's number bounds the levels
+  unfoldable pub climbTo : ℕ → (ℕ → ℕ → Bool → Bool) → ℕ → Bool
+  climbTo zero step t = false
+  climbTo (suc n) step t = elim (host t) [ none ↦ false | some h ↦ step t h (climbTo n step (owner h)) ]
+
+  unfoldable pub climb : (ℕ → ℕ → Bool → Bool) → ℕ → Bool
+  climb step t = climbTo (suc t) step t
+
+  -- "of its tracks and of everything hosted inside it": t is inside the scope of s, at any remove
+  unfoldable pub isInside : ℕ → ℕ → Bool
+  isInside s = climb (λ t h r. eqb h s || r)
+
+  -- "A track hosts the tracks of its states' scopes, and at a remove those that these host": u hosts t, at any remove
+  unfoldable pub isAbove : ℕ → ℕ → Bool
+  isAbove u = climb (λ t h r. eqb (owner h) u || r)

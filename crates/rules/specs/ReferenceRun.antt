@@ -1,0 +1,66 @@
+-- The reference run (the paper's clerk): a ledger and books worked by the rules along a list of calls, from the begin's arguments and a
+-- copy of the ledger lent to it alone. Assumes nothing.
+use mathlib.Core.Path.{_≡_}
+use mathlib.Core.Bool.{Bool, true, false}
+use mathlib.Core.List.{List, [], _∷_}
+use Prim.Native.Nat.{ℕ, _<_}
+use Rattle.rules.specs.declared.Mode.the-variants.{Undoing}
+use Rattle.rules.specs.Plan.{Plan, trackCount, isRoot}
+use Rattle.rules.specs.Ledger.{Ledger, ledgerAt}
+use Rattle.rules.specs.Scope.{hasOpenScope}
+use Rattle.rules.specs.Fire.{newest}
+use Rattle.rules.specs.Call.{Answer, refusal, done, Outcome, Call, event, signal, fire, beginOutcome, callOutcome}
+use Rattle.rules.specs.FinishedRun.{movesOf}
+use Rattle.rules.specs.Books.{Books, act}
+
+module _ (limit : ℕ) (bs : List ℕ) where
+  -- her words after the begin, and after a list of calls
+  unfoldable pub wordsFrom : List ℕ → List Call → List ℕ
+  wordsFrom ws [] = ws
+  wordsFrom ws (c ∷ cs) = wordsFrom (callOutcome limit bs ws c .words) cs
+
+  unfoldable pub wordsAfter : List ℕ → List Call → List ℕ
+  wordsAfter lent cs = wordsFrom (beginOutcome limit bs lent .words) cs
+
+  -- what document 01 answers to each call for her ledger as it stood before that call
+  unfoldable pub answersFrom : List ℕ → List Call → List Answer
+  answersFrom ws [] = []
+  answersFrom ws (c ∷ cs) = callOutcome limit bs ws c .answer ∷ answersFrom (callOutcome limit bs ws c .words) cs
+
+  unfoldable pub answersAfter : List ℕ → List Call → List Answer
+  answersAfter lent cs = answersFrom (beginOutcome limit bs lent .words) cs
+
+  module _ (p : Plan) (k : Books p limit) where
+    -- "Event: she chooses the moves on her ledger; their transitions change the books, in track order. Signal: only her ledger alters.
+    -- Fire: the code of the entry removed changes the books."
+    unfoldable pub bookedCall : Ledger → Call → k .State → k .State
+    bookedCall l (event a) b = act (k .changed) (movesOf p (λ t. true) l (a .event)) b
+    bookedCall l (signal a) b = b
+    bookedCall l (fire a) b = k .retracted (newest (l (a .track) .held) .code) b
+
+    -- "A call that the numbers below refuse: nothing alters."
+    unfoldable pub booked : Ledger → Call → Answer → k .State → k .State
+    booked l c (refusal n) b = b
+    booked l c (done figures) b = bookedCall l c b
+
+    unfoldable pub booksFrom : List ℕ → List Call → k .State → k .State
+    booksFrom ws [] b = b
+    booksFrom ws (c ∷ cs) b =
+        booksFrom (callOutcome limit bs ws c .words) cs
+        (booked (ledgerAt limit ws (trackCount p)) c (callOutcome limit bs ws c .answer) b)
+
+    unfoldable pub booksAfter : List ℕ → List Call → k .State → k .State
+    booksAfter lent cs b = booksFrom (beginOutcome limit bs lent .words) cs b
+
+  -- her ledger after a list of calls
+  unfoldable pub ledgerAfter : Plan → List ℕ → List Call → Ledger
+  ledgerAfter p lent cs = ledgerAt limit (wordsAfter lent cs) (trackCount p)
+
+-- "if every root is undoing, holds nothing and has no open scope"
+pub record Withdrawn (p : Plan) (l : Ledger) (t : ℕ) : Type 0 where
+  pub undoing : l t .mode ≡ Undoing
+  pub empty : l t .held ≡ []
+  pub shut : hasOpenScope p l t ≡ false
+
+abbrev pub AllWithdrawn : Plan → Ledger → Type 0
+AllWithdrawn p l = (t : ℕ) → t < trackCount p → isRoot p t ≡ true → Withdrawn p l t

@@ -1,0 +1,19 @@
+-- Scopes on a ledger: which are open, and which tracks have one. Assumes nothing.
+use mathlib.Core.Bool.{Bool, true, false, not, _&&_, _||_}
+use Prim.Native.Nat.{ℕ}
+use Rattle.rules.specs.Fold.{someBelow, everyBelow}
+use Rattle.rules.specs.Plan.{Plan, trackCount, isHostedBy, someIn}
+use Rattle.rules.specs.Ledger.{Ledger, isAwake}
+
+module _ (p : Plan) (l : Ledger) where
+  -- "it is open while they are awake"
+  unfoldable pub isOpen : ℕ → Bool
+  isOpen s = someIn p s (λ t. isAwake (l t .mode))
+
+  -- the track has an open scope: one of its states' scopes is open
+  unfoldable pub hasOpenScope : ℕ → Bool
+  hasOpenScope t = someBelow (trackCount p) (λ u. isHostedBy p t u && isAwake (l u .mode))
+
+  -- "all asleep ("over")"
+  unfoldable pub isOver : Bool
+  isOver = everyBelow (trackCount p) (λ t. not (isAwake (l t .mode)))

@@ -1,0 +1,100 @@
+-- The text that the program `unwind` prints, as bytes, from the bytes of the plan and of the journal. Assumes nothing.
+use mathlib.Core.Bool.{Bool, true, false, cond, _||_}
+use mathlib.Core.List.{List, [], _∷_, _++_}
+use Prim.Native.Nat.{ℕ, zero, suc, _+_}
+use lib.ListN.{length, getD, replicate}
+use lib.Dec.{ltb, eqb}
+use Rattle.rules.specs.declared.Counts.{Counts}
+use Rattle.rules.specs.Fold.{sumBelow}
+use Rattle.rules.specs.Record.{sizeAt, mostOf}
+use Rattle.rules.specs.Plan.{Plan, trackCount, noState, planOf}
+use Rattle.rules.specs.Acceptance.{turnedBack, accepted, readPlan}
+use Rattle.rules.specs.Layout.{entryLimit, wordCount}
+use Rattle.rules.specs.Ledger.{Ledger, ledgerAt}
+use Rattle.rules.specs.Call.{Answer, refusal, done, Outcome, Call, event, signal, fire, beginOutcome, callOutcome}
+use Rattle.rules.specs.Text.{ascii, decimal, line}
+use Rattle.rules.specs.Journal.{Entered, ended, broken, fireLowest, called, enteredAt, fireLowestCall}
+
+-- "`R` number"
+unfoldable pub refusalLine : ℕ → List ℕ
+refusalLine n = line (ascii "R") (decimal n ∷ [])
+
+-- "`PLAN` tracks states transitions"
+unfoldable pub planLine : Counts → List ℕ
+planLine c = line (ascii "PLAN") (decimal (c .tracks) ∷ decimal (c .states) ∷ decimal (c .transitions) ∷ [])
+
+-- "`H` entries held, firings done"
+unfoldable pub tallyLine : ℕ → ℕ → List ℕ
+tallyLine held fired = line (ascii "H") (decimal held ∷ decimal fired ∷ [])
+
+-- "deviation (`-` for 65535)"
+unfoldable pub deviationText : ℕ → List ℕ
+deviationText d = cond (eqb d noState) (ascii "-") (decimal d)
+
+-- "`E` event moved closed, `S` turned, `F` track code deviation"
+unfoldable pub doneLine : Call → List ℕ → List ℕ
+doneLine (event a) figures = line (ascii "E") (decimal (a .event) ∷ decimal (getD figures 0 0) ∷ decimal (getD figures 1 0) ∷ [])
+doneLine (signal a) figures = line (ascii "S") (decimal (getD figures 0 0) ∷ [])
+doneLine (fire a) figures =
+    line (ascii "F") (decimal (a .track) ∷ decimal (getD figures 0 0) ∷ deviationText (getD figures 1 0) ∷ [])
+
+unfoldable pub callLine : Call → Answer → List ℕ
+callLine c (refusal n) = refusalLine n
+callLine c (done figures) = doneLine c figures
+
+-- how many firings an answered call has done
+unfoldable pub firingsOf : Call → Answer → ℕ
+firingsOf c (refusal n) = 0
+firingsOf (event a) (done figures) = 0
+firingsOf (signal a) (done figures) = 0
+firingsOf (fire a) (done figures) = 1
+
+-- the entries that all tracks hold
+unfoldable pub heldTotal : Plan → Ledger → ℕ
+heldTotal p l = sumBelow (trackCount p) (λ t. length (l t .held))
+
+module _ (bs js : List ℕ) (p : Plan) where
+  unfoldable pub ledgerOf : List ℕ → Ledger
+  ledgerOf ws = ledgerAt entryLimit ws (trackCount p)
+
+  unfoldable pub lastLine : List ℕ → ℕ → List ℕ
+  lastLine ws fired = tallyLine (heldTotal p (ledgerOf ws)) fired
+
+  -- the line of a call, and what `rest` prints from the words and the firings after it
+  unfoldable pub callText : (List ℕ → ℕ → List ℕ) → List ℕ → ℕ → Call → List ℕ
+  callText rest ws fired c =
+      let o : Outcome = callOutcome entryLimit bs ws c in
+      callLine c (o .answer) ++ rest (o .words) (fired + firingsOf c (o .answer))
+
+  -- The lines of the records from a place on, with the ledger's words and the firings done so far. A record has 4 bytes or more, so as
+  -- many turns as bytes, and one for the end, never run out.
+  -- "23 prints its `R` line and ends the reading, then `H` follows."
+  unfoldable pub replay : ℕ → ℕ → List ℕ → ℕ → List ℕ
+  replay zero at ws fired = []
+  replay (suc n) at ws fired =
+      elim (enteredAt js at) [
+        | ended ↦ lastLine ws fired
+        | broken ↦ refusalLine 23 ++ lastLine ws fired
+        | fireLowest ↦ callText (replay n (at + sizeAt js at)) ws fired (fireLowestCall p (ledgerOf ws))
+        | called c ↦ callText (replay n (at + sizeAt js at)) ws fired c
+      ]
+
+-- 1 "A file or journal is longer than 32,768 bytes"
+abbrev pub mostBytes : ℕ
+mostBytes = 32768
+
+-- the program's own ledger, before it begins
+unfoldable pub ownWords : List ℕ
+ownWords = replicate (wordCount entryLimit (mostOf 1)) 0
+
+-- "It begins, then prints `PLAN` ..; a line for each record ..; last `H` .." "A refusal 1 to 16 prints its `R` line alone."
+unfoldable pub transcript : List ℕ → List ℕ → List ℕ
+transcript bs js =
+    elim (ltb mostBytes (length bs) || ltb mostBytes (length js)) [
+      | true ↦ refusalLine 1
+      | false ↦
+          elim (readPlan bs) [
+            | turnedBack r ↦ refusalLine r
+            | accepted c ↦ planLine c ++ replay bs js (planOf bs c) (suc (length js)) 0 (beginOutcome entryLimit bs ownWords .words) 0
+          ]
+    ]

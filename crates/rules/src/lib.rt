@@ -1,0 +1,58 @@
+// The types that every layer shares: a track as it is read out of its words, and one answer for each call.
+// No function stands here; the meaning of each type is in specs/.
+
+// A track's mode (asleep, forward, undoing).
+pub enum Mode {
+    Asleep,
+    Forward,
+    Undoing,
+}
+
+// A track without its entries: mode, state, and the count of entries held.
+pub struct Track {
+    pub mode: Mode,
+    pub state: u16,
+    pub count: u16,
+}
+
+// How many tracks, states and transitions a plan has.
+pub struct Counts {
+    pub tracks: usize,
+    pub states: usize,
+    pub transitions: usize,
+}
+
+// What the plan reader answers: the counts, or the refusal.
+pub enum PlanAnswer {
+    Accepted(Counts),
+    Refused(u8),
+}
+
+pub enum BeginAnswer {
+    Begun,
+    Refused(u8),
+}
+
+// Tracks moved and scopes closed.
+pub enum EventAnswer {
+    Moved(u16, u16),
+    Refused(u8),
+}
+
+// How many tracks turned.
+pub enum SignalAnswer {
+    Turned(u16),
+    Refused(u8),
+}
+
+// The code and the deviation of the entry that was fired.
+pub enum FireAnswer {
+    Fired(u16, u16),
+    Refused(u8),
+}
+
+// Bit n is set exactly if track n may be fired.
+pub enum ReadyAnswer {
+    Ready(u32),
+    Refused(u8),
+}

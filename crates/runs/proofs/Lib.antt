@@ -1,0 +1,2 @@
+-- The starred runs.
+pub mod Starred

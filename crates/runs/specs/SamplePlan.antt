@@ -1,0 +1,39 @@
+-- The paper's sample plan P and its journal, as bytes. Assumes nothing.
+use mathlib.Core.List.{List, [], _∷_}
+use Prim.Native.Nat.{ℕ, _/_, _%_}
+
+-- the bytes of 16-bit little-endian numbers
+unfoldable pub bytesOf : List ℕ → List ℕ
+bytesOf [] = []
+bytesOf (w ∷ ws) = w % 256 ∷ w / 256 ∷ bytesOf ws
+
+unfoldable pub planP : List ℕ
+planP =
+    bytesOf
+    (6 ∷ 1 ∷ 65535
+    ∷ 6 ∷ 1 ∷ 1
+    ∷ 6 ∷ 1 ∷ 1
+    ∷ 10 ∷ 2 ∷ 0 ∷ 0 ∷ 0
+    ∷ 10 ∷ 2 ∷ 0 ∷ 0 ∷ 90
+    ∷ 10 ∷ 2 ∷ 0 ∷ 1 ∷ 0
+    ∷ 10 ∷ 2 ∷ 1 ∷ 0 ∷ 0
+    ∷ 10 ∷ 2 ∷ 1 ∷ 1 ∷ 0
+    ∷ 10 ∷ 2 ∷ 2 ∷ 0 ∷ 0
+    ∷ 10 ∷ 2 ∷ 2 ∷ 0 ∷ 0
+    ∷ 10 ∷ 2 ∷ 2 ∷ 1 ∷ 0
+    ∷ 14 ∷ 3 ∷ 0 ∷ 10 ∷ 50 ∷ 65535 ∷ 1
+    ∷ 14 ∷ 3 ∷ 1 ∷ 13 ∷ 0 ∷ 65535 ∷ 2
+    ∷ 14 ∷ 3 ∷ 3 ∷ 11 ∷ 51 ∷ 65535 ∷ 4
+    ∷ 14 ∷ 3 ∷ 5 ∷ 12 ∷ 52 ∷ 65535 ∷ 6
+    ∷ 14 ∷ 3 ∷ 6 ∷ 14 ∷ 54 ∷ 65535 ∷ 7
+    ∷ 4 ∷ 4
+    ∷ [])
+
+-- "events 10, 11, 12, signal, four times kind 19"
+unfoldable pub journalP : List ℕ
+journalP =
+    bytesOf
+    (6 ∷ 16 ∷ 10 ∷ 6 ∷ 16 ∷ 11 ∷ 6 ∷ 16 ∷ 12
+    ∷ 4 ∷ 17
+    ∷ 4 ∷ 19 ∷ 4 ∷ 19 ∷ 4 ∷ 19 ∷ 4 ∷ 19
+    ∷ [])
