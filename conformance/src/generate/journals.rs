@@ -6,7 +6,7 @@ use super::plans;
 use super::rng::Rng;
 use crate::automaton;
 use crate::journal::{self, Record, MAX_BYTES};
-use crate::ledger::Ledger;
+use crate::ledger::{Ledger, Mode};
 use crate::plan::{self, members, Plan};
 use crate::record;
 
@@ -53,14 +53,24 @@ fn stretch(rng: &mut Rng, case: &mut Case) {
     if rng.chance(30) {
         case.plan.resize(length, 0);
     } else {
-        let mut whole = Vec::new();
-        while whole.len() < length {
-            Record::Signal.encode(&mut whole);
-        }
-        let keep = case.journal.len() / 4 * 4;
-        whole[..keep].copy_from_slice(&case.journal[..keep]);
-        whole.truncate(length);
-        case.journal = whole;
+        pad(rng, &mut case.journal);
+        case.journal.resize(length, 0);
+    }
+}
+
+/// Appends whole records up to the greatest length.
+fn pad(rng: &mut Rng, journal: &mut Vec<u8>) {
+    if journal.len() % 4 == 2 {
+        Record::Event(1).encode(journal);
+    }
+    while journal.len() + record::HEADER <= MAX_BYTES {
+        let signal = rng.chance(10);
+        let record = if signal {
+            Record::Signal
+        } else {
+            Record::FireLowest
+        };
+        record.encode(journal);
     }
 }
 
@@ -136,11 +146,17 @@ pub fn history(rng: &mut Rng, plan: &Plan) -> (Vec<Record>, Ledger) {
         journal::perform(plan, &mut ledger, record);
         records.push(record);
         left -= 1;
-        if ledger.is_over() {
-            left = left.min(rng.below(4));
+        if is_spent(plan, &ledger) {
+            left = left.min(rng.below(5));
         }
     }
     (records, ledger)
+}
+
+/// Whether nothing more can happen: over, or all undoing with none ready.
+fn is_spent(plan: &Plan, ledger: &Ledger) -> bool {
+    let forward = ledger.tracks.iter().any(|t| t.mode == Mode::Forward);
+    !forward && automaton::ready(plan, ledger) == 0
 }
 
 fn temper(rng: &mut Rng) -> Temper {
@@ -148,20 +164,20 @@ fn temper(rng: &mut Rng) -> Temper {
     Temper {
         useless: rng.pick(&[0, 5, 10, 30]).unwrap_or(0),
         signal: if pumping {
-            1
+            rng.between(1, 3)
         } else {
-            rng.pick(&[2, 5, 15]).unwrap_or(0)
+            rng.pick(&[3, 6, 15]).unwrap_or(0)
         },
         repeat: if pumping { 95 } else { 20 },
-        haste: rng.pick(&[0, 25, 60]).unwrap_or(0),
+        haste: rng.pick(&[0, 20, 50]).unwrap_or(0),
     }
 }
 
 fn history_length(rng: &mut Rng) -> usize {
     match rng.below(100) {
         0..=2 => rng.below(3),
-        3..=59 => rng.between(4, 30),
-        60..=89 => rng.between(20, 80),
+        3..=49 => rng.between(4, 30),
+        50..=84 => rng.between(20, 80),
         _ => rng.between(60, 180),
     }
 }

@@ -67,49 +67,68 @@ fn fill(rng: &mut Rng, plan: &Plan, ledger: &mut Ledger, track: usize) {
         75..=79 => CAPACITY - 1,
         _ => CAPACITY,
     };
+    let deviations = deviations(plan, track);
     for _ in 0..held {
-        let entry = any_entry(rng, plan, track);
-        ledger.tracks[track].install(entry);
+        ledger.tracks[track].install(any_entry(rng, &deviations));
     }
 }
 
-/// An entry that the track may hold.
-fn any_entry(rng: &mut Rng, plan: &Plan, track: usize) -> Entry {
-    let open: Vec<u16> = plan
-        .states_of(track)
-        .filter(|&s| !plan.is_final(s))
-        .collect();
-    let deviates = plan.is_root(track) && rng.chance(30);
-    let deviation = rng.pick(&open).filter(|_| deviates).unwrap_or(NONE);
+/// The deviations, other than 65535, that the track may hold.
+fn deviations(plan: &Plan, track: usize) -> Vec<u16> {
+    if !plan.is_root(track) {
+        return Vec::new();
+    }
+    let open = plan.states_of(track).filter(|&s| !plan.is_final(s));
+    open.collect()
+}
+
+/// An entry with one of the deviations, or none.
+fn any_entry(rng: &mut Rng, deviations: &[u16]) -> Entry {
+    let deviation = rng.pick(deviations).filter(|_| rng.chance(30));
     Entry {
         code: rng.code(),
-        deviation,
+        deviation: deviation.unwrap_or(NONE),
     }
 }
 
 /// Takes away every settling left to do.
 fn repair(rng: &mut Rng, plan: &Plan, ledger: &mut Ledger) {
-    let in_final =
-        |l: &Ledger, t: usize| l.tracks[t].mode == Mode::Forward && plan.is_final(l.tracks[t].state);
-    let roots: Vec<usize> = plan.roots().collect();
-    let scopes = plan.hosting_states().map(|s| members(plan.scope(s)));
-    let groups: Vec<Vec<usize>> = scopes.map(Iterator::collect).collect();
-    for group in groups.iter().chain([&roots]) {
-        if group.iter().all(|&t| in_final(ledger, t)) {
-            let track = rng.pick(group).unwrap_or(0);
-            ledger.tracks[track].state = plan.first_state(track);
-        }
+    let roots = plan.roots().fold(0, |bits, t| bits | 1 << t);
+    let scopes: Vec<u32> = plan.hosting_states().map(|s| plan.scope(s)).collect();
+    for &group in scopes.iter().chain([&roots]) {
+        keep_from_settling(plan, ledger, any_member(rng, group), group);
     }
-    for group in &groups {
-        let spent = |t: &usize| {
-            ledger.tracks[*t].mode == Mode::Undoing && ledger.tracks[*t].held() == 0
-        };
-        if group.iter().all(spent) {
-            let track = rng.pick(group).unwrap_or(0);
-            let entry = any_entry(rng, plan, track);
-            ledger.tracks[track].install(entry);
-        }
+    for &scope in &scopes {
+        keep_from_abandoning(rng, ledger, scope);
     }
+}
+
+/// Moves one track back to its first state where all are in final states.
+fn keep_from_settling(plan: &Plan, ledger: &mut Ledger, track: usize, group: u32) {
+    let settles = |t: usize| {
+        let track = &ledger.tracks[t];
+        track.mode == Mode::Forward && plan.is_final(track.state)
+    };
+    if members(group).all(settles) {
+        ledger.tracks[track].state = plan.first_state(track);
+    }
+}
+
+/// Gives one track an entry where all are undoing and hold nothing.
+fn keep_from_abandoning(rng: &mut Rng, ledger: &mut Ledger, scope: u32) {
+    let spent = |t: usize| {
+        let track = &ledger.tracks[t];
+        track.mode == Mode::Undoing && track.held() == 0
+    };
+    if members(scope).all(spent) {
+        let track = any_member(rng, scope);
+        ledger.tracks[track].install(any_entry(rng, &[]));
+    }
+}
+
+fn any_member(rng: &mut Rng, tracks: u32) -> usize {
+    let at = rng.below(tracks.count_ones() as usize);
+    members(tracks).nth(at).unwrap_or(0)
 }
 
 /// The words of a ledger, mostly with some words beyond.
@@ -169,7 +188,6 @@ fn word_in_track(rng: &mut Rng, words: &[u16], track: usize) -> usize {
 /// Damages one clause, where it can.
 fn damage(rng: &mut Rng, plan: &Plan, words: &mut [u16], clause: Clause) {
     let track = any_track(rng, plan, words, clause);
-    let old = words.to_vec();
     let own = track_words_mut(words, track);
     match clause {
         Clause::ModesKnown => own[0] = rng.word().max(3),
@@ -199,7 +217,6 @@ fn damage(rng: &mut Rng, plan: &Plan, words: &mut [u16], clause: Clause) {
         Clause::NoFinishLeft => to_final(rng, plan, words, Plan::is_root),
         Clause::NoAbandoningLeft => spend(rng, plan, words),
     }
-    debug_assert_eq!(old.len(), words.len());
 }
 
 /// A track that the damage can strike: asleep, root, hosted or any awake one.

@@ -32,8 +32,9 @@ pub fn records(rng: &mut Rng, limit: usize) -> Records {
     plan.states = states(rng, &taste);
     plan.tracks = tracks(rng, &taste, &plan.states);
     give_replacements(rng, &mut plan);
-    add_paths(rng, &taste, &mut plan);
-    add_others(rng, &taste, &mut plan);
+    let mut layout = Layout::of(&plan, &taste.events);
+    add_paths(rng, &taste, &mut layout, &mut plan);
+    add_others(rng, &taste, &mut layout, &mut plan);
     if rng.chance(30) {
         rng.shuffle(&mut plan.transitions);
     }
@@ -110,13 +111,16 @@ fn transition_total(rng: &mut Rng, tracks: usize, full: bool) -> usize {
     if full {
         return MAX_TRANSITIONS;
     }
-    rng.below(5 * tracks + 4).min(MAX_TRANSITIONS)
+    rng.below(8 * tracks + 4).min(MAX_TRANSITIONS)
 }
 
 fn events(rng: &mut Rng, full: bool) -> Vec<u16> {
     let most = if rng.chance(60) { 4 } else { 12 };
     let count = if full { 16 } else { rng.between(1, most) };
-    (0..count).map(|n| event_number(rng, n)).collect()
+    let mut events: Vec<u16> = (0..count).map(|n| event_number(rng, n)).collect();
+    events.sort_unstable();
+    events.dedup();
+    events
 }
 
 fn event_number(rng: &mut Rng, n: usize) -> u16 {
@@ -127,22 +131,29 @@ fn event_number(rng: &mut Rng, n: usize) -> u16 {
     }
 }
 
-/// States in file order; a track's lowest-numbered one is not final.
+/// States in file order; a track's lowest-numbered one is not final, its
+/// highest-numbered one mostly is.
 fn states(rng: &mut Rng, taste: &Taste) -> Vec<State> {
-    let mut seen = vec![0; taste.tracks];
     let owners = owners(rng, taste);
-    let state = |track: usize| {
-        seen[track] += 1;
-        let more = owners.iter().filter(|&&t| t == track).count() - seen[track];
-        let closing = more == 0 && rng.chance(92);
-        let last = seen[track] > 1 && (closing || rng.chance(taste.last));
+    let mut first = vec![usize::MAX; taste.tracks];
+    let mut highest = vec![0; taste.tracks];
+    for (number, &track) in owners.iter().enumerate() {
+        first[track] = first[track].min(number);
+        highest[track] = number;
+    }
+    let state = |(number, &track): (usize, &usize)| {
+        let chance = if number == highest[track] {
+            92
+        } else {
+            taste.last
+        };
         State {
             track: track as u16,
-            last: u16::from(last),
+            last: u16::from(number != first[track] && rng.chance(chance)),
             replacement: 0,
         }
     };
-    owners.iter().copied().map(state).collect()
+    owners.iter().enumerate().map(state).collect()
 }
 
 /// The track of each state, every track at least once.
@@ -186,13 +197,7 @@ fn tracks(rng: &mut Rng, taste: &Taste, states: &[State]) -> Vec<Track> {
 
 /// A host for the next track: the scope of the track before, a state of the
 /// track before, or any; a root where none fits.
-fn host(
-    rng: &mut Rng,
-    taste: &Taste,
-    states: &[State],
-    tracks: &[Track],
-    levels: &[u32],
-) -> u16 {
+fn host(rng: &mut Rng, taste: &Taste, states: &[State], tracks: &[Track], levels: &[u32]) -> u16 {
     let Some(before) = tracks.last() else {
         return NONE;
     };
@@ -219,52 +224,79 @@ fn give_replacements(rng: &mut Rng, plan: &mut Records) {
     }
 }
 
-/// A way into each state that is not its track's first.
-fn add_paths(rng: &mut Rng, taste: &Taste, plan: &mut Records) {
-    for t in 0..plan.tracks.len() as u16 {
-        let own = own_states(plan, t);
-        for at in 1..own.len() {
-            let open = open_states(plan, &own[..at]);
-            let near = open.last().copied().filter(|_| rng.chance(70));
-            let source = near.or_else(|| rng.pick(&open));
-            if let Some(source) = source {
-                add_transition(rng, taste, plan, source, own[at]);
+/// What transitions are drawn from.
+struct Layout {
+    /// The states of each track.
+    own: Vec<Vec<u16>>,
+    /// Those of them that are not final.
+    open: Vec<Vec<u16>>,
+    /// The events that each state has no transition for.
+    free: Vec<Vec<u16>>,
+}
+
+impl Layout {
+    fn of(plan: &Records, events: &[u16]) -> Layout {
+        let mut own = vec![Vec::new(); plan.tracks.len()];
+        let mut open = own.clone();
+        for (number, state) in plan.states.iter().enumerate() {
+            let track = usize::from(state.track);
+            own[track].push(number as u16);
+            if state.last == 0 {
+                open[track].push(number as u16);
             }
+        }
+        let free = vec![events.to_vec(); plan.states.len()];
+        Layout { own, open, free }
+    }
+
+    /// Takes an event that the source has no transition for.
+    fn take_event(&mut self, rng: &mut Rng, source: u16) -> Option<u16> {
+        let free = &mut self.free[usize::from(source)];
+        if free.is_empty() {
+            return None;
+        }
+        Some(free.swap_remove(rng.below(free.len())))
+    }
+}
+
+/// A way into each state that is not its track's first.
+fn add_paths(rng: &mut Rng, taste: &Taste, layout: &mut Layout, plan: &mut Records) {
+    for track in 0..plan.tracks.len() {
+        for at in 1..layout.own[track].len() {
+            let state = layout.own[track][at];
+            let open = &layout.open[track];
+            let lower = open.partition_point(|&s| s < state);
+            let near = rng.chance(70).then(|| open[lower - 1]);
+            let source = near.or_else(|| rng.pick(&open[..lower]));
+            add_transition(rng, taste, layout, plan, (source.unwrap_or(0), state));
         }
     }
 }
 
 /// Further transitions, self loops and ways back among them.
-fn add_others(rng: &mut Rng, taste: &Taste, plan: &mut Records) {
+fn add_others(rng: &mut Rng, taste: &Taste, layout: &mut Layout, plan: &mut Records) {
     for _ in 0..8 * taste.transitions {
         if plan.transitions.len() >= taste.transitions {
             return;
         }
-        let track = rng.below(plan.tracks.len()) as u16;
-        let own = own_states(plan, track);
-        let open = open_states(plan, &own);
-        if let Some(source) = rng.pick(&open) {
-            let other = rng.pick(&own).unwrap_or(source);
+        let track = rng.below(plan.tracks.len());
+        if let Some(source) = rng.pick(&layout.open[track]) {
+            let other = rng.pick(&layout.own[track]).unwrap_or(source);
             let destination = if rng.chance(35) { source } else { other };
-            add_transition(rng, taste, plan, source, destination);
+            add_transition(rng, taste, layout, plan, (source, destination));
         }
     }
 }
 
 /// Adds a transition under an event that its source does not yet have.
-fn add_transition(rng: &mut Rng, taste: &Taste, plan: &mut Records, source: u16, to: u16) {
-    let taken = |event: u16| {
-        plan.transitions
-            .iter()
-            .any(|x| (x.source, x.event) == (source, event))
-    };
-    let free: Vec<u16> = taste
-        .events
-        .iter()
-        .copied()
-        .filter(|&event| !taken(event))
-        .collect();
-    let Some(event) = rng.pick(&free) else {
+fn add_transition(
+    rng: &mut Rng,
+    taste: &Taste,
+    layout: &mut Layout,
+    plan: &mut Records,
+    (source, destination): (u16, u16),
+) {
+    let Some(event) = layout.take_event(rng, source) else {
         return;
     };
     let code = if rng.chance(taste.codeless) {
@@ -272,28 +304,28 @@ fn add_transition(rng: &mut Rng, taste: &Taste, plan: &mut Records, source: u16,
     } else {
         rng.code()
     };
-    let deviation = deviation(rng, plan, source, code);
+    let deviation = deviation(rng, layout, plan, source, code);
     plan.transitions.push(Transition {
         source,
         event,
         code,
         deviation,
-        destination: to,
+        destination,
     });
 }
 
 /// A deviation for a root's transition with a code, often into a hosting state.
-fn deviation(rng: &mut Rng, plan: &Records, source: u16, code: u16) -> u16 {
-    let track = plan.states[usize::from(source)].track;
-    let root = plan.tracks[usize::from(track)].host == NONE;
+fn deviation(rng: &mut Rng, layout: &Layout, plan: &Records, source: u16, code: u16) -> u16 {
+    let track = usize::from(plan.states[usize::from(source)].track);
+    let root = plan.tracks[track].host == NONE;
     if !root || code == 0 || !rng.chance(25) {
         return NONE;
     }
-    let open = open_states(plan, &own_states(plan, track));
+    let open = &layout.open[track];
     let hosting = |s: &u16| plan.tracks.iter().any(|t| t.host == *s);
     let hosts: Vec<u16> = open.iter().copied().filter(hosting).collect();
     let host = rng.pick(&hosts).filter(|_| rng.chance(50));
-    host.or_else(|| rng.pick(&open)).unwrap_or(NONE)
+    host.or_else(|| rng.pick(open)).unwrap_or(NONE)
 }
 
 /// The state numbers of a track.
@@ -302,10 +334,4 @@ pub fn own_states(plan: &Records, track: u16) -> Vec<u16> {
     numbers
         .filter(|&s| plan.states[usize::from(s)].track == track)
         .collect()
-}
-
-/// Those of the states that are not final.
-fn open_states(plan: &Records, states: &[u16]) -> Vec<u16> {
-    let open = |s: &u16| plan.states[usize::from(*s)].last == 0;
-    states.iter().copied().filter(open).collect()
 }

@@ -1,0 +1,5 @@
+-- Laws of the definitions, for the layers above.
+pub mod Tests
+pub mod Folds
+pub mod Acceptance
+pub mod Forest
