@@ -50,8 +50,8 @@ const HAPPENINGS: usize = 22;
 
 /// Floors of refusals 1 to 23 for the default batch.
 const REFUSAL_FLOORS: [u64; 23] = [
-    20, 300, 300, 300, 300, 300, 300, 300, 300, 300, 300, 300, 300, 300, 300, 300, 5_000, 40_000,
-    5_000, 5_000, 3_000, 10_000, 2_000,
+    15, 300, 400, 400, 300, 200, 400, 200, 250, 200, 200, 200, 200, 200, 200, 200, 5_000, 40_000,
+    3_000, 15_000, 6_000, 12_000, 1_800,
 ];
 
 /// Names and floors of the happenings, in the order of the enum.
@@ -62,25 +62,25 @@ const HAPPENING_FLOORS: [(Happening, &str, u64); HAPPENINGS] = [
         "event that moves several",
         20_000,
     ),
-    (Happening::Closing, "closing", 10_000),
+    (Happening::Closing, "closing", 18_000),
     (
         Happening::ClosingTwoAtOnce,
         "two scopes closing in one call",
-        100,
+        500,
     ),
     (
         Happening::NestedClosings,
         "nested scopes closing in one history",
-        300,
+        1_500,
     ),
     (
         Happening::ClosingWithoutReplacement,
         "closing, replacement 0",
-        1_000,
+        5_000,
     ),
-    (Happening::Finish, "finish", 2_000),
+    (Happening::Finish, "finish", 7_000),
     (Happening::Signal, "signal", 20_000),
-    (Happening::Abandoning, "abandoning", 5_000),
+    (Happening::Abandoning, "abandoning", 9_000),
     (
         Happening::AbandoningClimbsTwo,
         "abandoning, two scopes up",
@@ -89,20 +89,20 @@ const HAPPENING_FLOORS: [(Happening, &str, u64); HAPPENINGS] = [
     (
         Happening::AbandoningClimbsThree,
         "abandoning, three scopes up or more",
-        200,
+        350,
     ),
     (
         Happening::AbandoningByFiring,
         "abandoning by a firing",
-        2_000,
+        4_000,
     ),
     (
         Happening::AbandoningByFiringClimbsTwo,
         "abandoning by a firing, two up or more",
-        200,
+        800,
     ),
-    (Happening::Firing, "firing", 50_000),
-    (Happening::FiringDeviates, "firing with deviation", 5_000),
+    (Happening::Firing, "firing", 35_000),
+    (Happening::FiringDeviates, "firing with deviation", 4_000),
     (
         Happening::DeviationIntoHosting,
         "deviation into a hosting state",
@@ -111,25 +111,29 @@ const HAPPENING_FLOORS: [(Happening, &str, u64); HAPPENINGS] = [
     (
         Happening::ScopeReopens,
         "scope that reopens in one history",
-        1_000,
+        1_500,
     ),
     (
         Happening::FullByDroppedEntry,
         "21 by an entry dropped in the call",
-        200,
+        1_000,
     ),
-    (Happening::FullByReplacement, "21 by a replacement", 200),
-    (Happening::Entry32Installed, "32nd entry installed", 1_000),
-    (Happening::Height8Accepted, "plan of height 8 accepted", 200),
+    (Happening::FullByReplacement, "21 by a replacement", 500),
+    (Happening::Entry32Installed, "32nd entry installed", 600),
+    (
+        Happening::Height8Accepted,
+        "plan of height 8 accepted",
+        2_000,
+    ),
     (
         Happening::LimitsAccepted,
         "plan of 32, 128 and 256 accepted",
-        100,
+        1_500,
     ),
 ];
 
 /// Floor of each clause violated alone for the default batch.
-const CLAUSE_FLOOR: u64 = 300;
+const CLAUSE_FLOOR: u64 = 1_200;
 
 /// A row of the table.
 pub struct Row {

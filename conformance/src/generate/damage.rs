@@ -4,7 +4,8 @@
 use super::plans;
 use super::rng::Rng;
 use crate::plan::{
-    self, Records, State, Track, Transition, MAX_STATES, MAX_TRACKS, MAX_TRANSITIONS, NONE,
+    self, Records, State, Track, Transition, MAX_HEIGHT, MAX_STATES, MAX_TRACKS, MAX_TRANSITIONS,
+    NONE,
 };
 use crate::record;
 
@@ -29,7 +30,8 @@ pub fn any_plan(rng: &mut Rng, limit: usize) -> Vec<u8> {
 /// A plan whose first refusal is `number`. A limit below 9 tracks leaves no
 /// height to exceed; such a plan is damaged in another way.
 pub fn refused_as(rng: &mut Rng, limit: usize, number: u8) -> Vec<u8> {
-    for _ in 0..64 {
+    let room = number != LAST || limit > MAX_HEIGHT as usize;
+    for _ in 0..if room { 64 } else { 0 } {
         let mut plan = plans::records(rng, limit);
         spoil_records(rng, &mut plan, limit, number);
         let mut bytes = plan.encode();
@@ -98,7 +100,7 @@ fn spoil_records(rng: &mut Rng, plan: &mut Records, limit: usize, number: u8) {
         8 => plan.tracks.clear(),
         9 => spoil_state(rng, plan),
         10 => spoil_host(rng, plan),
-        11 => spoil_first(rng, plan),
+        11 => spoil_first(rng, plan, limit),
         12 => spoil_hosting(rng, plan),
         13 => spoil_transition(rng, plan),
         14 => spoil_deviation(rng, plan),
@@ -163,8 +165,8 @@ fn spoil_host(rng: &mut Rng, plan: &mut Records) {
 }
 
 /// 11: a track has no state, or its first state is final.
-fn spoil_first(rng: &mut Rng, plan: &mut Records) {
-    if rng.chance(40) && plan.tracks.len() < MAX_TRACKS {
+fn spoil_first(rng: &mut Rng, plan: &mut Records, limit: usize) {
+    if rng.chance(40) && plan.tracks.len() < limit.min(MAX_TRACKS) {
         plan.tracks.push(Track { host: NONE });
         return;
     }
@@ -251,9 +253,14 @@ fn add_twin(rng: &mut Rng, plan: &mut Records) {
 /// 16: tracks under tracks, 9 or more.
 fn grow_high(rng: &mut Rng, plan: &mut Records, limit: usize) {
     let most = limit.min(MAX_TRACKS);
-    if most > 8 {
-        *plan = plans::chain(rng.between(9, most));
+    if most <= MAX_HEIGHT as usize {
+        return;
     }
+    *plan = if rng.chance(20) {
+        plans::chain(rng.between(9, most))
+    } else {
+        plans::tall_records(rng, limit)
+    };
 }
 
 /// Faults that show in the bytes: 2 to 5 and 7.

@@ -19,6 +19,8 @@ struct Taste {
     parallel: usize,
     /// Percent of hosted tracks put under the track before.
     deep: usize,
+    /// The greatest height of a track.
+    height: u32,
     /// Percent of other states that are final.
     last: usize,
     /// Percent of transitions with code 0.
@@ -28,13 +30,31 @@ struct Taste {
 /// The records of an accepted plan of at most `limit` tracks.
 pub fn records(rng: &mut Rng, limit: usize) -> Records {
     let taste = taste(rng, limit);
+    sketch(rng, &taste)
+}
+
+/// Records good but for the height of a track, which mostly exceeds 8 where
+/// the limit leaves room for it.
+pub fn tall_records(rng: &mut Rng, limit: usize) -> Records {
+    let mut taste = taste(rng, limit);
+    let most = limit.clamp(1, MAX_TRACKS);
+    taste.tracks = rng.between(most.min(9), most);
+    taste.states = state_total(rng, taste.tracks, false);
+    taste.roots = 3;
+    taste.parallel = 10;
+    taste.deep = 90;
+    taste.height = MAX_HEIGHT + rng.between(1, 4) as u32;
+    sketch(rng, &taste)
+}
+
+fn sketch(rng: &mut Rng, taste: &Taste) -> Records {
     let mut plan = Records::default();
-    plan.states = states(rng, &taste);
-    plan.tracks = tracks(rng, &taste, &plan.states);
+    plan.states = states(rng, taste);
+    plan.tracks = tracks(rng, taste, &plan.states);
     give_replacements(rng, &mut plan);
     let mut layout = Layout::of(&plan, &taste.events);
-    add_paths(rng, &taste, &mut layout, &mut plan);
-    add_others(rng, &taste, &mut layout, &mut plan);
+    add_paths(rng, taste, &mut layout, &mut plan);
+    add_others(rng, taste, &mut layout, &mut plan);
     if rng.chance(30) {
         rng.shuffle(&mut plan.transitions);
     }
@@ -82,6 +102,7 @@ fn taste(rng: &mut Rng, limit: usize) -> Taste {
         roots: if rng.chance(50) { 8 } else { rng.below(50) },
         parallel: rng.between(10, 60),
         deep: rng.between(5, 60),
+        height: MAX_HEIGHT,
         last: rng.between(5, 40),
         codeless: if rng.chance(30) { 40 } else { 12 },
     }
@@ -188,7 +209,7 @@ fn tracks(rng: &mut Rng, taste: &Taste, states: &[State]) -> Vec<Track> {
             Some(state) => levels[usize::from(state.track)] + 1,
             None => 1,
         };
-        debug_assert!(t == levels.len() && level <= MAX_HEIGHT);
+        debug_assert!(t == levels.len() && level <= taste.height);
         tracks.push(Track { host });
         levels.push(level);
     }
@@ -208,7 +229,7 @@ fn host(rng: &mut Rng, taste: &Taste, states: &[State], tracks: &[Track], levels
     let fits = |s: &State| {
         let track = usize::from(s.track);
         let lower = track < tracks.len() && (!deep || track + 1 == tracks.len());
-        lower && s.last == 0 && levels[track] < MAX_HEIGHT
+        lower && s.last == 0 && levels[track] < taste.height
     };
     let fitting: Vec<u16> = (0..states.len() as u16)
         .filter(|&n| fits(&states[usize::from(n)]))

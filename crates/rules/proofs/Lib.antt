@@ -3,3 +3,5 @@ pub mod Tests
 pub mod Folds
 pub mod Acceptance
 pub mod Forest
+pub mod Scopes
+pub mod Opening
