@@ -114,7 +114,8 @@ fn unknown_kind(rng: &mut Rng, bytes: &mut Vec<u8>) {
 
 fn wrong_length(rng: &mut Rng, bytes: &mut Vec<u8>) {
     let kind = rng.between(16, 19) as u16;
-    let right = if kind % 2 == 0 { 6 } else { 4 };
+    let named = kind == journal::EVENT || kind == journal::FIRE;
+    let right = if named { 6 } else { 4 };
     let lengths: Vec<u16> = [0, 2, 4, 5, 6, 8, 65535]
         .into_iter()
         .filter(|&l| l != right)

@@ -16,11 +16,11 @@ impl Rng {
     /// case can be made again by itself.
     pub fn for_case(seed: u64, kind: u64, index: u64) -> Rng {
         let mut rng = Rng::new(seed ^ kind.wrapping_mul(STEP));
-        let base = rng.next();
+        let base = rng.draw();
         Rng::new(base ^ index.wrapping_mul(STEP))
     }
 
-    pub fn next(&mut self) -> u64 {
+    pub fn draw(&mut self) -> u64 {
         self.state = self.state.wrapping_add(STEP);
         let z = self.state;
         let z = (z ^ (z >> 30)).wrapping_mul(0xBF58_476D_1CE4_E5B9);
@@ -30,7 +30,7 @@ impl Rng {
 
     /// A number below `bound`, which is not 0.
     pub fn below(&mut self, bound: usize) -> usize {
-        (self.next() % bound as u64) as usize
+        (self.draw() % bound as u64) as usize
     }
 
     /// A number from `low` to `high`, both included.
@@ -45,7 +45,7 @@ impl Rng {
 
     /// Any word.
     pub fn word(&mut self) -> u16 {
-        self.next() as u16
+        self.draw() as u16
     }
 
     /// Any word but 0, mostly a small one.

@@ -5,3 +5,5 @@ pub mod Acceptance
 pub mod Forest
 pub mod Scopes
 pub mod Opening
+pub mod Closing
+pub mod Abandoning
