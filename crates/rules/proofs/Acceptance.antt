@@ -96,15 +96,6 @@ optional-some w d h = go (eqb w noState) refl
     go false e = let q : some w ≡ some d = rw e at h in (cc, e)
 
 module _ (p : Plan) (a : Passed p) where
-  -- a root has no host
-  pub root-none : (t : ℕ) → isRoot p t ≡ true → host p t ≡ none
-  unfolding isRoot
-  root-none t h = go (host p t) refl
-    where
-      go : (o : Option ℕ) → host p t ≡ o → host p t ≡ none
-      go none e = e
-      go (some s) e = let q : _≡_ {A = Bool} false true = rw (e, isRoot) at h in clash q refl
-
   host-word : (t h : ℕ) → host p t ≡ some h → hostWord p t ≡ h
   unfolding host
   host-word t h e = optional-some (hostWord p t) h e .0

@@ -7,3 +7,4 @@ pub mod Scopes
 pub mod Opening
 pub mod Closing
 pub mod Abandoning
+pub mod Soundness

@@ -42,6 +42,14 @@ module _ (p : Plan) where
   unfolding isRoot
   root-of t e = rw (e, isRoot)
 
+  pub root-none : (t : ℕ) → isRoot p t ≡ true → host p t ≡ none
+  unfolding isRoot
+  root-none t h = go (host p t) refl
+    where
+      go : (o : Option ℕ) → host p t ≡ o → host p t ≡ none
+      go none e = e
+      go (some s) e = let q : _≡_ {A = Bool} false true = rw (e, isRoot) at h in clash q refl
+
   pub not-root : (t h : ℕ) → host p t ≡ some h → isRoot p t ≡ false
   unfolding isRoot
   not-root t h e = rw (e, isRoot)
