@@ -3,3 +3,4 @@ pub mod Tests
 pub mod Folds
 pub mod Acceptance
 pub mod Forest
+pub mod Stored
