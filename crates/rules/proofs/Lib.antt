@@ -8,3 +8,4 @@ pub mod Opening
 pub mod Closing
 pub mod Abandoning
 pub mod Soundness
+pub mod Stored
