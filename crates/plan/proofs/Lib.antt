@@ -1,0 +1,2 @@
+-- Laws of the plan reader.
+pub mod FieldLaws
