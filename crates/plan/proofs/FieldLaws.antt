@@ -1,11 +1,10 @@
 -- The fields of the plan that bytes hold: a record's fields by its number are the words at its place. Assumes nothing.
-use mathlib.Core.Path.{_≡_, refl, ap, sym, _∙_}
+use mathlib.Core.Path.{_≡_, ap}
 use mathlib.Core.List.{List}
-use Prim.Native.Nat.{ℕ, _+_, _*_, _<_, _≤_}
-use lib.ListN.{length, getD}
+use Prim.Native.Nat.{ℕ, _+_, _<_}
 use Rattle.rules.specs.declared.Counts.{Counts}
-use Rattle.rules.specs.Record.{word, lengthOf}
-use Rattle.rules.specs.Plan.{Plan, State, Transition, planOf, trackCount, stateCount, transitionCount, hostWord, state, transition, owner, replacement, trackRecord, stateRecord, transitionRecord, stateAt, transitionAt}
+use Rattle.rules.specs.Record.{word}
+use Rattle.rules.specs.Plan.{State, Transition, planOf, trackCount, stateCount, transitionCount, hostWord, state, transition, owner, replacement, trackRecord, stateRecord, transitionRecord, stateAt, transitionAt}
 use Rattle.rules.proofs.Folds.{length-tabulate, getD-tabulate}
 
 module _ (bs : List ℕ) (c : Counts) where

@@ -4,7 +4,7 @@ ghost use mathlib.Core.Path.{_≡_};
 ghost use Prim.Native.Nat.{_+_, _*_, _<_, _≤_};
 ghost use lib.ListN.{length};
 ghost use Rattle.rules.specs.Record.{word};
-ghost use Rattle.rules.specs.Plan.{planOf, hostWord, owner, replacement, state, transition, stateRecord, transitionRecord};
+ghost use Rattle.rules.specs.Plan.{planOf, hostWord, owner, replacement, state, transition, stateRecord, transitionRecord, isRoot, isFinal, isStateOf, isIn, isHostedBy, isHosting, firstState};
 ghost use Rattle.plan.specs.Holds.{Holds};
 
 // A record's length in bytes, of a track, a state and a transition.
@@ -13,6 +13,9 @@ pub const TRACK_LENGTH: usize = 6;
 pub const STATE_LENGTH: usize = 10;
 
 pub const TRANSITION_LENGTH: usize = 14;
+
+// Stands for no state: a root's host, a transition without a deviation.
+pub const NO_STATE: u16 = 65535;
 
 fn wide(x: u8) -> u16
     ensures { λ r. ⌜ (r ≡ x) × (r < 256) ⌝ }
@@ -117,4 +120,87 @@ pub fn destination_of(plan: &[u8], c: Counts, x: usize) -> u16
     ensures { λ r. ⌜ r ≡ transition (planOf (now (plan .entry)) c) x .destination ⌝ }
 {
     transition_word(plan, c, x, 12)
+}
+
+// Whether a track has no host.
+pub fn is_root(plan: &[u8], c: Counts, t: usize) -> bool
+    requires { ⌜ Holds (now plan) c × (t < c .tracks) ⌝ }
+    ensures { λ r. ⌜ r ≡ isRoot (planOf (now (plan .entry)) c) t ⌝ }
+{
+    host_word(plan, c, t) == NO_STATE
+}
+
+// Whether a state is final.
+pub fn is_final(plan: &[u8], c: Counts, s: usize) -> bool
+    requires { ⌜ Holds (now plan) c × (s < c .states) ⌝ }
+    ensures { λ r. ⌜ r ≡ isFinal (planOf (now (plan .entry)) c) s ⌝ }
+{
+    final_field(plan, c, s) != 0
+}
+
+// Whether a number is a state of a track, whatever the number.
+pub fn is_state_of(plan: &[u8], c: Counts, t: usize, s: usize) -> bool
+    requires { ⌜ Holds (now plan) c ⌝ }
+    ensures { λ r. ⌜ r ≡ isStateOf (planOf (now (plan .entry)) c) t s ⌝ }
+{
+    if c.states <= s {
+        return false;
+    }
+    track_of(plan, c, s) as usize == t
+}
+
+// Whether a track is in the scope of a state.
+pub fn is_in(plan: &[u8], c: Counts, s: usize, t: usize) -> bool
+    requires { ⌜ Holds (now plan) c × (t < c .tracks) ⌝ }
+    ensures { λ r. ⌜ r ≡ isIn (planOf (now (plan .entry)) c) s t ⌝ }
+{
+    let h = host_word(plan, c, t);
+    if h == NO_STATE {
+        return false;
+    }
+    h as usize == s
+}
+
+// Whether the track `u` hosts the track `t`: one of its states has it in its scope.
+pub fn is_hosted_by(plan: &[u8], c: Counts, u: usize, t: usize) -> bool
+    requires { ⌜ Holds (now plan) c × (u < c .tracks) × (t < c .tracks) ⌝ }
+    ensures { λ r. ⌜ r ≡ isHostedBy (planOf (now (plan .entry)) c) u t ⌝ }
+{
+    let h = host_word(plan, c, t);
+    if h == NO_STATE {
+        return false;
+    }
+    is_state_of(plan, c, u, h as usize)
+}
+
+// Whether a state hosts some track.
+pub fn is_hosting(plan: &[u8], c: Counts, s: usize) -> bool
+    requires { ⌜ Holds (now plan) c ⌝ }
+    ensures { λ r. ⌜ r ≡ isHosting (planOf (now (plan .entry)) c) s ⌝ }
+{
+    let tracks = c.tracks;
+    let mut t: usize = 0;
+    while t < tracks {
+        if is_in(plan, c, s, t) {
+            return true;
+        }
+        t += 1;
+    }
+    false
+}
+
+// A track's lowest-numbered state, in which it starts; 65535 where it has none.
+pub fn first_state(plan: &[u8], c: Counts, t: usize) -> u16
+    requires { ⌜ Holds (now plan) c ⌝ }
+    ensures { λ r. ⌜ r ≡ firstState (planOf (now (plan .entry)) c) t ⌝ }
+{
+    let states = c.states;
+    let mut s: usize = 0;
+    while s < states {
+        if is_state_of(plan, c, t, s) {
+            return s as u16;
+        }
+        s += 1;
+    }
+    NO_STATE
 }
