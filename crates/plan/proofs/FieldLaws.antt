@@ -1,0 +1,67 @@
+-- The fields of the plan that bytes hold: a record's fields by its number are the words at its place. Assumes nothing.
+use mathlib.Core.Path.{_≡_, ap}
+use mathlib.Core.List.{List}
+use Prim.Native.Nat.{ℕ, _+_, _<_}
+use Rattle.rules.specs.declared.Counts.{Counts}
+use Rattle.rules.specs.Record.{word}
+use Rattle.rules.specs.Plan.{State, Transition, planOf, trackCount, stateCount, transitionCount, hostWord, state, transition, owner, replacement, trackRecord, stateRecord, transitionRecord, stateAt, transitionAt}
+use Rattle.rules.proofs.Folds.{length-tabulate, getD-tabulate}
+
+module _ (bs : List ℕ) (c : Counts) where
+  pub track-count : trackCount (planOf bs c) ≡ c .tracks
+  unfolding trackCount planOf
+  track-count = length-tabulate _ _
+
+  pub state-count : stateCount (planOf bs c) ≡ c .states
+  unfolding stateCount planOf
+  state-count = length-tabulate _ _
+
+  pub transition-count : transitionCount (planOf bs c) ≡ c .transitions
+  unfolding transitionCount planOf
+  transition-count = length-tabulate _ _
+
+  pub host-word : (t : ℕ) → t < c .tracks → hostWord (planOf bs c) t ≡ word bs (trackRecord t + 4)
+  unfolding hostWord planOf
+  host-word t l = getD-tabulate _ t _ _ l
+
+  pub state-of : (s : ℕ) → s < c .states → state (planOf bs c) s ≡ stateAt bs (stateRecord c s)
+  unfolding state planOf
+  state-of s l = getD-tabulate _ s _ _ l
+
+  pub transition-of : (x : ℕ) → x < c .transitions → transition (planOf bs c) x ≡ transitionAt bs (transitionRecord c x)
+  unfolding transition planOf
+  transition-of x l = getD-tabulate _ x _ _ l
+
+  -- the fields of a state
+  pub owner-at : (s : ℕ) → s < c .states → owner (planOf bs c) s ≡ word bs (stateRecord c s + 4)
+  unfolding owner stateAt
+  owner-at s l = ap (λ (r : State). r .track) (state-of s l)
+
+  pub final-at : (s : ℕ) → s < c .states → state (planOf bs c) s .final ≡ word bs (stateRecord c s + 6)
+  unfolding stateAt
+  final-at s l = ap (λ (r : State). r .final) (state-of s l)
+
+  pub replacement-at : (s : ℕ) → s < c .states → replacement (planOf bs c) s ≡ word bs (stateRecord c s + 8)
+  unfolding replacement stateAt
+  replacement-at s l = ap (λ (r : State). r .replacement) (state-of s l)
+
+  -- the fields of a transition
+  pub source-at : (x : ℕ) → x < c .transitions → transition (planOf bs c) x .source ≡ word bs (transitionRecord c x + 4)
+  unfolding transitionAt
+  source-at x l = ap (λ (r : Transition). r .source) (transition-of x l)
+
+  pub event-at : (x : ℕ) → x < c .transitions → transition (planOf bs c) x .event ≡ word bs (transitionRecord c x + 6)
+  unfolding transitionAt
+  event-at x l = ap (λ (r : Transition). r .event) (transition-of x l)
+
+  pub code-at : (x : ℕ) → x < c .transitions → transition (planOf bs c) x .code ≡ word bs (transitionRecord c x + 8)
+  unfolding transitionAt
+  code-at x l = ap (λ (r : Transition). r .code) (transition-of x l)
+
+  pub deviation-at : (x : ℕ) → x < c .transitions → transition (planOf bs c) x .deviation ≡ word bs (transitionRecord c x + 10)
+  unfolding transitionAt
+  deviation-at x l = ap (λ (r : Transition). r .deviation) (transition-of x l)
+
+  pub destination-at : (x : ℕ) → x < c .transitions → transition (planOf bs c) x .destination ≡ word bs (transitionRecord c x + 12)
+  unfolding transitionAt
+  destination-at x l = ap (λ (r : Transition). r .destination) (transition-of x l)

@@ -1,0 +1,4 @@
+-- Laws of the plan reader.
+pub mod FieldLaws
+pub mod Searches
+pub mod Hosting

@@ -1,0 +1,2 @@
+-- What the reader's contracts speak of beside the rules.
+pub mod Holds

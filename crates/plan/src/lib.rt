@@ -1,0 +1,2 @@
+// The plan reader.
+pub mod fields;
