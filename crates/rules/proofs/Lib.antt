@@ -8,4 +8,6 @@ pub mod Opening
 pub mod Closing
 pub mod Abandoning
 pub mod Soundness
+pub mod TrackWords
 pub mod Stored
+pub mod Replaced
