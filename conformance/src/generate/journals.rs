@@ -198,7 +198,7 @@ fn next_record(
     let ready: Vec<usize> = members(automaton::ready(plan, ledger)).collect();
     let fires = !ready.is_empty() && (events.is_empty() || rng.chance(55));
     if fires {
-        return firing(rng, &ready);
+        return firing(rng, plan, &ready);
     }
     if rng.chance(temper.signal) {
         return Record::Signal;
@@ -211,7 +211,11 @@ fn next_record(
     }
 }
 
-fn firing(rng: &mut Rng, ready: &[usize]) -> Record {
+/// A firing that is allowed, or now and then of any track.
+fn firing(rng: &mut Rng, plan: &Plan, ready: &[usize]) -> Record {
+    if rng.chance(8) {
+        return Record::Fire(rng.below(plan.track_count()) as u16);
+    }
     match rng.pick(ready) {
         Some(track) if rng.chance(60) => Record::Fire(track as u16),
         _ => Record::FireLowest,

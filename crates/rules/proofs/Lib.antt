@@ -1,6 +1,7 @@
 -- Laws of the definitions, for the layers above.
 pub mod Tests
 pub mod Folds
+pub mod Counting
 pub mod Acceptance
 pub mod Forest
 pub mod Scopes

@@ -1,0 +1,2 @@
+-- What the steps compute on the ledger before a call.
+pub mod Next
