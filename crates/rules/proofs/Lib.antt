@@ -12,3 +12,4 @@ pub mod Soundness
 pub mod TrackWords
 pub mod Stored
 pub mod Replaced
+pub mod Passes

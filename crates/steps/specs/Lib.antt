@@ -1,2 +1,4 @@
--- What the steps compute on the ledger before a call.
+-- Where a step starts, and what it works out on the ledger before the call.
+pub mod Going
 pub mod Next
+pub mod Marks

@@ -1,0 +1,2 @@
+-- Laws of the ledger's words and of its soundness.
+pub mod Words

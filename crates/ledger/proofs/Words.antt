@@ -1,0 +1,117 @@
+-- A track's words read and written, said of the ledger that they hold. Assumes nothing.
+use mathlib.Core.Path.{_≡_, refl, sym, ap, _∙_}
+use mathlib.Core.List.{List, _∷_, _++_, append-nil}
+use Prim.Native.Nat.{ℕ, zero, suc, pred, _+_, _-_, _<_, _≤_}
+use native.Mathlib.Omega.{arith}
+use native.Mathlib.Nat.{add-sub-cancel-left}
+use native.Mathlib.Numerals.{add-one, sub-one}
+use lib.Seq.{drop-length, length-take-le}
+use lib.ListN.{length, getD, set, take, drop, replicate, length-drop}
+use Rattle.rules.specs.declared.Mode.{Mode}
+use Rattle.rules.specs.declared.Mode.the-variants.{Asleep, Forward, Undoing}
+use Rattle.rules.specs.declared.Track.{Track}
+use Rattle.rules.specs.Layout.{entryLimit, headWords, entryWidth, trackWidth, trackPlace, wordCount}
+use Rattle.rules.specs.Ledger.{Entry, Ledger, sleeping, modeOf, modeWord, configurationAt, configurationWords, written}
+use Rattle.rules.proofs.TrackWords.{length-heldAt, place-below}
+use Rattle.rules.proofs.Stored.{Fits, read-track}
+use Rattle.rules.proofs.Replaced.{updated, inTrack, set-three, install-entry, remove-entry, sleep-track}
+use Rattle.ledger.specs.Words.{Within, trackOf, trackAt, withTrack, entryPlace, withEntry, withInstalled, withRemoved, withAsleep}
+
+-- what a mode's word is read as
+pub mode-zero : (w : ℕ) → w ≡ 0 → Asleep ≡ modeOf w
+unfolding modeOf
+mode-zero w h = rw h
+
+pub mode-one : (w : ℕ) → w ≡ 1 → Forward ≡ modeOf w
+unfolding modeOf
+mode-one w h = rw h
+
+pub mode-more : (w : ℕ) → (w ≡ 0 → ⊥) → (w ≡ 1 → ⊥) → Undoing ≡ modeOf w
+unfolding modeOf
+mode-more zero h k = absurd (h refl)
+mode-more (suc zero) h k = absurd (k refl)
+mode-more (suc (suc w)) h k = refl
+
+-- the track at a place, from its three words
+pub track-words : (ws : List ℕ) (t : ℕ) (m : Mode) → m ≡ modeOf (getD ws (trackPlace entryLimit t) 0)
+    → record { mode = m; state = getD ws (trackPlace entryLimit t + 1) 0; count = getD ws (trackPlace entryLimit t + 2) 0 } ≡ trackAt ws t
+unfolding trackAt trackOf configurationAt
+track-words ws t m h =
+    let n = length-heldAt ws (trackPlace entryLimit t + headWords) (getD ws (trackPlace entryLimit t + 2) 0) in
+    λ x. record { mode = h x; state = getD ws (trackPlace entryLimit t + 1) 0; count = sym n x }
+
+-- the tracks of a plan have room where all of them have
+pub within : (ws : List ℕ) (tracks t : ℕ) → tracks ≤ 32 → wordCount entryLimit tracks ≤ length ws → t < tracks → Within ws t
+unfolding wordCount
+within ws tracks t a b h = record { number = omega arith; room = omega (arith, place-below entryLimit tracks t h) }
+
+-- In words that hold a ledger: a track is read as the ledger has it, and a track's words written are those of the ledger with that track
+-- replaced.
+module _ (n : ℕ) (l : Ledger) (ws : List ℕ) (t : ℕ) (f : Fits entryLimit l) (h : t < n) where
+  pub track-written : trackAt (written entryLimit n l ws) t ≡ trackOf (l t)
+  unfolding trackAt
+  track-written = ap trackOf (read-track entryLimit n l ws f t h)
+
+  count-written : trackAt (written entryLimit n l ws) t .count ≡ length (l t .held)
+  unfolding trackOf
+  count-written = ap (λ (k : Track). k .count) track-written
+
+  pub asleep-written : wordCount entryLimit n ≤ length ws
+      → withAsleep (written entryLimit n l ws) t ≡ written entryLimit n (updated l t sleeping) ws
+  unfolding withAsleep inTrack
+  asleep-written room = sleep-track entryLimit n l ws t f h room
+
+  module _ (room : wordCount entryLimit n ≤ length ws) where
+    pub put-written : (k : Track) → k .count ≡ length (l t .held)
+        → withTrack (written entryLimit n l ws) t k
+        ≡ written entryLimit n (updated l t (record { mode = k .mode; state = k .state; held = l t .held })) ws
+    unfolding withTrack configurationWords trackWidth headWords entryWidth entryLimit
+    put-written k e =
+        let p : trackPlace 32 t ≡ trackPlace 32 t + 0 = omega arith in
+        let q = set-three 32 n l ws t f h room (record { mode = k .mode; state = k .state; held = l t .held })
+        0 (modeWord (k .mode)) 1 (k .state) 2 (k .count) (omega arith) (omega arith) (omega arith) (rw e) in
+        ap (λ (i : ℕ). set (set (set (written 32 n l ws) i (modeWord (k .mode))) (trackPlace 32 t + 1) (k .state)) (trackPlace 32 t + 2) (k .count)) p ∙ q
+
+    pub installed-written : (e : Entry) → length (l t .held) < entryLimit
+        → withInstalled (written entryLimit n l ws) t (e .code) (e .deviation)
+        ≡ written entryLimit n (updated l t (record { mode = l t .mode; state = l t .state; held = e ∷ l t .held })) ws
+    unfolding withInstalled withEntry entryPlace
+    installed-written e b = rw count-written (install-entry entryLimit n l ws t f h room e b)
+
+    pub removed-written : (e : Entry) (es : List Entry) → l t .held ≡ e ∷ es
+        → withRemoved (written entryLimit n l ws) t
+        ≡ written entryLimit n (updated l t (record { mode = l t .mode; state = l t .state; held = es })) ws
+    unfolding withRemoved withEntry entryPlace
+    removed-written e es q =
+        let m : pred (trackAt (written entryLimit n l ws) t .count) ≡ length es = ap pred (count-written ∙ ap length q) in
+        rw m (remove-entry entryLimit n l ws t f h room e es q)
+
+-- words zeroed one by one
+pub cleared : (ws vs : List ℕ) (i : ℕ) → vs ≡ replicate i 0 ++ drop i ws → i ≡ length ws → vs ≡ replicate (length ws) 0
+cleared ws vs i e h = e ∙ rw (h, drop-length, append-nil)
+
+-- installing and removing, step by step
+pub count-of : {k j : Track} → k ≡ j → k .count ≡ j .count
+count-of e = ap (λ (x : Track). x .count) e
+
+pub install-steps : (ws v w : List ℕ) (t code deviation : ℕ) (k : Track) → k ≡ trackAt ws t → v ≡ withEntry ws t (k .count) code deviation
+    → w ≡ set v (trackPlace entryLimit t + 2) (k .count + 1) → w ≡ withInstalled ws t code deviation
+unfolding withInstalled
+install-steps ws v w t code deviation k e f g = g ∙ rw (f, add-one, e)
+
+pub remove-steps : (ws v w : List ℕ) (t : ℕ) (k : Track) → k ≡ trackAt ws t → v ≡ withEntry ws t (k .count - 1) 0 0
+    → w ≡ set v (trackPlace entryLimit t + 2) (k .count - 1) → w ≡ withRemoved ws t
+unfolding withRemoved
+remove-steps ws v w t k e f g = g ∙ rw (f, sub-one, e)
+
+-- a track's part lent, zeroed and given back
+pub sleep-steps : (ws ys : List ℕ) (t at : ℕ) → at ≡ trackPlace entryLimit t → trackPlace entryLimit t + trackWidth entryLimit ≤ length ws
+    → ys ≡ replicate (length (take (at + trackWidth entryLimit - at) (drop at ws))) 0
+    → take at ws ++ (ys ++ drop (at + trackWidth entryLimit - at) (drop at ws)) ≡ withAsleep ws t
+unfolding withAsleep
+sleep-steps ws ys t at e room f =
+    let d = length-drop at ws in
+    let n : length (take (trackWidth entryLimit) (drop at ws)) ≡ trackWidth entryLimit =
+    length-take-le (trackWidth entryLimit) (drop at ws) (omega arith) in
+    let g : ys ≡ replicate (length (take (trackWidth entryLimit) (drop at ws))) 0 = rw add-sub-cancel-left at f in
+    rw (add-sub-cancel-left, g, n, e)

@@ -1,0 +1,46 @@
+-- The words of one track, read and written. Assumes nothing.
+use mathlib.Core.List.{List, _++_}
+use Prim.Native.Nat.{ℕ, suc, pred, _+_, _*_, _<_, _≤_}
+use lib.ListN.{length, getD, set, take, drop, replicate}
+use Rattle.rules.specs.declared.Mode.{Mode}
+use Rattle.rules.specs.declared.Track.{Track}
+use Rattle.rules.specs.Layout.{entryLimit, entryWidth, trackWidth, trackPlace, entriesPlace}
+use Rattle.rules.specs.Ledger.{Configuration, modeWord, configurationAt}
+
+-- the ledger has room for the words of the track
+pub record Within (ws : List ℕ) (t : ℕ) : Type 0 where
+  pub number : t < 32
+  pub room : trackPlace entryLimit t + trackWidth entryLimit ≤ length ws
+
+-- a configuration without its entries
+unfoldable pub trackOf : Configuration → Track
+trackOf c = record { mode = c .mode; state = c .state; count = length (c .held) }
+
+-- the track as its words tell it
+unfoldable pub trackAt : List ℕ → ℕ → Track
+trackAt ws t = trackOf (configurationAt ws (trackPlace entryLimit t))
+
+-- the words with a track's first three replaced
+unfoldable pub withTrack : List ℕ → ℕ → Track → List ℕ
+withTrack ws t k =
+    set (set (set ws (trackPlace entryLimit t) (modeWord (k .mode))) (trackPlace entryLimit t + 1) (k .state)) (trackPlace entryLimit t + 2) (k .count)
+
+-- the words with a track's entry replaced, counted from its oldest
+unfoldable pub entryPlace : ℕ → ℕ → ℕ
+entryPlace t k = entriesPlace entryLimit t + entryWidth * k
+
+unfoldable pub withEntry : List ℕ → ℕ → ℕ → ℕ → ℕ → List ℕ
+withEntry ws t k code deviation = set (set ws (entryPlace t k) code) (entryPlace t k + 1) deviation
+
+-- the words with one more entry, and with one less
+unfoldable pub withInstalled : List ℕ → ℕ → ℕ → ℕ → List ℕ
+withInstalled ws t code deviation =
+    set (withEntry ws t (trackAt ws t .count) code deviation) (trackPlace entryLimit t + 2) (suc (trackAt ws t .count))
+
+unfoldable pub withRemoved : List ℕ → ℕ → List ℕ
+withRemoved ws t =
+    set (withEntry ws t (pred (trackAt ws t .count)) 0 0) (trackPlace entryLimit t + 2) (pred (trackAt ws t .count))
+
+-- the words with a track's all zero
+unfoldable pub withAsleep : List ℕ → ℕ → List ℕ
+withAsleep ws t = take (trackPlace entryLimit t) ws ++ (replicate (trackWidth entryLimit) 0 ++ drop (trackWidth entryLimit) (drop (trackPlace entryLimit t) ws))

@@ -1,0 +1,3 @@
+// The ledger in its words: where each track's stand, reading and writing them, and whether a ledger is sound.
+pub mod layout;
+pub mod track;
