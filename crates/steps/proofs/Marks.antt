@@ -60,12 +60,13 @@ module _ (p : Plan) (ok : Accepted p) (few : trackCount p ≤ slots) where
       → getD (setHost p (host p t) b ms) u false ≡ cond (eqb (owner p h) u) b (getD ms u false)
   unfolding setHost
   set-host t u h b ms n e =
-      elim (look (eqb (owner p h) u))
-      [ inl q ↦
-          let r = eqb-true (owner p h) u q in
-          let low : owner p h < length ms = let x = ok .owned h (ok .host-state t h e) in omega (arith, n) in
-          rw (e, setHost, q) (subst (λ z. getD (set ms (owner p h) b) z false ≡ b) r (getD-set-same ms (owner p h) b false low))
-      | inr q ↦ rw (e, setHost, q) (getD-set-other ms (owner p h) u b false (λ z. eqb-false (owner p h) u q (sym z))) ]
+      elim (look (eqb (owner p h) u)) [
+        | inl q ↦
+            let r = eqb-true (owner p h) u q in
+            let low : owner p h < length ms = let x = ok .owned h (ok .host-state t h e) in omega (arith, n) in
+            rw (e, setHost, q) (subst (λ z. getD (set ms (owner p h) b) z false ≡ b) r (getD-set-same ms (owner p h) b false low))
+        | inr q ↦ rw (e, setHost, q) (getD-set-other ms (owner p h) u b false (λ z. eqb-false (owner p h) u q (sym z)))
+      ]
 
   by-eqb : (u t h : ℕ) → host p t ≡ some h → isHostedBy p u t ≡ eqb (owner p h) u
   unfolding isHostedBy
@@ -89,21 +90,23 @@ module _ (p : Plan) (ok : Accepted p) (few : trackCount p ≤ slots) where
     unfolding wakeMarks wakesAt
     wake-marks zero b t l = absurd (not-suc-le-zero l)
     wake-marks (suc n) b t l =
-        elim (look (eqb t n))
-        [ inr e ↦
-            let q = eqb-false t n e in
-            getD-set-other (wakeMarks p to n) n t _ false q ∙ wake-marks n (omega arith) t (let r : t ≡ n → ⊥ = q in omega arith)
-        | inl e ↦
-            let q = eqb-true t n e in
-            rw q
-            (getD-set-same (wakeMarks p to n) n _ false (omega (arith, length-wake n))
-            ∙ elim (look-option (host p n))
-              [ inl z ↦ rw (z, wakesAt) (sym (wakes-root p ok enters n z))
-              | inr z ↦
-                  let d = ok .lower n (z .0) (z .1) in
-                  rw (z .1, wakesAt)
-                  (ap (wakesIn p (firstState p (owner p (z .0))) (enters (owner p (z .0))) (z .0)) (wake-marks n (omega arith) (owner p (z .0)) d)
-                  ∙ sym (wakes-host p ok enters n (z .0) (z .1))) ]) ]
+        elim (look (eqb t n)) [
+          | inr e ↦
+              let q = eqb-false t n e in
+              getD-set-other (wakeMarks p to n) n t _ false q ∙ wake-marks n (omega arith) t (let r : t ≡ n → ⊥ = q in omega arith)
+          | inl e ↦
+              let q = eqb-true t n e in
+              rw q
+              (getD-set-same (wakeMarks p to n) n _ false (omega (arith, length-wake n))
+              ∙ elim (look-option (host p n)) [
+                | inl z ↦ rw (z, wakesAt) (sym (wakes-root p ok enters n z))
+                | inr z ↦
+                    let d = ok .lower n (z .0) (z .1) in
+                    rw (z .1, wakesAt)
+                    (ap (wakesIn p (firstState p (owner p (z .0))) (enters (owner p (z .0))) (z .0)) (wake-marks n (omega arith) (owner p (z .0)) d)
+                    ∙ sym (wakes-host p ok enters n (z .0) (z .1)))
+              ])
+        ]
 
   module _ (l : Ledger) where
     -- Who has an open scope.
@@ -124,24 +127,29 @@ module _ (p : Plan) (ok : Accepted p) (few : trackCount p ≤ slots) where
             (λ b. let r : length (replicate slots false) ≤ u = let q = ltb-false u slots b in omega (arith, length-replicate slots false) in List·getD-eq-default (replicate slots false) false r)
             (look (ltb u slots))
     open-marks (suc n) u =
-        elim (look (isAwake (l n .mode)))
-        [ inr a ↦ rw a (open-marks n u ∙ sym (ap (λ z. someBelow n (λ t. isHostedBy p u t && isAwake (l t .mode)) || z) (no-and (isHostedBy p u n)) ∙ no-or (someBelow n (λ t. isHostedBy p u t && isAwake (l t .mode)))))
-        | inl a ↦
-            elim (look-option (host p n))
-            [ inl e ↦ rw (a, by-none u n e) (setHost-none e ∙ open-marks n u ∙ sym (no-or (someBelow n (λ t. isHostedBy p u t && isAwake (l t .mode)))))
-            | inr e ↦
-                rw (a, by-eqb u n (e .0) (e .1))
-                (set-host n u (e .0) true (openMarks p l n) (length-open n) (e .1)
-                ∙ turn (eqb (owner p (e .0)) u) (open-marks n u)) ] ]
+        elim (look (isAwake (l n .mode))) [
+          | inr a ↦ rw a (open-marks n u ∙ sym (ap (λ z. someBelow n (λ t. isHostedBy p u t && isAwake (l t .mode)) || z) (no-and (isHostedBy p u n)) ∙ no-or (someBelow n (λ t. isHostedBy p u t && isAwake (l t .mode)))))
+          | inl a ↦
+              elim (look-option (host p n)) [
+                | inl e ↦ rw (a, by-none u n e) (setHost-none e ∙ open-marks n u ∙ sym (no-or (someBelow n (λ t. isHostedBy p u t && isAwake (l t .mode)))))
+                | inr e ↦
+                    rw (a, by-eqb u n (e .0) (e .1))
+                    (set-host n u (e .0) true (openMarks p l n) (length-open n) (e .1)
+                    ∙ turn (eqb (owner p (e .0)) u) (open-marks n u))
+              ]
+        ]
       where
         no-and : (b : Bool) → (b && false) ≡ false
         no-and true = refl
         no-and false = refl
+
         no-or : (b : Bool) → (b || false) ≡ b
         no-or true = refl
         no-or false = refl
+
         setHost-none : host p n ≡ none → getD (setHost p (host p n) true (openMarks p l n)) u false ≡ getD (openMarks p l n) u false
         setHost-none e = unfold setHost in rw (e, setHost)
+
         turn : (b : Bool) {x y : Bool} → x ≡ y → cond b true x ≡ (y || (b && true))
         turn true {x} {y} e = sym (or-right y true refl)
         turn false {x} {y} e = e ∙ sym (no-or y)
@@ -152,7 +160,7 @@ module _ (p : Plan) (ok : Accepted p) (few : trackCount p ≤ slots) where
 
     -- Which transition each takes.
     module _ (live : Live p l) (event : ℕ) (opens : List Bool) (marked : Marks false opens (trackCount p) (hasOpenScope p l))
-      (many : transitionCount p ≤ 256) where
+        (many : transitionCount p ≤ 256) where
       abbrev answers : ℕ → ℕ → Bool
       answers t y = eqb (transition p y .source) (l t .state) && eqb (transition p y .event) event
 
@@ -193,9 +201,9 @@ module _ (p : Plan) (ok : Accepted p) (few : trackCount p ≤ slots) where
       taken-test n ts b =
           let m = marked (mover p n) b in
           ap (λ z. eqb (transition p n .event) event && isForward (l (mover p n) .mode) && not z
-            && eqb (transition p n .source) (l (mover p n) .state) && eqb (getD ts (mover p n) noState) noState) m
+          && eqb (transition p n .source) (l (mover p n) .state) && eqb (getD ts (mover p n) noState) noState) m
           ∙ shuffle (eqb (transition p n .event) event) (isForward (l (mover p n) .mode)) (not (hasOpenScope p l (mover p n)))
-            (eqb (transition p n .source) (l (mover p n) .state)) (eqb (getD ts (mover p n) noState) noState)
+          (eqb (transition p n .source) (l (mover p n) .state)) (eqb (getD ts (mover p n) noState) noState)
         where
           shuffle : (a b c d e : Bool) → (a && b && c && d && e) ≡ ((b && c) && (d && a) && e)
           shuffle true true true true e = refl
@@ -247,17 +255,18 @@ module _ (p : Plan) (ok : Accepted p) (few : trackCount p ≤ slots) where
             where
               test : isTaken p l event opens n (takeMarks p l event opens n) ≡ (may t && answers t n && eqb (getD (takeMarks p l event opens n) t noState) noState)
               test = subst (λ z. isTaken p l event opens n (takeMarks p l event opens n) ≡ (may z && answers z n && eqb (getD (takeMarks p l event opens n) z noState) noState)) (sym e) (taken-test n (takeMarks p l event opens n) low)
+
               go : (a : Bool) → answers t n ≡ a → (o : Option ℕ) → firstBelow n (answers t) ≡ o
                   → getD (takeMarks p l event opens (suc n)) t noState ≡ wordOf (firstBelow (suc n) (answers t))
               go false a o q =
                   turn-no n t (test ∙ (rw (m, a))) ∙ ih ∙ ap wordOf (sym (first-skip n (answers t) a))
               go true a none q =
                   let w : getD (takeMarks p l event opens n) t noState ≡ noState = ih ∙ ap wordOf q in
-                  let y : isTaken p l event opens n (takeMarks p l event opens n) ≡ true = test ∙ (rw (m, a)) (eq-eqb _ noState w) in
+                  let y : isTaken p l event opens n (takeMarks p l event opens n) ≡ true = test ∙ (rw (m, a) (eq-eqb _ noState w)) in
                   ap (λ z. getD (takeMarks p l event opens (suc n)) z noState) e ∙ turn-yes n y low ∙ ap wordOf (sym (first-here n (answers t) q a))
               go true a (some i) q =
                   let w : getD (takeMarks p l event opens n) t noState ≡ i = ih ∙ ap wordOf q in
-                  let y : isTaken p l event opens n (takeMarks p l event opens n) ≡ false = test ∙ (rw (m, a)) (ap (λ z. eqb z noState) w ∙ below-256 n t i (omega arith) q) in
+                  let y : isTaken p l event opens n (takeMarks p l event opens n) ≡ false = test ∙ (rw (m, a) (ap (λ z. eqb z noState) w ∙ below-256 n t i (omega arith) q)) in
                   turn-no n t y ∙ w ∙ ap wordOf (sym (first-keeps n (answers t) i q))
 
           step : getD (takeMarks p l event opens n) t noState ≡ wordOf (found n t) → (eqb t (mover p n) ≡ true) ⊎ (eqb t (mover p n) ≡ false)
@@ -270,9 +279,137 @@ module _ (p : Plan) (ok : Accepted p) (few : trackCount p ≤ slots) where
           step ih (inl d) (inr m) =
               let e = eqb-true t (mover p n) d in
               let y : isTaken p l event opens n (takeMarks p l event opens n) ≡ false =
-                  taken-test n (takeMarks p l event opens n) low ∙ ap (λ z. z && answers (mover p n) n && eqb (getD (takeMarks p l event opens n) (mover p n) noState) noState) (ap may (sym e) ∙ m) in
+              taken-test n (takeMarks p l event opens n) low ∙ ap (λ z. z && answers (mover p n) n && eqb (getD (takeMarks p l event opens n) (mover p n) noState) noState) (ap may (sym e) ∙ m) in
               rw m (turn-no n t y ∙ (rw m at ih))
 
       -- each track's transition is its move
       pub take-moves : Marks noState (takeMarks p l event opens (transitionCount p)) (trackCount p) (λ t. wordOf (move p l event t))
       take-moves t b = take-marks (transitionCount p) (omega arith) t b ∙ (unfold move transitionFor in refl)
+
+    -- Whose scope closes.
+    module _ (event : ℕ) (many : transitionCount p ≤ 256) (ts : List ℕ)
+        (took : Marks noState ts (trackCount p) (λ t. wordOf (move p l event t))) where
+      -- a transition's number is no 65535
+      pub move-word : (t x : ℕ) → move p l event t ≡ some x → eqb x noState ≡ false
+      unfolding move transitionFor noState
+      move-word t x h =
+          elim (look (isForward (l t .mode) && not (hasOpenScope p l t))) [
+            | inl g ↦
+                let q : firstBelow (transitionCount p) (λ x. eqb (transition p x .source) (l t .state) && eqb (transition p x .event) event) ≡ some x = rw g at h in
+                let c = first-found (transitionCount p) (λ x. eqb (transition p x .source) (l t .state) && eqb (transition p x .event) event) x q .0 in
+                ne-eqb x 65535 (λ z. absurd (omega arith))
+            | inr g ↦ let q : none ≡ some x = rw g at h in none-some refl q
+          ]
+
+      pub state-after : (t : ℕ) → t < trackCount p → stateAfter p l ts t ≡ nextState p l event t
+      unfolding stateAfter nextState nextOf wordOf
+      state-after t b = go (move p l event t) refl
+        where
+          go : (o : Option ℕ) → move p l event t ≡ o → stateAfter p l ts t ≡ nextState p l event t
+          go none e =
+              let w : getD ts t noState ≡ noState = took t b ∙ ap wordOf e in
+              rw (w, eq-eqb noState noState refl, e, nextOf)
+          go (some x) e =
+              let w : getD ts t noState ≡ x = took t b ∙ ap wordOf e in
+              rw (w, move-word t x e, e, nextOf)
+
+      length-forward : (ms : List Bool) (n : ℕ) → length (forwardMarks p l ms n) ≡ length ms
+      unfolding forwardMarks
+      length-forward ms zero = refl
+      length-forward ms (suc n) = length-set (forwardMarks p l ms n) n _ ∙ length-forward ms n
+
+      forward-later : (ms : List Bool) (n u : ℕ) → n ≤ u → getD (forwardMarks p l ms n) u false ≡ getD ms u false
+      unfolding forwardMarks
+      forward-later ms zero u b = refl
+      forward-later ms (suc n) u b =
+          getD-set-other (forwardMarks p l ms n) n u _ false (λ z. absurd (omega arith)) ∙ forward-later ms n u (omega arith)
+
+      forward-marks : (ms : List Bool) → length ms ≡ slots → (n u : ℕ) → n ≤ slots → u < n
+          → getD (forwardMarks p l ms n) u false ≡ (isForward (l u .mode) && getD ms u false)
+      unfolding forwardMarks
+      forward-marks ms len zero u b c = absurd (not-suc-le-zero c)
+      forward-marks ms len (suc n) u b c =
+          elim (look (eqb u n)) [
+            | inl e ↦
+                let q = eqb-true u n e in
+                rw q (getD-set-same (forwardMarks p l ms n) n _ false (omega (arith, length-forward ms n, len)))
+            | inr e ↦
+                let q = eqb-false u n e in
+                getD-set-other (forwardMarks p l ms n) n u _ false q ∙ forward-marks ms len n u (omega arith) (let r : u ≡ n → ⊥ = q in omega arith)
+          ]
+
+      length-close : (ms : List Bool) (n : ℕ) → length (closeMarks p l ts ms n) ≡ length ms
+      unfolding closeMarks closeMark
+      length-close ms zero = refl
+      length-close ms (suc n) =
+          elim (look (isAwake (l n .mode) && not (isFinal p (stateAfter p l ts n))))
+          [ inl e ↦ rw e (length-setHost (host p n) false (closeMarks p l ts ms n) ∙ length-close ms n) | inr e ↦ rw e (length-close ms n) ]
+
+      close-marks : (ms : List Bool) → length ms ≡ slots → (n u : ℕ) → n ≤ trackCount p
+          → getD (closeMarks p l ts ms n) u false
+          ≡ (getD ms u false && everyBelow n (λ t. not (isHostedBy p u t && isAwake (l t .mode)) || isFinal p (nextState p l event t)))
+      unfolding closeMarks closeMark everyBelow
+      close-marks ms len zero u b = sym (yes (getD ms u false))
+        where
+          yes : (a : Bool) → (a && true) ≡ a
+          yes true = refl
+          yes false = refl
+      close-marks ms len (suc n) u b =
+          elim (look (isAwake (l n .mode))) [
+            | inr a ↦ rw a (close-marks ms len n u (omega arith) ∙ keep (isHostedBy p u n) (isFinal p (nextState p l event n)))
+            | inl a ↦
+                elim (look (isFinal p (nextState p l event n))) [
+                  | inl f ↦
+                      let g : isFinal p (stateAfter p l ts n) ≡ true = ap (isFinal p) (state-after n (omega arith)) ∙ f in
+                      rw (a, g, f) (close-marks ms len n u (omega arith) ∙ kept (isHostedBy p u n))
+                  | inr f ↦
+                      let g : isFinal p (stateAfter p l ts n) ≡ false = ap (isFinal p) (state-after n (omega arith)) ∙ f in
+                      elim (look-option (host p n)) [
+                        | inl e ↦ rw (a, g, f, by-none u n e) (none-host e ∙ close-marks ms len n u (omega arith) ∙ kept′)
+                        | inr e ↦
+                            rw (a, g, f, by-eqb u n (e .0) (e .1))
+                            (set-host n u (e .0) false (closeMarks p l ts ms n) (length-close ms n ∙ len) (e .1)
+                            ∙ out (eqb (owner p (e .0)) u) (close-marks ms len n u (omega arith)))
+                      ]
+                ]
+          ]
+        where
+          all : Bool
+          all = everyBelow n (λ t. not (isHostedBy p u t && isAwake (l t .mode)) || isFinal p (nextState p l event t))
+
+          one : (x y : Bool) → (x && y) ≡ (x && (y && true))
+          one true true = refl
+          one true false = refl
+          one false y = refl
+
+          keep : (b c : Bool) → (getD ms u false && all) ≡ (getD ms u false && (all && (not (b && false) || c)))
+          keep true c = one (getD ms u false) all
+          keep false c = one (getD ms u false) all
+
+          kept : (b : Bool) → (getD ms u false && all) ≡ (getD ms u false && (all && (not (b && true) || true)))
+          kept true = one (getD ms u false) all
+          kept false = one (getD ms u false) all
+
+          kept′ : (getD ms u false && all) ≡ (getD ms u false && (all && true))
+          kept′ = one (getD ms u false) all
+
+          none-host : host p n ≡ none → getD (setHost p (host p n) false (closeMarks p l ts ms n)) u false ≡ getD (closeMarks p l ts ms n) u false
+          none-host e = unfold setHost in rw (e, setHost)
+
+          shut : (x y : Bool) → false ≡ (x && (y && false))
+          shut true true = refl
+          shut true false = refl
+          shut false y = refl
+
+          out : (b : Bool) {x : Bool} → x ≡ (getD ms u false && all) → cond b false x ≡ (getD ms u false && (all && (not (b && true) || false)))
+          out true e = shut (getD ms u false) all
+          out false e = e ∙ one (getD ms u false) all
+
+      -- whose scope closes, by the passes
+      pub close-scopes : (opens : List Bool) → length opens ≡ slots → Marks false opens (trackCount p) (hasOpenScope p l)
+          → Marks false (closeMarks p l ts (forwardMarks p l opens (trackCount p)) (trackCount p)) (trackCount p) (closesNext p l event)
+      unfolding closesNext allFinalNext
+      close-scopes opens len marked t b =
+          close-marks (forwardMarks p l opens (trackCount p)) (length-forward opens (trackCount p) ∙ len) (trackCount p) t (omega arith)
+          ∙ ap (λ z. z && everyBelow (trackCount p) (λ u. not (isHostedBy p t u && isAwake (l u .mode)) || isFinal p (nextState p l event u)))
+          (forward-marks opens len (trackCount p) t few b ∙ ap (λ z. isForward (l t .mode) && z) (marked t b))
