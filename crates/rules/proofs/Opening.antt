@@ -1,6 +1,7 @@
 -- Opening, one level at a time: whether a track wakes follows from its host and from whether its host's track wakes, whose number is
 -- lower; so one pass up the tracks opens everything, and the tracks of a scope wake together. Assumes nothing.
-use mathlib.Core.Path.{_≡_, refl, sym, ap, _∙_, subst}
+use mathlib.Core.Path.{_≡_, refl, sym, ap, ap₂, _∙_, subst}
+use mathlib.Core.Logic.{inl, inr}
 use mathlib.Core.Bool.{Bool, true, false, cond, _&&_}
 use mathlib.Core.Option.{Option, none, some}
 use mathlib.Core.List.{List, []}
@@ -11,7 +12,7 @@ use Rattle.rules.specs.declared.Mode.the-variants.{Forward}
 use Rattle.rules.specs.Plan.{Plan, trackCount, host, owner, isRoot, firstState, climb}
 use Rattle.rules.specs.Ledger.{Configuration, Ledger, sleeping}
 use Rattle.rules.specs.Opening.{fresh, wakesIn, wakes, entered, enter, rootsFirst, begun}
-use Rattle.rules.proofs.Tests.{clash, none-some, look-option, and-true}
+use Rattle.rules.proofs.Tests.{look-option, strong}
 use Rattle.rules.proofs.Acceptance.{Accepted}
 use Rattle.rules.proofs.Forest.{climb-root, climb-host}
 use Rattle.rules.proofs.Scopes.{root-of, not-root}
@@ -55,6 +56,20 @@ module _ (p : Plan) (ok : Accepted p) where
       pub enter-kept : (t : ℕ) → to t ≡ none → wakes p to t ≡ false → enter p to l t ≡ l t
       unfolding enter entered
       enter-kept t e w = rw (e, entered, w)
+
+  -- what wakes depends on the states that tracks of the plan enter alone
+  pub wakes-same : (to at : ℕ → Option ℕ) → ((u : ℕ) → u < trackCount p → to u ≡ at u) → (t : ℕ) → wakes p to t ≡ wakes p at t
+  wakes-same to at h =
+      strong (λ t. wakes p to t ≡ wakes p at t)
+      (λ t ih.
+      elim (look-option (host p t)) [
+        | inl e ↦ wakes-root to t e ∙ sym (wakes-root at t e)
+        | inr e ↦
+            let u = owner p (e .0) in
+            wakes-host to t (e .0) (e .1)
+            ∙ ap₂ (λ x y. wakesIn p (firstState p u) x (e .0) y) (h u (ok .owned (e .0) (ok .host-state t (e .0) (e .1)))) (ih u (ok .lower t (e .0) (e .1)))
+            ∙ sym (wakes-host at t (e .0) (e .1))
+      ])
 
   -- Begin: roots are forward in their first states; a hosted track wakes exactly if its host is the first state of a track that does.
   pub roots-to : (t : ℕ) → t < trackCount p → host p t ≡ none → rootsFirst p t ≡ some (firstState p t)

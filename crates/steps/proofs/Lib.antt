@@ -1,4 +1,4 @@
--- Laws of the steps.
-pub mod Moving
-pub mod Settling
+-- Laws of the steps' figures.
 pub mod Marks
+pub mod Facts
+pub mod Turns

@@ -1,4 +1,3 @@
--- Where a step starts, and what it works out on the ledger before the call.
+-- Where a step starts, and the figures that it keeps for each track.
 pub mod Going
-pub mod Next
 pub mod Marks

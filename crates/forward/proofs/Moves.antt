@@ -16,7 +16,7 @@ use Rattle.rules.specs.Ledger.{Configuration, Ledger, isAwake, isForward, sleep
 use Rattle.rules.specs.Scope.{isOpen, hasOpenScope}
 use Rattle.rules.specs.Opening.{fresh, wakes, enter}
 use Rattle.rules.specs.Event.{install, installed, destinationOf, installedBy, move, moved, isClosing, isClosed, closesScope, closed, isFinishing, finished, afterEvent}
-use Rattle.steps.specs.Next.{nextOf, nextState, allFinalNext, closesNext, closedNext, finishesNext}
+use Rattle.forward.specs.Next.{nextOf, nextState, allFinalNext, closesNext, closedNext, finishesNext}
 use Rattle.rules.proofs.Tests.{look, look-option, clash, none-some, refuted, and-true, and-both, implies, implied, strong}
 use Rattle.rules.proofs.Folds.{every-at, every-of, every-same}
 use Rattle.rules.proofs.Acceptance.{Accepted, transition-for}

@@ -22,8 +22,8 @@ use Rattle.rules.proofs.Acceptance.{Accepted}
 use Rattle.rules.proofs.Scopes.{root-none, open-at, open-find, shut-at, busy-find}
 use Rattle.rules.proofs.Closing.{closed-host, closed-root, closed-asleep, closed-replaced, closed-kept, closed-alike}
 use Rattle.rules.proofs.Soundness.{Live}
-use Rattle.steps.specs.Next.{nextOf, nextState, allFinalNext, closesNext, closedNext, finishesNext, givenNext, nextBy, nextLedger}
-use Rattle.steps.proofs.Moving.{forward-awake, Moves, mover-facts, woken-asleep, moved-mover, moved-woken, moved-kept, moved-awake, moved-own, is-owner, shut-stays, open-closes, closes-before}
+use Rattle.forward.specs.Next.{nextOf, nextState, allFinalNext, closesNext, closedNext, finishesNext, givenNext, nextBy, nextLedger}
+use Rattle.forward.proofs.Moves.{forward-awake, Moves, mover-facts, woken-asleep, moved-mover, moved-woken, moved-kept, moved-awake, moved-own, is-owner, shut-stays, open-closes, closes-before}
 
 module _ (p : Plan) (ok : Accepted p) (l : Ledger) (live : Live p l) (low : (t : ℕ) → trackCount p ≤ t → l t ≡ sleeping) (event : ℕ) where
   abbrev m : Ledger

@@ -1,0 +1,1 @@
+// The forward step: an event on an accepted plan and a sound ledger.

@@ -1,0 +1,82 @@
+-- One turn of a pass, as the code takes it: each branch is a case of the turn's definition. Assumes nothing.
+use mathlib.Core.Path.{_≡_, refl, sym, ap, _∙_, subst}
+use mathlib.Core.Bool.{Bool, true, false, cond, not, _&&_}
+use mathlib.Core.List.{List}
+use mathlib.Core.Option.{Option, none, some}
+use Prim.Native.Nat.{ℕ, suc, _+_, _<_, _≤_}
+use native.Mathlib.Numerals.{add-one}
+use lib.Dec.{eqb}
+use lib.ListN.{getD, set}
+use borrow.Author.Tests.{eq-eqb, ne-eqb, not-true, not-false}
+use Rattle.rules.specs.declared.Counts.{Counts}
+use Rattle.rules.specs.declared.Track.{Track}
+use Rattle.rules.specs.Plan.{Plan, planOf, noState, optional, hostWord, host, owner, firstState}
+use Rattle.rules.specs.Ledger.{Ledger, isAwake}
+use Rattle.rules.specs.Opening.{wakesIn}
+use Rattle.ledger.specs.Words.{trackOf}
+use Rattle.steps.specs.Going.{Accepts, hostTrack}
+use Rattle.steps.specs.Marks.{setHost, openMark, openMarks, wakesAt, wakeMarks}
+use Rattle.steps.proofs.Facts.{no-host-track, host-of-track, host-is}
+
+mode-read : (l : Ledger) (t : ℕ) (k : Track) → k ≡ trackOf (l t) → k .mode ≡ l t .mode
+unfolding trackOf
+mode-read l t k e = ap (λ (x : Track). x .mode) e
+
+-- an open scope's mark
+pub mark-asleep : (p : Plan) (l : Ledger) (t : ℕ) (ms : List Bool) (k : Track) (r : Bool)
+    → k ≡ trackOf (l t) → r ≡ isAwake (k .mode) → not r ≡ true → ms ≡ openMark p l t ms
+unfolding openMark
+mark-asleep p l t ms k r e f h =
+    let a : isAwake (l t .mode) ≡ false = ap isAwake (sym (mode-read l t k e)) ∙ sym f ∙ not-true r h in rw a
+
+module _ (bs : List ℕ) (c : Counts) (acc : Accepts bs c) (l : Ledger) (t : ℕ) (ms : List Bool) (k : Track) (r : Bool) (u : ℕ)
+    (e : k ≡ trackOf (l t)) (f : r ≡ isAwake (k .mode)) (h : not r ≡ false) (g : u ≡ hostTrack (planOf bs c) t) where
+  awake : isAwake (l t .mode) ≡ true
+  awake = ap isAwake (sym (mode-read l t k e)) ∙ sym f ∙ not-false r h
+
+  pub mark-root : u ≡ noState → ms ≡ openMark (planOf bs c) l t ms
+  unfolding openMark setHost
+  mark-root z = rw (awake, no-host-track bs c t acc (sym g ∙ z), setHost)
+
+  pub mark-host : (u ≡ noState → ⊥) → set ms u true ≡ openMark (planOf bs c) l t ms
+  unfolding openMark setHost
+  mark-host z =
+      let (s, q, o) = host-of-track (planOf bs c) t (λ y. z (g ∙ y)) in
+      rw (awake, q, setHost) (ap (λ v. set ms v true) (g ∙ sym o))
+
+-- whether a track wakes
+pub wakes-root : (p : Plan) (to : List ℕ) (ms : List Bool) (t h : ℕ) → h ≡ hostWord p t → h ≡ noState → false ≡ wakesAt p to ms (host p t)
+unfolding wakesAt
+wakes-root p to ms t h e z = rw (Rattle.plan.proofs.Hosting.host-none p t (sym e ∙ z), wakesAt)
+
+module _ (p : Plan) (to : List ℕ) (ms : List Bool) (t h u : ℕ) (e : h ≡ hostWord p t) (n : h ≡ noState → ⊥) (o : u ≡ owner p h) where
+  at-host : wakesAt p to ms (host p t) ≡ wakesIn p (firstState p u) (optional (getD to u 0)) h (getD ms u false)
+  unfolding wakesAt
+  at-host = rw (host-is p t h e n, wakesAt, ← o)
+
+  pub wakes-entered : (getD to u 0 ≡ noState → ⊥) → eqb h (getD to u 0) ≡ wakesAt p to ms (host p t)
+  unfolding optional wakesIn
+  wakes-entered z = sym at-host′
+    where
+      at-host′ : wakesAt p to ms (host p t) ≡ eqb h (getD to u 0)
+      at-host′ = at-host ∙ (rw (ne-eqb (getD to u 0) noState z, wakesIn))
+
+  none-entered : getD to u 0 ≡ noState → wakesAt p to ms (host p t) ≡ (getD ms u false && eqb h (firstState p u))
+  unfolding optional wakesIn
+  none-entered z = at-host ∙ (rw (eq-eqb (getD to u 0) noState z, wakesIn))
+
+  pub wakes-not : getD to u 0 ≡ noState → getD ms u false ≡ false → false ≡ wakesAt p to ms (host p t)
+  wakes-not z w = sym (none-entered z ∙ (rw w))
+
+  pub wakes-first : (f : ℕ) → getD to u 0 ≡ noState → getD ms u false ≡ true → f ≡ firstState p u → eqb h f ≡ wakesAt p to ms (host p t)
+  wakes-first f z w g = sym (none-entered z ∙ (rw (w, g)))
+
+-- loops that count up
+pub wake-more : (p : Plan) (to : List ℕ) (ms : List Bool) (t : ℕ) (r : Bool) → ms ≡ wakeMarks p to t → r ≡ wakesAt p to ms (host p t)
+    → set ms t r ≡ wakeMarks p to (t + 1)
+unfolding wakeMarks
+wake-more p to ms t r e f = rw (add-one, ← e, f)
+
+pub open-more : (p : Plan) (l : Ledger) (ms r : List Bool) (t : ℕ) → ms ≡ openMarks p l t → r ≡ openMark p l t ms → r ≡ openMarks p l (t + 1)
+unfolding openMarks
+open-more p l ms r t e f = rw (add-one, ← e) f
