@@ -42,7 +42,7 @@ module _ (p : Plan) (l : Ledger) where
   forwardMarks opens (suc t) = set (forwardMarks opens t) t (isForward (l t .mode) && getD opens t false)
 
   unfoldable pub closeMark : List ℕ → ℕ → List Bool → List Bool
-  closeMark ts t ms = cond (isAwake (l t .mode) && not (isFinal p (stateAfter ts t))) (setHost (host p t) false ms) ms
+  closeMark ts t ms = cond (isAwake (l t .mode) && not (isFinal p (stateAfter ts t))) (setHost p (host p t) false ms) ms
 
   unfoldable pub closeMarks : List ℕ → List Bool → ℕ → List Bool
   closeMarks ts ms zero = ms
