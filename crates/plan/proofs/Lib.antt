@@ -2,3 +2,6 @@
 pub mod FieldLaws
 pub mod Searches
 pub mod Hosting
+pub mod KindTables
+pub mod RecordTable
+pub mod Scanning

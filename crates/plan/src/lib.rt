@@ -1,2 +1,3 @@
 // The plan reader.
 pub mod fields;
+pub mod records;
