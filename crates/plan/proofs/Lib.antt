@@ -2,6 +2,7 @@
 pub mod FieldLaws
 pub mod Searches
 pub mod Hosting
+pub mod Judging
 pub mod KindTables
 pub mod RecordTable
 pub mod Scanning

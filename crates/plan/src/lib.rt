@@ -1,3 +1,4 @@
 // The plan reader.
 pub mod fields;
 pub mod records;
+pub mod refusals;
