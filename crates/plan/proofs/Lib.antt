@@ -1,6 +1,7 @@
 -- Laws of the plan reader.
 pub mod FieldLaws
 pub mod Searches
+pub mod HeightLaws
 pub mod Hosting
 pub mod Judging
 pub mod KindTables

@@ -1,4 +1,5 @@
 // The plan reader.
 pub mod fields;
+pub mod heights;
 pub mod records;
 pub mod refusals;
