@@ -5,5 +5,6 @@ pub mod HeightLaws
 pub mod Hosting
 pub mod Judging
 pub mod KindTables
+pub mod Reader
 pub mod RecordTable
 pub mod Scanning
