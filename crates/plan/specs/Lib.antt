@@ -1,2 +1,3 @@
 -- What the reader's contracts speak of beside the rules.
 pub mod Holds
+pub mod Scanned

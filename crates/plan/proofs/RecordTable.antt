@@ -1,0 +1,68 @@
+-- The table of refusals 2 to 7 over the numbers that a record's judging reads: which of them is the first that applies. Assumes nothing.
+use mathlib.Core.Path.{_≡_}
+use mathlib.Core.Bool.{Bool, true, false, cond, not, _&&_, _||_}
+use mathlib.Core.List.{List, [], _∷_}
+use Prim.Native.Nat.{ℕ, _+_, _<_, _≤_}
+use native.Mathlib.Omega.{arith}
+use lib.ListN.{length}
+use lib.Dec.{eqb, ltb, leb}
+use borrow.Author.Tests.{lt-ltb, le-ltb, le-leb, lt-leb, eq-eqb, ne-eqb}
+use Rattle.rules.specs.declared.Counts.{Counts}
+use Rattle.rules.specs.Fold.{firstRefusal}
+use Rattle.rules.specs.Record.{sizeAt, kindAt, lengthOf, mostOf, countOf, endKind, judgeRecord}
+
+module _ (n at last kind len size most count : ℕ) where
+  unfoldable pub table : ℕ
+  table =
+      firstRefusal
+      ((2, ltb n (at + 4))
+      ∷ (3, eqb len 0 || ltb kind last)
+      ∷ (4, not (eqb size len))
+      ∷ (5, ltb n (at + size))
+      ∷ (6, leb most count)
+      ∷ (7, eqb kind endKind && ltb (at + size) n)
+      ∷ [])
+
+  pub table-2 : n < at + 4 → table ≡ 2
+  unfolding table firstRefusal
+  table-2 h = rw (lt-ltb n (at + 4) h)
+
+  pub table-3 : (at + 4 ≤ n) × (len ≡ 0) → table ≡ 3
+  unfolding table firstRefusal
+  table-3 h = rw (le-ltb n (at + 4) (h .0), eq-eqb len 0 (h .1))
+
+  pub table-3-falls : (at + 4 ≤ n) × (0 < len) × (kind < last) → table ≡ 3
+  unfolding table firstRefusal
+  table-3-falls h = rw (le-ltb n (at + 4) (h .0), ne-eqb len 0 (λ (e : len ≡ 0). omega arith), lt-ltb kind last (h .2))
+
+  module _ (head : at + 4 ≤ n) (real : 0 < len) (rising : last ≤ kind) where
+    known : (b : Bool) → eqb size len ≡ b → table ≡ cond (not b) 4 (cond (ltb n (at + size)) 5 (cond (leb most count) 6 (cond (eqb kind endKind && ltb (at + size) n) 7 0)))
+    unfolding table firstRefusal
+    known b e = rw (le-ltb n (at + 4) head, ne-eqb len 0 (λ (e : len ≡ 0). omega arith), le-ltb kind last rising, e)
+
+    pub table-4 : (size ≡ len → ⊥) → table ≡ 4
+    table-4 h = known false (ne-eqb size len h)
+
+    module _ (e : size ≡ len) where
+      pub table-5 : n < at + size → table ≡ 5
+      table-5 h = rw (known true (eq-eqb size len e), lt-ltb n (at + size) h)
+
+      module _ (fits : at + size ≤ n) where
+        pub table-6 : most ≤ count → table ≡ 6
+        table-6 h = rw (known true (eq-eqb size len e), le-ltb n (at + size) fits, le-leb most count h)
+
+        pub table-0 : count < most → (kind ≡ endKind → ⊥) → table ≡ 0
+        table-0 h k = rw (known true (eq-eqb size len e), le-ltb n (at + size) fits, lt-leb most count h, ne-eqb kind endKind k)
+
+        pub table-7 : count < most → kind ≡ endKind → at + size < n → table ≡ 7
+        table-7 h k l = rw (known true (eq-eqb size len e), le-ltb n (at + size) fits, lt-leb most count h, eq-eqb kind endKind k, lt-ltb (at + size) n l)
+
+        pub table-0-end : count < most → kind ≡ endKind → n ≤ at + size → table ≡ 0
+        table-0-end h k l = rw (known true (eq-eqb size len e), le-ltb n (at + size) fits, lt-leb most count h, eq-eqb kind endKind k, le-ltb (at + size) n l)
+
+-- the table of a record, by the numbers read so far
+pub in-words : (bs : List ℕ) (at last : ℕ) (c : Counts) (kind len size most count : ℕ)
+    → kind ≡ kindAt bs at → len ≡ lengthOf kind → size ≡ sizeAt bs at → most ≡ mostOf kind → count ≡ countOf c kind
+    → judgeRecord bs at last c ≡ table (length bs) at last kind len size most count
+unfolding judgeRecord table
+in-words bs at last c kind len size most count ek el es em ec = rw (el, em, ec, es, ek)

@@ -1,0 +1,160 @@
+-- Each return knows that the tests before it in the table of refusals failed and that its own holds. Assumes nothing.
+use mathlib.Core.Path.{sym, _∙_}
+use Rattle.plan.proofs.Reader.{in-order}
+use borrow.Author.Needs.{needs}
+use Rattle.plan.proofs.judge_plan.Statement.{statement}
+use Rattle.plan.proofs.judge_plan.Tie as tie
+
+no-track-requires : tie.Need-no-track-requires
+no-track-requires c κs = search needs
+
+returns : tie.Need-returns
+returns c =
+    sym (in-order _ _ ∙ rw (
+    sym (c .before .no-track .ensures) ∙ c .if1 .taken))
+
+some-bad-state-requires : tie.Need-some-bad-state-requires
+some-bad-state-requires c κs = search needs
+
+returns-2 : tie.Need-returns-2
+returns-2 c =
+    sym (in-order _ _ ∙ rw (
+      sym (c .before .before .before .no-track .ensures) ∙ c .before .before .if1 .left,
+      sym (c .before .some-bad-state .ensures) ∙ c .if2 .taken,
+    ))
+
+some-bad-host-requires : tie.Need-some-bad-host-requires
+some-bad-host-requires c κs = search needs
+
+returns-3 : tie.Need-returns-3
+returns-3 c =
+    sym (in-order _ _ ∙ rw (
+      sym (c .before .before .before .before .before .no-track .ensures) ∙ c .before .before .before .before .if1 .left,
+      sym (c .before .before .before .some-bad-state .ensures) ∙ c .before .before .if2 .left,
+      sym (c .before .some-bad-host .ensures) ∙ c .if3 .taken,
+    ))
+
+some-bad-first-requires : tie.Need-some-bad-first-requires
+some-bad-first-requires c κs = search needs
+
+returns-4 : tie.Need-returns-4
+returns-4 c =
+    sym (in-order _ _ ∙ rw (
+      sym (c .before .before .before .before .before .before .before .no-track .ensures) ∙ c .before .before .before .before .before .before .if1 .left,
+      sym (c .before .before .before .before .before .some-bad-state .ensures) ∙ c .before .before .before .before .if2 .left,
+      sym (c .before .before .before .some-bad-host .ensures) ∙ c .before .before .if3 .left,
+      sym (c .before .some-bad-first .ensures) ∙ c .if4 .taken,
+    ))
+
+some-bad-hosting-requires : tie.Need-some-bad-hosting-requires
+some-bad-hosting-requires c κs = search needs
+
+returns-5 : tie.Need-returns-5
+returns-5 c =
+    sym (in-order _ _ ∙ rw (
+      sym (c .before .before .before .before .before .before .before .before .before .no-track .ensures) ∙ c .before .before .before .before .before .before .before .before .if1 .left,
+      sym (c .before .before .before .before .before .before .before .some-bad-state .ensures) ∙ c .before .before .before .before .before .before .if2 .left,
+      sym (c .before .before .before .before .before .some-bad-host .ensures) ∙ c .before .before .before .before .if3 .left,
+      sym (c .before .before .before .some-bad-first .ensures) ∙ c .before .before .if4 .left,
+      sym (c .before .some-bad-hosting .ensures) ∙ c .if5 .taken,
+    ))
+
+some-bad-transition-requires : tie.Need-some-bad-transition-requires
+some-bad-transition-requires c κs = search needs
+
+returns-6 : tie.Need-returns-6
+returns-6 c =
+    sym (in-order _ _ ∙ rw (
+      sym (c .before .before .before .before .before .before .before .before .before .before .before .no-track .ensures) ∙ c .before .before .before .before .before .before .before .before .before .before .if1 .left,
+      sym (c .before .before .before .before .before .before .before .before .before .some-bad-state .ensures) ∙ c .before .before .before .before .before .before .before .before .if2 .left,
+      sym (c .before .before .before .before .before .before .before .some-bad-host .ensures) ∙ c .before .before .before .before .before .before .if3 .left,
+      sym (c .before .before .before .before .before .some-bad-first .ensures) ∙ c .before .before .before .before .if4 .left,
+      sym (c .before .before .before .some-bad-hosting .ensures) ∙ c .before .before .if5 .left,
+      sym (c .before .some-bad-transition .ensures) ∙ c .if6 .taken,
+    ))
+
+some-bad-deviation-requires : tie.Need-some-bad-deviation-requires
+some-bad-deviation-requires c κs = (search needs, sym (c .before .before .before .before .before .before .before .before .before .some-bad-state .ensures) ∙ c .before .before .before .before .before .before .before .before .if2 .left, sym (c .before .some-bad-transition .ensures) ∙ c .if6 .left)
+
+returns-7 : tie.Need-returns-7
+returns-7 c =
+    sym (in-order _ _ ∙ rw (
+      sym (c .before .before .before .before .before .before .before .before .before .before .before .before .before .no-track .ensures) ∙ c .before .before .before .before .before .before .before .before .before .before .before .before .if1 .left,
+      sym (c .before .before .before .before .before .before .before .before .before .before .before .some-bad-state .ensures) ∙ c .before .before .before .before .before .before .before .before .before .before .if2 .left,
+      sym (c .before .before .before .before .before .before .before .before .before .some-bad-host .ensures) ∙ c .before .before .before .before .before .before .before .before .if3 .left,
+      sym (c .before .before .before .before .before .before .before .some-bad-first .ensures) ∙ c .before .before .before .before .before .before .if4 .left,
+      sym (c .before .before .before .before .before .some-bad-hosting .ensures) ∙ c .before .before .before .before .if5 .left,
+      sym (c .before .before .before .some-bad-transition .ensures) ∙ c .before .before .if6 .left,
+      sym (c .before .some-bad-deviation .ensures) ∙ c .if7 .taken,
+    ))
+
+some-repeated-event-requires : tie.Need-some-repeated-event-requires
+some-repeated-event-requires c κs = search needs
+
+returns-8 : tie.Need-returns-8
+returns-8 c =
+    sym (in-order _ _ ∙ rw (
+      sym (c .before .before .before .before .before .before .before .before .before .before .before .before .before .before .before .no-track .ensures) ∙ c .before .before .before .before .before .before .before .before .before .before .before .before .before .before .if1 .left,
+      sym (c .before .before .before .before .before .before .before .before .before .before .before .before .before .some-bad-state .ensures) ∙ c .before .before .before .before .before .before .before .before .before .before .before .before .if2 .left,
+      sym (c .before .before .before .before .before .before .before .before .before .before .before .some-bad-host .ensures) ∙ c .before .before .before .before .before .before .before .before .before .before .if3 .left,
+      sym (c .before .before .before .before .before .before .before .before .before .some-bad-first .ensures) ∙ c .before .before .before .before .before .before .before .before .if4 .left,
+      sym (c .before .before .before .before .before .before .before .some-bad-hosting .ensures) ∙ c .before .before .before .before .before .before .if5 .left,
+      sym (c .before .before .before .before .before .some-bad-transition .ensures) ∙ c .before .before .before .before .if6 .left,
+      sym (c .before .before .before .some-bad-deviation .ensures) ∙ c .before .before .if7 .left,
+      sym (c .before .some-repeated-event .ensures) ∙ c .if8 .taken,
+    ))
+
+some-too-high-requires : tie.Need-some-too-high-requires
+some-too-high-requires c κs = search needs
+
+returns-9 : tie.Need-returns-9
+returns-9 c =
+    sym (in-order _ _ ∙ rw (
+      sym (c .before .before .before .before .before .before .before .before .before .before .before .before .before .before .before .before .before .no-track .ensures) ∙ c .before .before .before .before .before .before .before .before .before .before .before .before .before .before .before .before .if1 .left,
+      sym (c .before .before .before .before .before .before .before .before .before .before .before .before .before .before .before .some-bad-state .ensures) ∙ c .before .before .before .before .before .before .before .before .before .before .before .before .before .before .if2 .left,
+      sym (c .before .before .before .before .before .before .before .before .before .before .before .before .before .some-bad-host .ensures) ∙ c .before .before .before .before .before .before .before .before .before .before .before .before .if3 .left,
+      sym (c .before .before .before .before .before .before .before .before .before .before .before .some-bad-first .ensures) ∙ c .before .before .before .before .before .before .before .before .before .before .if4 .left,
+      sym (c .before .before .before .before .before .before .before .before .before .some-bad-hosting .ensures) ∙ c .before .before .before .before .before .before .before .before .if5 .left,
+      sym (c .before .before .before .before .before .before .before .some-bad-transition .ensures) ∙ c .before .before .before .before .before .before .if6 .left,
+      sym (c .before .before .before .before .before .some-bad-deviation .ensures) ∙ c .before .before .before .before .if7 .left,
+      sym (c .before .before .before .some-repeated-event .ensures) ∙ c .before .before .if8 .left,
+      sym (c .before .some-too-high .ensures) ∙ c .if9 .taken,
+    ))
+
+returns-10 : tie.Need-returns-10
+returns-10 c =
+    sym (in-order _ _ ∙ rw (
+      sym (c .before .before .before .before .before .before .before .before .before .before .before .before .before .before .before .before .before .no-track .ensures) ∙ c .before .before .before .before .before .before .before .before .before .before .before .before .before .before .before .before .if1 .left,
+      sym (c .before .before .before .before .before .before .before .before .before .before .before .before .before .before .before .some-bad-state .ensures) ∙ c .before .before .before .before .before .before .before .before .before .before .before .before .before .before .if2 .left,
+      sym (c .before .before .before .before .before .before .before .before .before .before .before .before .before .some-bad-host .ensures) ∙ c .before .before .before .before .before .before .before .before .before .before .before .before .if3 .left,
+      sym (c .before .before .before .before .before .before .before .before .before .before .before .some-bad-first .ensures) ∙ c .before .before .before .before .before .before .before .before .before .before .if4 .left,
+      sym (c .before .before .before .before .before .before .before .before .before .some-bad-hosting .ensures) ∙ c .before .before .before .before .before .before .before .before .if5 .left,
+      sym (c .before .before .before .before .before .before .before .some-bad-transition .ensures) ∙ c .before .before .before .before .before .before .if6 .left,
+      sym (c .before .before .before .before .before .some-bad-deviation .ensures) ∙ c .before .before .before .before .if7 .left,
+      sym (c .before .before .before .some-repeated-event .ensures) ∙ c .before .before .if8 .left,
+      sym (c .before .some-too-high .ensures) ∙ c .if9 .left,
+    ))
+
+pub judge-plan-spec : {M : Type 1} → statement M
+judge-plan-spec =
+    tie.close
+    (tie.spec
+    no-track-requires
+    returns
+    some-bad-state-requires
+    returns-2
+    some-bad-host-requires
+    returns-3
+    some-bad-first-requires
+    returns-4
+    some-bad-hosting-requires
+    returns-5
+    some-bad-transition-requires
+    returns-6
+    some-bad-deviation-requires
+    returns-7
+    some-repeated-event-requires
+    returns-8
+    some-too-high-requires
+    returns-9
+    returns-10)
