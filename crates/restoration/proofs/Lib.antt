@@ -1,0 +1,8 @@
+-- What the rules' calls keep, and what they give back.
+pub mod Composition
+pub mod Modes
+pub mod Nesting
+pub mod Seams
+pub mod Entering
+pub mod Moving
+pub mod Closing
