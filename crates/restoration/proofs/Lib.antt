@@ -6,3 +6,6 @@ pub mod Seams
 pub mod Entering
 pub mod Moving
 pub mod Closing
+pub mod Leaving
+pub mod Entries
+pub mod Firing
