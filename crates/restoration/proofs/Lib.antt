@@ -9,3 +9,5 @@ pub mod Closing
 pub mod Leaving
 pub mod Entries
 pub mod Firing
+pub mod Soundness
+pub mod SoundBegin
