@@ -11,3 +11,4 @@ pub mod Entries
 pub mod Firing
 pub mod Soundness
 pub mod SoundBegin
+pub mod SoundEvent
