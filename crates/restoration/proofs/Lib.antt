@@ -12,3 +12,5 @@ pub mod Firing
 pub mod Soundness
 pub mod SoundBegin
 pub mod SoundEvent
+pub mod SoundRetraction
+pub mod SoundKept
