@@ -14,3 +14,4 @@ pub mod SoundBegin
 pub mod SoundEvent
 pub mod SoundRetraction
 pub mod SoundKept
+pub mod SoundWords

@@ -2,33 +2,25 @@
 use mathlib.Core.Path.{_≡_, refl, sym, ap, _∙_, subst}
 use mathlib.Core.Logic.{_⊎_, inl, inr}
 use mathlib.Core.Bool.{Bool, true, false, not, _&&_, _||_}
-use mathlib.Core.List.{List, [], _∷_, _++_}
-use Prim.Native.Nat.{ℕ, zero, suc, _≤_}
-use native.Mathlib.Omega.{arith}
-use lib.ListN.{length}
-use lib.Dec.{ltb}
-use borrow.Author.Tests.{not-false, ltb-false}
-use Rattle.rules.specs.declared.Counts.{Counts}
-use Rattle.rules.specs.Fold.{firstRefusal}
-use Rattle.rules.specs.Plan.{Plan, trackCount, planOf}
-use Rattle.rules.specs.Acceptance.{accepted, readPlan}
-use Rattle.rules.specs.Layout.{wordCount}
+use mathlib.Core.List.{List, []}
+use Prim.Native.Nat.{ℕ, _≤_}
+use Rattle.rules.specs.Plan.{Plan, trackCount}
 use Rattle.rules.specs.Ledger.{Configuration, Ledger, isAwake, sleeping, ledgerAt, written}
 use Rattle.rules.specs.Scope.{isOver}
 use Rattle.rules.specs.Opening.{begun}
-use Rattle.rules.specs.Event.{moved, closed, finished, afterEvent}
+use Rattle.rules.specs.Event.{moved, closed, afterEvent}
 use Rattle.rules.specs.Signal.{afterSignal}
 use Rattle.rules.specs.Fire.{afterFire}
 use Rattle.rules.specs.Soundness.{areTidy, isLive, isSound}
-use Rattle.rules.specs.Call.{Answer, refusal, done, Outcome, Call, event, signal, fire, refusedOr, underPlan, tooShort, ledgerRefusals, callRefusals, callRefusal, figures, after, next, callOutcome, beginOutcome}
-use Rattle.rules.proofs.Tests.{look, clash, and-true, and-both, or-true, or-right, passed}
-use Rattle.rules.proofs.Folds.{every-at, every-of}
-use Rattle.rules.proofs.Acceptance.{Accepted, accepts}
+use Rattle.rules.specs.Call.{Call, event, signal, fire, callRefusal, after}
+use Rattle.rules.proofs.Tests.{and-both, or-right}
+use Rattle.rules.proofs.Folds.{every-of}
+use Rattle.rules.proofs.Acceptance.{Accepted}
 use Rattle.rules.proofs.Closing.{closed-done}
-use Rattle.rules.proofs.Stored.{Storable, read-written, tidy-written, storable-read}
+use Rattle.rules.proofs.Stored.{Storable, read-written, tidy-written}
 use Rattle.restoration.proofs.Seams.{finish-cases, event-accepted, fire-accepted}
 use Rattle.restoration.proofs.Closing.{sleeping-asleep}
-use Rattle.restoration.proofs.Soundness.{Formed, Sound, sound-of, sound-live, formed-storable, sleeping-held, sleeping-few}
+use Rattle.restoration.proofs.Soundness.{Sound, sound-of, sound-live, formed-storable, sleeping-held, sleeping-few}
 use Rattle.restoration.proofs.SoundBegin.{begun-sound}
 use Rattle.restoration.proofs.SoundEvent.{event-formed, event-roots, event-abandoning}
 use Rattle.restoration.proofs.SoundRetraction.{signal-sound, fire-sound}
