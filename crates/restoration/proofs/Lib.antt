@@ -15,3 +15,4 @@ pub mod SoundEvent
 pub mod SoundRetraction
 pub mod SoundKept
 pub mod SoundWords
+pub mod Progress
