@@ -16,3 +16,4 @@ pub mod SoundRetraction
 pub mod SoundKept
 pub mod SoundWords
 pub mod Progress
+pub mod Bound

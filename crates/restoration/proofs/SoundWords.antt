@@ -101,7 +101,7 @@ module _ (limit : ℕ) (bs : List ℕ) (k : Counts) (read : readPlan bs ≡ acce
             | inr b ↦ st .beyond t (ltb-false t n b)
           ]
 
-  abbrev theLedger : List ℕ → Ledger
+  abbrev pub theLedger : List ℕ → Ledger
   theLedger ws = ledgerAt limit ws n
 
   -- the refusals of a call whose words are sound are those by its ledger
@@ -110,7 +110,7 @@ module _ (limit : ℕ) (bs : List ℕ) (k : Counts) (read : readPlan bs ≡ acce
   unfolding ledgerRefusals firstRefusal tooShort callRefusal
   refusals ws c b s = rw (le-ltb (length ws) (wordCount limit n) b, s)
 
-  outcome : (ws : List ℕ) (c : Call) (r : ℕ)
+  pub outcome : (ws : List ℕ) (c : Call) (r : ℕ)
       → firstRefusal (ledgerRefusals limit thePlan ws ++ callRefusals limit thePlan (theLedger ws) c) ≡ r
       → callOutcome limit bs ws c
       ≡ refusedOr ws
@@ -181,7 +181,7 @@ module _ (limit : ℕ) (bs : List ℕ) (k : Counts) (read : readPlan bs ≡ acce
       let q : callOutcome limit bs ws c .answer ≡ refusal (suc r) = ap (λ o. o .answer) (outcome ws c (suc r) e) in
       let y : _≡_ {A = ℕ} 0 1 = cc in absurd (omega arith)
 
-  passed-ledger : (ws : List ℕ) (c : Call)
+  pub passed-ledger : (ws : List ℕ) (c : Call)
       → firstRefusal (ledgerRefusals limit thePlan ws ++ callRefusals limit thePlan (theLedger ws) c) ≡ 0
       → (tooShort limit thePlan ws ≡ false) × (isSound limit thePlan ws ≡ true)
   unfolding ledgerRefusals firstRefusal
