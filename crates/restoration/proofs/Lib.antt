@@ -17,3 +17,4 @@ pub mod SoundKept
 pub mod SoundWords
 pub mod Progress
 pub mod Bound
+pub mod Invariant
