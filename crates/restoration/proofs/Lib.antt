@@ -18,3 +18,4 @@ pub mod SoundWords
 pub mod Progress
 pub mod Bound
 pub mod Invariant
+pub mod InvariantMoving
