@@ -19,3 +19,4 @@ pub mod Progress
 pub mod Bound
 pub mod Invariant
 pub mod InvariantMoving
+pub mod InvariantClosing
