@@ -20,3 +20,4 @@ pub mod Bound
 pub mod Invariant
 pub mod InvariantMoving
 pub mod InvariantClosing
+pub mod InvariantRetraction
