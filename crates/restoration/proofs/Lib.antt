@@ -21,3 +21,4 @@ pub mod Invariant
 pub mod InvariantMoving
 pub mod InvariantClosing
 pub mod InvariantRetraction
+pub mod Restoration
