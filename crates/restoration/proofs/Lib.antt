@@ -22,3 +22,5 @@ pub mod InvariantMoving
 pub mod InvariantClosing
 pub mod InvariantRetraction
 pub mod Restoration
+pub mod Restored
+pub mod Property3
