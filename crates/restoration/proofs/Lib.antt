@@ -24,3 +24,5 @@ pub mod InvariantRetraction
 pub mod Restoration
 pub mod Restored
 pub mod Property3
+pub mod ScopeRuns
+pub mod Potential

@@ -126,7 +126,7 @@ module _ (limit : ℕ) (p : Plan) (ok : Accepted p) (l : Ledger) (s : Sound limi
         go (stays k w q) = ap (λ c. isAwake (c .mode)) q ∙ removed-awake p l t u ∙ a
 
     -- a hosted track that was awake keeps mode and state
-    hosted-kept : (u h : ℕ) → host p u ≡ some h → Awake l u → (X u .mode ≡ l u .mode) × (X u .state ≡ l u .state)
+    pub hosted-kept : (u h : ℕ) → host p u ≡ some h → Awake l u → (X u .mode ≡ l u .mode) × (X u .state ≡ l u .state)
     hosted-kept u h e a =
         let q = fired-still p l t ok n good free fired-awake u a (deviates-hosted p l t ok n good free fired-awake u h e) in
         (ap (λ (c : Configuration). c .mode) q ∙ removed-mode p l t u, ap (λ (c : Configuration). c .state) q ∙ removed-state p l t u)
