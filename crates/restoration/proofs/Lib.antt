@@ -26,3 +26,4 @@ pub mod Restored
 pub mod Property3
 pub mod ScopeRuns
 pub mod Potential
+pub mod SampleBooks

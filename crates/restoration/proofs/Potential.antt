@@ -157,3 +157,42 @@ module _ (limit : ℕ) (p : Plan) (ok : Accepted p) (s t : ℕ) (e : host p t �
         ∙ moves-weight l k (a .event)
         ∙ ap φ (sym (moved-state limit p ok s t e l k (a .event) (open-awake limit p ok s t e l k (running-open limit p ok r)))),
       )
+
+-- changes of tracks that are not inside a scope do not stand in its runs
+module _ (limit : ℕ) (p : Plan) (ok : Accepted p) (s : ℕ) (v : ℕ → ℕ)
+    (nothing : (x : ℕ) → x < transitionCount p → isInside p s (mover p x) ≡ true → v x ≡ 0) where
+  outside-moves : (l : Ledger) → Sound limit p l → (d : ℕ) → weight v (movesOf p (isInside p s) l d) ≡ 0
+  unfolding weight taken
+  outside-moves l k d =
+      ap (weight v) (moves-join p (isInside p s) l d)
+      ∙ weight-none v (trackCount p) (λ u. when (isInside p s u) (taken (move p l d u)))
+      (λ u b.
+      elim (look (isInside p s u)) [
+        | inr i ↦ rw i
+        | inl i ↦
+            elim (look-option (move p l d u)) [
+              | inl h ↦ rw (i, h)
+              | inr h ↦
+                  let x = h .0 in
+                  let q = nothing x (move-takes p l d u x (h .1) .real) (ap (isInside p s) (mover-is p l d ok (k .formed .nested) u x (h .1)) ∙ i) in
+                  rw (i, h .1) (omega arith)
+            ]
+      ])
+
+  run-sound : {l : Ledger} {w : Word} → Running p limit s l w → Sound limit p l
+  run-sound {l} r = open-sound limit p ok l s (reached-kept limit p ok (running-reached limit p ok r)) (running-open limit p ok r)
+
+  outside-running : {l : Ledger} {w : Word} → Running p limit s l w → weight v w ≡ 0
+  unfolding weight
+  outside-running (by-begin o) = refl
+  outside-running (by-call r c f o) = refl
+  outside-running (over-event {l = l} {w = w} r a h o) =
+      weight-append v w (movesOf p (isInside p s) l (a .event))
+      ∙ (let i = outside-running r in let j = outside-moves l (run-sound r) (a .event) in omega arith)
+  outside-running (over-signal r a h f o) = outside-running r
+  outside-running (over-fire r a h o) = outside-running r
+
+  pub outside-weight : {w : Word} → Finished p limit s w → weight v w ≡ 0
+  outside-weight (run.closed {l = l} {w = w} r a h c) =
+      weight-append v w (movesOf p (isInside p s) l (a .event))
+      ∙ (let i = outside-running r in let j = outside-moves l (run-sound r) (a .event) in omega arith)
