@@ -27,3 +27,4 @@ pub mod Property3
 pub mod ScopeRuns
 pub mod Potential
 pub mod SampleBooks
+pub mod SampleRun

@@ -66,10 +66,10 @@ raised x b = record { root = b .root + rootAdds x; left = b .left + leftAdds x; 
 unfoldable pub lowered : ℕ → Account → Account
 lowered c b = record { root = b .root - rootTakes c; left = b .left - leftTakes c; right = b .right - rightTakes c }
 
-same : (b : Account) (r l t : ℕ) → r ≡ b .root → l ≡ b .left → t ≡ b .right → _≡_ {A = Account} (record { root = r; left = l; right = t }) b
+pub same : (b : Account) (r l t : ℕ) → r ≡ b .root → l ≡ b .left → t ≡ b .right → _≡_ {A = Account} (record { root = r; left = l; right = t }) b
 same b r l t e f g = λ i. record { root = e i; left = f i; right = g i }
 
-five : (C : ℕ → Type 0) → C 0 → C 1 → C 2 → C 3 → C 4 → (x : ℕ) → x < transitionCount P → C x
+pub five : (C : ℕ → Type 0) → C 0 → C 1 → C 2 → C 3 → C 4 → (x : ℕ) → x < transitionCount P → C x
 unfolding computing
 five C a b c d e zero l = a
 five C a b c d e (suc zero) l = b
@@ -91,7 +91,7 @@ eight C a b c d e f g h (suc (suc (suc (suc (suc (suc (suc zero))))))) l = h
 eight C a b c d e f g h (suc (suc (suc (suc (suc (suc (suc (suc q)))))))) l = absurd (omega arith)
 
 -- each transition's code takes off what it added
-undo-P : (x : ℕ) → x < transitionCount P → (b : Account) → lowered (transition P x .code) (raised x b) ≡ b
+pub undo-P : (x : ℕ) → x < transitionCount P → (b : Account) → lowered (transition P x .code) (raised x b) ≡ b
 unfolding computing raised lowered
 undo-P x l b =
     five (λ x. lowered (transition P x .code) (raised x b) ≡ b) (back 1 0 0) (back 0 0 0) (back 0 7 0) (back 0 0 2) (back 0 0 5) x l
@@ -117,9 +117,6 @@ leftHeight q = getD (0 ∷ 0 ∷ 0 ∷ 0 ∷ 7 ∷ []) q 0
 
 abbrev rightHeight : ℕ → ℕ
 rightHeight q = getD (0 ∷ 0 ∷ 0 ∷ 0 ∷ 0 ∷ 0 ∷ 2 ∷ 7 ∷ []) q 0
-
-none-of : {A : Type 0} {m n : ℕ} → m ≡ n → (m ≡ n → ⊥) → A
-none-of e f = absurd (f e)
 
 left-climbs : Potential P 1 leftAdds leftHeight
 unfolding computing
@@ -169,7 +166,7 @@ right-final q o f =
     (λ o f. clash f refl) (λ o f. clash f refl) (λ o f. refl) q (state-of P 2 q o .0) o f
 
 -- state 1 alone hosts
-hosts-P : (t s : ℕ) → host P t ≡ some s → s ≡ 1
+pub hosts-P : (t s : ℕ) → host P t ≡ some s → s ≡ 1
 unfolding computing
 hosts-P zero s e = none-some refl e
 hosts-P (suc zero) s e = sym (cc)
@@ -185,7 +182,7 @@ module _ (limit : ℕ) where
       let (r, u, y, g) = finished-weight limit P ok-P 1 2 refl rightAdds rightHeight right-climbs f in
       (outside-weight limit P ok-P 1 rootAdds root-outside f, e ∙ left-final q o z, g ∙ right-final r u y)
 
-  undo-run-P : (s t : ℕ) → host P t ≡ some s → (w : List ℕ) → Finished P limit s w → (b : Account) → lowered (replacement P s) (act raised w b) ≡ b
+  pub undo-run-P : (s t : ℕ) → host P t ≡ some s → (w : List ℕ) → Finished P limit s w → (b : Account) → lowered (replacement P s) (act raised w b) ≡ b
   unfolding computing lowered
   undo-run-P s t e w f b =
       let q = hosts-P t s e in
