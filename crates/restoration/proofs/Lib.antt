@@ -28,3 +28,4 @@ pub mod ScopeRuns
 pub mod Potential
 pub mod SampleBooks
 pub mod SampleRun
+pub mod Counterexamples
