@@ -17,8 +17,8 @@ use Rattle.rules.specs.Acceptance.{accepted, readPlan}
 use Rattle.rules.specs.Layout.{entryLimit}
 use Rattle.rules.specs.Ledger.{Configuration, Ledger, isEmpty, sleeping}
 use Rattle.rules.specs.Opening.{enter}
-use Rattle.rules.specs.Signal.{turned, isAbandoned, abandoned, afterSignal}
-use Rattle.rules.specs.Fire.{mayFire, older, removed, deviatesTo, fired, afterFire}
+use Rattle.rules.specs.Signal.{turned, isAbandoned, abandoned}
+use Rattle.rules.specs.Fire.{mayFire, older, removed, deviatesTo, fired}
 use Rattle.rules.specs.Soundness.{isSound}
 use Rattle.rules.specs.Call.{Answer, refusal, done, Call, event, signal, fire, refusedOr, tooShort, ledgerRefusals, callRefusals, callRefusal, after, next, callOutcome}
 use Rattle.rules.specs.Transcript.{firingsOf, heldTotal}
@@ -26,7 +26,7 @@ use Rattle.rules.specs.ReferenceRun.{answersFrom}
 use Rattle.rules.proofs.Tests.{look, clash, and-true}
 use Rattle.rules.proofs.Acceptance.{Accepted, accepts}
 use Rattle.rules.proofs.Abandoning.{left-asleep, left-kept}
-use Rattle.restoration.proofs.Seams.{turned-held, over-refused, next-accepted, next-refused, fire-accepted, may-fire}
+use Rattle.restoration.proofs.Seams.{turned-held, work, settle-cases, over-refused, next-accepted, next-refused, fire-accepted, may-fire}
 use Rattle.restoration.proofs.Entries.{older-length, older-less}
 use Rattle.restoration.proofs.Entering.{Fate, enters, wakens, stays, fate, fresh-held}
 use Rattle.restoration.proofs.Firing.{fired-is, removed-here, removed-other}
@@ -83,14 +83,14 @@ module _ (p : Plan) (ok : Accepted p) (l : Ledger) where
       go (stays k w q) = rw q (omega arith)
 
 module _ (limit : ℕ) (p : Plan) (ok : Accepted p) (l : Ledger) where
-  signal-fewer : heldTotal p (afterSignal p l) ≤ heldTotal p l
-  unfolding heldTotal afterSignal
+  signal-fewer : heldTotal p (abandoned p (turned l)) ≤ heldTotal p l
+  unfolding heldTotal
   signal-fewer =
       sum-mono (trackCount p) (λ t. length (abandoned p (turned l) t .held)) (λ t. length (l t .held))
       (λ t. let a = abandoned-fewer p ok (turned l) t in let e = ap length (turned-held l t) in omega arith)
 
-  fire-fewer : (t : ℕ) → mayFire p l t ≡ true → heldTotal p (afterFire p l t) < heldTotal p l
-  unfolding heldTotal afterFire
+  fire-fewer : (t : ℕ) → mayFire p l t ≡ true → heldTotal p (abandoned p (fired p l t)) < heldTotal p l
+  unfolding heldTotal
   fire-fewer t m =
       let (b, u, e, f) = may-fire limit p l t m in
       sum-drop (trackCount p) (λ u. length (abandoned p (fired p l t) u .held)) (λ u. length (l u .held)) t b
@@ -102,6 +102,17 @@ module _ (limit : ℕ) (p : Plan) (ok : Accepted p) (l : Ledger) where
       let y = fired-fewer p ok l t t in
       let z : length (removed p l t t .held) ≡ length (older (l t .held)) = ap length (removed-here p l t t (eq-eqb t t refl)) in
       let w = older-less (l t .held) e in omega arith)
+
+  -- settling adds nothing
+  settled-fewer : (c : Call) → heldTotal p (after limit p l c) ≤ heldTotal p (work p l c)
+  unfolding heldTotal
+  settled-fewer c =
+      elim (settle-cases limit p l c) [
+        | inl q ↦ rw (q .0) (omega arith)
+        | inr o ↦
+            sum-mono (trackCount p) (λ t. length (after limit p l c t .held)) (λ t. length (work p l c t .held))
+            (λ t. rw (o t, sleeping-held) (omega arith))
+      ]
 
 -- Along a list of calls and its answers: the firings done, and whether an event was accepted; whether an event was accepted or a firing
 -- carried a deviation.
@@ -140,7 +151,7 @@ module _ (limit : ℕ) (bs : List ℕ) (k : Counts) (read : readPlan bs ≡ acce
   -- one call: what it fires, and what is held afterwards, is held before
   step : (ws : List ℕ) (l : Ledger) → Holds limit bs k read ws l → (c : Call) → isEventDone c (callOutcome limit bs ws c .answer) ≡ false
       → firingsOf c (callOutcome limit bs ws c .answer) + heldTotal p (next limit p l c) ≤ heldTotal p l
-  unfolding firingsOf isEventDone after
+  unfolding firingsOf isEventDone
   step ws l h c n = go (callRefusal limit p l c) refl
     where
       over : Kept limit p l → callRefusal limit p l c ≡ 0 → Sound limit p l
@@ -150,8 +161,10 @@ module _ (limit : ℕ) (bs : List ℕ) (k : Counts) (read : readPlan bs ≡ acce
       done-fewer : (d : Call) (fs : List ℕ) → isEventDone d (done fs) ≡ false → callRefusal limit p l d ≡ 0
           → firingsOf d (done fs) + heldTotal p (after limit p l d) ≤ heldTotal p l
       done-fewer (event a) fs e z = clash refl e
-      done-fewer (signal a) fs e z = let x = signal-fewer limit p ok l in omega arith
-      done-fewer (fire a) fs e z = let x = fire-fewer limit p ok l (a .track) (fire-accepted limit p l a z .1) in omega arith
+      done-fewer (signal a) fs e z = let x = signal-fewer limit p ok l in let y = settled-fewer limit p ok l (signal a) in omega arith
+      done-fewer (fire a) fs e z =
+          let x = fire-fewer limit p ok l (a .track) (fire-accepted limit p l a z .1) in
+          let y = settled-fewer limit p ok l (fire a) in omega arith
 
       go : (r : ℕ) → callRefusal limit p l c ≡ r
           → firingsOf c (callOutcome limit bs ws c .answer) + heldTotal p (next limit p l c) ≤ heldTotal p l

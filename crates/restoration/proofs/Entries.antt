@@ -18,7 +18,7 @@ use Rattle.rules.specs.Soundness.{everyHeld, goodDeviation}
 use Rattle.rules.proofs.Tests.{look, look-option, clash, and-true, or-right}
 use Rattle.rules.proofs.Acceptance.{Accepted, optional-some}
 use Rattle.rules.proofs.Scopes.{root-none}
-use Rattle.restoration.proofs.Seams.{install-none, install-some}
+use Rattle.restoration.proofs.Seams.{install-cases}
 
 module _ (p : Plan) where
   abbrev pub isReal : Entry → Bool
@@ -40,14 +40,18 @@ module _ (p : Plan) where
   unfolding everyHeld
   good-nil t = record { codes = refl; deviations = refl }
 
-  good-more : (t c d : ℕ) (es : List Entry) → eqb c 0 ≡ false → mayDeviate t d ≡ true → Good t es → Good t (record { code = c; deviation = d } ∷ es)
+  good-more : (t : ℕ) (x : Entry) (es : List Entry) → eqb (x .code) 0 ≡ false → mayDeviate t (x .deviation) ≡ true → Good t es → Good t (x ∷ es)
   unfolding everyHeld
-  good-more t c d es h k g = record { codes = rw h (g .codes); deviations = rw k (g .deviations) }
+  good-more t x es h k g = record { codes = rw h (g .codes); deviations = rw k (g .deviations) }
 
   pub good-install : (t c d : ℕ) (es : List Entry) → (eqb c 0 ≡ false → mayDeviate t d ≡ true) → Good t es → Good t (install c d es)
-  unfolding install
   good-install t c d es k g =
-      elim (look (eqb c 0)) [ inl h ↦ rw h g | inr h ↦ rw h (good-more t c d es h (k h) g) ]
+      elim (install-cases c d es) [
+        | inl h ↦ rw (h .1) g
+        | inr h ↦
+            rw (h .held)
+            (good-more t (h .entry) es (ap (λ (y : ℕ). eqb y 0) (h .code) ∙ h .real) (ap (mayDeviate t) (h .deviation) ∙ k (h .real)) g)
+      ]
 
   pub good-older : (t : ℕ) (es : List Entry) → Good t es → Good t (older es)
   unfolding older everyHeld
@@ -100,8 +104,16 @@ module _ (p : Plan) where
 
 -- how many entries
 pub install-length : (c d : ℕ) (es : List Entry) → length (install c d es) ≤ suc (length es)
-unfolding install
-install-length c d es = elim (look (eqb c 0)) [ inl h ↦ rw h (omega arith) | inr h ↦ rw h (omega arith) ]
+install-length c d es =
+    elim (install-cases c d es) [ inl h ↦ rw (h .1) (omega arith) | inr h ↦ rw (h .held) (omega arith) ]
+
+-- an entry more fits where there is room for it
+pub install-fits : (limit c d : ℕ) (es : List Entry) → length es ≤ limit → (eqb c 0 ≡ false → length es < limit) → length (install c d es) ≤ limit
+install-fits limit c d es f r =
+    elim (install-cases c d es) [
+      | inl h ↦ rw (h .1) f
+      | inr h ↦ let a = install-length c d es in let b = r (h .real) in omega arith
+    ]
 
 pub older-length : (es : List Entry) → length (older es) ≤ length es
 unfolding older

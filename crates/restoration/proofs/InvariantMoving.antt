@@ -22,7 +22,7 @@ use Rattle.rules.proofs.Forest.{Reaches, inside-above}
 use Rattle.restoration.proofs.Composition as all
 use Rattle.restoration.proofs.Composition.{Word, when, join, All, all-append, all-when, all-join, Same, Swap, nil-swap, act-append, same-join, same-when, put-behind-of}
 use Rattle.restoration.proofs.Nesting.{Nested, open-same}
-use Rattle.restoration.proofs.Seams.{move-takes, install-none, install-some, by-none, by-some}
+use Rattle.restoration.proofs.Seams.{Ask, move-takes, install-cases, by-none, by-some}
 use Rattle.restoration.proofs.Moving.{recorded, goes, moved-is, recorded-mode, recorded-awake, mover-is, recorded-nested, goes-free}
 use Rattle.restoration.proofs.Invariant.{Undoes, Below, Held, inner, Blocks, swap-free, enter-blocks}
 
@@ -34,12 +34,12 @@ pub keep-all : {P : ℕ → Type 0} (c : ℕ) {w : Word} → All P w → All P (
 keep-all c a = all-when (not (eqb c 0)) (λ h. a)
 
 -- the moves as a word for each track
-moves-below-join : (p : Plan) (S : ℕ → Bool) (l : Ledger) (e n : ℕ) → movesBelow p n S l e ≡ join n (λ t. when (S t) (taken (move p l e t)))
+moves-below-join : (p : Plan) (S : ℕ → Bool) (l : Ledger) (e : Ask) (n : ℕ) → movesBelow p n S l e ≡ join n (λ t. when (S t) (taken (move p l e t)))
 unfolding movesBelow join
 moves-below-join p S l e zero = refl
 moves-below-join p S l e (suc n) = ap (λ w. w ++ when (S n) (taken (move p l e n))) (moves-below-join p S l e n)
 
-pub moves-join : (p : Plan) (S : ℕ → Bool) (l : Ledger) (e : ℕ) → movesOf p S l e ≡ join (trackCount p) (λ t. when (S t) (taken (move p l e t)))
+pub moves-join : (p : Plan) (S : ℕ → Bool) (l : Ledger) (e : Ask) → movesOf p S l e ≡ join (trackCount p) (λ t. when (S t) (taken (move p l e t)))
 unfolding movesOf
 moves-join p S l e = moves-below-join p S l e (trackCount p)
 
@@ -59,14 +59,12 @@ module _ (limit : ℕ) (p : Plan) (ok : Accepted p) (k : Books p limit) where
   pub held-install : (t c d : ℕ) (es : List Entry) (w v : Word) → Held limit p ok k t es w → All (Below limit p ok k t) v → Undoes limit p ok k c v
       → Held limit p ok k t (install c d es) (w ++ keep c v)
   held-install t c d es w v h a u =
-      elim (look (eqb c 0)) [
-        | inl z ↦
-            rw (z, append-nil w)
-            (subst (λ x. Held limit p ok k t (install x d es) w) (sym (eqb-true c 0 z)) (rw (install-none d es) h))
-        | inr z ↦ rw (z, install-some c d es z) (w, v, h, a, u, refl)
+      elim (install-cases c d es) [
+        | inl i ↦ rw (i .0, append-nil w, i .1) h
+        | inr i ↦ rw (i .real, i .held) (w, v, h, a, subst (λ y. Undoes limit p ok k y v) (sym (i .code)) u, refl)
       ]
 
-  module _ (l : Ledger) (n : Nested p l) (W R : ℕ → Word) (g : Blocks limit p ok k l W R) (e : ℕ) where
+  module _ (l : Ledger) (n : Nested p l) (W R : ℕ → Word) (g : Blocks limit p ok k l W R) (e : Ask) where
     abbrev B : ℕ → ℕ → Type 0
     B = Below limit p ok k
 

@@ -16,10 +16,10 @@ use Rattle.rules.proofs.Acceptance.{Accepted}
 use Rattle.rules.proofs.Abandoning.{undoing-awake}
 use Rattle.restoration.proofs.Modes.{forward-awake, forward-is, undoing-forward, is-forward}
 use Rattle.restoration.proofs.Nesting.{Awake, Sleeps, Nested, state-of, open-same, busy-same}
-use Rattle.restoration.proofs.Seams.{Takes, move-takes, still, by-mode, by-state, by-none, to-none, to-some}
+use Rattle.restoration.proofs.Seams.{Ask, Takes, move-takes, still, by-mode, by-state, by-none, to-none, to-some}
 use Rattle.restoration.proofs.Entering.{Enterable, Fate, enters, wakens, stays, fate, arrived, fresh-mode, kept, new-fresh, enter-nested}
 
-module _ (p : Plan) (l : Ledger) (e : ℕ) where
+module _ (p : Plan) (l : Ledger) (e : Ask) where
   -- the ledger with the movers' entries installed, and where the movers go
   abbrev pub recorded : Ledger
   recorded t = installedBy p (move p l e t) (l t)

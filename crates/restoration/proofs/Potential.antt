@@ -23,7 +23,7 @@ use Rattle.rules.proofs.Forest.{inside-host}
 use Rattle.rules.proofs.Closing.{closing-final}
 use Rattle.restoration.proofs.Composition.{Word, when, join}
 use Rattle.restoration.proofs.Modes.{forward-awake}
-use Rattle.restoration.proofs.Seams.{move-takes, over-refused, next-refused}
+use Rattle.restoration.proofs.Seams.{Ask, ask, move-takes, over-refused, next-refused}
 use Rattle.restoration.proofs.Moving.{mover-is, moved-nested}
 use Rattle.restoration.proofs.Entering.{fresh-state}
 use Rattle.restoration.proofs.Soundness.{Sound}
@@ -80,7 +80,7 @@ module _ (limit : ℕ) (p : Plan) (ok : Accepted p) (s t : ℕ) (e : host p t �
   stepsTo = stepped limit p ok s t e
 
   -- the moves of an event weigh as much as the step of the track's own
-  moves-weight : (l : Ledger) → Sound limit p l → (d : ℕ)
+  moves-weight : (l : Ledger) → Sound limit p l → (d : Ask)
       → φ (l t .state) + weight v (movesOf p (isInside p s) l d) ≡ φ (stepsTo (move p l d t) (l t .state))
   unfolding weight taken stepped
   moves-weight l k d =
@@ -129,9 +129,9 @@ module _ (limit : ℕ) (p : Plan) (ok : Accepted p) (s t : ℕ) (e : host p t �
   running-weight (over-event {l = l} {w = w} r a h o) =
       let k = open-sound limit p ok l s (reached-kept limit p ok (running-reached limit p ok r)) (running-open limit p ok r) in
       let i = running-weight r in
-      weight-append v w (movesOf p (isInside p s) l (a .event))
-      ∙ ap (λ x. x + weight v (movesOf p (isInside p s) l (a .event))) i
-      ∙ moves-weight l k (a .event)
+      weight-append v w (movesOf p (isInside p s) l (ask a))
+      ∙ ap (λ x. x + weight v (movesOf p (isInside p s) l (ask a))) i
+      ∙ moves-weight l k (ask a)
       ∙ ap φ (sym (event-state limit p ok s t e l k a h (running-open limit p ok r) o))
   running-weight (over-signal {l = l} {w = w} r a h f o) =
       let k = open-sound limit p ok l s (reached-kept limit p ok (running-reached limit p ok r)) (running-open limit p ok r) in
@@ -146,22 +146,22 @@ module _ (limit : ℕ) (p : Plan) (ok : Accepted p) (s t : ℕ) (e : host p t �
   pub finished-weight : {w : Word} → Finished p limit s w → (q : ℕ) × (isStateOf p t q ≡ true) × (isFinal p q ≡ true) × (weight v w ≡ φ q)
   finished-weight (run.closed {l = l} {w = w} r a h c) =
       let k = open-sound limit p ok l s (reached-kept limit p ok (running-reached limit p ok r)) (running-open limit p ok r) in
-      let m = moved p l (a .event) in
+      let m = moved p l (ask a) in
       let (f, z) = closing-final p m s t c (ok .hosted t s e) e in
       (
         m t .state,
-        moved-nested p l (a .event) ok (k .formed .nested) .own t (forward-awake (m t .mode) f),
+        moved-nested p l (ask a) ok (k .formed .nested) .own t (forward-awake (m t .mode) f),
         z,
-        weight-append v w (movesOf p (isInside p s) l (a .event))
-        ∙ ap (λ x. x + weight v (movesOf p (isInside p s) l (a .event))) (running-weight r)
-        ∙ moves-weight l k (a .event)
-        ∙ ap φ (sym (moved-state limit p ok s t e l k (a .event) (open-awake limit p ok s t e l k (running-open limit p ok r)))),
+        weight-append v w (movesOf p (isInside p s) l (ask a))
+        ∙ ap (λ x. x + weight v (movesOf p (isInside p s) l (ask a))) (running-weight r)
+        ∙ moves-weight l k (ask a)
+        ∙ ap φ (sym (moved-state limit p ok s t e l k (ask a) (open-awake limit p ok s t e l k (running-open limit p ok r)))),
       )
 
 -- changes of tracks that are not inside a scope do not stand in its runs
 module _ (limit : ℕ) (p : Plan) (ok : Accepted p) (s : ℕ) (v : ℕ → ℕ)
     (nothing : (x : ℕ) → x < transitionCount p → isInside p s (mover p x) ≡ true → v x ≡ 0) where
-  outside-moves : (l : Ledger) → Sound limit p l → (d : ℕ) → weight v (movesOf p (isInside p s) l d) ≡ 0
+  outside-moves : (l : Ledger) → Sound limit p l → (d : Ask) → weight v (movesOf p (isInside p s) l d) ≡ 0
   unfolding weight taken
   outside-moves l k d =
       ap (weight v) (moves-join p (isInside p s) l d)
@@ -187,12 +187,12 @@ module _ (limit : ℕ) (p : Plan) (ok : Accepted p) (s : ℕ) (v : ℕ → ℕ)
   outside-running (by-begin o) = refl
   outside-running (by-call r c f o) = refl
   outside-running (over-event {l = l} {w = w} r a h o) =
-      weight-append v w (movesOf p (isInside p s) l (a .event))
-      ∙ (let i = outside-running r in let j = outside-moves l (run-sound r) (a .event) in omega arith)
+      weight-append v w (movesOf p (isInside p s) l (ask a))
+      ∙ (let i = outside-running r in let j = outside-moves l (run-sound r) (ask a) in omega arith)
   outside-running (over-signal r a h f o) = outside-running r
   outside-running (over-fire r a h o) = outside-running r
 
   pub outside-weight : {w : Word} → Finished p limit s w → weight v w ≡ 0
   outside-weight (run.closed {l = l} {w = w} r a h c) =
-      weight-append v w (movesOf p (isInside p s) l (a .event))
-      ∙ (let i = outside-running r in let j = outside-moves l (run-sound r) (a .event) in omega arith)
+      weight-append v w (movesOf p (isInside p s) l (ask a))
+      ∙ (let i = outside-running r in let j = outside-moves l (run-sound r) (ask a) in omega arith)

@@ -11,10 +11,10 @@ use Rattle.rules.specs.Plan.{Plan, trackCount, host, owner, replacement, isRoot
 use Rattle.rules.specs.Ledger.{Configuration, Ledger, isAwake, isForward, sleeping}
 use Rattle.rules.specs.Scope.{isOpen, hasOpenScope}
 use Rattle.rules.specs.Opening.{begun}
-use Rattle.rules.specs.Event.{moved, isClosing, closed, finished, afterEvent}
-use Rattle.rules.specs.Signal.{turned, isAbandoned, abandoned, afterSignal}
-use Rattle.rules.specs.Fire.{newest, fired, afterFire}
-use Rattle.rules.specs.Call.{EventArguments, SignalArguments, FireArguments, Call, event, signal, fire, callRefusal, after, next}
+use Rattle.rules.specs.Event.{moved, isClosing, closed}
+use Rattle.rules.specs.Signal.{turned, abandoned}
+use Rattle.rules.specs.Fire.{newest, mayFire, fired}
+use Rattle.rules.specs.Call.{EventArguments, SignalArguments, FireArguments, Call, event, signal, fire, callRefusal, next}
 use Rattle.rules.specs.FinishedRun.{movesOf, Reached, Running, by-begin, by-call, over-event, over-signal, over-fire, Finished}
 use Rattle.rules.specs.FinishedRun as run
 use Rattle.rules.specs.Books.{act, Books}
@@ -28,7 +28,7 @@ use Rattle.restoration.proofs.Composition as all
 use Rattle.restoration.proofs.Composition.{Word, when, join, when-nil, join-nil}
 use Rattle.restoration.proofs.Modes.{forward-awake}
 use Rattle.restoration.proofs.Nesting.{Awake, Nested, scope-open, open-host, hosted-asleep}
-use Rattle.restoration.proofs.Seams.{finish-cases, turned-awake, spared, fire-accepted, may-fire, next-accepted}
+use Rattle.restoration.proofs.Seams.{Ask, ask, turned-awake, spared, fire-accepted, may-fire, next-cases}
 use Rattle.restoration.proofs.Moving.{moved-nested, moved-busy}
 use Rattle.restoration.proofs.Closing.{sleeping-asleep, closing-open, closed-awake}
 use Rattle.restoration.proofs.Firing.{removed-mode, fired-busy}
@@ -74,8 +74,8 @@ module _ (limit : ℕ) (p : Plan) (ok : Accepted p) (k : Books p limit) where
     R = v .R
 
     module _ (a : EventArguments) (acc : callRefusal limit p l (event a) ≡ 0) where
-      abbrev e : ℕ
-      e = a .event
+      abbrev e : Ask
+      e = ask a
 
       abbrev m : Ledger
       m = moved p l e
@@ -143,73 +143,84 @@ module _ (limit : ℕ) (p : Plan) (ok : Accepted p) (k : Books p limit) where
           }
 
       pub event-keeps : Invariant x first (act (k .changed) (movesOf p (λ t. true) l e) now)
-      unfolding after afterEvent
       event-keeps =
-          let q : x ≡ finished p (closed p m) = next-accepted limit p l (event a) acc in
-          elim (finish-cases p (closed p m)) [
-            | inr o ↦ inl (λ t. ap (λ y. y t) q ∙ o t)
-            | inl f ↦ carry l s (event a) first _ (event-booked (q ∙ f .0))
-          ]
+          elim (next-cases limit p l (event a) acc) [ inr o ↦ inl o | inl q ↦ carry l s (event a) first _ (event-booked q) ]
 
-    pub signal-keeps : (a : SignalArguments) → callRefusal limit p l (signal a) ≡ 0 → Invariant (next limit p l (signal a)) first now
-    unfolding after afterSignal
-    signal-keeps a acc =
-        let q : next limit p l (signal a) ≡ abandoned p (turned l) = next-accepted limit p l (signal a) acc in
-        carry l s (signal a) first now
-        (record {
-          W = W;
-          R = R;
-          blocks =
-              subst (λ y. Blocks limit p ok k y W R) (sym q)
-              (abandoned-blocks limit p ok k (turned l) (turned-nested p ok l n) W R (turned-blocks limit p ok k l n W R (v .blocks)));
-          running =
-              λ z o f.
-              let f′ = subst (λ y. isForward (y (owner p z) .mode) ≡ true) q f in
-              let (c, r) = awake-kept p ok (turned l) (owner p z) (forward-awake (abandoned p (turned l) (owner p z) .mode) f′) in
-              let (w, i) = spared p l z (ap (λ (y : Configuration). isForward (y .mode)) (sym r) ∙ f′) in
-              over-signal (v .running z (was z (subst (λ y. isOpen p y z ≡ true) q o)) w) a acc i o;
-          books = v .books;
-        })
-      where
-        was : (z : ℕ) → isOpen p (abandoned p (turned l)) z ≡ true → isOpen p l z ≡ true
-        was z o =
-            let (u, b, h, w) = open-find p (abandoned p (turned l)) z o in
-            let (c, r) = awake-kept p ok (turned l) u w in
-            open-at p l z u b h (sym (turned-awake l u) ∙ ap (λ (y : Configuration). isAwake (y .mode)) (sym r) ∙ w)
+    -- a scope that is open after a signal was open before
+    signal-open : (z : ℕ) → isOpen p (abandoned p (turned l)) z ≡ true → isOpen p l z ≡ true
+    signal-open z o =
+        let (u, b, h, w) = open-find p (abandoned p (turned l)) z o in
+        let (c, r) = awake-kept p ok (turned l) u w in
+        open-at p l z u b h (sym (turned-awake l u) ∙ ap (λ (y : Configuration). isAwake (y .mode)) (sym r) ∙ w)
 
-    pub fire-keeps : (a : FireArguments) → callRefusal limit p l (fire a) ≡ 0
-        → Invariant (next limit p l (fire a)) first (k .retracted (newest (l (a .track) .held) .code) now)
-    unfolding after afterFire
-    fire-keeps a acc =
-        let t = a .track in
-        let may = fire-accepted limit p l a acc .1 in
-        let fm = fired-formed limit p ok l s t may in
-        let W₁ : ℕ → Word = shorter limit p ok k l s W R (v .blocks) t may in
-        let R₁ : ℕ → Word = λ z. when (isOpen p l z) (R z) in
-        let q : next limit p l (fire a) ≡ abandoned p (fired p l t) = next-accepted limit p l (fire a) acc in
-        carry l s (fire a) first (k .retracted (newest (l t .held) .code) now)
-        (record {
-          W = W₁;
-          R = R₁;
-          blocks =
-              subst (λ y. Blocks limit p ok k y W₁ R₁) (sym q)
-              (abandoned-blocks limit p ok k (fired p l t) (fm .nested) W₁ R₁ (fired-blocks limit p ok k l s W R (v .blocks) t may));
-          running =
-              λ z o f.
-              elim (look (isOpen p l z)) [
-                | inr w ↦ rw w (by-call reach (fire a) w o)
-                | inl w ↦
-                    let f′ = subst (λ y. isForward (y (owner p z) .mode) ≡ true) q f in
-                    let (c, r) = awake-kept p ok (fired p l t) (owner p z) (forward-awake (abandoned p (fired p l t) (owner p z) .mode) f′) in
-                    let (i, j, h) = open-host p ok l n z w in
-                    let y = fired-busy p l t ok n (s .formed .good t) (may-fire limit p l t may .3) (fired-awake limit p ok l s t may) (owner p z) i j in
-                    rw w
-                    (over-fire
-                    (v .running z w (ap isForward (sym (ap (λ (y : Configuration). y .mode) (r ∙ y) ∙ removed-mode p l t (owner p z))) ∙ f′)) a acc o)
-              ];
-          books =
-              ap (k .retracted (newest (l t .held) .code)) (v .books) ∙ fired-books limit p ok k l s W R (v .blocks) t may first;
-        })
+    module _ (a : SignalArguments) (acc : callRefusal limit p l (signal a) ≡ 0) where
+      signal-booked : next limit p l (signal a) ≡ abandoned p (turned l) → Booked (next limit p l (signal a)) first now
+      signal-booked q =
+          record {
+            W = W;
+            R = R;
+            blocks =
+                subst (λ y. Blocks limit p ok k y W R) (sym q)
+                (abandoned-blocks limit p ok k (turned l) (turned-nested p ok l n) W R (turned-blocks limit p ok k l n W R (v .blocks)));
+            running =
+                λ z o f.
+                let f′ = subst (λ y. isForward (y (owner p z) .mode) ≡ true) q f in
+                let (c, r) = awake-kept p ok (turned l) (owner p z) (forward-awake (abandoned p (turned l) (owner p z) .mode) f′) in
+                let (w, i) = spared p l z (ap (λ (y : Configuration). isForward (y .mode)) (sym r) ∙ f′) in
+                over-signal (v .running z (signal-open z (subst (λ y. isOpen p y z ≡ true) q o)) w) a acc i o;
+            books = v .books;
+          }
+
+      pub signal-keeps : Invariant (next limit p l (signal a)) first now
+      signal-keeps =
+          elim (next-cases limit p l (signal a) acc) [ inr o ↦ inl o | inl q ↦ carry l s (signal a) first now (signal-booked q) ]
+
+    module _ (a : FireArguments) (acc : callRefusal limit p l (fire a) ≡ 0) where
+      abbrev t : ℕ
+      t = a .track
+
+      may : mayFire p l t ≡ true
+      may = fire-accepted limit p l a acc .1
+
+      -- words and runs without the newest block
+      abbrev W₃ : ℕ → Word
+      W₃ = shorter limit p ok k l s W R (v .blocks) t may
+
+      abbrev R₃ : ℕ → Word
+      R₃ z = when (isOpen p l z) (R z)
+
+      -- the host of a scope that was open is left in its mode
+      fire-host : (z : ℕ) → isOpen p l z ≡ true → isForward (abandoned p (fired p l t) (owner p z) .mode) ≡ true → isForward (l (owner p z) .mode) ≡ true
+      fire-host z w f =
+          let (c, r) = awake-kept p ok (fired p l t) (owner p z) (forward-awake (abandoned p (fired p l t) (owner p z) .mode) f) in
+          let (i, j, h) = open-host p ok l n z w in
+          let y = fired-busy p l t ok n (s .formed .good t) (may-fire limit p l t may .3) (fired-awake limit p ok l s t may) (owner p z) i j in
+          ap isForward (sym (ap (λ (y : Configuration). y .mode) (r ∙ y) ∙ removed-mode p l t (owner p z))) ∙ f
+
+      fire-booked : next limit p l (fire a) ≡ abandoned p (fired p l t)
+          → Booked (next limit p l (fire a)) first (k .retracted (newest (l t .held) .code) now)
+      fire-booked q =
+          record {
+            W = W₃;
+            R = R₃;
+            blocks =
+                subst (λ y. Blocks limit p ok k y W₃ R₃) (sym q)
+                (abandoned-blocks limit p ok k (fired p l t) (fired-formed limit p ok l s t may .nested) W₃ R₃
+                (fired-blocks limit p ok k l s W R (v .blocks) t may));
+            running =
+                λ z o f.
+                let f′ = subst (λ y. isForward (y (owner p z) .mode) ≡ true) q f in
+                elim (look (isOpen p l z)) [
+                  | inr w ↦ rw w (by-call reach (fire a) w o)
+                  | inl w ↦ rw w (over-fire (v .running z w (fire-host z w f′)) a acc o)
+                ];
+            books =
+                ap (k .retracted (newest (l t .held) .code)) (v .books) ∙ fired-books limit p ok k l s W R (v .blocks) t may first;
+          }
+
+      pub fire-keeps : Invariant (next limit p l (fire a)) first (k .retracted (newest (l t .held) .code) now)
+      fire-keeps =
+          elim (next-cases limit p l (fire a) acc) [ inr o ↦ inl o | inl q ↦ carry l s (fire a) first _ (fire-booked q) ]
 
   -- begin: no words, no runs
   pub begun-keeps : (b : k .State) → Invariant (begun p) b b

@@ -14,10 +14,10 @@ use Rattle.rules.specs.Plan.{Plan, trackCount, transitionCount, transition, hos
 use Rattle.rules.specs.Ledger.{Configuration, Ledger, isAwake, isForward}
 use Rattle.rules.specs.Scope.{isOpen, hasOpenScope}
 use Rattle.rules.specs.Opening.{begun}
-use Rattle.rules.specs.Event.{destinationOf, move, moved, closed, finished, afterEvent}
-use Rattle.rules.specs.Signal.{turned, abandoned, afterSignal}
-use Rattle.rules.specs.Fire.{fired, afterFire}
-use Rattle.rules.specs.Call.{EventArguments, Call, event, signal, fire, callRefusal, after, next}
+use Rattle.rules.specs.Event.{move, moved, closed}
+use Rattle.rules.specs.Signal.{turned, abandoned}
+use Rattle.rules.specs.Fire.{fired}
+use Rattle.rules.specs.Call.{EventArguments, Call, event, signal, fire, callRefusal, next}
 use Rattle.rules.specs.FinishedRun.{taken, movesOf, Reached, Running, by-begin, by-call, over-event, over-signal, over-fire}
 use Rattle.rules.specs.FinishedRun as run
 use Rattle.rules.proofs.Tests.{look, look-option, clash}
@@ -29,7 +29,7 @@ use Rattle.rules.proofs.Closing.{closed-alike}
 use Rattle.rules.proofs.Abandoning.{awake-kept}
 use Rattle.restoration.proofs.Composition.{Word, when, join, join-same}
 use Rattle.restoration.proofs.Nesting.{Awake, Sleeps, Nested, scope-open, open-host}
-use Rattle.restoration.proofs.Seams.{move-takes, finish-cases, turned-awake, turned-state, fire-accepted, may-fire, over-refused, next-accepted, next-refused}
+use Rattle.restoration.proofs.Seams.{Ask, ask, to-destination, work, next-cases, turned-awake, turned-state, fire-accepted, may-fire, next-refused}
 use Rattle.restoration.proofs.Moving.{recorded, goes, moved-is, mover-is, moved-still, moved-new}
 use Rattle.restoration.proofs.Entering.{fresh-state}
 use Rattle.restoration.proofs.Closing.{sleeping-asleep, closed-awake}
@@ -92,12 +92,12 @@ module _ (limit : ℕ) (p : Plan) (ok : Accepted p) where
       abbrev n : Nested p l
       n = k .formed .nested
 
-      pub moved-state : (d : ℕ) → Awake l t → moved p l d t .state ≡ stepped (move p l d t) (l t .state)
+      pub moved-state : (d : Ask) → Awake l t → moved p l d t .state ≡ stepped (move p l d t) (l t .state)
       unfolding stepped
       moved-state d a = go (move p l d t) refl
         where
           to : (x : ℕ) → move p l d t ≡ some x → goes p l d t ≡ some (transition p x .destination)
-          to x h = unfold destinationOf in rw (h, destinationOf)
+          to x h = to-destination p (move p l d t) x h
 
           go : (o : Option ℕ) → move p l d t ≡ o → moved p l d t .state ≡ stepped o (l t .state)
           go none h = ap (λ (c : Configuration). c .state) (moved-still p l d ok n t a h)
@@ -105,43 +105,39 @@ module _ (limit : ℕ) (p : Plan) (ok : Accepted p) where
               ap (λ m. m t .state) (moved-is p l d)
               ∙ ap (λ (c : Configuration). c .state) (enter-to p ok (goes p l d) (recorded p l d) t (transition p x .destination) (to x h))
 
-      -- the ledger after an event that leaves the scope open
-      event-next : (a : EventArguments) → callRefusal limit p l (event a) ≡ 0 → isOpen p (next limit p l (event a)) s ≡ true
-          → next limit p l (event a) ≡ closed p (moved p l (a .event))
-      unfolding after afterEvent
-      event-next a h o =
-          let q : next limit p l (event a) ≡ finished p (closed p (moved p l (a .event))) = next-accepted limit p l (event a) h in
-          elim (finish-cases p (closed p (moved p l (a .event)))) [
-            | inl f ↦ q ∙ f .0
-            | inr f ↦
-                let (u, b, i, w) = open-find p (next limit p l (event a)) s o in
-                clash w (ap (λ (m : Ledger). isAwake (m u .mode)) q ∙ ap (λ (c : Configuration). isAwake (c .mode)) (f u) ∙ sleeping-asleep)
+      -- the ledger after a call that leaves the scope open
+      open-next : (c : Call) → callRefusal limit p l c ≡ 0 → isOpen p (next limit p l c) s ≡ true → next limit p l c ≡ work p l c
+      open-next c h o =
+          elim (next-cases limit p l c h) [
+            | inl q ↦ q
+            | inr v ↦
+                let (u, b, i, w) = open-find p (next limit p l c) s o in
+                clash w (ap (λ (c : Configuration). isAwake (c .mode)) (v u) ∙ sleeping-asleep)
           ]
 
-      closed-state : (d : ℕ) → Awake (closed p (moved p l d)) t → Awake (moved p l d) t × (closed p (moved p l d) t .state ≡ moved p l d t .state)
+      closed-state : (d : Ask) → Awake (closed p (moved p l d)) t → Awake (moved p l d) t × (closed p (moved p l d) t .state ≡ moved p l d t .state)
       closed-state d a = let (c, w) = closed-awake p (moved p l d) t a in (w, closed-alike p (moved p l d) t c .1)
 
       after-open : (c : Call) → isOpen p (next limit p l c) s ≡ true → Awake (next limit p l c) t
       after-open c o = open-awake (next limit p l c) (open-sound (next limit p l c) s (kept-next limit p ok l (inr k) c) o) o
 
       pub event-state : (a : EventArguments) → callRefusal limit p l (event a) ≡ 0 → isOpen p l s ≡ true → isOpen p (next limit p l (event a)) s ≡ true
-          → next limit p l (event a) t .state ≡ stepped (move p l (a .event) t) (l t .state)
+          → next limit p l (event a) t .state ≡ stepped (move p l (ask a) t) (l t .state)
       event-state a h o o′ =
-          let q = event-next a h o′ in
+          let q = open-next (event a) h o′ in
           let w = subst (λ (m : Ledger). isAwake (m t .mode) ≡ true) q (after-open (event a) o′) in
-          ap (λ (m : Ledger). m t .state) q ∙ closed-state (a .event) w .1 ∙ moved-state (a .event) (open-awake l k o)
+          ap (λ (m : Ledger). m t .state) q ∙ closed-state (ask a) w .1 ∙ moved-state (ask a) (open-awake l k o)
 
       -- a signal and a firing leave it
       pub retraction-state : (c : Call) → ((a : EventArguments) → c ≡ event a → ⊥) → callRefusal limit p l c ≡ 0 → isOpen p l s ≡ true
           → isOpen p (next limit p l c) s ≡ true → next limit p l c t .state ≡ l t .state
-      unfolding after afterSignal afterFire
       retraction-state (event a) v h o o′ = absurd (v a refl)
       retraction-state (signal a) v h o o′ =
-          let q : next limit p l (signal a) ≡ abandoned p (turned l) = next-accepted limit p l (signal a) h in
+          let q = open-next (signal a) h o′ in
           let w = subst (λ (m : Ledger). isAwake (m t .mode) ≡ true) q (after-open (signal a) o′) in
           ap (λ (m : Ledger). m t .state) q ∙ ap (λ (c : Configuration). c .state) (awake-kept p ok (turned l) t w .1) ∙ turned-state l t
       retraction-state (fire a) v h o o′ =
-          let q : next limit p l (fire a) ≡ abandoned p (fired p l (a .track)) = next-accepted limit p l (fire a) h in
+          let q = open-next (fire a) h o′ in
           let w = subst (λ (m : Ledger). isAwake (m t .mode) ≡ true) q (after-open (fire a) o′) in
           ap (λ (m : Ledger). m t .state) q
           ∙ ap (λ (c : Configuration). c .state) (awake-kept p ok (fired p l (a .track)) t w .1)
@@ -149,7 +145,6 @@ module _ (limit : ℕ) (p : Plan) (ok : Accepted p) where
 
       -- a call that opens the scope leaves it in its first state
       pub opened-state : (c : Call) → isOpen p l s ≡ false → isOpen p (next limit p l c) s ≡ true → next limit p l c t .state ≡ firstState p t
-      unfolding after afterSignal afterFire
       opened-state c f o =
           elim (look (eqb (callRefusal limit p l c) 0)) [
             | inr z ↦
@@ -162,17 +157,17 @@ module _ (limit : ℕ) (p : Plan) (ok : Accepted p) where
 
           go : (c : Call) → callRefusal limit p l c ≡ 0 → isOpen p (next limit p l c) s ≡ true → next limit p l c t .state ≡ firstState p t
           go (event a) h o′ =
-              let q = event-next a h o′ in
+              let q = open-next (event a) h o′ in
               let w = subst (λ (m : Ledger). isAwake (m t .mode) ≡ true) q (after-open (event a) o′) in
-              let (x, y) = closed-state (a .event) w in
+              let (x, y) = closed-state (ask a) w in
               ap (λ (m : Ledger). m t .state) q ∙ y
-              ∙ ap (λ (c : Configuration). c .state) (moved-new p l (a .event) ok n t slept x) ∙ fresh-state p t
+              ∙ ap (λ (c : Configuration). c .state) (moved-new p l (ask a) ok n t slept x) ∙ fresh-state p t
           go (signal a) h o′ =
-              let q : next limit p l (signal a) ≡ abandoned p (turned l) = next-accepted limit p l (signal a) h in
+              let q = open-next (signal a) h o′ in
               let w = subst (λ (m : Ledger). isAwake (m t .mode) ≡ true) q (after-open (signal a) o′) in
               clash (sym (turned-awake l t) ∙ ap (λ (c : Configuration). isAwake (c .mode)) (sym (awake-kept p ok (turned l) t w .1)) ∙ w) slept
           go (fire a) h o′ =
-              let q : next limit p l (fire a) ≡ abandoned p (fired p l (a .track)) = next-accepted limit p l (fire a) h in
+              let q = open-next (fire a) h o′ in
               let w = subst (λ (m : Ledger). isAwake (m t .mode) ≡ true) q (after-open (fire a) o′) in
               let may = fire-accepted limit p l a h .1 in
               let r = awake-kept p ok (fired p l (a .track)) t w .1 in

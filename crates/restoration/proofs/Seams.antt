@@ -9,22 +9,28 @@ use Prim.Native.Nat.{ℕ, zero, suc, _<_, _≤_}
 use native.Mathlib.Omega.{arith}
 use lib.ListN.{length}
 use lib.Dec.{eqb, ltb}
-use borrow.Author.Tests.{eqb-true, eqb-false, eq-eqb, ne-eqb, not-true, not-false, ltb-true}
+use borrow.Author.Tests.{ne-eqb, not-true, not-false, ltb-true, lt-ltb}
 use Rattle.rules.specs.declared.Mode.{Mode}
 use Rattle.rules.specs.declared.Mode.the-variants.{Asleep, Forward, Undoing}
 use Rattle.rules.specs.Fold.{firstRefusal}
 use Rattle.rules.specs.Plan.{Plan, trackCount, transitionCount, transition, host, owner, isRoot, isFinal, isInside, transitionFor}
 use Rattle.rules.specs.Ledger.{Entry, Configuration, Ledger, isAwake, isForward, isUndoing, isEmpty, sleeping}
 use Rattle.rules.specs.Scope.{isOpen, hasOpenScope, isOver}
-use Rattle.rules.specs.Event.{install, installed, destinationOf, installedBy, hasCode, move, isFinishing, finished, isFull}
-use Rattle.rules.specs.Signal.{turnedTrack, turned}
-use Rattle.rules.specs.Fire.{mayFire}
+use Rattle.rules.specs.Event.{install, installed, destinationOf, installedBy, hasCode, move, moved, closed, isFinishing, finished, isFull, afterEvent}
+use Rattle.rules.specs.Signal.{turnedTrack, turned, abandoned, afterSignal}
+use Rattle.rules.specs.Fire.{mayFire, fired, afterFire}
 use Rattle.rules.specs.Call.{EventArguments, SignalArguments, FireArguments, Call, event, signal, fire, callRefusals, callRefusal, after, next}
-use Rattle.rules.proofs.Tests.{look, look-option, clash, none-some, and-true, passed}
-use Rattle.rules.proofs.Folds.{every-at}
+use Rattle.rules.proofs.Tests.{look, look-option, clash, none-some, and-true, implies, implied, passed}
+use Rattle.rules.proofs.Folds.{every-at, every-of}
 use Rattle.rules.proofs.Acceptance.{Accepted, transition-for}
-use Rattle.rules.proofs.Scopes.{root-of}
-use Rattle.restoration.proofs.Nesting.{Nested, mode-inside}
+use Rattle.rules.proofs.Scopes.{root-of, root-none}
+
+-- What the rules of an event read of its arguments.
+abbrev pub Ask : Type 0
+Ask = ℕ
+
+abbrev pub ask : EventArguments → Ask
+ask a = a .event
 
 -- Moves: a forward track without an open scope takes a transition of its state.
 pub record Takes (p : Plan) (l : Ledger) (t x : ℕ) : Type 0 where
@@ -33,7 +39,7 @@ pub record Takes (p : Plan) (l : Ledger) (t x : ℕ) : Type 0 where
   pub real : x < transitionCount p
   pub from : transition p x .source ≡ l t .state
 
-module _ (p : Plan) (l : Ledger) (e : ℕ) where
+module _ (p : Plan) (l : Ledger) (e : Ask) where
   pub move-takes : (t x : ℕ) → move p l e t ≡ some x → Takes p l t x
   unfolding move
   move-takes t x h = go (isForward (l t .mode) && not (hasOpenScope p l t)) refl
@@ -56,14 +62,21 @@ module _ (p : Plan) (l : Ledger) (e : ℕ) where
             elim h [ inl f ↦ clash (m .forward) f | inr b ↦ clash b (m .free) ]
       ]
 
--- Installing.
-pub install-none : (d : ℕ) (es : List Entry) → install 0 d es ≡ es
-unfolding install
-install-none d es = refl
+-- Installing: a code 0 leaves the entries as they are, any other makes one more, with that code and deviation.
+pub record OneMore (c d : ℕ) (es : List Entry) : Type 0 where
+  pub real : eqb c 0 ≡ false
+  pub entry : Entry
+  pub code : entry .code ≡ c
+  pub deviation : entry .deviation ≡ d
+  pub held : install c d es ≡ entry ∷ es
 
-pub install-some : (c d : ℕ) (es : List Entry) → eqb c 0 ≡ false → install c d es ≡ record { code = c; deviation = d } ∷ es
+pub install-cases : (c d : ℕ) (es : List Entry) → ((eqb c 0 ≡ true) × (install c d es ≡ es)) ⊎ OneMore c d es
 unfolding install
-install-some c d es h = rw h
+install-cases c d es =
+    elim (look (eqb c 0)) [
+      | inl h ↦ inl (h, rw h)
+      | inr h ↦ inr (record { real = h; entry = record { code = c; deviation = d }; code = refl; deviation = refl; held = rw h })
+    ]
 
 pub installed-mode : (c d : ℕ) (k : Configuration) → installed c d k .mode ≡ k .mode
 unfolding installed
@@ -101,6 +114,10 @@ module _ (p : Plan) where
   unfolding destinationOf
   to-none o h = rw (h, destinationOf)
 
+  pub to-destination : (o : Option ℕ) (x : ℕ) → o ≡ some x → destinationOf p o ≡ some (transition p x .destination)
+  unfolding destinationOf
+  to-destination o x h = rw (h, destinationOf)
+
   pub to-some : (o : Option ℕ) (d : ℕ) → destinationOf p o ≡ some d → (x : ℕ) × (o ≡ some x) × (transition p x .destination ≡ d)
   unfolding destinationOf
   to-some none d h = none-some refl h
@@ -110,25 +127,70 @@ module _ (p : Plan) where
   unfolding hasCode
   has-code o x h = rw (h, hasCode)
 
--- Finish: a root that is not forward in a final state keeps the ledger going.
-module _ (p : Plan) (l : Ledger) where
-  pub goes-on : (t : ℕ) → t < trackCount p → host p t ≡ none → (isForward (l t .mode) && isFinal p (l t .state)) ≡ false
-      → isFinishing p l ≡ false
+-- Finish: a root that has not ended, forward in a final state, keeps the ledger going.
+module _ (p : Plan) where
+  abbrev pub ended : Ledger → ℕ → Bool
+  ended l t = isForward (l t .mode) && isFinal p (l t .state)
+
+  pub goes-on : (l : Ledger) (t : ℕ) → t < trackCount p → host p t ≡ none → ended l t ≡ false → isFinishing p l ≡ false
   unfolding isFinishing
-  goes-on t b e n =
+  goes-on l t b e n =
       elim (look (isFinishing p l)) [
         | inr h ↦ h
         | inl h ↦
-            let q = every-at (trackCount p) (λ t. not (isRoot p t) || (isForward (l t .mode) && isFinal p (l t .state))) h t b in
-            let r : (isForward (l t .mode) && isFinal p (l t .state)) ≡ true = rw (root-of p t e) at q in
+            let q = every-at (trackCount p) (λ t. not (isRoot p t) || ended l t) h t b in
+            let r : ended l t ≡ true = rw (root-of p t e) at q in
             clash r n
       ]
 
-  -- settled: as it was, and finish not due; or all asleep
-  pub finish-cases : ((finished p l ≡ l) × (isFinishing p l ≡ false)) ⊎ ((t : ℕ) → finished p l t ≡ sleeping)
-  unfolding finished
-  finish-cases =
-      elim (look (isFinishing p l)) [ inl h ↦ inr (λ t. rw h) | inr h ↦ inl (fun-ext (λ t. rw h), h) ]
+  -- finish is due only where it was, if no root ended meanwhile
+  pub finish-back : (l m : Ledger) → ((t : ℕ) → host p t ≡ none → ended m t ≡ true → ended l t ≡ true) → isFinishing p l ≡ false
+      → isFinishing p m ≡ false
+  unfolding isFinishing
+  finish-back l m f n =
+      elim (look (isFinishing p m)) [
+        | inr h ↦ h
+        | inl h ↦
+            clash
+            (every-of (trackCount p) (λ t. not (isRoot p t) || ended l t)
+            (λ t b.
+            implied (isRoot p t) (ended l t)
+            (λ r. f t (root-none p t r) (implies (isRoot p t) (ended m t) (every-at (trackCount p) (λ t. not (isRoot p t) || ended m t) h t b) r))))
+            n
+      ]
+
+-- What a call does, finish apart; whether finish is looked for; and the ledger afterwards.
+abbrev pub work : Plan → Ledger → Call → Ledger
+work p l (event a) = closed p (moved p l (ask a))
+work p l (signal a) = abandoned p (turned l)
+work p l (fire a) = abandoned p (fired p l (a .track))
+
+abbrev pub looksForFinish : Call → Bool
+looksForFinish (event a) = true
+looksForFinish (signal a) = false
+looksForFinish (fire a) = false
+
+finish-cases : (p : Plan) (l : Ledger) → ((finished p l ≡ l) × (isFinishing p l ≡ false)) ⊎ ((t : ℕ) → finished p l t ≡ sleeping)
+unfolding finished
+finish-cases p l =
+    elim (look (isFinishing p l)) [ inl h ↦ inr (λ t. rw h) | inr h ↦ inl (fun-ext (λ t. rw h), h) ]
+
+module _ (limit : ℕ) (p : Plan) (l : Ledger) where
+  -- settled: as the work left it, and finish not due where it is looked for; or all asleep
+  pub settle-cases : (c : Call)
+      → ((after limit p l c ≡ work p l c) × (looksForFinish c ≡ true → isFinishing p (work p l c) ≡ false))
+      ⊎ ((t : ℕ) → after limit p l c t ≡ sleeping)
+  unfolding after afterEvent afterSignal afterFire
+  settle-cases (event a) =
+      elim (finish-cases p (closed p (moved p l (ask a)))) [ inl q ↦ inl (q .0, λ h. q .1) | inr o ↦ inr o ]
+  settle-cases (signal a) = inl (refl, λ h. clash h refl)
+  settle-cases (fire a) = inl (refl, λ h. clash h refl)
+
+  pub next-cases : (c : Call) → callRefusal limit p l c ≡ 0 → (next limit p l c ≡ work p l c) ⊎ ((t : ℕ) → next limit p l c t ≡ sleeping)
+  unfolding next
+  next-cases c h =
+      let q : next limit p l c ≡ after limit p l c = rw h in
+      elim (settle-cases c) [ inl w ↦ inl (q ∙ w .0) | inr o ↦ inr (λ t. ap (λ (m : Ledger). m t) q ∙ o t) ]
 
 -- A signal turns modes alone, a track and its host's track alike.
 turned-case : (k : Configuration) → (isAwake (turnedTrack k .mode) ≡ isAwake (k .mode))
@@ -151,9 +213,13 @@ module _ (l : Ledger) where
   unfolding turned
   turned-awake t = turned-case (l t) .0
 
-  pub turned-forward : (t : ℕ) → isForward (turned l t .mode) ≡ false
+  turned-forward : (t : ℕ) → isForward (turned l t .mode) ≡ false
   unfolding turned
   turned-forward t = turned-case (l t) .1
+
+  -- what is forward afterwards was not turned
+  pub unturned : (t : ℕ) → isForward (turned l t .mode) ≡ true → turned l t ≡ l t
+  unturned t h = clash h (turned-forward t)
 
   pub turned-state : (t : ℕ) → turned l t .state ≡ l t .state
   unfolding turned
@@ -187,7 +253,7 @@ spared p l s h = clash h (turned-forward l (owner p s))
 
 -- Refusals.
 module _ (limit : ℕ) (p : Plan) (l : Ledger) where
-  pub event-accepted : (a : EventArguments) → callRefusal limit p l (event a) ≡ 0 → (isOver p l ≡ false) × (isFull p limit l (a .event) ≡ false)
+  pub event-accepted : (a : EventArguments) → callRefusal limit p l (event a) ≡ 0 → (isOver p l ≡ false) × (isFull p limit l (ask a) ≡ false)
   unfolding callRefusal callRefusals firstRefusal
   event-accepted a h =
       let (x, y) = passed (eqb (a .event) 0) 18 _ h in
@@ -234,4 +300,4 @@ module _ (limit : ℕ) (p : Plan) (l : Ledger) where
   pub fire-may : (t : ℕ) → t < trackCount p → isUndoing (l t .mode) ≡ true → isEmpty (l t .held) ≡ false → hasOpenScope p l t ≡ false
       → mayFire p l t ≡ true
   unfolding mayFire
-  fire-may t a b c d = rw (borrow.Author.Tests.lt-ltb t (trackCount p) a, b, c, d)
+  fire-may t a b c d = rw (lt-ltb t (trackCount p) a, b, c, d)

@@ -9,12 +9,12 @@ use Prim.Native.Nat.{ℕ, suc, _<_, _≤_}
 use native.Mathlib.Omega.{arith}
 use lib.ListN.{length}
 use lib.Dec.{eqb, leb}
-use borrow.Author.Tests.{leb-false, eqb-true}
+use borrow.Author.Tests.{leb-false}
 use Rattle.rules.specs.Plan.{Plan, trackCount, noState, host, owner, transition, replacement, isFinal, everyIn}
-use Rattle.rules.specs.Ledger.{Entry, Configuration, Ledger, isAwake, isUndoing, isEmpty, sleeping}
+use Rattle.rules.specs.Ledger.{Configuration, Ledger, isAwake, isUndoing, isEmpty, sleeping}
 use Rattle.rules.specs.Scope.{isOpen, hasOpenScope}
 use Rattle.rules.specs.Opening.{enter}
-use Rattle.rules.specs.Event.{install, installed, installedBy, hasCode, move, moved, isClosing, isClosed, closesScope, closed, isReplaced, isFull}
+use Rattle.rules.specs.Event.{installed, hasCode, move, moved, isClosing, isClosed, closesScope, closed, isReplaced, isFull}
 use Rattle.rules.specs.Signal.{isBare, isAbandoning}
 use Rattle.rules.proofs.Tests.{look, look-option, clash, refuted, and-true, and-both, or-right}
 use Rattle.rules.proofs.Folds.{some-not}
@@ -23,8 +23,8 @@ use Rattle.rules.proofs.Scopes.{in-host, host-in, every-in-of, open-at, open-fi
 use Rattle.rules.proofs.Closing.{closing-final, closed-root, closed-asleep, closed-replaced, closed-kept, closed-alike, closed-done}
 use Rattle.rules.proofs.Abandoning.{undoing-awake, bare-parts}
 use Rattle.restoration.proofs.Nesting.{Awake, Sleeps, Nested, state-of, open-host}
-use Rattle.restoration.proofs.Seams.{move-takes, install-none, installed-held, by-none, by-some, has-code}
-use Rattle.restoration.proofs.Entries.{Good, good-install, may-none, may-own, install-length}
+use Rattle.restoration.proofs.Seams.{Ask, move-takes, installed-held, by-none, by-some, has-code}
+use Rattle.restoration.proofs.Entries.{Good, good-install, may-none, may-own, install-fits}
 use Rattle.restoration.proofs.Entering.{Fate, enters, wakens, stays, fate, arrived-awake, fresh-awake, fresh-state}
 use Rattle.restoration.proofs.Moving.{recorded, goes, moved-is, recorded-awake, mover-awake, mover-is, recorded-nested, goes-free, moved-nested, moved-busy, moved-undoing, moved-undoing-back, moved-new}
 use Rattle.restoration.proofs.Closing.{closing-open, closes-known, closed-nested, closed-undoing, closed-undoing-back}
@@ -41,16 +41,7 @@ unfolding isAbandoning
 abandoning-of p l s o f =
     and-both (isOpen p l s) (everyIn p s (isBare p l)) o (every-in-of p s (isBare p l) (λ t b i. f t (in-host p s t i)))
 
--- an entry more fits where there is room for it
-room : (limit c d : ℕ) (held : List Entry) → length held ≤ limit
-    → (eqb c 0 ≡ false → length held < limit) → length (install c d held) ≤ limit
-room limit c d held f r =
-    elim (look (eqb c 0)) [
-      | inl z ↦ subst (λ x. length (install x d held) ≤ limit) (sym (eqb-true c 0 z)) (rw (install-none d held) f)
-      | inr z ↦ let a = install-length c d held in let b = r z in omega arith
-    ]
-
-module _ (limit : ℕ) (p : Plan) (ok : Accepted p) (l : Ledger) (f : Formed limit p l) (e : ℕ) where
+module _ (limit : ℕ) (p : Plan) (ok : Accepted p) (l : Ledger) (f : Formed limit p l) (e : Ask) where
   abbrev m : Ledger
   m = moved p l e
 
@@ -97,7 +88,7 @@ module _ (limit : ℕ) (p : Plan) (ok : Accepted p) (l : Ledger) (f : Formed lim
           | inr h ↦
               let x = h .0 in
               rw (by-some p (move p l e t) (l t) x (h .1))
-              (room limit (transition p x .code) (transition p x .deviation) (l t .held) (f .few t)
+              (install-fits limit (transition p x .code) (transition p x .deviation) (l t .held) (f .few t)
               (λ z.
               has-room t (n .below t (mover-awake p l e t x (h .1)))
               (ap (λ b. b || isReplaced p m t) (has-code p (move p l e t) x (h .1) ∙ ap not z))))
@@ -127,7 +118,7 @@ module _ (limit : ℕ) (p : Plan) (ok : Accepted p) (l : Ledger) (f : Formed lim
     replaced-few t d =
         let (a, o, q) = closes-kept t d in
         rw (installed-held (replacement p (m t .state)) noState (m t))
-        (room limit (replacement p (m t .state)) noState (m t .held) (moved-formed .few t)
+        (install-fits limit (replacement p (m t .state)) noState (m t .held) (moved-formed .few t)
         (λ z.
         subst (λ (c : Configuration). length (c .held) < limit) (sym q)
         (has-room t (n .below t a)

@@ -8,22 +8,20 @@ use Rattle.rules.specs.Plan.{Plan, trackCount}
 use Rattle.rules.specs.Ledger.{Configuration, Ledger, isAwake, sleeping, ledgerAt, written}
 use Rattle.rules.specs.Scope.{isOver}
 use Rattle.rules.specs.Opening.{begun}
-use Rattle.rules.specs.Event.{moved, closed, afterEvent}
-use Rattle.rules.specs.Signal.{afterSignal}
-use Rattle.rules.specs.Fire.{afterFire}
+use Rattle.rules.specs.Event.{moved, isFinishing}
 use Rattle.rules.specs.Soundness.{areTidy, isLive, isSound}
 use Rattle.rules.specs.Call.{Call, event, signal, fire, callRefusal, after}
-use Rattle.rules.proofs.Tests.{and-both, or-right}
+use Rattle.rules.proofs.Tests.{look, clash, and-both, or-right}
 use Rattle.rules.proofs.Folds.{every-of}
 use Rattle.rules.proofs.Acceptance.{Accepted}
 use Rattle.rules.proofs.Closing.{closed-done}
 use Rattle.rules.proofs.Stored.{Storable, read-written, tidy-written}
-use Rattle.restoration.proofs.Seams.{finish-cases, event-accepted, fire-accepted}
+use Rattle.restoration.proofs.Seams.{ask, work, looksForFinish, settle-cases, event-accepted, fire-accepted}
 use Rattle.restoration.proofs.Closing.{sleeping-asleep}
 use Rattle.restoration.proofs.Soundness.{Sound, sound-of, sound-live, formed-storable, sleeping-held, sleeping-few}
 use Rattle.restoration.proofs.SoundBegin.{begun-sound}
 use Rattle.restoration.proofs.SoundEvent.{event-formed, event-roots, event-abandoning}
-use Rattle.restoration.proofs.SoundRetraction.{signal-sound, fire-sound}
+use Rattle.restoration.proofs.SoundRetraction.{signal-unfinished, signal-sound, fire-unfinished, fire-sound}
 
 -- all asleep
 abbrev pub Over : Ledger → Type 0
@@ -40,25 +38,34 @@ over-is p l o =
     (λ t b. ap (λ (c : Configuration). not (isAwake (c .mode))) (o t) ∙ ap not sleeping-asleep)
 
 module _ (limit : ℕ) (p : Plan) (ok : Accepted p) (l : Ledger) (s : Sound limit p l) where
+  -- a call's work keeps a ledger sound, if finish is not due after it
+  work-sound : (c : Call) → callRefusal limit p l c ≡ 0 → isFinishing p (work p l c) ≡ false → Sound limit p (work p l c)
+  work-sound (event a) h f =
+      record {
+        formed = event-formed limit p ok l (s .formed) (ask a) (event-accepted limit p l a h .1);
+        roots = event-roots limit p ok l (s .formed) (ask a) (s .roots);
+        closing = closed-done p (moved p l (ask a));
+        finish = f;
+        abandoning = event-abandoning limit p ok l (s .formed) (ask a) (s .abandoning);
+      }
+  work-sound (signal a) h f = signal-sound limit p ok l s f
+  work-sound (fire a) h f = fire-sound limit p ok l s (a .track) (fire-accepted limit p l a h .1) f
+
+  -- where finish is not looked for, it is not due
+  unfinished : (c : Call) → callRefusal limit p l c ≡ 0 → looksForFinish c ≡ false → isFinishing p (work p l c) ≡ false
+  unfinished (event a) h n = clash refl n
+  unfinished (signal a) h n = signal-unfinished limit p ok l s
+  unfinished (fire a) h n = fire-unfinished limit p ok l s (a .track) (fire-accepted limit p l a h .1)
+
   pub kept-after : (c : Call) → callRefusal limit p l c ≡ 0 → Kept limit p (after limit p l c)
-  unfolding after afterEvent afterSignal afterFire
-  kept-after (event a) h =
-      let m = moved p l (a .event) in
-      elim (finish-cases p (closed p m)) [
+  kept-after c h =
+      elim (settle-cases limit p l c) [
         | inr o ↦ inl o
         | inl q ↦
             inr
             (subst (Sound limit p) (sym (q .0))
-            (record {
-              formed = event-formed limit p ok l (s .formed) (a .event) (event-accepted limit p l a h .1);
-              roots = event-roots limit p ok l (s .formed) (a .event) (s .roots);
-              closing = closed-done p m;
-              finish = q .1;
-              abandoning = event-abandoning limit p ok l (s .formed) (a .event) (s .abandoning);
-            }))
+            (work-sound c h (elim (look (looksForFinish c)) [ inl y ↦ q .1 y | inr y ↦ unfinished c h y ])))
       ]
-  kept-after (signal a) h = inr (signal-sound limit p ok l s)
-  kept-after (fire a) h = inr (fire-sound limit p ok l s (a .track) (fire-accepted limit p l a h .1))
 
 module _ (limit : ℕ) (p : Plan) (ok : Accepted p) where
   over-storable : (l : Ledger) → Over l → Storable limit (trackCount p) l

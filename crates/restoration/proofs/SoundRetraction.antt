@@ -1,5 +1,5 @@
--- A signal and a firing keep a ledger sound: abandoning leaves none due; after a signal nothing is forward; and after a firing the root
--- above the fired track is undoing, or just went forward into a state that is not final. Assumes nothing.
+-- A signal and a firing keep a ledger sound: abandoning leaves none due; what is forward after a signal is as it was; and after a firing
+-- the root above the fired track is undoing, or just went forward into a state that is not final. Assumes nothing.
 use mathlib.Core.Path.{_≡_, refl, sym, ap, _∙_, subst}
 use mathlib.Core.Logic.{_⊎_, inl, inr}
 use mathlib.Core.Bool.{Bool, true, false, _&&_}
@@ -17,22 +17,21 @@ use Rattle.rules.specs.Opening.{fresh, enter}
 use Rattle.rules.specs.Event.{isClosing, isFinishing}
 use Rattle.rules.specs.Signal.{turned, isAbandoned, abandoned}
 use Rattle.rules.specs.Fire.{newest, older, mayFire, removed, deviatesTo, fired}
-use Rattle.rules.proofs.Tests.{look, look-option, clash, refuted}
+use Rattle.rules.proofs.Tests.{look, look-option, clash, refuted, and-true}
 use Rattle.rules.proofs.Acceptance.{Accepted}
 use Rattle.rules.proofs.Scopes.{open-at, open-find}
 use Rattle.rules.proofs.Opening.{enter-to}
 use Rattle.rules.proofs.Closing.{closing-final}
 use Rattle.rules.proofs.Abandoning.{undoing-awake, awake-kept, left-kept, abandoned-done}
-use Rattle.restoration.proofs.Modes.{undoing-forward}
+use Rattle.restoration.proofs.Modes.{forward-awake, undoing-forward}
 use Rattle.restoration.proofs.Nesting.{Awake, Sleeps, Nested, root-above}
-use Rattle.restoration.proofs.Seams.{goes-on, turned-awake, turned-forward, may-fire}
+use Rattle.restoration.proofs.Seams.{goes-on, finish-back, turned-awake, unturned, may-fire}
 use Rattle.restoration.proofs.Entries.{Good, good-older, older-length, deviates}
 use Rattle.restoration.proofs.Entering.{Fate, enters, wakens, stays, fate, arrived-awake, fresh-awake, fresh-state}
 use Rattle.restoration.proofs.Closing.{closing-open, closing-of}
 use Rattle.restoration.proofs.Leaving.{left-together, left-awake, left-root}
 use Rattle.restoration.proofs.Firing.{fired-is, removed-mode, removed-state, removed-here, removed-other, removed-awake, deviates-here, deviates-not, deviates-hosted, deviates-free, removed-nested, fired-still, fired-new}
 use Rattle.restoration.proofs.Soundness.{Formed, RootsAwake, Sound, enter-formed, turned-formed, abandoned-formed}
-use Rattle.restoration.proofs.SoundBegin.{root-zero}
 
 not-forward : (a b : Bool) → a ≡ false → (a && b) ≡ false
 not-forward a b h = rw h
@@ -45,34 +44,47 @@ module _ (limit : ℕ) (p : Plan) (ok : Accepted p) (l : Ledger) (s : Sound limi
   abbrev n : Nested p l
   n = s .formed .nested
 
-  pub signal-sound : Sound limit p (abandoned p (turned l))
-  signal-sound =
+  abbrev T : Ledger
+  T = turned l
+
+  turned-first : Formed limit p T
+  turned-first = turned-formed limit p ok l (s .formed)
+
+  turned-root : (t : ℕ) → host p t ≡ none → abandoned p T t ≡ T t
+  turned-root t e = left-root p ok T (turned-first .nested) t e
+
+  -- what is forward after a signal is as it was
+  spared-track : (t : ℕ) → isForward (abandoned p T t .mode) ≡ true → abandoned p T t ≡ l t
+  spared-track t f =
+      let q = awake-kept p ok T t (forward-awake (abandoned p T t .mode) f) .1 in
+      q ∙ unturned l t (ap (λ (c : Configuration). isForward (c .mode)) (sym q) ∙ f)
+
+  pub signal-unfinished : isFinishing p (abandoned p T) ≡ false
+  signal-unfinished =
+      finish-back p l (abandoned p T)
+      (λ t e h.
+      let f = and-true (isForward (abandoned p T t .mode)) (isFinal p (abandoned p T t .state)) h .0 in
+      ap (λ (c : Configuration). isForward (c .mode) && isFinal p (c .state)) (sym (spared-track t f)) ∙ h)
+      (s .finish)
+
+  pub signal-sound : isFinishing p (abandoned p T) ≡ false → Sound limit p (abandoned p T)
+  signal-sound unfinished =
       record {
-        formed = after;
-        roots = λ t b e. ap (λ (c : Configuration). isAwake (c .mode)) (root t e) ∙ turned-awake l t ∙ s .roots t b e;
+        formed = abandoned-formed limit p ok T turned-first;
+        roots = λ t b e. ap (λ (c : Configuration). isAwake (c .mode)) (turned-root t e) ∙ turned-awake l t ∙ s .roots t b e;
         closing =
             λ z.
-            refuted (isClosing p (abandoned p (turned l)) z)
+            refuted (isClosing p (abandoned p T) z)
             (λ c.
-            let (u, b, e, a) = open-find p (abandoned p (turned l)) z (closing-open p (abandoned p (turned l)) z c) in
-            let f = closing-final p (abandoned p (turned l)) z u c b e .0 in
-            clash (ap (λ (c : Configuration). isForward (c .mode)) (sym (awake-kept p ok (turned l) u a .1)) ∙ f) (turned-forward l u));
-        finish =
-            let z = root-zero p ok in
-            goes-on p (abandoned p (turned l)) 0 (ok .some-track) z
-            (not-forward (isForward (abandoned p (turned l) 0 .mode)) (isFinal p (abandoned p (turned l) 0 .state))
-            (ap (λ (c : Configuration). isForward (c .mode)) (root 0 z) ∙ turned-forward l 0));
-        abandoning = abandoned-done p ok (turned l);
+            let final : (v : ℕ) → host p v ≡ some z → (isForward (l v .mode) ≡ true) × (isFinal p (l v .state) ≡ true) =
+            λ v g.
+            let h = closing-final p (abandoned p T) z v c (ok .hosted v z g) g in
+            subst (λ (k : Configuration). (isForward (k .mode) ≡ true) × (isFinal p (k .state) ≡ true)) (spared-track v (h .0)) h in
+            let (u, b, e, a) = open-find p (abandoned p T) z (closing-open p (abandoned p T) z c) in
+            clash (closing-of p l z (open-at p l z u b e (forward-awake (l u .mode) (final u e .0))) final) (s .closing z));
+        finish = unfinished;
+        abandoning = abandoned-done p ok T;
       }
-    where
-      first : Formed limit p (turned l)
-      first = turned-formed limit p ok l (s .formed)
-
-      after : Formed limit p (abandoned p (turned l))
-      after = abandoned-formed limit p ok (turned l) first
-
-      root : (t : ℕ) → host p t ≡ none → abandoned p (turned l) t ≡ turned l t
-      root t e = left-root p ok (turned l) (first .nested) t e
 
   module _ (t : ℕ) (may : mayFire p l t ≡ true) where
     undoing : isUndoing (l t .mode) ≡ true
@@ -157,8 +169,8 @@ module _ (limit : ℕ) (p : Plan) (ok : Accepted p) (l : Ledger) (s : Sound limi
               (s .closing z)
         ])
 
-    fire-finish : isFinishing p (abandoned p X) ≡ false
-    fire-finish =
+    pub fire-unfinished : isFinishing p (abandoned p X) ≡ false
+    fire-unfinished =
         elim (look-option (optional (newest (l t .held) .deviation))) [
           | inr d ↦
               let (e, o, f) = deviates p t (d .0) (l t .held) good (d .1) in
@@ -177,12 +189,12 @@ module _ (limit : ℕ) (p : Plan) (ok : Accepted p) (l : Ledger) (s : Sound limi
               (ap isForward md ∙ undoing-forward (l t .mode) undoing))
         ]
 
-    pub fire-sound : Sound limit p (abandoned p X)
-    fire-sound =
+    pub fire-sound : isFinishing p (abandoned p X) ≡ false → Sound limit p (abandoned p X)
+    fire-sound unfinished =
         record {
           formed = after;
           roots = λ u b e. ap (λ (c : Configuration). isAwake (c .mode)) (root u e) ∙ fired-roots u (s .roots u b e);
           closing = fire-closing;
-          finish = fire-finish;
+          finish = unfinished;
           abandoning = abandoned-done p ok X;
         }
