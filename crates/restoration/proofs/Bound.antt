@@ -15,7 +15,7 @@ use Rattle.rules.specs.Fold.{sumBelow, firstRefusal}
 use Rattle.rules.specs.Plan.{Plan, trackCount, noState, planOf}
 use Rattle.rules.specs.Acceptance.{accepted, readPlan}
 use Rattle.rules.specs.Layout.{entryLimit}
-use Rattle.rules.specs.Ledger.{Configuration, Ledger, isEmpty, sleeping}
+use Rattle.rules.specs.Ledger.{Ledger}
 use Rattle.rules.specs.Opening.{enter}
 use Rattle.rules.specs.Signal.{turned, isAbandoned, abandoned}
 use Rattle.rules.specs.Fire.{mayFire, older, removed, deviatesTo, fired}
@@ -32,7 +32,7 @@ use Rattle.restoration.proofs.Entering.{Fate, enters, wakens, stays, fa
 use Rattle.restoration.proofs.Firing.{fired-is, removed-here, removed-other}
 use Rattle.restoration.proofs.Soundness.{Sound, sleeping-held}
 use Rattle.restoration.proofs.SoundKept.{Kept, over-is, kept-storable}
-use Rattle.restoration.proofs.SoundWords.{thePlan, theLedger, Holds, sound-holds, outcome, passed-ledger, call-accepted, call-refused, call-holds}
+use Rattle.restoration.proofs.SoundWords.{theLedger, Holds, sound-holds, outcome, passed-ledger, call-accepted, call-refused, call-holds}
 
 -- Sums over the tracks.
 sum-mono : (n : ℕ) (f g : ℕ → ℕ) → ((t : ℕ) → f t ≤ g t) → sumBelow n f ≤ sumBelow n g

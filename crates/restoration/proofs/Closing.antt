@@ -1,11 +1,11 @@
 -- Closing keeps a ledger nested: the tracks of a closing scope are in final states, which host nothing, so whole scopes
 -- go to sleep with nothing awake below them, and no other mode or state changes. Assumes nothing.
 use mathlib.Core.Path.{_≡_, refl, sym, ap, _∙_, subst}
-use mathlib.Core.Logic.{_⊎_, inl, inr}
-use mathlib.Core.Bool.{Bool, true, false, _&&_}
-use mathlib.Core.Option.{Option, none, some}
-use Prim.Native.Nat.{ℕ, _<_}
-use Rattle.rules.specs.Plan.{Plan, trackCount, host, owner, isStateOf, isFinal, isAbove, everyIn}
+use mathlib.Core.Logic.{inl, inr}
+use mathlib.Core.Bool.{true, false, _&&_}
+use mathlib.Core.Option.{some}
+use Prim.Native.Nat.{ℕ}
+use Rattle.rules.specs.Plan.{Plan, host, owner, isStateOf, isFinal, isAbove, everyIn}
 use Rattle.rules.specs.Ledger.{Ledger, isAwake, isForward, isUndoing, sleeping}
 use Rattle.rules.specs.Scope.{isOpen, hasOpenScope}
 use Rattle.rules.specs.Event.{isClosing, isClosed, closesScope, closed}

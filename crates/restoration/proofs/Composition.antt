@@ -1,7 +1,7 @@
 -- Changes done one after another, a word of them for each track, the tracks' words composed in rising track order. The one fact that
 -- carries property 3 is `put-behind`: words put behind each track's own may as well be put behind all of them, if each commutes with
 -- what the higher tracks have. Nothing here knows of plans or ledgers. Assumes nothing.
-use mathlib.Core.Path.{_≡_, refl, ap, sym, _∙_, subst}
+use mathlib.Core.Path.{_≡_, refl, ap, sym, _∙_}
 use mathlib.Core.Logic.{_⊎_, inl, inr}
 use mathlib.Core.List.{List, [], _∷_, _++_, append-nil}
 use mathlib.Core.Bool.{Bool, true, false, cond}
@@ -9,7 +9,7 @@ use Prim.Native.Nat.{ℕ, zero, suc, _<_}
 use native.Mathlib.Omega.{arith}
 use native.Mathlib.Nat.{not-suc-le-zero}
 use lib.Dec.{eqb, ltb}
-use borrow.Author.Tests.{eqb-true, eqb-false, eq-eqb, ne-eqb, lt-ltb, le-ltb, ltb-true, ltb-false}
+use borrow.Author.Tests.{eqb-true, eqb-false, lt-ltb, le-ltb, ltb-true}
 use Rattle.rules.specs.Books.{act}
 use Rattle.rules.proofs.Tests.{look, clash}
 
@@ -135,8 +135,12 @@ module _ {B : Type 0} (changed : ℕ → B → B) where
   unfolding join
   same-join zero A M h b = refl
   same-join (suc n) A M h b =
-      rw (act-append (join n A) (A n) b, act-append (join n M) (M n) b, same-join n A M (λ t l. h t (omega arith)) b,
-        h n (omega arith) (act changed (join n M) b))
+      rw (
+        act-append (join n A) (A n) b,
+        act-append (join n M) (M n) b,
+        same-join n A M (λ t l. h t (omega arith)) b,
+        h n (omega arith) (act changed (join n M) b),
+      )
 
   pub same-when : (c : Bool) (v w : Word) → Same v w → Same (when c v) (when c w)
   same-when true v w h = h
@@ -149,8 +153,13 @@ module _ {B : Type 0} (changed : ℕ → B → B) where
   put-behind zero A M h b = refl
   put-behind (suc n) A M h b =
       act-append (join n (λ t. A t ++ M t)) (A n ++ M n) b
-      ∙ (rw (act-append (A n) (M n), put-behind n A M (λ t k l m. h t k l (omega arith)) b, act-append (join n M) (M n),
-        act-append (join n A) (A n), swap-join n M (A n) (λ t l. h t n l (omega arith)) (act changed (join n A) b)))
+      ∙ (rw (
+        act-append (A n) (M n),
+        put-behind n A M (λ t k l m. h t k l (omega arith)) b,
+        act-append (join n M) (M n),
+        act-append (join n A) (A n),
+        swap-join n M (A n) (λ t l. h t n l (omega arith)) (act changed (join n A) b),
+      ))
 
   -- the same of the tracks that pass a test
   pub put-behind-of : (S : ℕ → Bool) (n : ℕ) (A M : ℕ → Word) → ((t k : ℕ) → t < k → k < n → Swap (M t) (A k)) → (b : B)

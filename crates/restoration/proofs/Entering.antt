@@ -2,8 +2,8 @@
 -- wakes whole scope by whole scope under a host that just went forward into the hosting state. Assumes nothing.
 use mathlib.Core.Path.{_≡_, refl, sym, ap, ap₂, _∙_, subst}
 use mathlib.Core.Logic.{_⊎_, inl, inr}
-use mathlib.Core.Bool.{Bool, true, false, _&&_, _||_}
-use mathlib.Core.List.{List, []}
+use mathlib.Core.Bool.{Bool, true, false, _||_}
+use mathlib.Core.List.{[]}
 use mathlib.Core.Option.{Option, none, some}
 use Prim.Native.Nat.{ℕ, _<_}
 use lib.Dec.{eqb}
@@ -11,13 +11,13 @@ use borrow.Author.Tests.{eqb-true}
 use Rattle.rules.specs.declared.Mode.the-variants.{Forward}
 use Rattle.rules.specs.Plan.{Plan, trackCount, host, owner, isStateOf, firstState}
 use Rattle.rules.specs.Ledger.{Configuration, Ledger, isAwake, sleeping}
-use Rattle.rules.specs.Scope.{isOpen, hasOpenScope}
+use Rattle.rules.specs.Scope.{hasOpenScope}
 use Rattle.rules.specs.Opening.{fresh, wakes, enter}
 use Rattle.rules.proofs.Tests.{look, look-option, clash, none-some, and-true, or-right, strong}
 use Rattle.rules.proofs.Acceptance.{Accepted}
 use Rattle.rules.proofs.Opening.{wakes-root, wakes-together, wakes-entered, wakes-woken, enter-to, enter-woken, enter-kept}
 use Rattle.restoration.proofs.Modes.{forward-awake, is-forward}
-use Rattle.restoration.proofs.Nesting.{Awake, Sleeps, Nested, own-below, host-awake, host-busy, open-host}
+use Rattle.restoration.proofs.Nesting.{Awake, Sleeps, Nested, own-below, host-awake, host-busy}
 
 -- a track goes forward into a state
 abbrev pub arrived : ℕ → Configuration → Configuration

@@ -1,16 +1,16 @@
 -- The entries that a track of a sound ledger may hold: a code other than 0, and a deviation, if any, to a non-final state of that root.
 -- Installing and removing keep them so. Assumes nothing.
-use mathlib.Core.Path.{_≡_, refl, sym, ap, _∙_, subst}
-use mathlib.Core.Logic.{_⊎_, inl, inr}
-use mathlib.Core.Bool.{Bool, true, false, cond, not, _&&_, _||_}
+use mathlib.Core.Path.{_≡_, refl, ap, _∙_, subst}
+use mathlib.Core.Logic.{inl, inr}
+use mathlib.Core.Bool.{Bool, true, false, not, _&&_, _||_}
 use mathlib.Core.List.{List, [], _∷_}
-use mathlib.Core.Option.{Option, none, some}
+use mathlib.Core.Option.{none, some}
 use Prim.Native.Nat.{ℕ, suc, _<_, _≤_}
 use native.Mathlib.Omega.{arith}
 use lib.ListN.{length}
 use lib.Dec.{eqb}
 use borrow.Author.Tests.{not-true, eq-eqb}
-use Rattle.rules.specs.Plan.{Plan, trackCount, transitionCount, noState, optional, host, owner, transition, mover, isRoot, isStateOf, isFinal}
+use Rattle.rules.specs.Plan.{Plan, transitionCount, noState, optional, host, transition, mover, isRoot, isStateOf, isFinal}
 use Rattle.rules.specs.Ledger.{Entry, Ledger, isEmpty}
 use Rattle.rules.specs.Event.{install}
 use Rattle.rules.specs.Fire.{newest, older}

@@ -1,16 +1,15 @@
 -- A firing keeps a ledger nested: it removes an entry, and a track that deviates is a root without an open scope that enters a state of
 -- its own. Assumes nothing.
 use mathlib.Core.Path.{_≡_, refl, sym, ap, _∙_, subst}
-use mathlib.Core.Logic.{_⊎_, inl, inr}
-use mathlib.Core.Bool.{Bool, true, false, cond}
-use mathlib.Core.List.{List, [], _∷_}
-use mathlib.Core.Option.{Option, none, some}
-use Prim.Native.Nat.{ℕ, _<_}
+use mathlib.Core.Logic.{inl, inr}
+use mathlib.Core.Bool.{true, false}
+use mathlib.Core.Option.{none, some}
+use Prim.Native.Nat.{ℕ}
 use lib.Dec.{eqb}
 use borrow.Author.Tests.{eqb-true, eq-eqb}
-use Rattle.rules.specs.Plan.{Plan, trackCount, optional, host, owner, isStateOf}
-use Rattle.rules.specs.Ledger.{Entry, Ledger, isAwake, isUndoing, isEmpty, sleeping}
-use Rattle.rules.specs.Scope.{isOpen, hasOpenScope}
+use Rattle.rules.specs.Plan.{Plan, optional, host, owner, isStateOf}
+use Rattle.rules.specs.Ledger.{Ledger, isAwake}
+use Rattle.rules.specs.Scope.{hasOpenScope}
 use Rattle.rules.specs.Opening.{fresh, enter}
 use Rattle.rules.specs.Fire.{newest, older, removed, deviatesTo, fired}
 use Rattle.rules.proofs.Tests.{look, look-option, clash, none-some}

@@ -3,22 +3,21 @@
 -- opening come to the same as the words inside it. A track without an open scope has nothing awake below it, so its changes commute with
 -- every higher track's word. Assumes nothing.
 use mathlib.Core.Path.{_≡_, refl, sym, ap, _∙_, subst}
-use mathlib.Core.Logic.{_⊎_, inl, inr}
-use mathlib.Core.Bool.{Bool, true, false}
+use mathlib.Core.Logic.{inl, inr}
+use mathlib.Core.Bool.{true, false}
 use mathlib.Core.List.{List, [], _∷_, _++_}
-use mathlib.Core.Option.{Option, none, some}
+use mathlib.Core.Option.{Option, none}
 use Prim.Native.Nat.{ℕ, _<_}
-use Rattle.rules.specs.Plan.{Plan, trackCount, transitionCount, transition, owner, mover, isInside, isAbove}
-use Rattle.rules.specs.Ledger.{Entry, Configuration, Ledger, isForward, sleeping}
+use Rattle.rules.specs.Plan.{Plan, trackCount, transitionCount, owner, mover, isInside, isAbove}
+use Rattle.rules.specs.Ledger.{Entry, Configuration, Ledger, isForward}
 use Rattle.rules.specs.Scope.{isOpen, hasOpenScope}
-use Rattle.rules.specs.Opening.{enter, wakes}
-use Rattle.rules.specs.Books.{Apart, Deed, change, does, act, Books}
-use Rattle.rules.proofs.Tests.{look, clash}
+use Rattle.rules.specs.Opening.{enter}
+use Rattle.rules.specs.Books.{Apart, change, does, act, Books}
+use Rattle.rules.proofs.Tests.{look}
 use Rattle.rules.proofs.Acceptance.{Accepted}
 use Rattle.rules.proofs.Forest.{Reaches, apart}
-use Rattle.rules.proofs.Scopes.{open-find}
-use Rattle.restoration.proofs.Composition.{Word, when, join, All, none, one, all-append, all-map, Same, Swap, Commute, swap-words, swap-nil, join-nil}
-use Rattle.restoration.proofs.Nesting.{Awake, Sleeps, Nested, free-below, shut-inside, open-host}
+use Rattle.restoration.proofs.Composition.{Word, when, join, All, none, all-append, all-map, Same, Swap, Commute, swap-words, swap-nil, join-nil}
+use Rattle.restoration.proofs.Nesting.{Sleeps, Nested, free-below, shut-inside, open-host}
 use Rattle.restoration.proofs.Soundness.{sleeping-held}
 use Rattle.restoration.proofs.Entering.{Enterable, Fate, enters, wakens, stays, fate, fresh-held, woken-asleep, kept-busy}
 

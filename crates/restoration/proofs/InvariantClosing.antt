@@ -3,26 +3,24 @@
 -- comes to the same as the scope's run; and the runs may stand behind the hosts' words again. Assumes nothing.
 use mathlib.Core.Path.{_≡_, refl, sym, ap, _∙_, subst}
 use mathlib.Core.Logic.{_⊎_, inl, inr}
-use mathlib.Core.Bool.{Bool, true, false, not, _||_}
-use mathlib.Core.List.{List, [], _∷_, _++_, append-nil}
-use mathlib.Core.Option.{Option, none, some}
+use mathlib.Core.Bool.{Bool, true, false, not}
+use mathlib.Core.List.{[], _++_, append-nil}
+use mathlib.Core.Option.{none, some}
 use Prim.Native.Nat.{ℕ, _<_}
 use native.Mathlib.Omega.{arith}
 use lib.Dec.{eqb}
-use borrow.Author.Tests.{eqb-true, eqb-false, eq-eqb, ne-eqb}
+use borrow.Author.Tests.{eqb-true, eq-eqb, ne-eqb}
 use Rattle.rules.specs.Plan.{Plan, trackCount, noState, host, owner, replacement, isInside, isAbove}
 use Rattle.rules.specs.Ledger.{Configuration, Ledger, isAwake, isForward}
-use Rattle.rules.specs.Scope.{isOpen, hasOpenScope}
-use Rattle.rules.specs.Event.{install, isClosing, isClosed, closesScope, closed}
+use Rattle.rules.specs.Event.{isClosing, isClosed, closesScope, closed}
 use Rattle.rules.specs.Books.{act, Books}
-use Rattle.rules.proofs.Tests.{look, look-option, clash, refuted}
+use Rattle.rules.proofs.Tests.{look, clash, refuted}
 use Rattle.rules.proofs.Acceptance.{Accepted}
-use Rattle.rules.proofs.Forest.{Reaches, inside-host, inside-above, above-up}
+use Rattle.rules.proofs.Forest.{inside-host, inside-above, above-up}
 use Rattle.rules.proofs.Scopes.{open-at, open-find}
 use Rattle.rules.proofs.Closing.{closing-final, closed-host, closed-asleep, closed-replaced, closed-kept, closed-alike}
 use Rattle.restoration.proofs.Composition.{Word, when, join, All, all-when, Same, Swap, when-nil, join-same, join-nil, swap-when, swap-nil, nil-swap, same-join, put-behind-of, gather}
-use Rattle.restoration.proofs.Modes.{forward-awake}
-use Rattle.restoration.proofs.Nesting.{Awake, Sleeps, Nested, state-of, host-awake, host-busy, open-host}
+use Rattle.restoration.proofs.Nesting.{Nested, state-of, open-host}
 use Rattle.restoration.proofs.Seams.{installed-held}
 use Rattle.restoration.proofs.Closing.{closing-open, closed-in, closes-known, closed-awake, closed-free, closed-was-awake, closed-closes, closing-open-track, closing-direct, closed-host-stays}
 use Rattle.restoration.proofs.Soundness.{sleeping-held}
@@ -258,18 +256,17 @@ module _ (limit : ℕ) (p : Plan) (ok : Accepted p) (k : Books p limit) (l : Led
             let (c, w) = closed-awake p l u a in
             let nz : isClosing p l z ≡ false = sym (closed-host p l u z e) ∙ c in
             let q = closed-alike p l (owner p z) (closed-host-stays p ok l n u z w e) .0 in
-            let (x, y) = g .runs z (open-at p l z u b e w) (ap isForward (sym q) ∙ f) in
-            (
+            let (x, y) = g .runs z (open-at p l z u b e w) (ap isForward (sym q) ∙ f) in (
               x,
               λ b.
-              y b
-              ∙ sym
-              (closed-same (isInside p z)
-              (λ v h d i.
-              inside-host p ok z v h i
-              ∙ (rw
-              (ne-eqb h z (λ j. clash (subst (λ r. isClosing p l r ≡ true) j (sym (closed-host p l v h i) ∙ d)) nz))))
-              b),
+                  y b
+                  ∙ sym
+                  (closed-same (isInside p z)
+                  (λ v h d i.
+                  inside-host p ok z v h i
+                  ∙ (rw
+                  (ne-eqb h z (λ j. clash (subst (λ r. isClosing p l r ≡ true) j (sym (closed-host p l v h i) ∙ d)) nz))))
+                  b),
             );
       }
 

@@ -2,29 +2,29 @@
 -- change commutes with every higher track's word and may as well be done last, as the books do it. A change with code 0 changes
 -- nothing. The run of each open scope grows by the moves inside it. Assumes nothing.
 use mathlib.Core.Path.{_≡_, refl, sym, ap, _∙_, subst, fun-ext}
-use mathlib.Core.Logic.{_⊎_, inl, inr}
-use mathlib.Core.Bool.{Bool, true, false, cond, not}
+use mathlib.Core.Logic.{inl, inr}
+use mathlib.Core.Bool.{Bool, true, not}
 use mathlib.Core.List.{List, [], _∷_, _++_, append-nil}
 use mathlib.Core.Option.{Option, none, some}
 use Prim.Native.Nat.{ℕ, zero, suc, _<_}
 use lib.Dec.{eqb}
 use borrow.Author.Tests.{eqb-true}
-use Rattle.rules.specs.Plan.{Plan, trackCount, transitionCount, transition, owner, mover, isInside, isAbove}
-use Rattle.rules.specs.Ledger.{Entry, Configuration, Ledger, isForward}
-use Rattle.rules.specs.Scope.{isOpen, hasOpenScope}
+use Rattle.rules.specs.Plan.{Plan, trackCount, transitionCount, transition, owner, isInside, isAbove}
+use Rattle.rules.specs.Ledger.{Entry, Ledger, isForward}
+use Rattle.rules.specs.Scope.{isOpen}
 use Rattle.rules.specs.Opening.{enter}
 use Rattle.rules.specs.Event.{install, move, moved}
 use Rattle.rules.specs.FinishedRun.{taken, movesBelow, movesOf}
 use Rattle.rules.specs.Books.{act, Books}
-use Rattle.rules.proofs.Tests.{look, look-option, clash}
+use Rattle.rules.proofs.Tests.{look, look-option}
 use Rattle.rules.proofs.Acceptance.{Accepted}
-use Rattle.rules.proofs.Forest.{Reaches, inside-above}
+use Rattle.rules.proofs.Forest.{inside-above}
 use Rattle.restoration.proofs.Composition as all
-use Rattle.restoration.proofs.Composition.{Word, when, join, All, all-append, all-when, all-join, Same, Swap, nil-swap, act-append, same-join, same-when, put-behind-of}
+use Rattle.restoration.proofs.Composition.{Word, when, join, All, all-append, all-when, all-join, Same, nil-swap, act-append, same-join, same-when, put-behind-of}
 use Rattle.restoration.proofs.Nesting.{Nested, open-same}
 use Rattle.restoration.proofs.Seams.{Ask, move-takes, install-cases, by-none, by-some}
 use Rattle.restoration.proofs.Moving.{recorded, goes, moved-is, recorded-mode, recorded-awake, mover-is, recorded-nested, goes-free}
-use Rattle.restoration.proofs.Invariant.{Undoes, Below, Held, inner, Blocks, swap-free, enter-blocks}
+use Rattle.restoration.proofs.Invariant.{Undoes, Below, Held, Blocks, swap-free, enter-blocks}
 
 -- a word that a code other than 0 undoes
 abbrev pub keep : ℕ → Word → Word
@@ -130,8 +130,7 @@ module _ (limit : ℕ) (p : Plan) (ok : Accepted p) (k : Books p limit) where
           | inl h ↦ rw h all.none
           | inr h ↦
               rw (h .1)
-              (all.one
-              (
+              (all.one (
                 inr (subst (λ x. isAbove p (owner p s) x ≡ true) (sym (mover-is p l e ok n t (h .0) (h .1))) (inside-above p ok s t c)),
                 move-takes p l e t (h .0) (h .1) .real,
               )
@@ -161,13 +160,12 @@ module _ (limit : ℕ) (p : Plan) (ok : Accepted p) (k : Books p limit) where
               λ s o f.
               let o′ = sym (open-same p (recorded p l e) l (recorded-awake p l e) s) ∙ o in
               let f′ = ap isForward (sym (recorded-mode p l e (owner p s))) ∙ f in
-              let (a, q) = g .runs s o′ f′ in
-              (
+              let (a, q) = g .runs s o′ f′ in (
                 all-append a (moves-below s),
                 λ b.
-                act-append (k .changed) (R s) (movesOf p (isInside p s) l e) b
-                ∙ ap (act (k .changed) (movesOf p (isInside p s) l e)) (q b)
-                ∙ sym (moves-last (isInside p s) b),
+                    act-append (k .changed) (R s) (movesOf p (isInside p s) l e) b
+                    ∙ ap (act (k .changed) (movesOf p (isInside p s) l e)) (q b)
+                    ∙ sym (moves-last (isInside p s) b),
               );
         }
 

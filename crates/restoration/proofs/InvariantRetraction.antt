@@ -1,16 +1,15 @@
 -- A signal, abandoning and a firing keep the invariant: what is abandoned holds nothing and so has no word; and the track that is fired has
 -- no open scope, so its newest block may be done last, where the code undoes it. Assumes nothing.
 use mathlib.Core.Path.{_≡_, refl, sym, ap, _∙_, subst, fun-ext}
-use mathlib.Core.Logic.{_⊎_, inl, inr}
-use mathlib.Core.Bool.{Bool, true, false, cond}
+use mathlib.Core.Logic.{inl, inr}
+use mathlib.Core.Bool.{true, false, cond}
 use mathlib.Core.List.{List, [], _∷_, _++_, append-nil}
-use mathlib.Core.Option.{Option, none, some}
 use Prim.Native.Nat.{ℕ, _<_}
 use native.Mathlib.Omega.{arith}
 use lib.Dec.{eqb}
-use borrow.Author.Tests.{eqb-true, eqb-false, eq-eqb, ne-eqb}
+use borrow.Author.Tests.{eqb-true, eq-eqb, ne-eqb}
 use Rattle.rules.specs.Plan.{Plan, trackCount, host, owner, isInside}
-use Rattle.rules.specs.Ledger.{Entry, Configuration, Ledger, isAwake, isForward, isEmpty}
+use Rattle.rules.specs.Ledger.{Entry, Configuration, Ledger, isForward, isEmpty}
 use Rattle.rules.specs.Scope.{isOpen, hasOpenScope}
 use Rattle.rules.specs.Opening.{enter}
 use Rattle.rules.specs.Signal.{turned, isAbandoned, abandoned}
@@ -20,7 +19,7 @@ use Rattle.rules.proofs.Tests.{look, look-option, clash}
 use Rattle.rules.proofs.Acceptance.{Accepted}
 use Rattle.rules.proofs.Scopes.{open-at, open-find}
 use Rattle.rules.proofs.Abandoning.{spent-parts, abandoned-root, abandoned-spent, left-asleep, left-kept}
-use Rattle.restoration.proofs.Composition.{Word, when, join, All, Same, Swap, nil-swap, join-same, join-single, put-behind}
+use Rattle.restoration.proofs.Composition.{Word, when, join, All, Swap, nil-swap, join-same, join-single, put-behind}
 use Rattle.restoration.proofs.Modes.{undoing-forward}
 use Rattle.restoration.proofs.Nesting.{Awake, Nested, open-same, mode-inside}
 use Rattle.restoration.proofs.Seams.{turned-awake, turned-held, spared, may-fire}

@@ -1,15 +1,15 @@
 -- A signal's turning and abandoning keep a ledger nested: turning changes modes alone, a track's and its host's alike, and a track that
 -- abandoning puts to sleep is spent, so that all that is awake below it goes to sleep with it. Assumes nothing.
-use mathlib.Core.Path.{_≡_, refl, sym, ap, _∙_, subst}
-use mathlib.Core.Logic.{_⊎_, inl, inr}
-use mathlib.Core.Bool.{Bool, true, false, _&&_}
-use mathlib.Core.Option.{Option, none, some}
-use Prim.Native.Nat.{ℕ, _<_}
-use Rattle.rules.specs.Plan.{Plan, trackCount, host, owner, isStateOf, everyIn}
-use Rattle.rules.specs.Ledger.{Ledger, isAwake, isForward, isEmpty, sleeping}
-use Rattle.rules.specs.Scope.{isOpen, hasOpenScope}
+use mathlib.Core.Path.{_≡_, sym, ap, _∙_}
+use mathlib.Core.Logic.{inl, inr}
+use mathlib.Core.Bool.{true, false}
+use mathlib.Core.Option.{none, some}
+use Prim.Native.Nat.{ℕ}
+use Rattle.rules.specs.Plan.{Plan, host, owner, isStateOf, everyIn}
+use Rattle.rules.specs.Ledger.{Ledger, isAwake}
+use Rattle.rules.specs.Scope.{isOpen}
 use Rattle.rules.specs.Signal.{turned, isSpent, isLeft, isAbandoned, abandoned}
-use Rattle.rules.proofs.Tests.{look, look-option, clash, refuted, and-both}
+use Rattle.rules.proofs.Tests.{look, clash, refuted, and-both}
 use Rattle.rules.proofs.Acceptance.{Accepted}
 use Rattle.rules.proofs.Scopes.{in-host, host-by, every-in-of}
 use Rattle.rules.proofs.Abandoning.{spent-parts, abandoned-host, abandoned-root, abandoned-spent, left-asleep, left-kept, awake-kept}

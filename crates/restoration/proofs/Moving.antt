@@ -1,23 +1,23 @@
 -- The moves of an event keep a ledger nested: the movers' entries change no mode and no state, and the movers, forward and without an open
 -- scope, enter states of their own. Assumes nothing.
 use mathlib.Core.Path.{_≡_, refl, sym, ap, _∙_, subst}
-use mathlib.Core.Logic.{_⊎_, inl, inr}
-use mathlib.Core.Bool.{Bool, true, false}
+use mathlib.Core.Logic.{inl, inr}
+use mathlib.Core.Bool.{true}
 use mathlib.Core.Option.{Option, none, some}
-use Prim.Native.Nat.{ℕ, _<_}
+use Prim.Native.Nat.{ℕ}
 use Rattle.rules.specs.declared.Mode.the-variants.{Forward}
-use Rattle.rules.specs.Plan.{Plan, trackCount, transition, host, owner, mover, isStateOf}
-use Rattle.rules.specs.Ledger.{Ledger, isAwake, isForward, isUndoing, sleeping}
-use Rattle.rules.specs.Scope.{isOpen, hasOpenScope}
+use Rattle.rules.specs.Plan.{Plan, transition, owner, mover, isStateOf}
+use Rattle.rules.specs.Ledger.{Ledger, isAwake, isUndoing}
+use Rattle.rules.specs.Scope.{hasOpenScope}
 use Rattle.rules.specs.Opening.{fresh, enter}
 use Rattle.rules.specs.Event.{destinationOf, installedBy, move, moved}
-use Rattle.rules.proofs.Tests.{look, look-option, clash, none-some}
+use Rattle.rules.proofs.Tests.{look-option, clash}
 use Rattle.rules.proofs.Acceptance.{Accepted}
 use Rattle.rules.proofs.Abandoning.{undoing-awake}
 use Rattle.restoration.proofs.Modes.{forward-awake, forward-is, undoing-forward, is-forward}
-use Rattle.restoration.proofs.Nesting.{Awake, Sleeps, Nested, state-of, open-same, busy-same}
-use Rattle.restoration.proofs.Seams.{Ask, Takes, move-takes, still, by-mode, by-state, by-none, to-none, to-some}
-use Rattle.restoration.proofs.Entering.{Enterable, Fate, enters, wakens, stays, fate, arrived, fresh-mode, kept, new-fresh, enter-nested}
+use Rattle.restoration.proofs.Nesting.{Awake, Sleeps, Nested, state-of, busy-same}
+use Rattle.restoration.proofs.Seams.{Ask, move-takes, still, by-mode, by-state, by-none, to-none, to-some}
+use Rattle.restoration.proofs.Entering.{Enterable, Fate, enters, wakens, stays, fate, fresh-mode, kept, new-fresh, enter-nested}
 
 module _ (p : Plan) (l : Ledger) (e : Ask) where
   -- the ledger with the movers' entries installed, and where the movers go

@@ -2,19 +2,19 @@
 -- scope is awake as a whole or asleep as a whole; what sleeps is blank. Each fact about a track follows from that about its host's track,
 -- whose number is lower. Assumes nothing.
 use mathlib.Core.Path.{_≡_, refl, sym, ap, _∙_, subst}
-use mathlib.Core.Logic.{_⊎_, inl, inr}
-use mathlib.Core.Bool.{Bool, true, false, _&&_, _||_}
-use mathlib.Core.Option.{Option, none, some}
+use mathlib.Core.Logic.{inl, inr}
+use mathlib.Core.Bool.{true, false, _&&_}
+use mathlib.Core.Option.{none, some}
 use Prim.Native.Nat.{ℕ, _<_}
 use lib.Dec.{eqb, ltb}
 use borrow.Author.Tests.{eqb-true, ltb-true}
-use Rattle.rules.specs.Plan.{Plan, trackCount, stateCount, host, owner, isStateOf, isIn, isHostedBy, isInside, isAbove}
+use Rattle.rules.specs.Plan.{Plan, trackCount, stateCount, host, owner, isStateOf, isHostedBy, isInside, isAbove}
 use Rattle.rules.specs.Ledger.{Ledger, isAwake, sleeping}
 use Rattle.rules.specs.Scope.{isOpen, hasOpenScope}
 use Rattle.rules.proofs.Tests.{look, look-option, clash, and-true, strong}
 use Rattle.rules.proofs.Folds.{some-same}
 use Rattle.rules.proofs.Acceptance.{Accepted}
-use Rattle.rules.proofs.Forest.{Reaches, above-hosted, inside-hosted}
+use Rattle.rules.proofs.Forest.{above-hosted, inside-hosted}
 use Rattle.rules.proofs.Scopes.{some-in-same, open-at, open-find, busy-at}
 
 abbrev pub Awake : Ledger → ℕ → Type 0

@@ -1,21 +1,21 @@
 -- What a track's moves in a run add up to: if each transition of the track raises a potential of states by its weight, the moves of a run
 -- weigh as much as the potential of the state that the track stands in; of a finished run, that of a final state. Assumes nothing.
 use mathlib.Core.Path.{_≡_, refl, sym, ap, _∙_, subst}
-use mathlib.Core.Logic.{_⊎_, inl, inr}
-use mathlib.Core.Bool.{Bool, true, false}
-use mathlib.Core.List.{List, [], _∷_, _++_}
+use mathlib.Core.Logic.{inl, inr}
+use mathlib.Core.Bool.{true}
+use mathlib.Core.List.{[], _∷_, _++_}
 use mathlib.Core.Option.{Option, none, some}
 use Prim.Native.Nat.{ℕ, zero, suc, _+_, _<_}
 use native.Mathlib.Nat.{not-suc-le-zero}
 use native.Mathlib.Omega.{arith}
 use lib.Dec.{eqb}
 use borrow.Author.Tests.{eqb-true, eqb-false, eq-eqb}
-use Rattle.rules.specs.Plan.{Plan, trackCount, transitionCount, transition, host, owner, mover, firstState, isStateOf, isFinal, isInside}
+use Rattle.rules.specs.Plan.{Plan, trackCount, transitionCount, transition, host, mover, firstState, isStateOf, isFinal, isInside}
 use Rattle.rules.specs.Ledger.{Configuration, Ledger}
 use Rattle.rules.specs.Scope.{isOpen}
-use Rattle.rules.specs.Event.{move, moved, isClosing}
-use Rattle.rules.specs.Call.{EventArguments, Call, event, signal, fire, callRefusal, next}
-use Rattle.rules.specs.FinishedRun.{taken, movesOf, Reached, Running, by-begin, by-call, over-event, over-signal, over-fire, Finished}
+use Rattle.rules.specs.Event.{move, moved}
+use Rattle.rules.specs.Call.{signal, fire, next}
+use Rattle.rules.specs.FinishedRun.{taken, movesOf, Running, by-begin, by-call, over-event, over-signal, over-fire, Finished}
 use Rattle.rules.specs.FinishedRun as run
 use Rattle.rules.proofs.Tests.{look, look-option, clash}
 use Rattle.rules.proofs.Acceptance.{Accepted}
@@ -147,15 +147,14 @@ module _ (limit : ℕ) (p : Plan) (ok : Accepted p) (s t : ℕ) (e : host p t �
   finished-weight (run.closed {l = l} {w = w} r a h c) =
       let k = open-sound limit p ok l s (reached-kept limit p ok (running-reached limit p ok r)) (running-open limit p ok r) in
       let m = moved p l (ask a) in
-      let (f, z) = closing-final p m s t c (ok .hosted t s e) e in
-      (
+      let (f, z) = closing-final p m s t c (ok .hosted t s e) e in (
         m t .state,
         moved-nested p l (ask a) ok (k .formed .nested) .own t (forward-awake (m t .mode) f),
         z,
         weight-append v w (movesOf p (isInside p s) l (ask a))
-        ∙ ap (λ x. x + weight v (movesOf p (isInside p s) l (ask a))) (running-weight r)
-        ∙ moves-weight l k (ask a)
-        ∙ ap φ (sym (moved-state limit p ok s t e l k (ask a) (open-awake limit p ok s t e l k (running-open limit p ok r)))),
+            ∙ ap (λ x. x + weight v (movesOf p (isInside p s) l (ask a))) (running-weight r)
+            ∙ moves-weight l k (ask a)
+            ∙ ap φ (sym (moved-state limit p ok s t e l k (ask a) (open-awake limit p ok s t e l k (running-open limit p ok r)))),
       )
 
 -- changes of tracks that are not inside a scope do not stand in its runs

@@ -2,17 +2,16 @@
 -- has a track of which the same holds; and that track's number is higher. Assumes nothing.
 use mathlib.Core.Path.{_≡_, refl, sym, ap, _∙_, subst}
 use mathlib.Core.Logic.{_⊎_, inl, inr}
-use mathlib.Core.Bool.{Bool, true, false, not, _&&_, _||_}
-use mathlib.Core.Option.{Option, none, some}
+use mathlib.Core.Bool.{Bool, true, false, not, _||_}
 use Prim.Native.Nat.{ℕ, zero, suc, _+_, _<_, _≤_}
 use native.Mathlib.Omega.{arith}
 use lib.Dec.{eqb}
 use borrow.Author.Tests.{eqb-true, eqb-false}
 use Rattle.rules.specs.declared.Mode.the-variants.{Undoing}
-use Rattle.rules.specs.Plan.{Plan, trackCount, host, owner, isIn, everyIn}
-use Rattle.rules.specs.Ledger.{Ledger, isAwake, isUndoing, isEmpty}
-use Rattle.rules.specs.Scope.{isOpen, hasOpenScope}
-use Rattle.rules.specs.Signal.{isBare, isAbandoning}
+use Rattle.rules.specs.Plan.{Plan, trackCount, isIn}
+use Rattle.rules.specs.Ledger.{Ledger, isUndoing, isEmpty}
+use Rattle.rules.specs.Scope.{hasOpenScope}
+use Rattle.rules.specs.Signal.{isBare}
 use Rattle.rules.specs.Fire.{mayFire}
 use Rattle.rules.proofs.Tests.{look, clash, implies}
 use Rattle.rules.proofs.Acceptance.{Accepted}
@@ -68,8 +67,7 @@ module _ (limit : ℕ) (p : Plan) (ok : Accepted p) (l : Ledger) (s : Sound limi
             let (i, k) = not-implied (isIn p h v) (isBare p l v) (r .2) in
             let f = in-host p h v i in
             let w : Awake l v = n .whole v u h f e ∙ a in
-            let m : isUndoing (l v .mode) ≡ true = ap isUndoing (sym (n .hosted v h w f .1) ∙ ap (λ x. l x .mode) o) ∙ d in
-            (
+            let m : isUndoing (l v .mode) ≡ true = ap isUndoing (sym (n .hosted v h w f .1) ∙ ap (λ x. l x .mode) o) ∙ d in (
               v,
               subst (λ x. x < v) o (ok .lower v h f),
               m,

@@ -1,12 +1,12 @@
 -- Property 3, whole: the calls' own promises make words and answers those of the reference run, by induction on the list; restoration and
 -- progress are the reference run's. Assumes nothing.
-use mathlib.Core.Path.{_≡_, refl, sym, ap, ap₂, _∙_, subst}
+use mathlib.Core.Path.{_≡_, refl, sym, ap, ap₂, _∙_}
 use mathlib.Core.List.{List, [], _∷_}
 use Prim.Native.Nat.{ℕ}
 use Rattle.rules.specs.declared.Counts.{Counts}
-use Rattle.rules.specs.Plan.{Plan, planOf}
+use Rattle.rules.specs.Plan.{planOf}
 use Rattle.rules.specs.Acceptance.{accepted, readPlan}
-use Rattle.rules.specs.Call.{Answer, done, Outcome, Call, event, signal, fire, callOutcome, eventOutcome, signalOutcome, fireOutcome, beginOutcome, Meets}
+use Rattle.rules.specs.Call.{Answer, done, Call, event, signal, fire, callOutcome, eventOutcome, signalOutcome, fireOutcome, beginOutcome, Meets}
 use Rattle.rules.specs.ReferenceRun.{wordsFrom, wordsAfter, answersFrom, answersAfter}
 use Rattle.rules.specs.History.{History, none, event-made, signal-made, fire-made, Property3}
 use Rattle.restoration.proofs.Restored.{restored, goes-on}
@@ -19,11 +19,10 @@ module _ (limit : ℕ) (bs : List ℕ) where
   more : (ws ws′ end : List ℕ) (c : Call) (cs : List Call) (r : Answer) (rs : List Answer)
       → Meets (callOutcome limit bs ws c) r ws′ → Follows ws′ cs rs end → Follows ws (c ∷ cs) (r ∷ rs) end
   unfolding Follows wordsFrom answersFrom
-  more ws ws′ end c cs r rs m f =
-      (
-        f .0 ∙ ap (λ x. wordsFrom limit bs x cs) (m .left),
-        ap₂ (λ x xs. x ∷ xs) (m .answered) (f .1 ∙ ap (λ x. answersFrom limit bs x cs) (m .left)),
-      )
+  more ws ws′ end c cs r rs m f = (
+    f .0 ∙ ap (λ x. wordsFrom limit bs x cs) (m .left),
+    ap₂ (λ x xs. x ∷ xs) (m .answered) (f .1 ∙ ap (λ x. answersFrom limit bs x cs) (m .left)),
+  )
 
   follows : {ws end : List ℕ} {cs : List Call} {rs : List Answer} → History limit bs ws cs rs end → Follows ws cs rs end
   unfolding Follows wordsFrom answersFrom eventOutcome signalOutcome fireOutcome

@@ -2,23 +2,22 @@
 -- that the books stand as at the begin. A scope's run is witnessed by the very list of calls that led here. Assumes nothing.
 use mathlib.Core.Path.{_≡_, refl, sym, ap, _∙_, subst}
 use mathlib.Core.Logic.{_⊎_, inl, inr}
-use mathlib.Core.Bool.{Bool, true, false}
-use mathlib.Core.List.{List, [], _++_}
-use mathlib.Core.Option.{Option, none, some}
-use Prim.Native.Nat.{ℕ, _<_}
-use Rattle.rules.specs.declared.Mode.the-variants.{Undoing}
-use Rattle.rules.specs.Plan.{Plan, trackCount, host, owner, replacement, isRoot, isInside}
-use Rattle.rules.specs.Ledger.{Configuration, Ledger, isAwake, isForward, sleeping}
-use Rattle.rules.specs.Scope.{isOpen, hasOpenScope}
+use mathlib.Core.Bool.{Bool, true}
+use mathlib.Core.List.{[], _++_}
+use mathlib.Core.Option.{none}
+use Prim.Native.Nat.{ℕ}
+use Rattle.rules.specs.Plan.{Plan, trackCount, host, owner, replacement, isInside}
+use Rattle.rules.specs.Ledger.{Configuration, Ledger, isAwake, isForward}
+use Rattle.rules.specs.Scope.{isOpen}
 use Rattle.rules.specs.Opening.{begun}
 use Rattle.rules.specs.Event.{moved, isClosing, closed}
 use Rattle.rules.specs.Signal.{turned, abandoned}
 use Rattle.rules.specs.Fire.{newest, mayFire, fired}
 use Rattle.rules.specs.Call.{EventArguments, SignalArguments, FireArguments, Call, event, signal, fire, callRefusal, next}
-use Rattle.rules.specs.FinishedRun.{movesOf, Reached, Running, by-begin, by-call, over-event, over-signal, over-fire, Finished}
+use Rattle.rules.specs.FinishedRun.{movesOf, Reached, Running, by-begin, by-call, over-event, over-signal, over-fire}
 use Rattle.rules.specs.FinishedRun as run
 use Rattle.rules.specs.Books.{act, Books}
-use Rattle.rules.specs.ReferenceRun.{Withdrawn, AllWithdrawn}
+use Rattle.rules.specs.ReferenceRun.{AllWithdrawn}
 use Rattle.rules.proofs.Tests.{look, look-option, clash}
 use Rattle.rules.proofs.Acceptance.{Accepted}
 use Rattle.rules.proofs.Scopes.{root-of, open-at, open-find}
@@ -27,18 +26,18 @@ use Rattle.rules.proofs.Abandoning.{awake-kept}
 use Rattle.restoration.proofs.Composition as all
 use Rattle.restoration.proofs.Composition.{Word, when, join, when-nil, join-nil}
 use Rattle.restoration.proofs.Modes.{forward-awake}
-use Rattle.restoration.proofs.Nesting.{Awake, Nested, scope-open, open-host, hosted-asleep}
+use Rattle.restoration.proofs.Nesting.{Nested, open-host, hosted-asleep}
 use Rattle.restoration.proofs.Seams.{Ask, ask, turned-awake, spared, fire-accepted, may-fire, next-cases}
 use Rattle.restoration.proofs.Moving.{moved-nested, moved-busy}
 use Rattle.restoration.proofs.Closing.{sleeping-asleep, closing-open, closed-awake}
 use Rattle.restoration.proofs.Firing.{removed-mode, fired-busy}
 use Rattle.restoration.proofs.Leaving.{turned-nested}
 use Rattle.restoration.proofs.Entering.{fresh-held}
-use Rattle.restoration.proofs.Soundness.{Formed, Sound, sleeping-held}
+use Rattle.restoration.proofs.Soundness.{Sound, sleeping-held}
 use Rattle.restoration.proofs.SoundBegin.{root-zero, begun-sound, begun-fresh}
 use Rattle.restoration.proofs.SoundEvent.{was-open}
 use Rattle.restoration.proofs.SoundRetraction.{fired-awake, fired-formed}
-use Rattle.restoration.proofs.SoundKept.{Over, Kept, over-is}
+use Rattle.restoration.proofs.SoundKept.{Over}
 use Rattle.restoration.proofs.SoundWords.{kept-next}
 use Rattle.restoration.proofs.Invariant.{Undoes, Held, Blocks, quiet}
 use Rattle.restoration.proofs.InvariantMoving.{grown, fresher, moves-last, moved-blocks}
@@ -226,15 +225,16 @@ module _ (limit : ℕ) (p : Plan) (ok : Accepted p) (k : Books p limit) where
   pub begun-keeps : (b : k .State) → Invariant (begun p) b b
   unfolding act
   begun-keeps b =
-      inr
-      (begun-sound limit p ok,
-      record {
-        W = λ t. [];
-        R = λ z. [];
-        blocks = record { held = λ t. held t; runs = λ z o f. (all.none, λ b. ap (λ w. act (k .changed) w b) (sym (nil (λ t. isInside p z t)))) };
-        running = λ z o f. by-begin o;
-        books = ap (λ w. act (k .changed) w b) (sym (join-nil (trackCount p) (λ t. []) (λ t i. refl)));
-      })
+      inr (
+        begun-sound limit p ok,
+        record {
+          W = λ t. [];
+          R = λ z. [];
+          blocks = record { held = λ t. held t; runs = λ z o f. (all.none, λ b. ap (λ w. act (k .changed) w b) (sym (nil (λ t. isInside p z t)))) };
+          running = λ z o f. by-begin o;
+          books = ap (λ w. act (k .changed) w b) (sym (join-nil (trackCount p) (λ t. []) (λ t i. refl)));
+        },
+      )
     where
       nil : (S : ℕ → Bool) → join (trackCount p) (λ t. when (S t) []) ≡ []
       nil S = join-nil (trackCount p) (λ t. when (S t) []) (λ t i. when-nil (S t))

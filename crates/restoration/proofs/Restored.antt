@@ -1,10 +1,10 @@
 -- Restoration and progress for the reference run, on words: the words hold the ledger of the rules, on which each call keeps the invariant.
 -- Assumes nothing.
 use mathlib.Core.Path.{_≡_, refl, sym, ap, _∙_, subst}
-use mathlib.Core.Logic.{_⊎_, inl, inr}
-use mathlib.Core.Bool.{Bool, true, false}
+use mathlib.Core.Logic.{inl, inr}
+use mathlib.Core.Bool.{true, false}
 use mathlib.Core.List.{List, [], _∷_}
-use Prim.Native.Nat.{ℕ, zero, suc, _<_}
+use Prim.Native.Nat.{ℕ, zero, suc}
 use native.Mathlib.Omega.{arith}
 use Rattle.rules.specs.declared.Counts.{Counts}
 use Rattle.rules.specs.declared.Mode.the-variants.{Undoing}
@@ -13,7 +13,7 @@ use Rattle.rules.specs.Acceptance.{accepted, readPlan}
 use Rattle.rules.specs.Ledger.{Configuration, Ledger, isAwake, isEmpty, ledgerAt}
 use Rattle.rules.specs.Opening.{begun}
 use Rattle.rules.specs.Fire.{mayFire}
-use Rattle.rules.specs.Call.{Answer, refusal, done, Call, event, signal, fire, callRefusal, next, callOutcome, beginOutcome}
+use Rattle.rules.specs.Call.{done, Call, event, signal, fire, callRefusal, next, callOutcome, beginOutcome}
 use Rattle.rules.specs.FinishedRun.{Reached}
 use Rattle.rules.specs.FinishedRun as run
 use Rattle.rules.specs.Books.{Books}
@@ -63,9 +63,10 @@ module _ (limit : ℕ) (bs : List ℕ) (c : Counts) (read : readPlan bs ≡ acce
             → Inv (next limit p l d) first (booked limit bs p k (ledgerAt limit ws n) d (callOutcome limit bs ws d .answer) now)
         go zero e = rw (call-accepted limit bs c read ws l h d e, h .reads) (accepted-keeps l first now r i d e)
         go (suc x) e =
-            rw
-            (call-refused limit bs c read ws l h d x e,
-              next-refused limit p l d (λ z. let w : suc x ≡ 0 = sym e ∙ z in omega arith))
+            rw (
+              call-refused limit bs c read ws l h d x e,
+              next-refused limit p l d (λ z. let w : suc x ≡ 0 = sym e ∙ z in omega arith),
+            )
             i
 
     through : (cs : List Call) (ws : List ℕ) (l : Ledger) (first now : k .State) → Hold ws l → Reached p limit l → Inv l first now

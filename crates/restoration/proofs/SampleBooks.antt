@@ -1,19 +1,18 @@
 -- The conditions can be met: books for the sample plan P, of three numbers, on which the changes of each track raise that track's number and
 -- the retractions lower it again; replacement 90 lowers what every finished run of state 1 has raised. Assumes nothing.
-use mathlib.Core.Path.{_≡_, refl, sym, ap, _∙_, subst}
-use mathlib.Core.Logic.{_⊎_, inl, inr}
-use mathlib.Core.Bool.{Bool, true, false, cond}
+use mathlib.Core.Path.{_≡_, refl, sym, _∙_, subst}
+use mathlib.Core.Bool.{true, cond}
 use mathlib.Core.List.{List, [], _∷_}
-use mathlib.Core.Option.{Option, none, some}
+use mathlib.Core.Option.{some}
 use Prim.Native.Nat.{ℕ, zero, suc, _+_, _-_, _<_}
 use native.Mathlib.Omega.{arith}
 use lib.ListN.{getD}
 use lib.Dec.{eqb}
 use Rattle.rules.specs.declared.Counts.{Counts}
-use Rattle.rules.specs.Plan.{Plan, planOf, trackCount, stateCount, transitionCount, transition, host, owner, replacement, mover, firstState, isStateOf, isFinal, isInside, isAbove}
+use Rattle.rules.specs.Plan.{Plan, planOf, stateCount, transitionCount, transition, host, replacement, mover, isStateOf, isFinal, isInside}
 use Rattle.rules.specs.Acceptance.{accepted, readPlan}
 use Rattle.rules.specs.FinishedRun.{Finished}
-use Rattle.rules.specs.Books.{Apart, Deed, change, retraction, replacing, does, act, Books}
+use Rattle.rules.specs.Books.{act}
 use Rattle.rules.proofs.Tests.{clash, none-some}
 use Rattle.rules.proofs.Acceptance.{Accepted, accepts}
 use Rattle.runs.specs.SamplePlan.{planP}

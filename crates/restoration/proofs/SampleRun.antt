@@ -1,19 +1,15 @@
 -- Books for plan P, and the run 10, 11, 12, 14, signal, fire 90, fire 50 on them: they are raised midway and stand as at the begin in the
 -- end, by the restoration theorem. Only tracks 1 and 2 are apart, and each works on a number of its own. Assumes nothing.
 use mathlib.Core.Path.{_≡_, refl, sym, ap, _∙_, subst}
-use mathlib.Core.Logic.{_⊎_, inl, inr}
-use mathlib.Core.Bool.{Bool, true, false}
 use mathlib.Core.List.{List, [], _∷_}
-use mathlib.Core.Option.{Option, none, some}
-use Prim.Native.Nat.{ℕ, zero, suc, _+_, _-_, _<_}
+use Prim.Native.Nat.{ℕ, zero, suc, _+_, _-_}
 use native.Mathlib.Omega.{arith}
 use lib.ListN.{replicate}
-use Rattle.rules.specs.declared.Mode.the-variants.{Undoing}
-use Rattle.rules.specs.Plan.{trackCount, transitionCount, transition, host, owner, replacement, mover, isRoot, isAbove}
+use Rattle.rules.specs.Plan.{transition, owner, mover}
 use Rattle.rules.specs.Layout.{entryLimit}
 use Rattle.rules.specs.Call.{Call, event, signal, fire, nothing, done, beginOutcome}
 use Rattle.rules.specs.Books.{Apart, Deed, change, retraction, replacing, does, act, Books}
-use Rattle.rules.specs.ReferenceRun.{bookedCall, booked, booksFrom, booksAfter, ledgerAfter, Withdrawn, AllWithdrawn}
+use Rattle.rules.specs.ReferenceRun.{bookedCall, booked, booksFrom, booksAfter, ledgerAfter, AllWithdrawn}
 use Rattle.rules.proofs.Tests.{clash}
 use Rattle.runs.specs.SamplePlan.{planP}
 use Rattle.runs.specs.Computing.{computing}

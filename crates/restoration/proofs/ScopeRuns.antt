@@ -1,45 +1,40 @@
 -- The runs of a scope, from its opening on: its ledgers are reached and sound, its tracks start in their first states, and each follows its
 -- own transitions. So what the moves of one track add up to is known by the state it stands in. Assumes nothing.
 use mathlib.Core.Path.{_≡_, refl, sym, ap, _∙_, subst}
-use mathlib.Core.Logic.{_⊎_, inl, inr}
-use mathlib.Core.Bool.{Bool, true, false}
-use mathlib.Core.List.{List, [], _∷_, _++_, append-nil}
+use mathlib.Core.Logic.{inl, inr}
+use mathlib.Core.Bool.{true, false}
 use mathlib.Core.Option.{Option, none, some}
-use Prim.Native.Nat.{ℕ, zero, suc, _+_, _<_}
-use native.Mathlib.Nat.{not-suc-le-zero}
-use native.Mathlib.Omega.{arith}
+use Prim.Native.Nat.{ℕ}
 use lib.Dec.{eqb}
 use borrow.Author.Tests.{eqb-true, eqb-false, eq-eqb}
-use Rattle.rules.specs.Plan.{Plan, trackCount, transitionCount, transition, host, owner, mover, firstState, isInside}
+use Rattle.rules.specs.Plan.{Plan, transition, host, owner, firstState, isInside}
 use Rattle.rules.specs.Ledger.{Configuration, Ledger, isAwake, isForward}
-use Rattle.rules.specs.Scope.{isOpen, hasOpenScope}
-use Rattle.rules.specs.Opening.{begun}
+use Rattle.rules.specs.Scope.{isOpen}
 use Rattle.rules.specs.Event.{move, moved, closed}
-use Rattle.rules.specs.Signal.{turned, abandoned}
+use Rattle.rules.specs.Signal.{turned}
 use Rattle.rules.specs.Fire.{fired}
 use Rattle.rules.specs.Call.{EventArguments, Call, event, signal, fire, callRefusal, next}
-use Rattle.rules.specs.FinishedRun.{taken, movesOf, Reached, Running, by-begin, by-call, over-event, over-signal, over-fire}
+use Rattle.rules.specs.FinishedRun.{Reached, Running, by-begin, by-call, over-event, over-signal, over-fire}
 use Rattle.rules.specs.FinishedRun as run
-use Rattle.rules.proofs.Tests.{look, look-option, clash}
+use Rattle.rules.proofs.Tests.{look, clash}
 use Rattle.rules.proofs.Acceptance.{Accepted}
 use Rattle.rules.proofs.Forest.{inside-host}
 use Rattle.rules.proofs.Scopes.{open-find, shut-at}
 use Rattle.rules.proofs.Opening.{enter-to}
 use Rattle.rules.proofs.Closing.{closed-alike}
 use Rattle.rules.proofs.Abandoning.{awake-kept}
-use Rattle.restoration.proofs.Composition.{Word, when, join, join-same}
-use Rattle.restoration.proofs.Nesting.{Awake, Sleeps, Nested, scope-open, open-host}
+use Rattle.restoration.proofs.Composition.{Word}
+use Rattle.restoration.proofs.Nesting.{Awake, Sleeps, Nested}
 use Rattle.restoration.proofs.Seams.{Ask, ask, to-destination, work, next-cases, turned-awake, turned-state, fire-accepted, may-fire, next-refused}
-use Rattle.restoration.proofs.Moving.{recorded, goes, moved-is, mover-is, moved-still, moved-new}
+use Rattle.restoration.proofs.Moving.{recorded, goes, moved-is, moved-still, moved-new}
 use Rattle.restoration.proofs.Entering.{fresh-state}
 use Rattle.restoration.proofs.Closing.{sleeping-asleep, closed-awake}
 use Rattle.restoration.proofs.Firing.{fired-new}
 use Rattle.restoration.proofs.Soundness.{Sound}
-use Rattle.restoration.proofs.SoundBegin.{begun-sound, begun-fresh}
+use Rattle.restoration.proofs.SoundBegin.{begun-sound}
 use Rattle.restoration.proofs.SoundRetraction.{fired-awake, hosted-kept}
-use Rattle.restoration.proofs.SoundKept.{Over, Kept, over-is}
+use Rattle.restoration.proofs.SoundKept.{Kept}
 use Rattle.restoration.proofs.SoundWords.{kept-next}
-use Rattle.restoration.proofs.InvariantMoving.{moves-join}
 
 module _ (limit : ℕ) (p : Plan) (ok : Accepted p) where
   pub reached-kept : {l : Ledger} → Reached p limit l → Kept limit p l
@@ -71,8 +66,7 @@ module _ (limit : ℕ) (p : Plan) (ok : Accepted p) where
   pub signal-turns : (l : Ledger) (s : ℕ) → Sound limit p l → isOpen p l s ≡ true → isForward (l (owner p s) .mode) ≡ true
       → (t : ℕ) × (isInside p s t ≡ true) × (isForward (l t .mode) ≡ true)
   signal-turns l s k o f =
-      let (t, b, e, a) = open-find p l s o in
-      (
+      let (t, b, e, a) = open-find p l s o in (
         t,
         inside-host p ok s t s e ∙ (rw (eq-eqb s s refl)),
         ap isForward (sym (k .formed .nested .hosted t s a e .1)) ∙ f,

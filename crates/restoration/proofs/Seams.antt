@@ -1,13 +1,11 @@
 -- What the theorems know of the rules that may change: who moves and by which transition, what an entry keeps and how it is installed,
 -- when all is finished, whom a signal turns, when a call is refused. Only here are the texts of those rules unfolded. Assumes nothing.
-use mathlib.Core.Path.{_≡_, refl, sym, ap, _∙_, subst, fun-ext}
+use mathlib.Core.Path.{_≡_, refl, ap, _∙_, fun-ext}
 use mathlib.Core.Logic.{_⊎_, inl, inr}
 use mathlib.Core.Bool.{Bool, true, false, cond, not, _&&_, _||_}
-use mathlib.Core.List.{List, [], _∷_}
+use mathlib.Core.List.{List, _∷_}
 use mathlib.Core.Option.{Option, none, some}
-use Prim.Native.Nat.{ℕ, zero, suc, _<_, _≤_}
-use native.Mathlib.Omega.{arith}
-use lib.ListN.{length}
+use Prim.Native.Nat.{ℕ, _<_}
 use lib.Dec.{eqb, ltb}
 use borrow.Author.Tests.{ne-eqb, not-true, not-false, ltb-true, lt-ltb}
 use Rattle.rules.specs.declared.Mode.{Mode}
@@ -15,14 +13,14 @@ use Rattle.rules.specs.declared.Mode.the-variants.{Asleep, Forward, Undoing}
 use Rattle.rules.specs.Fold.{firstRefusal}
 use Rattle.rules.specs.Plan.{Plan, trackCount, transitionCount, transition, host, owner, isRoot, isFinal, isInside, transitionFor}
 use Rattle.rules.specs.Ledger.{Entry, Configuration, Ledger, isAwake, isForward, isUndoing, isEmpty, sleeping}
-use Rattle.rules.specs.Scope.{isOpen, hasOpenScope, isOver}
+use Rattle.rules.specs.Scope.{hasOpenScope, isOver}
 use Rattle.rules.specs.Event.{install, installed, destinationOf, installedBy, hasCode, move, moved, closed, isFinishing, finished, isFull, afterEvent}
 use Rattle.rules.specs.Signal.{turnedTrack, turned, abandoned, afterSignal}
 use Rattle.rules.specs.Fire.{mayFire, fired, afterFire}
 use Rattle.rules.specs.Call.{EventArguments, SignalArguments, FireArguments, Call, event, signal, fire, callRefusals, callRefusal, after, next}
 use Rattle.rules.proofs.Tests.{look, look-option, clash, none-some, and-true, implies, implied, passed}
 use Rattle.rules.proofs.Folds.{every-at, every-of}
-use Rattle.rules.proofs.Acceptance.{Accepted, transition-for}
+use Rattle.rules.proofs.Acceptance.{transition-for}
 use Rattle.rules.proofs.Scopes.{root-of, root-none}
 
 -- What the rules of an event read of its arguments.

@@ -1,21 +1,18 @@
 -- Begin's ledger is sound: what is awake is fresh, and first states are not final. Assumes nothing.
-use mathlib.Core.Path.{_≡_, refl, sym, ap, _∙_, subst}
-use mathlib.Core.Logic.{_⊎_, inl, inr}
+use mathlib.Core.Path.{_≡_, refl, ap, _∙_, subst}
+use mathlib.Core.Logic.{inl, inr}
 use mathlib.Core.Bool.{Bool, true, false, _&&_}
-use mathlib.Core.List.{List, []}
-use mathlib.Core.Option.{Option, none, some}
+use mathlib.Core.Option.{none, some}
 use Prim.Native.Nat.{ℕ, _<_}
 use native.Mathlib.Omega.{arith}
 use lib.Dec.{ltb}
 use borrow.Author.Tests.{ltb-true}
-use Rattle.rules.specs.declared.Mode.the-variants.{Forward}
-use Rattle.rules.specs.Plan.{Plan, trackCount, host, owner, isRoot, isStateOf, isFinal, firstState, everyIn}
-use Rattle.rules.specs.Ledger.{Ledger, isAwake, isForward, isUndoing, sleeping}
+use Rattle.rules.specs.Plan.{Plan, trackCount, host, isRoot, isStateOf, isFinal, firstState, everyIn}
+use Rattle.rules.specs.Ledger.{Ledger, isAwake, isForward, sleeping}
 use Rattle.rules.specs.Scope.{isOpen, hasOpenScope}
-use Rattle.rules.specs.Opening.{fresh, wakes, enter, rootsFirst, begun}
-use Rattle.rules.specs.Event.{isClosing, isFinishing}
+use Rattle.rules.specs.Opening.{fresh, wakes, rootsFirst, begun}
+use Rattle.rules.specs.Event.{isClosing}
 use Rattle.rules.specs.Signal.{isBare, isAbandoning}
-use Rattle.rules.specs.Soundness.{isLive}
 use Rattle.rules.proofs.Tests.{look, look-option, clash, none-some, refuted, and-true}
 use Rattle.rules.proofs.Acceptance.{Accepted}
 use Rattle.rules.proofs.Scopes.{root-none, host-in, every-in-at, open-find, busy-find}
@@ -23,7 +20,7 @@ use Rattle.rules.proofs.Closing.{closing-final}
 use Rattle.rules.proofs.Abandoning.{bare-parts}
 use Rattle.rules.proofs.Opening.{begun-root, begun-woken, begun-asleep}
 use Rattle.restoration.proofs.Modes.{is-forward, undoing-forward}
-use Rattle.restoration.proofs.Nesting.{Awake, Nested}
+use Rattle.restoration.proofs.Nesting.{Awake}
 use Rattle.restoration.proofs.Seams.{goes-on}
 use Rattle.restoration.proofs.Entering.{Enterable, fresh-awake, fresh-mode, fresh-state}
 use Rattle.restoration.proofs.Closing.{sleeping-asleep, closing-open}

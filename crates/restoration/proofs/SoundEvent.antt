@@ -1,34 +1,32 @@
 -- An event that is not refused keeps a ledger sound, finish apart: 21 leaves room for each entry, closing leaves none due, and undoing
 -- tracks, which alone may be abandoned, are left as they were. Assumes nothing.
-use mathlib.Core.Path.{_≡_, refl, sym, ap, _∙_, subst}
-use mathlib.Core.Logic.{_⊎_, inl, inr}
-use mathlib.Core.Bool.{Bool, true, false, not, _&&_, _||_}
-use mathlib.Core.List.{List, []}
-use mathlib.Core.Option.{Option, none, some}
-use Prim.Native.Nat.{ℕ, suc, _<_, _≤_}
-use native.Mathlib.Omega.{arith}
+use mathlib.Core.Path.{_≡_, sym, ap, _∙_, subst}
+use mathlib.Core.Logic.{inl, inr}
+use mathlib.Core.Bool.{true, false, not, _&&_, _||_}
+use mathlib.Core.Option.{some}
+use Prim.Native.Nat.{ℕ, _<_, _≤_}
 use lib.ListN.{length}
 use lib.Dec.{eqb, leb}
 use borrow.Author.Tests.{leb-false}
 use Rattle.rules.specs.Plan.{Plan, trackCount, noState, host, owner, transition, replacement, isFinal, everyIn}
-use Rattle.rules.specs.Ledger.{Configuration, Ledger, isAwake, isUndoing, isEmpty, sleeping}
+use Rattle.rules.specs.Ledger.{Configuration, Ledger, isAwake, isUndoing, isEmpty}
 use Rattle.rules.specs.Scope.{isOpen, hasOpenScope}
 use Rattle.rules.specs.Opening.{enter}
 use Rattle.rules.specs.Event.{installed, hasCode, move, moved, isClosing, isClosed, closesScope, closed, isReplaced, isFull}
 use Rattle.rules.specs.Signal.{isBare, isAbandoning}
-use Rattle.rules.proofs.Tests.{look, look-option, clash, refuted, and-true, and-both, or-right}
+use Rattle.rules.proofs.Tests.{look, look-option, clash, refuted, and-both, or-right}
 use Rattle.rules.proofs.Folds.{some-not}
 use Rattle.rules.proofs.Acceptance.{Accepted}
-use Rattle.rules.proofs.Scopes.{in-host, host-in, every-in-of, open-at, open-find, busy-at, busy-find}
-use Rattle.rules.proofs.Closing.{closing-final, closed-root, closed-asleep, closed-replaced, closed-kept, closed-alike, closed-done}
-use Rattle.rules.proofs.Abandoning.{undoing-awake, bare-parts}
-use Rattle.restoration.proofs.Nesting.{Awake, Sleeps, Nested, state-of, open-host}
+use Rattle.rules.proofs.Scopes.{in-host, every-in-of, open-at, open-find, busy-at, busy-find}
+use Rattle.rules.proofs.Closing.{closing-final, closed-root, closed-asleep, closed-replaced, closed-kept, closed-alike}
+use Rattle.rules.proofs.Abandoning.{bare-parts}
+use Rattle.restoration.proofs.Nesting.{Awake, Nested, state-of, open-host}
 use Rattle.restoration.proofs.Seams.{Ask, move-takes, installed-held, by-none, by-some, has-code}
 use Rattle.restoration.proofs.Entries.{Good, good-install, may-none, may-own, install-fits}
 use Rattle.restoration.proofs.Entering.{Fate, enters, wakens, stays, fate, arrived-awake, fresh-awake, fresh-state}
 use Rattle.restoration.proofs.Moving.{recorded, goes, moved-is, recorded-awake, mover-awake, mover-is, recorded-nested, goes-free, moved-nested, moved-busy, moved-undoing, moved-undoing-back, moved-new}
 use Rattle.restoration.proofs.Closing.{closing-open, closes-known, closed-nested, closed-undoing, closed-undoing-back}
-use Rattle.restoration.proofs.Soundness.{Formed, RootsAwake, Sound, sleeping-held, sleeping-few, sleeping-good, enter-formed}
+use Rattle.restoration.proofs.Soundness.{Formed, RootsAwake, sleeping-held, sleeping-few, sleeping-good, enter-formed}
 use Rattle.restoration.proofs.SoundBegin.{abandoning-open, abandoning-bare}
 
 -- bare, put together

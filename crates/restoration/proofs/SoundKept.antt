@@ -1,9 +1,9 @@
 -- Every accepted call takes every sound ledger, a crafted one too, to a sound one: on ledgers, and on words. Assumes nothing.
 use mathlib.Core.Path.{_≡_, refl, sym, ap, _∙_, subst}
 use mathlib.Core.Logic.{_⊎_, inl, inr}
-use mathlib.Core.Bool.{Bool, true, false, not, _&&_, _||_}
-use mathlib.Core.List.{List, []}
-use Prim.Native.Nat.{ℕ, _≤_}
+use mathlib.Core.Bool.{true, false, not, _||_}
+use mathlib.Core.List.{List}
+use Prim.Native.Nat.{ℕ}
 use Rattle.rules.specs.Plan.{Plan, trackCount}
 use Rattle.rules.specs.Ledger.{Configuration, Ledger, isAwake, sleeping, ledgerAt, written}
 use Rattle.rules.specs.Scope.{isOver}

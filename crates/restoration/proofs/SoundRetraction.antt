@@ -1,22 +1,20 @@
 -- A signal and a firing keep a ledger sound: abandoning leaves none due; what is forward after a signal is as it was; and after a firing
 -- the root above the fired track is undoing, or just went forward into a state that is not final. Assumes nothing.
 use mathlib.Core.Path.{_≡_, refl, sym, ap, _∙_, subst}
-use mathlib.Core.Logic.{_⊎_, inl, inr}
+use mathlib.Core.Logic.{inl, inr}
 use mathlib.Core.Bool.{Bool, true, false, _&&_}
-use mathlib.Core.List.{List, []}
-use mathlib.Core.Option.{Option, none, some}
-use Prim.Native.Nat.{ℕ, _<_, _≤_}
+use mathlib.Core.Option.{none, some}
+use Prim.Native.Nat.{ℕ, _≤_}
 use native.Mathlib.Omega.{arith}
 use lib.ListN.{length}
 use lib.Dec.{eqb}
-use borrow.Author.Tests.{eqb-true, eq-eqb}
-use Rattle.rules.specs.Plan.{Plan, trackCount, optional, host, owner, isFinal}
-use Rattle.rules.specs.Ledger.{Configuration, Ledger, isAwake, isForward, isUndoing, isEmpty, sleeping}
-use Rattle.rules.specs.Scope.{isOpen, hasOpenScope}
-use Rattle.rules.specs.Opening.{fresh, enter}
+use Rattle.rules.specs.Plan.{Plan, optional, host, isFinal}
+use Rattle.rules.specs.Ledger.{Configuration, Ledger, isAwake, isForward, isUndoing}
+use Rattle.rules.specs.Scope.{hasOpenScope}
+use Rattle.rules.specs.Opening.{enter}
 use Rattle.rules.specs.Event.{isClosing, isFinishing}
-use Rattle.rules.specs.Signal.{turned, isAbandoned, abandoned}
-use Rattle.rules.specs.Fire.{newest, older, mayFire, removed, deviatesTo, fired}
+use Rattle.rules.specs.Signal.{turned, abandoned}
+use Rattle.rules.specs.Fire.{newest, mayFire, removed, deviatesTo, fired}
 use Rattle.rules.proofs.Tests.{look, look-option, clash, refuted, and-true}
 use Rattle.rules.proofs.Acceptance.{Accepted}
 use Rattle.rules.proofs.Scopes.{open-at, open-find}
@@ -24,14 +22,14 @@ use Rattle.rules.proofs.Opening.{enter-to}
 use Rattle.rules.proofs.Closing.{closing-final}
 use Rattle.rules.proofs.Abandoning.{undoing-awake, awake-kept, left-kept, abandoned-done}
 use Rattle.restoration.proofs.Modes.{forward-awake, undoing-forward}
-use Rattle.restoration.proofs.Nesting.{Awake, Sleeps, Nested, root-above}
+use Rattle.restoration.proofs.Nesting.{Awake, Nested, root-above}
 use Rattle.restoration.proofs.Seams.{goes-on, finish-back, turned-awake, unturned, may-fire}
 use Rattle.restoration.proofs.Entries.{Good, good-older, older-length, deviates}
 use Rattle.restoration.proofs.Entering.{Fate, enters, wakens, stays, fate, arrived-awake, fresh-awake, fresh-state}
 use Rattle.restoration.proofs.Closing.{closing-open, closing-of}
 use Rattle.restoration.proofs.Leaving.{left-together, left-awake, left-root}
 use Rattle.restoration.proofs.Firing.{fired-is, removed-mode, removed-state, removed-here, removed-other, removed-awake, deviates-here, deviates-not, deviates-hosted, deviates-free, removed-nested, fired-still, fired-new}
-use Rattle.restoration.proofs.Soundness.{Formed, RootsAwake, Sound, enter-formed, turned-formed, abandoned-formed}
+use Rattle.restoration.proofs.Soundness.{Formed, Sound, enter-formed, turned-formed, abandoned-formed}
 
 not-forward : (a b : Bool) → a ≡ false → (a && b) ≡ false
 not-forward a b h = rw h

@@ -1,9 +1,9 @@
 -- Words that hold a ledger of the rules: each call leaves words that hold the next ledger, refused or not, and accepted calls leave sound
 -- words. Reading back what was written gives the ledger again, so the words follow the ledger call by call. Assumes nothing.
-use mathlib.Core.Path.{_≡_, refl, sym, ap, _∙_, subst, fun-ext}
-use mathlib.Core.Logic.{_⊎_, inl, inr}
-use mathlib.Core.Bool.{Bool, true, false, cond, not, _&&_, _||_}
-use mathlib.Core.List.{List, [], _∷_, _++_}
+use mathlib.Core.Path.{_≡_, refl, sym, ap, _∙_, subst}
+use mathlib.Core.Logic.{inl, inr}
+use mathlib.Core.Bool.{true, false, not, _||_}
+use mathlib.Core.List.{List, [], _++_}
 use Prim.Native.Nat.{ℕ, zero, suc, _≤_}
 use native.Mathlib.Omega.{arith}
 use lib.ListN.{length}
@@ -14,12 +14,12 @@ use Rattle.rules.specs.Fold.{firstRefusal}
 use Rattle.rules.specs.Plan.{Plan, trackCount, planOf}
 use Rattle.rules.specs.Acceptance.{accepted, readPlan}
 use Rattle.rules.specs.Layout.{wordCount}
-use Rattle.rules.specs.Ledger.{Configuration, Ledger, isAwake, sleeping, ledgerAt, written}
+use Rattle.rules.specs.Ledger.{Ledger, isAwake, ledgerAt, written}
 use Rattle.rules.specs.Scope.{isOver}
 use Rattle.rules.specs.Opening.{begun}
 use Rattle.rules.specs.Soundness.{areTidy, isLive, isSound}
-use Rattle.rules.specs.Call.{Answer, refusal, done, Outcome, Call, refusedOr, underPlan, tooShort, ledgerRefusals, callRefusals, callRefusal, figures, after, next, callOutcome, beginOutcome}
-use Rattle.rules.proofs.Tests.{look, clash, and-true, or-true, passed}
+use Rattle.rules.specs.Call.{refusal, done, Outcome, Call, refusedOr, underPlan, tooShort, ledgerRefusals, callRefusals, callRefusal, figures, after, next, callOutcome, beginOutcome}
+use Rattle.rules.proofs.Tests.{look, and-true, or-true, passed}
 use Rattle.rules.proofs.Folds.{every-at}
 use Rattle.rules.proofs.Acceptance.{Accepted, accepts}
 use Rattle.rules.proofs.Stored.{Storable, read-written, length-written, storable-read}

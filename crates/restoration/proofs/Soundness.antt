@@ -1,27 +1,27 @@
 -- Soundness in the form in which calls keep it: a ledger is formed (nested, its entries good and few), its roots are awake, and no
 -- settling is left to do. Each part of a call keeps it formed. Assumes nothing.
 use mathlib.Core.Path.{_≡_, refl, sym, ap, _∙_, subst}
-use mathlib.Core.Logic.{_⊎_, inl, inr}
-use mathlib.Core.Bool.{Bool, true, false, not, _&&_, _||_}
-use mathlib.Core.List.{List, [], _∷_}
-use mathlib.Core.Option.{Option, none, some}
-use Prim.Native.Nat.{ℕ, suc, _<_, _≤_}
+use mathlib.Core.Logic.{inl, inr}
+use mathlib.Core.Bool.{Bool, true, false}
+use mathlib.Core.List.{[]}
+use mathlib.Core.Option.{Option, none}
+use Prim.Native.Nat.{ℕ, _<_, _≤_}
 use native.Mathlib.Omega.{arith}
 use lib.ListN.{length}
-use lib.Dec.{eqb, ltb, leb}
+use lib.Dec.{ltb}
 use borrow.Author.Tests.{ltb-true, ltb-false}
-use Rattle.rules.specs.Plan.{Plan, trackCount, host, owner}
+use Rattle.rules.specs.Plan.{Plan, trackCount, host}
 use Rattle.rules.specs.Ledger.{Configuration, Ledger, isAwake, sleeping}
-use Rattle.rules.specs.Opening.{fresh, enter}
+use Rattle.rules.specs.Opening.{enter}
 use Rattle.rules.specs.Event.{isClosing, isFinishing}
 use Rattle.rules.specs.Signal.{isAbandoning, turned, isAbandoned, abandoned}
 use Rattle.rules.specs.Soundness.{isLive}
-use Rattle.rules.proofs.Tests.{look, look-option, clash}
+use Rattle.rules.proofs.Tests.{look, clash}
 use Rattle.rules.proofs.Acceptance.{Accepted}
 use Rattle.rules.proofs.Abandoning.{left-asleep, left-kept}
 use Rattle.rules.proofs.Soundness.{Live, live-facts, live-of}
 use Rattle.rules.proofs.Stored.{Storable}
-use Rattle.restoration.proofs.Nesting.{Awake, Sleeps, Nested}
+use Rattle.restoration.proofs.Nesting.{Awake, Nested}
 use Rattle.restoration.proofs.Seams.{turned-held}
 use Rattle.restoration.proofs.Entries.{Good, may-deviate, good-nil}
 use Rattle.restoration.proofs.Entering.{Enterable, Fate, enters, wakens, stays, fate, fresh-held, enter-nested}
