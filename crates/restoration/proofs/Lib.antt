@@ -29,3 +29,4 @@ pub mod Potential
 pub mod SampleBooks
 pub mod SampleRun
 pub mod Counterexamples
+pub mod LiteralRuns

@@ -76,12 +76,9 @@ pub record Potential (p : Plan) (t : ℕ) (v φ : ℕ → ℕ) : Type 0 where
   pub others : (x : ℕ) → x < transitionCount p → (mover p x ≡ t → ⊥) → v x ≡ 0
 
 module _ (limit : ℕ) (p : Plan) (ok : Accepted p) (s t : ℕ) (e : host p t ≡ some s) (v φ : ℕ → ℕ) (pot : Potential p t v φ) where
-  abbrev stepsTo : Option ℕ → ℕ → ℕ
-  stepsTo = stepped limit p ok s t e
-
   -- the moves of an event weigh as much as the step of the track's own
   moves-weight : (l : Ledger) → Sound limit p l → (d : Ask)
-      → φ (l t .state) + weight v (movesOf p (isInside p s) l d) ≡ φ (stepsTo (move p l d t) (l t .state))
+      → φ (l t .state) + weight v (movesOf p (isInside p s) l d) ≡ φ (stepped p (move p l d t) (l t .state))
   unfolding weight taken stepped
   moves-weight l k d =
       ap (λ w. φ (l t .state) + weight v w) (moves-join p (isInside p s) l d)
@@ -106,7 +103,7 @@ module _ (limit : ℕ) (p : Plan) (ok : Accepted p) (s t : ℕ) (e : host p t �
           ]
 
       own : (o : Option ℕ) → move p l d t ≡ o
-          → φ (l t .state) + weight v (when (isInside p s t) (taken (move p l d t))) ≡ φ (stepsTo (move p l d t) (l t .state))
+          → φ (l t .state) + weight v (when (isInside p s t) (taken (move p l d t))) ≡ φ (stepped p (move p l d t) (l t .state))
       own none h = rw (inside, h) (omega arith)
       own (some x) h =
           let m = move-takes p l d t x h in

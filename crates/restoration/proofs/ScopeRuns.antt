@@ -36,6 +36,11 @@ use Rattle.restoration.proofs.SoundRetraction.{fired-awake, hosted-kept
 use Rattle.restoration.proofs.SoundKept.{Kept}
 use Rattle.restoration.proofs.SoundWords.{kept-next}
 
+-- the state that a track in a state is left in by the transition it takes, if any
+unfoldable pub stepped : Plan → Option ℕ → ℕ → ℕ
+stepped p none q = q
+stepped p (some x) q = transition p x .destination
+
 module _ (limit : ℕ) (p : Plan) (ok : Accepted p) where
   pub reached-kept : {l : Ledger} → Reached p limit l → Kept limit p l
   reached-kept run.start = inr (begun-sound limit p ok)
@@ -62,6 +67,16 @@ module _ (limit : ℕ) (p : Plan) (ok : Accepted p) where
       let (t, b, e, a) = open-find p l s o in
       clash a (ap (λ (c : Configuration). isAwake (c .mode)) (v t) ∙ sleeping-asleep)
 
+  -- the ledger after a call that leaves a scope open
+  pub open-next : (s : ℕ) (l : Ledger) (c : Call) → callRefusal limit p l c ≡ 0 → isOpen p (next limit p l c) s ≡ true → next limit p l c ≡ work p l c
+  open-next s l c h o =
+      elim (next-cases limit p l c h) [
+        | inl q ↦ q
+        | inr v ↦
+            let (u, b, i, w) = open-find p (next limit p l c) s o in
+            clash w (ap (λ (c : Configuration). isAwake (c .mode)) (v u) ∙ sleeping-asleep)
+      ]
+
   -- an accepted signal turns a track of every forward scope: no run of a forward scope goes over it
   pub signal-turns : (l : Ledger) (s : ℕ) → Sound limit p l → isOpen p l s ≡ true → isForward (l (owner p s) .mode) ≡ true
       → (t : ℕ) × (isInside p s t ≡ true) × (isForward (l t .mode) ≡ true)
@@ -77,37 +92,22 @@ module _ (limit : ℕ) (p : Plan) (ok : Accepted p) where
     pub open-awake : (l : Ledger) → Sound limit p l → isOpen p l s ≡ true → Awake l t
     open-awake l k o = let (u, b, f, a) = open-find p l s o in k .formed .nested .whole t u s e f ∙ a
 
-    -- what an event does to the track's state
-    unfoldable pub stepped : Option ℕ → ℕ → ℕ
-    stepped none q = q
-    stepped (some x) q = transition p x .destination
-
     module _ (l : Ledger) (k : Sound limit p l) where
       abbrev n : Nested p l
       n = k .formed .nested
 
-      pub moved-state : (d : Ask) → Awake l t → moved p l d t .state ≡ stepped (move p l d t) (l t .state)
+      pub moved-state : (d : Ask) → Awake l t → moved p l d t .state ≡ stepped p (move p l d t) (l t .state)
       unfolding stepped
       moved-state d a = go (move p l d t) refl
         where
           to : (x : ℕ) → move p l d t ≡ some x → goes p l d t ≡ some (transition p x .destination)
           to x h = to-destination p (move p l d t) x h
 
-          go : (o : Option ℕ) → move p l d t ≡ o → moved p l d t .state ≡ stepped o (l t .state)
+          go : (o : Option ℕ) → move p l d t ≡ o → moved p l d t .state ≡ stepped p o (l t .state)
           go none h = ap (λ (c : Configuration). c .state) (moved-still p l d ok n t a h)
           go (some x) h =
               ap (λ m. m t .state) (moved-is p l d)
               ∙ ap (λ (c : Configuration). c .state) (enter-to p ok (goes p l d) (recorded p l d) t (transition p x .destination) (to x h))
-
-      -- the ledger after a call that leaves the scope open
-      open-next : (c : Call) → callRefusal limit p l c ≡ 0 → isOpen p (next limit p l c) s ≡ true → next limit p l c ≡ work p l c
-      open-next c h o =
-          elim (next-cases limit p l c h) [
-            | inl q ↦ q
-            | inr v ↦
-                let (u, b, i, w) = open-find p (next limit p l c) s o in
-                clash w (ap (λ (c : Configuration). isAwake (c .mode)) (v u) ∙ sleeping-asleep)
-          ]
 
       closed-state : (d : Ask) → Awake (closed p (moved p l d)) t → Awake (moved p l d) t × (closed p (moved p l d) t .state ≡ moved p l d t .state)
       closed-state d a = let (c, w) = closed-awake p (moved p l d) t a in (w, closed-alike p (moved p l d) t c .1)
@@ -116,9 +116,9 @@ module _ (limit : ℕ) (p : Plan) (ok : Accepted p) where
       after-open c o = open-awake (next limit p l c) (open-sound (next limit p l c) s (kept-next limit p ok l (inr k) c) o) o
 
       pub event-state : (a : EventArguments) → callRefusal limit p l (event a) ≡ 0 → isOpen p l s ≡ true → isOpen p (next limit p l (event a)) s ≡ true
-          → next limit p l (event a) t .state ≡ stepped (move p l (ask a) t) (l t .state)
+          → next limit p l (event a) t .state ≡ stepped p (move p l (ask a) t) (l t .state)
       event-state a h o o′ =
-          let q = open-next (event a) h o′ in
+          let q = open-next s l (event a) h o′ in
           let w = subst (λ (m : Ledger). isAwake (m t .mode) ≡ true) q (after-open (event a) o′) in
           ap (λ (m : Ledger). m t .state) q ∙ closed-state (ask a) w .1 ∙ moved-state (ask a) (open-awake l k o)
 
@@ -127,11 +127,11 @@ module _ (limit : ℕ) (p : Plan) (ok : Accepted p) where
           → isOpen p (next limit p l c) s ≡ true → next limit p l c t .state ≡ l t .state
       retraction-state (event a) v h o o′ = absurd (v a refl)
       retraction-state (signal a) v h o o′ =
-          let q = open-next (signal a) h o′ in
+          let q = open-next s l (signal a) h o′ in
           let w = subst (λ (m : Ledger). isAwake (m t .mode) ≡ true) q (after-open (signal a) o′) in
           ap (λ (m : Ledger). m t .state) q ∙ ap (λ (c : Configuration). c .state) (awake-kept p ok (turned l) t w .1) ∙ turned-state l t
       retraction-state (fire a) v h o o′ =
-          let q = open-next (fire a) h o′ in
+          let q = open-next s l (fire a) h o′ in
           let w = subst (λ (m : Ledger). isAwake (m t .mode) ≡ true) q (after-open (fire a) o′) in
           ap (λ (m : Ledger). m t .state) q
           ∙ ap (λ (c : Configuration). c .state) (awake-kept p ok (fired p l (a .track)) t w .1)
@@ -151,17 +151,17 @@ module _ (limit : ℕ) (p : Plan) (ok : Accepted p) where
 
           go : (c : Call) → callRefusal limit p l c ≡ 0 → isOpen p (next limit p l c) s ≡ true → next limit p l c t .state ≡ firstState p t
           go (event a) h o′ =
-              let q = open-next (event a) h o′ in
+              let q = open-next s l (event a) h o′ in
               let w = subst (λ (m : Ledger). isAwake (m t .mode) ≡ true) q (after-open (event a) o′) in
               let (x, y) = closed-state (ask a) w in
               ap (λ (m : Ledger). m t .state) q ∙ y
               ∙ ap (λ (c : Configuration). c .state) (moved-new p l (ask a) ok n t slept x) ∙ fresh-state p t
           go (signal a) h o′ =
-              let q = open-next (signal a) h o′ in
+              let q = open-next s l (signal a) h o′ in
               let w = subst (λ (m : Ledger). isAwake (m t .mode) ≡ true) q (after-open (signal a) o′) in
               clash (sym (turned-awake l t) ∙ ap (λ (c : Configuration). isAwake (c .mode)) (sym (awake-kept p ok (turned l) t w .1)) ∙ w) slept
           go (fire a) h o′ =
-              let q = open-next (fire a) h o′ in
+              let q = open-next s l (fire a) h o′ in
               let w = subst (λ (m : Ledger). isAwake (m t .mode) ≡ true) q (after-open (fire a) o′) in
               let may = fire-accepted limit p l a h .1 in
               let r = awake-kept p ok (fired p l (a .track)) t w .1 in
