@@ -1,0 +1,107 @@
+-- "no signal turning any of them meanwhile", literally: a forward scope's run went over no signal at all. An accepted signal turns every
+-- forward scope, and nothing but a root ever goes forward again, so a scope that is forward was so all along. Assumes nothing.
+use mathlib.Core.Path.{_≡_, refl, sym, ap, _∙_, subst}
+use mathlib.Core.Bool.{Bool, true, false}
+use mathlib.Core.List.{List, [], _++_}
+use Prim.Native.Nat.{ℕ}
+use Rattle.rules.specs.Plan.{Plan, owner, isInside}
+use Rattle.rules.specs.Ledger.{Configuration, Ledger, isForward}
+use Rattle.rules.specs.Scope.{isOpen}
+use Rattle.rules.specs.Opening.{begun}
+use Rattle.rules.specs.Event.{moved, isClosing, closed}
+use Rattle.rules.specs.Signal.{turned, abandoned}
+use Rattle.rules.specs.Fire.{fired}
+use Rattle.rules.specs.Call.{EventArguments, SignalArguments, FireArguments, Call, event, signal, fire, callRefusal, next}
+use Rattle.rules.specs.FinishedRun.{movesOf, Reached, Running, Finished}
+use Rattle.rules.specs.FinishedRun as run
+use Rattle.rules.proofs.Tests.{clash}
+use Rattle.rules.proofs.Acceptance.{Accepted}
+use Rattle.rules.proofs.Scopes.{open-find}
+use Rattle.rules.proofs.Closing.{closing-final, closed-alike}
+use Rattle.rules.proofs.Abandoning.{awake-kept}
+use Rattle.restoration.proofs.Composition.{Word}
+use Rattle.restoration.proofs.Modes.{forward-awake}
+use Rattle.restoration.proofs.Nesting.{open-host}
+use Rattle.restoration.proofs.Seams.{Ask, ask, unturned, fire-accepted, may-fire}
+use Rattle.restoration.proofs.Moving.{moved-nested, moved-busy}
+use Rattle.restoration.proofs.Closing.{closing-open, closed-awake}
+use Rattle.restoration.proofs.Firing.{removed-mode, fired-busy}
+use Rattle.restoration.proofs.Soundness.{Sound}
+use Rattle.restoration.proofs.SoundEvent.{was-open}
+use Rattle.restoration.proofs.SoundRetraction.{fired-awake}
+use Rattle.restoration.proofs.ScopeRuns.{reached-kept, running-reached, running-open, open-sound, open-next, signal-turns}
+
+-- a run that went over no signal
+pub data Unsignalled (p : Plan) (limit s : ℕ) : Ledger → Word → Type 0 where
+  by-begin : isOpen p (begun p) s ≡ true → Unsignalled p limit s (begun p) []
+  by-call : {l : Ledger} → Reached p limit l → (c : Call) → isOpen p l s ≡ false → isOpen p (next limit p l c) s ≡ true
+      → Unsignalled p limit s (next limit p l c) []
+  over-event : {l : Ledger} {w : Word} → Unsignalled p limit s l w → (a : EventArguments) → callRefusal limit p l (event a) ≡ 0
+      → isOpen p (next limit p l (event a)) s ≡ true
+      → Unsignalled p limit s (next limit p l (event a)) (w ++ movesOf p (isInside p s) l (ask a))
+  over-fire : {l : Ledger} {w : Word} → Unsignalled p limit s l w → (a : FireArguments) → callRefusal limit p l (fire a) ≡ 0
+      → isOpen p (next limit p l (fire a)) s ≡ true → Unsignalled p limit s (next limit p l (fire a)) w
+
+module _ (limit : ℕ) (p : Plan) (ok : Accepted p) (s : ℕ) where
+  abbrev Forward : Ledger → Type 0
+  Forward l = isForward (l (owner p s) .mode) ≡ true
+
+  -- an open scope that is forward after a call was forward before it
+  module _ (l : Ledger) (k : Sound limit p l) (o : isOpen p l s ≡ true) where
+    was-forward : (d : Ask) → Forward (closed p (moved p l d)) → Forward l
+    was-forward d f =
+        let m = moved p l d in
+        let (w, b, q) = open-host p ok l (k .formed .nested) s o in
+        let (c, i) = closed-awake p m (owner p s) (forward-awake (closed p m (owner p s) .mode) f) in
+        ap (λ (y : Configuration). isForward (y .mode)) (sym (moved-busy p l d ok (k .formed .nested) (owner p s) w b))
+        ∙ ap isForward (sym (closed-alike p m (owner p s) c .0)) ∙ f
+
+    signal-forward : Forward (abandoned p (turned l)) → Forward l
+    signal-forward f =
+        let q = awake-kept p ok (turned l) (owner p s) (forward-awake (abandoned p (turned l) (owner p s) .mode) f) .1 in
+        let g = ap (λ (y : Configuration). isForward (y .mode)) (sym q) ∙ f in
+        ap (λ (y : Configuration). isForward (y .mode)) (sym (unturned l (owner p s) g)) ∙ g
+
+    fire-forward : (a : FireArguments) → callRefusal limit p l (fire a) ≡ 0 → Forward (abandoned p (fired p l (a .track))) → Forward l
+    fire-forward a h f =
+        let t = a .track in
+        let may = fire-accepted limit p l a h .1 in
+        let q = awake-kept p ok (fired p l t) (owner p s) (forward-awake (abandoned p (fired p l t) (owner p s) .mode) f) .1 in
+        let (i, j, e) = open-host p ok l (k .formed .nested) s o in
+        let y =
+        fired-busy p l t ok (k .formed .nested) (k .formed .good t) (may-fire limit p l t may .3) (fired-awake limit p ok l k t may) (owner p s) i j in
+        ap isForward (sym (ap (λ (c : Configuration). c .mode) (q ∙ y) ∙ removed-mode p l t (owner p s))) ∙ f
+
+  run-sound : {l : Ledger} {w : Word} → Running p limit s l w → Sound limit p l
+  run-sound {l} r = open-sound limit p ok l s (reached-kept limit p ok (running-reached limit p ok r)) (running-open limit p ok r)
+
+  pub unsignalled : {l : Ledger} {w : Word} → Running p limit s l w → isForward (l (owner p s) .mode) ≡ true → Unsignalled p limit s l w
+  unsignalled (run.by-begin o) f = by-begin o
+  unsignalled (run.by-call r c n o) f = by-call r c n o
+  unsignalled (run.over-event {l = l} r a h o) f =
+      let q = open-next limit p ok s l (event a) h o in
+      over-event (unsignalled r (was-forward l (run-sound r) (running-open limit p ok r) (ask a) (subst Forward q f))) a h o
+  unsignalled (run.over-signal {l = l} r a h n o) f =
+      let q = open-next limit p ok s l (signal a) h o in
+      let k = run-sound r in
+      let g = signal-forward l k (running-open limit p ok r) (subst Forward q f) in
+      let (t, i, j) = signal-turns limit p ok l s k (running-open limit p ok r) g in
+      clash j (n t i)
+  unsignalled (run.over-fire {l = l} r a h o) f =
+      let q = open-next limit p ok s l (fire a) h o in
+      over-fire (unsignalled r (fire-forward l (run-sound r) (running-open limit p ok r) a h (subst Forward q f))) a h o
+
+  -- so a finished run went over no signal
+  pub finished-unsignalled : {w : Word} → Finished p limit s w
+      → (l : Ledger) × (v : Word) × (a : EventArguments) × Unsignalled p limit s l v × (callRefusal limit p l (event a) ≡ 0)
+      × (isClosing p (moved p l (ask a)) s ≡ true) × (w ≡ v ++ movesOf p (isInside p s) l (ask a))
+  finished-unsignalled (run.closed {l = l} {w = v} r a h c) =
+      let k = run-sound r in
+      let m = moved p l (ask a) in
+      let (u, b, e, w) = open-find p m s (closing-open p m s c) in
+      let (i, j, q) = open-host p ok l (k .formed .nested) s (running-open limit p ok r) in
+      let f : isForward (l (owner p s) .mode) ≡ true =
+      ap (λ (y : Configuration). isForward (y .mode)) (sym (moved-busy p l (ask a) ok (k .formed .nested) (owner p s) i j))
+      ∙ ap isForward (moved-nested p l (ask a) ok (k .formed .nested) .hosted u s w e .1)
+      ∙ closing-final p m s u c b e .0 in
+      (l, v, a, unsignalled r f, h, c, refl)

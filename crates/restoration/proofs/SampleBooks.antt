@@ -1,0 +1,190 @@
+-- The conditions can be met: books for the sample plan P, of three numbers, on which the changes of each track raise that track's number and
+-- the retractions lower it again; replacement 90 lowers what every finished run of state 1 has raised. Assumes nothing.
+use mathlib.Core.Path.{_≡_, refl, sym, _∙_, subst}
+use mathlib.Core.Bool.{true, cond}
+use mathlib.Core.List.{List, [], _∷_}
+use mathlib.Core.Option.{some}
+use Prim.Native.Nat.{ℕ, zero, suc, _+_, _-_, _<_}
+use native.Mathlib.Omega.{arith}
+use lib.ListN.{getD}
+use lib.Dec.{eqb}
+use Rattle.rules.specs.declared.Counts.{Counts}
+use Rattle.rules.specs.Plan.{Plan, planOf, stateCount, transitionCount, transition, host, replacement, mover, isStateOf, isFinal, isInside}
+use Rattle.rules.specs.Acceptance.{accepted, readPlan}
+use Rattle.rules.specs.FinishedRun.{Finished}
+use Rattle.rules.specs.Books.{act}
+use Rattle.rules.proofs.Tests.{clash, none-some}
+use Rattle.rules.proofs.Acceptance.{Accepted, accepts}
+use Rattle.runs.specs.SamplePlan.{planP}
+use Rattle.runs.specs.Computing.{computing}
+use Rattle.restoration.proofs.Composition.{Word}
+use Rattle.restoration.proofs.Nesting.{state-of}
+use Rattle.restoration.proofs.Potential.{weight, Potential, finished-weight, outside-weight}
+
+abbrev pub countsP : Counts
+countsP = record { tracks = 3; states = 8; transitions = 5 }
+
+abbrev pub P : Plan
+P = planOf planP countsP
+
+pub accepts-P : readPlan planP ≡ accepted countsP
+unfolding computing
+accepts-P = refl
+
+pub ok-P : Accepted P
+ok-P = accepts planP countsP accepts-P
+
+-- one number for each track
+pub record Account : Type 0 where
+  pub root : ℕ
+  pub left : ℕ
+  pub right : ℕ
+
+-- what a transition adds to each, and what a code takes off
+abbrev rootAdds : ℕ → ℕ
+rootAdds x = getD (1 ∷ []) x 0
+
+abbrev leftAdds : ℕ → ℕ
+leftAdds x = getD (0 ∷ 0 ∷ 7 ∷ []) x 0
+
+abbrev rightAdds : ℕ → ℕ
+rightAdds x = getD (0 ∷ 0 ∷ 0 ∷ 2 ∷ 5 ∷ []) x 0
+
+abbrev rootTakes : ℕ → ℕ
+rootTakes c = cond (eqb c 50) 1 0
+
+abbrev leftTakes : ℕ → ℕ
+leftTakes c = cond (eqb c 51) 7 (cond (eqb c 90) 7 0)
+
+abbrev rightTakes : ℕ → ℕ
+rightTakes c = cond (eqb c 52) 2 (cond (eqb c 54) 5 (cond (eqb c 90) 7 0))
+
+unfoldable pub raised : ℕ → Account → Account
+raised x b = record { root = b .root + rootAdds x; left = b .left + leftAdds x; right = b .right + rightAdds x }
+
+unfoldable pub lowered : ℕ → Account → Account
+lowered c b = record { root = b .root - rootTakes c; left = b .left - leftTakes c; right = b .right - rightTakes c }
+
+pub same : (b : Account) (r l t : ℕ) → r ≡ b .root → l ≡ b .left → t ≡ b .right → _≡_ {A = Account} (record { root = r; left = l; right = t }) b
+same b r l t e f g = λ i. record { root = e i; left = f i; right = g i }
+
+pub five : (C : ℕ → Type 0) → C 0 → C 1 → C 2 → C 3 → C 4 → (x : ℕ) → x < transitionCount P → C x
+unfolding computing
+five C a b c d e zero l = a
+five C a b c d e (suc zero) l = b
+five C a b c d e (suc (suc zero)) l = c
+five C a b c d e (suc (suc (suc zero))) l = d
+five C a b c d e (suc (suc (suc (suc zero)))) l = e
+five C a b c d e (suc (suc (suc (suc (suc x))))) l = absurd (omega arith)
+
+eight : (C : ℕ → Type 0) → C 0 → C 1 → C 2 → C 3 → C 4 → C 5 → C 6 → C 7 → (q : ℕ) → q < stateCount P → C q
+unfolding computing
+eight C a b c d e f g h zero l = a
+eight C a b c d e f g h (suc zero) l = b
+eight C a b c d e f g h (suc (suc zero)) l = c
+eight C a b c d e f g h (suc (suc (suc zero))) l = d
+eight C a b c d e f g h (suc (suc (suc (suc zero)))) l = e
+eight C a b c d e f g h (suc (suc (suc (suc (suc zero))))) l = f
+eight C a b c d e f g h (suc (suc (suc (suc (suc (suc zero)))))) l = g
+eight C a b c d e f g h (suc (suc (suc (suc (suc (suc (suc zero))))))) l = h
+eight C a b c d e f g h (suc (suc (suc (suc (suc (suc (suc (suc q)))))))) l = absurd (omega arith)
+
+-- each transition's code takes off what it added
+pub undo-P : (x : ℕ) → x < transitionCount P → (b : Account) → lowered (transition P x .code) (raised x b) ≡ b
+unfolding computing raised lowered
+undo-P x l b =
+    five (λ x. lowered (transition P x .code) (raised x b) ≡ b) (back 1 0 0) (back 0 0 0) (back 0 7 0) (back 0 0 2) (back 0 0 5) x l
+  where
+    back : (u v w : ℕ) → _≡_ {A = Account} (record { root = b .root + u - u; left = b .left + v - v; right = b .right + w - w }) b
+    back u v w = same b (b .root + u - u) (b .left + v - v) (b .right + w - w) (omega arith) (omega arith) (omega arith)
+
+-- a word raises by its weights
+act-P : (w : Word) (b : Account)
+    → act raised w b ≡ record { root = b .root + weight rootAdds w; left = b .left + weight leftAdds w; right = b .right + weight rightAdds w }
+unfolding act weight raised
+act-P [] b = sym (same b (b .root + 0) (b .left + 0) (b .right + 0) (omega arith) (omega arith) (omega arith))
+act-P (x ∷ w) b =
+    act-P w (raised x b)
+    ∙ (λ i. record { root = assoc (b .root) (rootAdds x) (weight rootAdds w) i; left = assoc (b .left) (leftAdds x) (weight leftAdds w) i; right = assoc (b .right) (rightAdds x) (weight rightAdds w) i })
+  where
+    assoc : (a c d : ℕ) → a + c + d ≡ a + (c + d)
+    assoc a c d = omega arith
+
+-- the hosted tracks, by the states that they stand in
+abbrev leftHeight : ℕ → ℕ
+leftHeight q = getD (0 ∷ 0 ∷ 0 ∷ 0 ∷ 7 ∷ []) q 0
+
+abbrev rightHeight : ℕ → ℕ
+rightHeight q = getD (0 ∷ 0 ∷ 0 ∷ 0 ∷ 0 ∷ 0 ∷ 2 ∷ 7 ∷ []) q 0
+
+left-climbs : Potential P 1 leftAdds leftHeight
+unfolding computing
+left-climbs =
+    record {
+      start = refl;
+      along =
+          λ x l m.
+          five (λ x. mover P x ≡ 1 → leftHeight (transition P x .destination) ≡ leftHeight (transition P x .source) + leftAdds x)
+          (λ e. absurd (omega arith)) (λ e. absurd (omega arith)) (λ e. refl) (λ e. absurd (omega arith)) (λ e. absurd (omega arith)) x l m;
+      others =
+          λ x l m.
+          five (λ x. (mover P x ≡ 1 → ⊥) → leftAdds x ≡ 0) (λ f. refl) (λ f. refl) (λ f. absurd (f refl)) (λ f. refl) (λ f. refl) x l m;
+    }
+
+right-climbs : Potential P 2 rightAdds rightHeight
+unfolding computing
+right-climbs =
+    record {
+      start = refl;
+      along =
+          λ x l m.
+          five (λ x. mover P x ≡ 2 → rightHeight (transition P x .destination) ≡ rightHeight (transition P x .source) + rightAdds x)
+          (λ e. absurd (omega arith)) (λ e. absurd (omega arith)) (λ e. absurd (omega arith)) (λ e. refl) (λ e. refl) x l m;
+      others =
+          λ x l m.
+          five (λ x. (mover P x ≡ 2 → ⊥) → rightAdds x ≡ 0) (λ f. refl) (λ f. refl) (λ f. refl) (λ f. absurd (f refl)) (λ f. absurd (f refl)) x l m;
+    }
+
+root-outside : (x : ℕ) → x < transitionCount P → isInside P 1 (mover P x) ≡ true → rootAdds x ≡ 0
+unfolding computing
+root-outside x l i =
+    five (λ x. isInside P 1 (mover P x) ≡ true → rootAdds x ≡ 0) (λ f. clash f refl) (λ f. refl) (λ f. refl) (λ f. refl) (λ f. refl) x l i
+
+left-final : (q : ℕ) → isStateOf P 1 q ≡ true → isFinal P q ≡ true → leftHeight q ≡ 7
+unfolding computing
+left-final q o f =
+    eight (λ q. isStateOf P 1 q ≡ true → isFinal P q ≡ true → leftHeight q ≡ 7)
+    (λ o f. clash o refl) (λ o f. clash o refl) (λ o f. clash o refl) (λ o f. clash f refl) (λ o f. refl)
+    (λ o f. clash o refl) (λ o f. clash o refl) (λ o f. clash o refl) q (state-of P 1 q o .0) o f
+
+right-final : (q : ℕ) → isStateOf P 2 q ≡ true → isFinal P q ≡ true → rightHeight q ≡ 7
+unfolding computing
+right-final q o f =
+    eight (λ q. isStateOf P 2 q ≡ true → isFinal P q ≡ true → rightHeight q ≡ 7)
+    (λ o f. clash o refl) (λ o f. clash o refl) (λ o f. clash o refl) (λ o f. clash o refl) (λ o f. clash o refl)
+    (λ o f. clash f refl) (λ o f. clash f refl) (λ o f. refl) q (state-of P 2 q o .0) o f
+
+-- state 1 alone hosts
+pub hosts-P : (t s : ℕ) → host P t ≡ some s → s ≡ 1
+unfolding computing
+hosts-P zero s e = none-some refl e
+hosts-P (suc zero) s e = sym (cc)
+hosts-P (suc (suc zero)) s e = sym (cc)
+hosts-P (suc (suc (suc t))) s e = let l : suc (suc (suc t)) < 3 = ok-P .hosted (suc (suc (suc t))) s e in absurd (omega arith)
+
+module _ (limit : ℕ) where
+  -- every finished run of state 1 has raised the two hosted tracks' numbers by 7, and the root's by nothing
+  finished-P : (w : Word) → Finished P limit 1 w → (weight rootAdds w ≡ 0) × (weight leftAdds w ≡ 7) × (weight rightAdds w ≡ 7)
+  unfolding computing
+  finished-P w f =
+      let (q, o, z, e) = finished-weight limit P ok-P 1 1 refl leftAdds leftHeight left-climbs f in
+      let (r, u, y, g) = finished-weight limit P ok-P 1 2 refl rightAdds rightHeight right-climbs f in
+      (outside-weight limit P ok-P 1 rootAdds root-outside f, e ∙ left-final q o z, g ∙ right-final r u y)
+
+  pub undo-run-P : (s t : ℕ) → host P t ≡ some s → (w : List ℕ) → Finished P limit s w → (b : Account) → lowered (replacement P s) (act raised w b) ≡ b
+  unfolding computing lowered
+  undo-run-P s t e w f b =
+      let q = hosts-P t s e in
+      let (x, y, z) = finished-P w (subst (λ s. Finished P limit s w) q f) in
+      rw (q, act-P w b, x, y, z)
+      (same b (b .root + 0 - 0) (b .left + 7 - 7) (b .right + 7 - 7) (omega arith) (omega arith) (omega arith))

@@ -1,0 +1,196 @@
+-- Words that hold a ledger of the rules: each call leaves words that hold the next ledger, refused or not, and accepted calls leave sound
+-- words. Reading back what was written gives the ledger again, so the words follow the ledger call by call. Assumes nothing.
+use mathlib.Core.Path.{_≡_, refl, sym, ap, _∙_, subst}
+use mathlib.Core.Logic.{inl, inr}
+use mathlib.Core.Bool.{true, false, not, _||_}
+use mathlib.Core.List.{List, [], _++_}
+use Prim.Native.Nat.{ℕ, zero, suc, _≤_}
+use native.Mathlib.Omega.{arith}
+use lib.ListN.{length}
+use lib.Dec.{eqb, ltb}
+use borrow.Author.Tests.{not-true, not-false, ltb-true, ltb-false, le-ltb, eqb-true, eqb-false}
+use Rattle.rules.specs.declared.Counts.{Counts}
+use Rattle.rules.specs.Fold.{firstRefusal}
+use Rattle.rules.specs.Plan.{Plan, trackCount, planOf}
+use Rattle.rules.specs.Acceptance.{accepted, readPlan}
+use Rattle.rules.specs.Layout.{wordCount}
+use Rattle.rules.specs.Ledger.{Ledger, isAwake, ledgerAt, written}
+use Rattle.rules.specs.Scope.{isOver}
+use Rattle.rules.specs.Opening.{begun}
+use Rattle.rules.specs.Soundness.{areTidy, isLive, isSound}
+use Rattle.rules.specs.Call.{refusal, done, Outcome, Call, refusedOr, underPlan, tooShort, ledgerRefusals, callRefusals, callRefusal, figures, after, next, callOutcome, beginOutcome}
+use Rattle.rules.proofs.Tests.{look, and-true, or-true, passed}
+use Rattle.rules.proofs.Folds.{every-at}
+use Rattle.rules.proofs.Acceptance.{Accepted, accepts}
+use Rattle.rules.proofs.Stored.{Storable, read-written, length-written, storable-read}
+use Rattle.restoration.proofs.Seams.{next-accepted, next-refused, over-refused}
+use Rattle.restoration.proofs.Soundness.{sound-of}
+use Rattle.restoration.proofs.SoundBegin.{begun-sound}
+use Rattle.restoration.proofs.SoundKept.{Over, Kept, over-is, kept-after, kept-storable, words-sound}
+
+-- a call goes on over the list from ledger to ledger
+pub kept-next : (limit : ℕ) (p : Plan) → Accepted p → (l : Ledger) → Kept limit p l → (c : Call) → Kept limit p (next limit p l c)
+kept-next limit p ok l k c =
+    elim (look (eqb (callRefusal limit p l c) 0)) [
+      | inl h ↦
+          let z = eqb-true (callRefusal limit p l c) 0 h in
+          subst (Kept limit p) (sym (next-accepted limit p l c z)) (go k z)
+      | inr h ↦ subst (Kept limit p) (sym (next-refused limit p l c (eqb-false (callRefusal limit p l c) 0 h))) k
+    ]
+  where
+    go : Kept limit p l → callRefusal limit p l c ≡ 0 → Kept limit p (after limit p l c)
+    go (inl o) z = absurd (over-refused limit p l (over-is p l o) c z)
+    go (inr s) z = kept-after limit p ok l s c z
+
+module _ (limit : ℕ) (bs : List ℕ) (k : Counts) (read : readPlan bs ≡ accepted k) where
+  abbrev pub thePlan : Plan
+  thePlan = planOf bs k
+
+  ok : Accepted thePlan
+  ok = accepts bs k read
+
+  abbrev n : ℕ
+  n = trackCount thePlan
+
+  -- under the plan that was read
+  under : (ws : List ℕ) (f : Plan → Outcome) → underPlan bs ws f ≡ f thePlan
+  unfolding underPlan
+  under ws f = rw (read, underPlan)
+
+  -- the words hold the ledger
+  pub record Holds (ws : List ℕ) (l : Ledger) : Type 0 where
+    pub long : wordCount limit n ≤ length ws
+    pub sound : isSound limit thePlan ws ≡ true
+    pub reads : ledgerAt limit ws n ≡ l
+    pub kept : Kept limit thePlan l
+
+  -- written words hold what was written
+  written-holds : (l : Ledger) (ws : List ℕ) → wordCount limit n ≤ length ws → Kept limit thePlan l → Holds (written limit n l ws) l
+  written-holds l ws b s =
+      let st = kept-storable limit thePlan ok l s in
+      record {
+        long = let e = length-written limit n l ws (st .fits) b in omega arith;
+        sound = words-sound limit thePlan ok l ws s;
+        reads = read-written limit n l ws (st .fits) (st .beyond);
+        kept = s;
+      }
+
+  -- sound words hold the ledger that they read as
+  pub sound-holds : (ws : List ℕ) → tooShort limit thePlan ws ≡ false → isSound limit thePlan ws ≡ true → Holds ws (ledgerAt limit ws n)
+  unfolding isSound tooShort
+  sound-holds ws b s =
+      let l = ledgerAt limit ws n in
+      let (t, v) = and-true (areTidy limit ws n) (isOver thePlan l || isLive thePlan l) s in
+      let st = storable-read limit n ws t in
+      record {
+        long = ltb-false (length ws) (wordCount limit n) b;
+        sound = s;
+        reads = refl;
+        kept =
+            elim (or-true (isOver thePlan l) (isLive thePlan l) v) [
+              | inl o ↦ inl (asleep l st o)
+              | inr h ↦ inr (sound-of limit thePlan ok l st h)
+            ];
+      }
+    where
+      asleep : (l : Ledger) → Storable limit n l → isOver thePlan l ≡ true → Over l
+      asleep l st o = unfold isOver in
+          λ t.
+          elim (look (ltb t n)) [
+            | inl b ↦ st .blank t (not-true (isAwake (l t .mode)) (every-at n (λ t. not (isAwake (l t .mode))) o t (ltb-true t n b)))
+            | inr b ↦ st .beyond t (ltb-false t n b)
+          ]
+
+  abbrev pub theLedger : List ℕ → Ledger
+  theLedger ws = ledgerAt limit ws n
+
+  -- the refusals of a call whose words are sound are those by its ledger
+  refusals : (ws : List ℕ) (c : Call) → wordCount limit n ≤ length ws → isSound limit thePlan ws ≡ true
+      → firstRefusal (ledgerRefusals limit thePlan ws ++ callRefusals limit thePlan (theLedger ws) c) ≡ callRefusal limit thePlan (theLedger ws) c
+  unfolding ledgerRefusals firstRefusal tooShort callRefusal
+  refusals ws c b s = rw (le-ltb (length ws) (wordCount limit n) b, s)
+
+  pub outcome : (ws : List ℕ) (c : Call) (r : ℕ)
+      → firstRefusal (ledgerRefusals limit thePlan ws ++ callRefusals limit thePlan (theLedger ws) c) ≡ r
+      → callOutcome limit bs ws c
+      ≡ refusedOr ws
+      (record { answer = done (figures limit thePlan (theLedger ws) c); words = written limit n (after limit thePlan (theLedger ws) c) ws }) r
+  unfolding callOutcome
+  outcome ws c r h = under ws _ ∙ (rw h)
+
+  -- what a call answers to words that hold a ledger, and what it leaves
+  pub call-accepted : (ws : List ℕ) (l : Ledger) → Holds ws l → (c : Call) → callRefusal limit thePlan l c ≡ 0
+      → callOutcome limit bs ws c ≡ record { answer = done (figures limit thePlan l c); words = written limit n (after limit thePlan l c) ws }
+  unfolding refusedOr
+  call-accepted ws l h c a =
+      let e = h .reads in
+      let z : callRefusal limit thePlan (theLedger ws) c ≡ 0 = ap (λ x. callRefusal limit thePlan x c) e ∙ a in
+      outcome ws c 0 (refusals ws c (h .long) (h .sound) ∙ z)
+      ∙ ap (λ x. record { answer = done (figures limit thePlan x c); words = written limit n (after limit thePlan x c) ws }) e
+
+  pub call-refused : (ws : List ℕ) (l : Ledger) → Holds ws l → (c : Call) (r : ℕ) → callRefusal limit thePlan l c ≡ suc r
+      → callOutcome limit bs ws c ≡ record { answer = refusal (suc r); words = ws }
+  unfolding refusedOr
+  call-refused ws l h c r a =
+      let z : callRefusal limit thePlan (theLedger ws) c ≡ suc r = ap (λ x. callRefusal limit thePlan x c) (h .reads) ∙ a in
+      outcome ws c (suc r) (refusals ws c (h .long) (h .sound) ∙ z)
+
+  -- the words after a call hold the next ledger
+  pub call-holds : (ws : List ℕ) (l : Ledger) → Holds ws l → (c : Call) → Holds (callOutcome limit bs ws c .words) (next limit thePlan l c)
+  call-holds ws l h c = go (callRefusal limit thePlan l c) refl
+    where
+      go : (r : ℕ) → callRefusal limit thePlan l c ≡ r → Holds (callOutcome limit bs ws c .words) (next limit thePlan l c)
+      go zero e =
+          rw (call-accepted ws l h c e)
+          (subst (Holds (written limit n (after limit thePlan l c) ws)) (sym (next-accepted limit thePlan l c e))
+          (written-holds (after limit thePlan l c) ws (h .long)
+          (subst (Kept limit thePlan) (next-accepted limit thePlan l c e) (kept-next limit thePlan ok l (h .kept) c))))
+      go (suc r) e =
+          rw (call-refused ws l h c r e)
+          (subst (Holds ws) (sym (next-refused limit thePlan l c (λ z. let w : suc r ≡ 0 = sym e ∙ z in omega arith))) h)
+
+  pub begin-accepted : (ws : List ℕ) → tooShort limit thePlan ws ≡ false
+      → beginOutcome limit bs ws ≡ record { answer = done []; words = written limit n (begun thePlan) ws }
+  unfolding beginOutcome refusedOr firstRefusal
+  begin-accepted ws b = under ws _ ∙ (rw b)
+
+  pub begin-refused : (ws : List ℕ) → tooShort limit thePlan ws ≡ true → beginOutcome limit bs ws .answer ≡ refusal 17
+  unfolding beginOutcome refusedOr firstRefusal
+  begin-refused ws b = ap (λ o. o .answer) (under ws _) ∙ (rw b)
+
+  pub begin-holds : (ws : List ℕ) → beginOutcome limit bs ws .answer ≡ done [] → Holds (beginOutcome limit bs ws .words) (begun thePlan)
+  unfolding tooShort
+  begin-holds ws h =
+      elim (look (tooShort limit thePlan ws)) [
+        | inl b ↦ let e = begin-refused ws b in let z : _≡_ {A = ℕ} 0 1 = cc in absurd (omega arith)
+        | inr b ↦
+            rw (begin-accepted ws b)
+            (written-holds (begun thePlan) ws (ltb-false (length ws) (wordCount limit n) b) (inr (begun-sound limit thePlan ok)))
+      ]
+
+  -- Soundness is kept, on words: an accepted begin leaves sound words, and so does every call that is accepted.
+  pub begin-sound : (ws : List ℕ) → beginOutcome limit bs ws .answer ≡ done [] → isSound limit thePlan (beginOutcome limit bs ws .words) ≡ true
+  begin-sound ws h = begin-holds ws h .sound
+
+  -- an accepted call got long and sound words
+  not-refused : (ws : List ℕ) (c : Call) (fs : List ℕ) → callOutcome limit bs ws c .answer ≡ done fs → (r : ℕ)
+      → firstRefusal (ledgerRefusals limit thePlan ws ++ callRefusals limit thePlan (theLedger ws) c) ≡ r → r ≡ 0
+  unfolding refusedOr
+  not-refused ws c fs h zero e = refl
+  not-refused ws c fs h (suc r) e =
+      let q : callOutcome limit bs ws c .answer ≡ refusal (suc r) = ap (λ o. o .answer) (outcome ws c (suc r) e) in
+      let y : _≡_ {A = ℕ} 0 1 = cc in absurd (omega arith)
+
+  pub passed-ledger : (ws : List ℕ) (c : Call)
+      → firstRefusal (ledgerRefusals limit thePlan ws ++ callRefusals limit thePlan (theLedger ws) c) ≡ 0
+      → (tooShort limit thePlan ws ≡ false) × (isSound limit thePlan ws ≡ true)
+  unfolding ledgerRefusals firstRefusal
+  passed-ledger ws c z =
+      let (x, y) = passed (tooShort limit thePlan ws) 16 _ z in
+      (x, not-false (isSound limit thePlan ws) (passed (not (isSound limit thePlan ws)) 17 _ y .0))
+
+  pub call-sound : (ws : List ℕ) (c : Call) (fs : List ℕ) → callOutcome limit bs ws c .answer ≡ done fs
+      → isSound limit thePlan (callOutcome limit bs ws c .words) ≡ true
+  call-sound ws c fs h =
+      let (b, s) = passed-ledger ws c (not-refused ws c fs h _ refl) in
+      call-holds ws (theLedger ws) (sound-holds ws b s) c .sound

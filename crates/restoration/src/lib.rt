@@ -1,0 +1,1 @@
+// Property 3's mathematics, proved from the rules alone: proofs/. This crate has no code.
