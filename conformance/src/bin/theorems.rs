@@ -1,0 +1,248 @@
+//! `theorems FOLDER HISTORIES PLANS LEDGERS`: reads the lines that `vectors`
+//! prints and writes them to FOLDER as theorems for antt, one to a case, each
+//! proved by computing the definitions of the rules.
+//!
+//! Taken are the first HISTORIES histories, PLANS refused plans and LEDGERS
+//! calls on damaged ledgers, and fewer whole runs, accepted plans and other
+//! calls. Cases too large to be computed quickly are dropped.
+
+use std::fs;
+use std::io;
+use std::path::Path;
+use std::process::ExitCode;
+
+/// Theorems to a file.
+const FILE: usize = 30;
+
+/// The imports of each file.
+const IMPORTS: &str = "\
+use mathlib.Core.Path.{refl}
+use mathlib.Core.List.{[], _∷_}
+use Rattle.rules.specs.Acceptance.{turnedBack}
+use Rattle.rules.specs.Call.{refusal, done}
+use Rattle.runs.specs.Computing.{computing}
+use Rattle.agreement.specs.Statements.{e, f, s, acceptedWith, \
+    HistoryAgrees, PlanAgrees, CallAgrees, ReadyAgrees, EntriesAgree, RunAgrees}
+";
+
+/// A sort of case, of which so many are wanted.
+struct Sort {
+    name: &'static str,
+    wanted: usize,
+    taken: usize,
+    dropped: usize,
+    /// The greatest size that is computed quickly.
+    limit: usize,
+}
+
+impl Sort {
+    fn new(name: &'static str, wanted: usize, limit: usize) -> Sort {
+        Sort {
+            name,
+            wanted,
+            taken: 0,
+            dropped: 0,
+            limit,
+        }
+    }
+
+    /// Whether to take a case of this size.
+    fn takes(&mut self, size: usize) -> bool {
+        let open = self.taken < self.wanted;
+        let small = size <= self.limit;
+        self.taken += usize::from(open && small);
+        self.dropped += usize::from(open && !small);
+        open && small
+    }
+}
+
+/// The sorts, in the order of `sort_of`.
+fn sorts(histories: usize, plans: usize, ledgers: usize) -> [Sort; 6] {
+    [
+        Sort::new("histories", histories, 1200),
+        Sort::new("refused plans", plans, 400),
+        Sort::new("accepted plans", plans / 10, 300),
+        Sort::new("calls on damaged ledgers", ledgers, 240),
+        Sort::new("other calls", ledgers / 2, 240),
+        Sort::new("whole runs", histories / 10, 1200),
+    ]
+}
+
+/// The sort of a case and its size: bytes of the plan, for each call.
+fn sort_of(fields: &[&str]) -> Option<(usize, usize)> {
+    Some(match *fields {
+        ["H", plan, _, calls, _, _] => (0, plan.len() / 2 * (calls.matches(',').count() + 2)),
+        ["P", plan, answer] => (1 + usize::from(answer.starts_with('A')), plan.len() / 2),
+        ["L", plan, _, _, "R17" | "R18", _] => (3, plan.len() / 2),
+        ["L", plan, ..] => (4, plan.len() / 2),
+        ["U", plan, journal, _] => (5, plan.len() / 2 * (journal.len() / 8 + 1)),
+        _ => return None,
+    })
+}
+
+/// The theorem's statement and proof.
+fn theorem(fields: &[&str]) -> Option<(String, &'static str)> {
+    let statement = match *fields {
+        ["H", plan, lent, calls, answers, after] => {
+            let (plan, lent, after) = (bytes(plan)?, words(lent)?, words(after)?);
+            let calls = list(parts(calls, ',').map(call))?;
+            let answers = list(parts(answers, '|').map(answer))?;
+            let statement = format!("HistoryAgrees {plan} {lent} {calls} {answers} {after}");
+            return Some((statement, "(refl, refl)"));
+        }
+        ["P", plan, answer] => format!("PlanAgrees {} ({})", bytes(plan)?, reading(answer)?),
+        ["L", plan, before, called, answered, after] => {
+            let given = format!("{} {}", bytes(plan)?, words(before)?);
+            match called.split_at(1) {
+                ("N", track) if before == after => {
+                    format!("EntriesAgree {given} {track} {}", words(answered)?)
+                }
+                ("Y", "") => {
+                    let answered = answer(answered)?;
+                    format!("ReadyAgrees {given} ({answered}) {}", words(after)?)
+                }
+                _ => {
+                    let (called, answered) = (call(called)?, answer(answered)?);
+                    format!(
+                        "CallAgrees {given} ({called}) ({answered}) {}",
+                        words(after)?
+                    )
+                }
+            }
+        }
+        ["U", plan, journal, output] => {
+            let (plan, journal, output) = (bytes(plan)?, bytes(journal)?, bytes(output)?);
+            format!("RunAgrees {plan} {journal} {output}")
+        }
+        _ => return None,
+    };
+    Some((statement, "refl"))
+}
+
+fn call(text: &str) -> Option<String> {
+    match text.split_at_checked(1)? {
+        ("E", event) => Some(format!("e {event}")),
+        ("S", "") => Some("s".to_string()),
+        ("F", track) => Some(format!("f {track}")),
+        _ => None,
+    }
+}
+
+fn answer(text: &str) -> Option<String> {
+    if text == "begun" {
+        return Some("done []".to_string());
+    }
+    match text.split_at_checked(1)? {
+        ("R", number) => Some(format!("refusal {number}")),
+        ("D", figures) => Some(format!("done {}", numbers(figures)?)),
+        _ => None,
+    }
+}
+
+fn reading(text: &str) -> Option<String> {
+    Some(match text.strip_prefix('A') {
+        Some(counts) => format!("acceptedWith {}", counts.replace(',', " ")),
+        None => format!("turnedBack {text}"),
+    })
+}
+
+/// The parts of a text between separators; the empty text has none.
+fn parts(text: &str, separator: char) -> impl Iterator<Item = &str> {
+    text.split(separator).filter(|part| !part.is_empty())
+}
+
+fn list(items: impl Iterator<Item = Option<String>>) -> Option<String> {
+    let mut text = String::from("(");
+    for item in items {
+        text.push_str(&item?);
+        text.push_str(" ∷ ");
+    }
+    Some(text + "[])")
+}
+
+fn numbers(text: &str) -> Option<String> {
+    list(parts(text, ',').map(|part| Some(part.to_string())))
+}
+
+fn bytes(hex: &str) -> Option<String> {
+    hex_list(hex, 2)
+}
+
+fn words(hex: &str) -> Option<String> {
+    hex_list(hex, 4)
+}
+
+/// Numbers of so many hex digits each.
+fn hex_list(hex: &str, digits: usize) -> Option<String> {
+    let starts = (0..hex.len()).step_by(digits);
+    list(starts.map(|at| {
+        let number = u16::from_str_radix(hex.get(at..at + digits)?, 16).ok()?;
+        Some(number.to_string())
+    }))
+}
+
+/// The theorems of the cases taken, each under the line that it comes from.
+fn theorems(sorts: &mut [Sort]) -> io::Result<Vec<String>> {
+    let mut taken = Vec::new();
+    for (number, line) in io::stdin().lines().enumerate() {
+        let line = line?;
+        let fields: Vec<&str> = line.split(';').collect();
+        let (sort, size) = sort_of(&fields).ok_or(io::ErrorKind::InvalidData)?;
+        if sorts[sort].takes(size) {
+            let (statement, proof) = theorem(&fields).ok_or(io::ErrorKind::InvalidData)?;
+            let name = format!("case-{number}");
+            taken.push(format!(
+                "-- {line}\npub {name} : {statement}\nunfolding computing\n{name} = {proof}\n"
+            ));
+        }
+    }
+    Ok(taken)
+}
+
+/// Writes the files and the list of them.
+fn write(folder: &Path, theorems: &[String]) -> io::Result<()> {
+    let mut modules = String::from("-- Cases of the second program.\n");
+    for (number, chunk) in theorems.chunks(FILE).enumerate() {
+        let text = format!(
+            "-- Cases of the second program.\n{IMPORTS}\n{}",
+            chunk.join("\n")
+        );
+        fs::write(folder.join(format!("Cases{number}.antt")), text)?;
+        modules.push_str(&format!("pub mod Cases{number}\n"));
+    }
+    fs::write(folder.join("Lib.antt"), modules)
+}
+
+fn run(folder: &Path, mut sorts: [Sort; 6]) -> io::Result<()> {
+    let theorems = theorems(&mut sorts)?;
+    write(folder, &theorems)?;
+    for sort in sorts {
+        let (name, taken, wanted) = (sort.name, sort.taken, sort.wanted);
+        println!(
+            "{name}: {taken} of {wanted} wanted, {} dropped as too large",
+            sort.dropped
+        );
+    }
+    println!("{} cases", theorems.len());
+    Ok(())
+}
+
+fn main() -> ExitCode {
+    let given: Vec<String> = std::env::args().skip(1).collect();
+    let counts: Vec<usize> = given
+        .iter()
+        .skip(1)
+        .filter_map(|a| a.parse().ok())
+        .collect();
+    let (Some(folder), &[histories, plans, ledgers]) = (given.first(), &counts[..]) else {
+        eprintln!("usage: theorems FOLDER HISTORIES PLANS LEDGERS < lines of vectors");
+        return ExitCode::FAILURE;
+    };
+    match run(Path::new(folder), sorts(histories, plans, ledgers)) {
+        Ok(()) => ExitCode::SUCCESS,
+        Err(error) => {
+            eprintln!("theorems: {error}");
+            ExitCode::FAILURE
+        }
+    }
+}
