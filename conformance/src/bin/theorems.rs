@@ -25,24 +25,37 @@ use Rattle.agreement.specs.Statements.{e, f, s, acceptedWith, \
     HistoryAgrees, PlanAgrees, CallAgrees, ReadyAgrees, EntriesAgree, RunAgrees}
 ";
 
-/// A sort of case, of which so many are wanted.
-struct Sort {
-    name: &'static str,
-    wanted: usize,
-    taken: usize,
-    dropped: usize,
-    /// The greatest size that is computed quickly.
-    limit: usize,
+/// The sorts of cases.
+#[derive(Clone, Copy)]
+enum Sort {
+    History,
+    Run,
+    Refused,
+    /// Refused for too many records or too great a height: never small.
+    Oversized,
+    Accepted,
+    Damaged,
+    Other,
 }
 
-impl Sort {
-    fn new(name: &'static str, wanted: usize, limit: usize) -> Sort {
-        Sort {
+/// How many cases of a sort are wanted, and what became of those read.
+struct Share {
+    name: &'static str,
+    wanted: usize,
+    /// The greatest size that is computed quickly.
+    limit: usize,
+    taken: usize,
+    dropped: usize,
+}
+
+impl Share {
+    fn new(name: &'static str, wanted: usize, limit: usize) -> Share {
+        Share {
             name,
             wanted,
+            limit,
             taken: 0,
             dropped: 0,
-            limit,
         }
     }
 
@@ -56,26 +69,31 @@ impl Sort {
     }
 }
 
-/// The sorts, in the order of `sort_of`.
-fn sorts(histories: usize, plans: usize, ledgers: usize) -> [Sort; 6] {
+/// The shares, in the order of the sorts.
+fn shares(histories: usize, plans: usize, ledgers: usize) -> [Share; 7] {
     [
-        Sort::new("histories", histories, 1200),
-        Sort::new("refused plans", plans, 400),
-        Sort::new("accepted plans", plans / 10, 300),
-        Sort::new("calls on damaged ledgers", ledgers, 240),
-        Sort::new("other calls", ledgers / 2, 240),
-        Sort::new("whole runs", histories / 10, 1200),
+        Share::new("histories", histories, 900),
+        Share::new("whole runs", histories / 10, 1500),
+        Share::new("refused plans", plans, 300),
+        Share::new("plans refused as 6 or 16", plans / 20, 500),
+        Share::new("accepted plans", plans / 20, 300),
+        Share::new("calls on damaged ledgers", ledgers, 200),
+        Share::new("other calls", ledgers / 2, 200),
     ]
 }
 
-/// The sort of a case and its size: bytes of the plan, for each call.
-fn sort_of(fields: &[&str]) -> Option<(usize, usize)> {
+/// The sort of a case and its size: the bytes of the plan, read once for
+/// the begin and once for each call.
+fn sort_of(fields: &[&str]) -> Option<(Sort, usize)> {
+    let plan = fields.get(1)?.len() / 2;
     Some(match *fields {
-        ["H", plan, _, calls, _, _] => (0, plan.len() / 2 * (calls.matches(',').count() + 2)),
-        ["P", plan, answer] => (1 + usize::from(answer.starts_with('A')), plan.len() / 2),
-        ["L", plan, _, _, "R17" | "R18", _] => (3, plan.len() / 2),
-        ["L", plan, ..] => (4, plan.len() / 2),
-        ["U", plan, journal, _] => (5, plan.len() / 2 * (journal.len() / 8 + 1)),
+        ["H", _, _, calls, _, _] => (Sort::History, plan * (1 + parts(calls, ',').count())),
+        ["U", _, journal, _] => (Sort::Run, plan * (1 + journal.len() / 8)),
+        ["P", _, "6" | "16"] => (Sort::Oversized, plan),
+        ["P", _, answer] if answer.starts_with('A') => (Sort::Accepted, plan),
+        ["P", _, _] => (Sort::Refused, plan),
+        ["L", _, _, _, "R17" | "R18", _] => (Sort::Damaged, plan),
+        ["L", _, _, _, _, _] => (Sort::Other, plan),
         _ => return None,
     })
 }
@@ -182,13 +200,13 @@ fn hex_list(hex: &str, digits: usize) -> Option<String> {
 }
 
 /// The theorems of the cases taken, each under the line that it comes from.
-fn theorems(sorts: &mut [Sort]) -> io::Result<Vec<String>> {
+fn theorems(shares: &mut [Share]) -> io::Result<Vec<String>> {
     let mut taken = Vec::new();
     for (number, line) in io::stdin().lines().enumerate() {
         let line = line?;
         let fields: Vec<&str> = line.split(';').collect();
         let (sort, size) = sort_of(&fields).ok_or(io::ErrorKind::InvalidData)?;
-        if sorts[sort].takes(size) {
+        if shares[sort as usize].takes(size) {
             let (statement, proof) = theorem(&fields).ok_or(io::ErrorKind::InvalidData)?;
             let name = format!("case-{number}");
             taken.push(format!(
@@ -213,15 +231,13 @@ fn write(folder: &Path, theorems: &[String]) -> io::Result<()> {
     fs::write(folder.join("Lib.antt"), modules)
 }
 
-fn run(folder: &Path, mut sorts: [Sort; 6]) -> io::Result<()> {
-    let theorems = theorems(&mut sorts)?;
+fn run(folder: &Path, mut shares: [Share; 7]) -> io::Result<()> {
+    let theorems = theorems(&mut shares)?;
     write(folder, &theorems)?;
-    for sort in sorts {
-        let (name, taken, wanted) = (sort.name, sort.taken, sort.wanted);
-        println!(
-            "{name}: {taken} of {wanted} wanted, {} dropped as too large",
-            sort.dropped
-        );
+    for share in shares {
+        let (name, taken, wanted) = (share.name, share.taken, share.wanted);
+        let dropped = share.dropped;
+        println!("{name}: {taken} of {wanted} wanted, {dropped} dropped as too large");
     }
     println!("{} cases", theorems.len());
     Ok(())
@@ -238,7 +254,7 @@ fn main() -> ExitCode {
         eprintln!("usage: theorems FOLDER HISTORIES PLANS LEDGERS < lines of vectors");
         return ExitCode::FAILURE;
     };
-    match run(Path::new(folder), sorts(histories, plans, ledgers)) {
+    match run(Path::new(folder), shares(histories, plans, ledgers)) {
         Ok(()) => ExitCode::SUCCESS,
         Err(error) => {
             eprintln!("theorems: {error}");
