@@ -98,43 +98,38 @@ fn sort_of(fields: &[&str]) -> Option<(Sort, usize)> {
     })
 }
 
-/// The theorem's statement and proof.
-fn theorem(fields: &[&str]) -> Option<(String, &'static str)> {
-    let statement = match *fields {
+/// What the theorem of a case says.
+fn statement(fields: &[&str]) -> Option<String> {
+    Some(match *fields {
         ["H", plan, lent, calls, answers, after] => {
-            let (plan, lent, after) = (bytes(plan)?, words(lent)?, words(after)?);
+            let given = format!("{} {}", bytes(plan)?, words(lent)?);
             let calls = list(parts(calls, ',').map(call))?;
             let answers = list(parts(answers, '|').map(answer))?;
-            let statement = format!("HistoryAgrees {plan} {lent} {calls} {answers} {after}");
-            return Some((statement, "(refl, refl)"));
+            format!("HistoryAgrees {given} {calls} {answers} {}", words(after)?)
         }
         ["P", plan, answer] => format!("PlanAgrees {} ({})", bytes(plan)?, reading(answer)?),
         ["L", plan, before, called, answered, after] => {
             let given = format!("{} {}", bytes(plan)?, words(before)?);
-            match called.split_at(1) {
-                ("N", track) if before == after => {
-                    format!("EntriesAgree {given} {track} {}", words(answered)?)
-                }
-                ("Y", "") => {
-                    let answered = answer(answered)?;
-                    format!("ReadyAgrees {given} ({answered}) {}", words(after)?)
-                }
-                _ => {
-                    let (called, answered) = (call(called)?, answer(answered)?);
-                    format!(
-                        "CallAgrees {given} ({called}) ({answered}) {}",
-                        words(after)?
-                    )
-                }
-            }
+            single(&given, called, answered, &words(after)?)?
         }
         ["U", plan, journal, output] => {
-            let (plan, journal, output) = (bytes(plan)?, bytes(journal)?, bytes(output)?);
-            format!("RunAgrees {plan} {journal} {output}")
+            let given = format!("{} {}", bytes(plan)?, bytes(journal)?);
+            format!("RunAgrees {given} {}", bytes(output)?)
         }
         _ => return None,
-    };
-    Some((statement, "refl"))
+    })
+}
+
+/// The same for a single call, with the plan and the ledger it was given.
+fn single(given: &str, called: &str, answered: &str, after: &str) -> Option<String> {
+    Some(match called.split_at_checked(1)? {
+        ("N", track) => format!("EntriesAgree {given} {track} {}", words(answered)?),
+        ("Y", "") => format!("ReadyAgrees {given} ({}) {after}", answer(answered)?),
+        _ => {
+            let (called, answered) = (call(called)?, answer(answered)?);
+            format!("CallAgrees {given} ({called}) ({answered}) {after}")
+        }
+    })
 }
 
 fn call(text: &str) -> Option<String> {
@@ -200,6 +195,7 @@ fn hex_list(hex: &str, digits: usize) -> Option<String> {
 }
 
 /// The theorems of the cases taken, each under the line that it comes from.
+/// A history's has two parts, its answers and its words.
 fn theorems(shares: &mut [Share]) -> io::Result<Vec<String>> {
     let mut taken = Vec::new();
     for (number, line) in io::stdin().lines().enumerate() {
@@ -207,10 +203,14 @@ fn theorems(shares: &mut [Share]) -> io::Result<Vec<String>> {
         let fields: Vec<&str> = line.split(';').collect();
         let (sort, size) = sort_of(&fields).ok_or(io::ErrorKind::InvalidData)?;
         if shares[sort as usize].takes(size) {
-            let (statement, proof) = theorem(&fields).ok_or(io::ErrorKind::InvalidData)?;
+            let says = statement(&fields).ok_or(io::ErrorKind::InvalidData)?;
+            let proof = match sort {
+                Sort::History => "(refl, refl)",
+                _ => "refl",
+            };
             let name = format!("case-{number}");
             taken.push(format!(
-                "-- {line}\npub {name} : {statement}\nunfolding computing\n{name} = {proof}\n"
+                "-- {line}\npub {name} : {says}\nunfolding computing\n{name} = {proof}\n"
             ));
         }
     }
