@@ -1,0 +1,66 @@
+//! The theorems that cases become.
+
+use std::fs;
+use std::io::Write;
+use std::path::PathBuf;
+use std::process::{Command, Stdio};
+
+/// What the first file holds below its imports, of cases given as lines;
+/// nothing where a line is no case.
+fn theorems(name: &str, lines: &str) -> Option<String> {
+    let folder = PathBuf::from(env!("CARGO_TARGET_TMPDIR")).join(name);
+    fs::create_dir_all(&folder).expect("directory");
+    let mut child = Command::new(env!("CARGO_BIN_EXE_theorems"))
+        .arg(&folder)
+        .args(["1", "20", "2"])
+        .stdin(Stdio::piped())
+        .stdout(Stdio::null())
+        .stderr(Stdio::null())
+        .spawn()
+        .expect("theorems starts");
+    let mut stdin = child.stdin.take().expect("standard input");
+    stdin.write_all(lines.as_bytes()).expect("lines");
+    drop(stdin);
+    child.wait().expect("theorems ends").success().then(|| {
+        let text = fs::read_to_string(folder.join("Cases0.antt")).expect("cases");
+        text.split_once("\n\n").expect("imports").1.to_string()
+    })
+}
+
+#[test]
+fn a_history_is_its_answers_and_its_words() {
+    let expected = "-- H;0400;00010002;E7,S,F1;begun|D1,0|D2|R22;0003ffff\n\
+                    pub case-0 : HistoryAgrees (4 ∷ 0 ∷ []) (1 ∷ 2 ∷ []) \
+                    (e 7 ∷ s ∷ f 1 ∷ []) \
+                    (done [] ∷ done (1 ∷ 0 ∷ []) ∷ done (2 ∷ []) ∷ refusal 22 ∷ []) \
+                    (3 ∷ 65535 ∷ [])\n\
+                    unfolding computing\ncase-0 = (refl, refl)\n";
+    let line = "H;0400;00010002;E7,S,F1;begun|D1,0|D2|R22;0003ffff\n";
+    assert_eq!(theorems("history", line).as_deref(), Some(expected));
+}
+
+#[test]
+fn plans_and_single_calls_have_statements_of_their_own() {
+    let lines = "P;;2\nP;04;A3,8,5\nL;;0001;Y;R18;0001\nL;;;N3;;\nL;;;F9;R17;\n";
+    let text = theorems("others", lines).expect("theorems");
+    let says = |statement: &str| assert!(text.contains(statement), "{text}");
+    says("case-0 : PlanAgrees ([]) (turnedBack 2)\n");
+    says("case-1 : PlanAgrees (4 ∷ []) (acceptedWith 3 8 5)\n");
+    says("case-2 : ReadyAgrees ([]) (1 ∷ []) (refusal 18) (1 ∷ [])\n");
+    says("case-3 : EntriesAgree ([]) ([]) 3 ([])\n");
+    says("case-4 : CallAgrees ([]) ([]) (f 9) (refusal 17) ([])\n");
+}
+
+#[test]
+fn no_more_are_taken_than_wanted_and_none_too_large() {
+    let large = format!("P;{};2\n", "00".repeat(301));
+    let lines = "H;;;;begun;\n".repeat(2) + &large;
+    let text = theorems("shares", &lines).expect("theorems");
+    assert_eq!(text.matches("pub case-").count(), 1);
+}
+
+#[test]
+fn a_line_that_is_no_case_is_refused() {
+    assert_eq!(theorems("stray", "X;04\n"), None);
+    assert_eq!(theorems("digits", "P;0g;2\n"), None);
+}
