@@ -99,18 +99,20 @@ pub fn judge_record(plan: &[u8], k: Cursor) -> u8
     ensures { λ r. ⌜ r ≡ judgeRecord (now (plan .entry)) (k .at) (k .last) (k .counts) ⌝ }
 {
     let at = k.at;
+    let last = k.last;
     if plan.len() - at < 4 {
         return 2;
     }
+    let size = word_at(plan, at) as usize;
     let kind = word_at(plan, at + 2);
     let length = length_of(kind);
     if length == 0 {
         return 3;
     }
-    if kind < k.last {
+    if kind < last {
         return 3;
     }
-    if word_at(plan, at) as usize != length {
+    if size != length {
         return 4;
     }
     if plan.len() - at < length {

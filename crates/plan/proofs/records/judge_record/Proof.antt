@@ -15,11 +15,17 @@ returns c =
     sym (in-words _ _ _ _ _ _ _ _ _ refl refl refl refl refl
     ∙ table-2 _ _ _ _ _ _ _ _ (search needs))
 
+word-at-requires : tie.Need-word-at-requires
+word-at-requires c κs = search needs
+
+cast-size : tie.Need-cast-size
+cast-size c = search needs
+
 add-word-at : tie.Need-add-word-at
 add-word-at c = search needs
 
-word-at-requires : tie.Need-word-at-requires
-word-at-requires c κs = search needs
+word-at-requires-2 : tie.Need-word-at-requires-2
+word-at-requires-2 c κs = search needs
 
 length-of-requires : tie.Need-length-of-requires
 length-of-requires c κs = search needs
@@ -27,25 +33,19 @@ length-of-requires c κs = search needs
 returns-2 : tie.Need-returns-2
 unfolding kindAt sizeAt
 returns-2 c =
-    sym (in-words _ _ _ _ _ _ _ _ _ (c .before .before .word-at .ensures) (c .before .length-of .ensures) refl refl refl
+    sym (in-words _ _ _ _ _ _ _ _ _ (c .before .before .word-at2 .ensures) (c .before .length-of .ensures) (c .before .before .before .word-at .ensures) refl refl
     ∙ table-3 _ _ _ _ _ _ _ _ (search needs))
 
 returns-3 : tie.Need-returns-3
 unfolding kindAt sizeAt
 returns-3 c =
-    sym (in-words _ _ _ _ _ _ _ _ _ (c .before .before .before .before .word-at .ensures) (c .before .before .before .length-of .ensures) refl refl refl
+    sym (in-words _ _ _ _ _ _ _ _ _ (c .before .before .before .word-at2 .ensures) (c .before .before .length-of .ensures) (c .before .before .before .before .word-at .ensures) refl refl
     ∙ table-3-falls _ _ _ _ _ _ _ _ (search needs))
-
-word-at-requires-2 : tie.Need-word-at-requires-2
-word-at-requires-2 c κs = search needs
-
-cast-if4 : tie.Need-cast-if4
-cast-if4 c = search needs
 
 returns-4 : tie.Need-returns-4
 unfolding kindAt sizeAt
 returns-4 c =
-    sym (in-words _ _ _ _ _ _ _ _ _ (c .before .before .before .before .before .before .word-at .ensures) (c .before .before .before .before .before .length-of .ensures) (c .before .word-at2 .ensures) refl refl
+    sym (in-words _ _ _ _ _ _ _ _ _ (c .before .before .before .before .word-at2 .ensures) (c .before .before .before .length-of .ensures) (c .before .before .before .before .before .word-at .ensures) refl refl
     ∙ table-4 _ _ _ _ _ _ _ _ (search needs) (search needs) (search needs) (c .if4 .taken))
 
 sub-if5 : tie.Need-sub-if5
@@ -54,7 +54,7 @@ sub-if5 c = search needs
 returns-5 : tie.Need-returns-5
 unfolding kindAt sizeAt
 returns-5 c =
-    sym (in-words _ _ _ _ _ _ _ _ _ (c .before .before .before .before .before .before .before .word-at .ensures) (c .before .before .before .before .before .before .length-of .ensures) (c .before .before .word-at2 .ensures) refl refl
+    sym (in-words _ _ _ _ _ _ _ _ _ (c .before .before .before .before .before .word-at2 .ensures) (c .before .before .before .before .length-of .ensures) (c .before .before .before .before .before .before .word-at .ensures) refl refl
     ∙ table-5 _ _ _ _ _ _ _ _ (search needs) (search needs) (search needs) (search needs) (search needs))
 
 most-of-requires : tie.Need-most-of-requires
@@ -66,13 +66,13 @@ count-of-requires c κs = search needs
 returns-6 : tie.Need-returns-6
 unfolding kindAt sizeAt
 returns-6 c =
-    sym (in-words _ _ _ _ _ _ _ _ _ (c .before .before .before .before .before .before .before .before .before .before .word-at .ensures) (c .before .before .before .before .before .before .before .before .before .length-of .ensures) (c .before .before .before .before .before .word-at2 .ensures) (c .before .before .most-of .ensures) (c .before .count-of .ensures)
+    sym (in-words _ _ _ _ _ _ _ _ _ (c .before .before .before .before .before .before .before .before .word-at2 .ensures) (c .before .before .before .before .before .before .before .length-of .ensures) (c .before .before .before .before .before .before .before .before .before .word-at .ensures) (c .before .before .most-of .ensures) (c .before .count-of .ensures)
     ∙ table-6 _ _ _ _ _ _ _ _ (search needs) (search needs) (search needs) (search needs) (search needs) (search needs))
 
 returns-7 : tie.Need-returns-7
 unfolding kindAt sizeAt
 returns-7 c =
-    sym (in-words _ _ _ _ _ _ _ _ _ (c .before .before .before .before .before .before .before .before .before .before .before .word-at .ensures) (c .before .before .before .before .before .before .before .before .before .before .length-of .ensures) (c .before .before .before .before .before .before .word-at2 .ensures) (c .before .before .before .most-of .ensures) (c .before .before .count-of .ensures)
+    sym (in-words _ _ _ _ _ _ _ _ _ (c .before .before .before .before .before .before .before .before .before .word-at2 .ensures) (c .before .before .before .before .before .before .before .before .length-of .ensures) (c .before .before .before .before .before .before .before .before .before .before .word-at .ensures) (c .before .before .before .most-of .ensures) (c .before .before .count-of .ensures)
     ∙ table-0 _ _ _ _ _ _ _ _ (search needs) (search needs) (search needs) (search needs) (search needs) (search needs) (c .if7 .taken))
 
 add-if8 : tie.Need-add-if8
@@ -81,13 +81,13 @@ add-if8 c = search needs
 returns-8 : tie.Need-returns-8
 unfolding kindAt sizeAt
 returns-8 c =
-    sym (in-words _ _ _ _ _ _ _ _ _ (c .before .before .before .before .before .before .before .before .before .before .before .before .word-at .ensures) (c .before .before .before .before .before .before .before .before .before .before .before .length-of .ensures) (c .before .before .before .before .before .before .before .word-at2 .ensures) (c .before .before .before .before .most-of .ensures) (c .before .before .before .count-of .ensures)
+    sym (in-words _ _ _ _ _ _ _ _ _ (c .before .before .before .before .before .before .before .before .before .before .word-at2 .ensures) (c .before .before .before .before .before .before .before .before .before .length-of .ensures) (c .before .before .before .before .before .before .before .before .before .before .before .word-at .ensures) (c .before .before .before .before .most-of .ensures) (c .before .before .before .count-of .ensures)
     ∙ table-7 _ _ _ _ _ _ _ _ (search needs) (search needs) (search needs) (search needs) (search needs) (search needs) (search needs) (search needs))
 
 returns-9 : tie.Need-returns-9
 unfolding kindAt sizeAt
 returns-9 c =
-    sym (in-words _ _ _ _ _ _ _ _ _ (c .before .before .before .before .before .before .before .before .before .before .before .before .word-at .ensures) (c .before .before .before .before .before .before .before .before .before .before .before .length-of .ensures) (c .before .before .before .before .before .before .before .word-at2 .ensures) (c .before .before .before .before .most-of .ensures) (c .before .before .before .count-of .ensures)
+    sym (in-words _ _ _ _ _ _ _ _ _ (c .before .before .before .before .before .before .before .before .before .before .word-at2 .ensures) (c .before .before .before .before .before .before .before .before .before .length-of .ensures) (c .before .before .before .before .before .before .before .before .before .before .before .word-at .ensures) (c .before .before .before .before .most-of .ensures) (c .before .before .before .count-of .ensures)
     ∙ table-0-end _ _ _ _ _ _ _ _ (search needs) (search needs) (search needs) (search needs) (search needs) (search needs) (search needs) (search needs))
 
 pub judge-record-spec : {M : Type 1} → statement M
@@ -96,13 +96,13 @@ judge-record-spec =
     (tie.spec
     sub-if1
     returns
-    add-word-at
     word-at-requires
+    cast-size
+    add-word-at
+    word-at-requires-2
     length-of-requires
     returns-2
     returns-3
-    word-at-requires-2
-    cast-if4
     returns-4
     sub-if5
     returns-5
