@@ -2,17 +2,17 @@
 -- so without an accepted event no more firings are accepted than entries were held. Assumes nothing.
 use mathlib.Core.Path.{_≡_, refl, sym, ap, _∙_, subst}
 use mathlib.Core.Logic.{_⊎_, inl, inr}
-use mathlib.Core.Bool.{Bool, true, false, not, _&&_}
+use mathlib.Core.Bool.{true, false, not}
 use mathlib.Core.List.{List, [], _∷_, _++_}
 use Prim.Native.Nat.{ℕ, zero, suc, _+_, _*_, _<_, _≤_}
 use native.Mathlib.Omega.{arith}
 use native.Mathlib.Nat.{not-suc-le-zero}
-use lib.ListN.{length, getD}
+use lib.ListN.{length}
 use lib.Dec.{eqb}
 use borrow.Author.Tests.{eqb-true, eqb-false, eq-eqb, not-true}
 use Rattle.rules.specs.declared.Counts.{Counts}
 use Rattle.rules.specs.Fold.{sumBelow, firstRefusal}
-use Rattle.rules.specs.Plan.{Plan, trackCount, noState, planOf}
+use Rattle.rules.specs.Plan.{Plan, trackCount, planOf}
 use Rattle.rules.specs.Acceptance.{accepted, readPlan}
 use Rattle.rules.specs.Layout.{entryLimit}
 use Rattle.rules.specs.Ledger.{Ledger}
@@ -20,12 +20,13 @@ use Rattle.rules.specs.Opening.{enter}
 use Rattle.rules.specs.Signal.{turned, isAbandoned, abandoned}
 use Rattle.rules.specs.Fire.{mayFire, older, removed, deviatesTo, fired}
 use Rattle.rules.specs.Soundness.{isSound}
-use Rattle.rules.specs.Call.{Answer, refusal, done, Call, event, signal, fire, refusedOr, tooShort, ledgerRefusals, callRefusals, callRefusal, after, next, callOutcome}
+use Rattle.rules.specs.Call.{Answer, done, Call, event, signal, fire, refusedOr, tooShort, ledgerRefusals, callRefusals, callRefusal, after, next, callOutcome}
 use Rattle.rules.specs.Transcript.{firingsOf, heldTotal}
 use Rattle.rules.specs.ReferenceRun.{answersFrom}
 use Rattle.rules.proofs.Tests.{look, clash, and-true}
 use Rattle.rules.proofs.Acceptance.{Accepted, accepts}
 use Rattle.rules.proofs.Abandoning.{left-asleep, left-kept}
+use Rattle.restoration.specs.Firings.{firingsIn, isEventDone, isDeviation, isWithout}
 use Rattle.restoration.proofs.Seams.{turned-held, work, settle-cases, over-refused, next-accepted, next-refused, fire-accepted, may-fire}
 use Rattle.restoration.proofs.Entries.{older-length, older-less}
 use Rattle.restoration.proofs.Entering.{Fate, enters, wakens, stays, fate, fresh-held}
@@ -113,30 +114,6 @@ module _ (limit : ℕ) (p : Plan) (ok : Accepted p) (l : Ledger) where
             sum-mono (trackCount p) (λ t. length (after limit p l c t .held)) (λ t. length (work p l c t .held))
             (λ t. rw (o t, sleeping-held) (omega arith))
       ]
-
--- Along a list of calls and its answers: the firings done, and whether an event was accepted; whether an event was accepted or a firing
--- carried a deviation.
-unfoldable pub firingsIn : List Call → List Answer → ℕ
-firingsIn [] rs = 0
-firingsIn (c ∷ cs) [] = 0
-firingsIn (c ∷ cs) (r ∷ rs) = firingsOf c r + firingsIn cs rs
-
-unfoldable pub isEventDone : Call → Answer → Bool
-isEventDone (event a) (done figures) = true
-isEventDone (event a) (refusal n) = false
-isEventDone (signal a) r = false
-isEventDone (fire a) r = false
-
-unfoldable pub isDeviation : Call → Answer → Bool
-isDeviation (fire a) (done figures) = not (eqb (getD figures 1 noState) noState)
-isDeviation (fire a) (refusal n) = false
-isDeviation (event a) r = false
-isDeviation (signal a) r = false
-
-unfoldable pub isWithout : (Call → Answer → Bool) → List Call → List Answer → Bool
-isWithout f [] rs = true
-isWithout f (c ∷ cs) [] = true
-isWithout f (c ∷ cs) (r ∷ rs) = not (f c r) && isWithout f cs rs
 
 module _ (limit : ℕ) (bs : List ℕ) (k : Counts) (read : readPlan bs ≡ accepted k) where
   abbrev p : Plan

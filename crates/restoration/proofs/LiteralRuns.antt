@@ -1,8 +1,8 @@
 -- "no signal turning any of them meanwhile", literally: a forward scope's run went over no signal at all. An accepted signal turns every
 -- forward scope, and nothing but a root ever goes forward again, so a scope that is forward was so all along. Assumes nothing.
 use mathlib.Core.Path.{_≡_, refl, sym, ap, _∙_, subst}
-use mathlib.Core.Bool.{Bool, true, false}
-use mathlib.Core.List.{List, [], _++_}
+use mathlib.Core.Bool.{true, false}
+use mathlib.Core.List.{[], _++_}
 use Prim.Native.Nat.{ℕ}
 use Rattle.rules.specs.Plan.{Plan, owner, isInside}
 use Rattle.rules.specs.Ledger.{Configuration, Ledger, isForward}
@@ -11,7 +11,7 @@ use Rattle.rules.specs.Opening.{begun}
 use Rattle.rules.specs.Event.{moved, isClosing, closed}
 use Rattle.rules.specs.Signal.{turned, abandoned}
 use Rattle.rules.specs.Fire.{fired}
-use Rattle.rules.specs.Call.{EventArguments, SignalArguments, FireArguments, Call, event, signal, fire, callRefusal, next}
+use Rattle.rules.specs.Call.{EventArguments, FireArguments, Call, event, signal, fire, callRefusal, next}
 use Rattle.rules.specs.FinishedRun.{movesOf, Reached, Running, Finished}
 use Rattle.rules.specs.FinishedRun as run
 use Rattle.rules.proofs.Tests.{clash}
@@ -27,7 +27,6 @@ use Rattle.restoration.proofs.Moving.{moved-nested, moved-busy}
 use Rattle.restoration.proofs.Closing.{closing-open, closed-awake}
 use Rattle.restoration.proofs.Firing.{removed-mode, fired-busy}
 use Rattle.restoration.proofs.Soundness.{Sound}
-use Rattle.restoration.proofs.SoundEvent.{was-open}
 use Rattle.restoration.proofs.SoundRetraction.{fired-awake}
 use Rattle.restoration.proofs.ScopeRuns.{reached-kept, running-reached, running-open, open-sound, open-next, signal-turns}
 
