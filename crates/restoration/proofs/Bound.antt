@@ -17,17 +17,17 @@ use Rattle.rules.specs.Acceptance.{accepted, readPlan}
 use Rattle.rules.specs.Layout.{entryLimit}
 use Rattle.rules.specs.Ledger.{Ledger}
 use Rattle.rules.specs.Opening.{enter}
-use Rattle.rules.specs.Signal.{turned, isAbandoned, abandoned}
+use Rattle.rules.specs.Signal.{isAbandoned, abandoned}
 use Rattle.rules.specs.Fire.{mayFire, older, removed, deviatesTo, fired}
 use Rattle.rules.specs.Soundness.{isSound}
-use Rattle.rules.specs.Call.{Answer, done, Call, event, signal, fire, refusedOr, tooShort, ledgerRefusals, callRefusals, callRefusal, after, next, callOutcome}
+use Rattle.rules.specs.Call.{SignalArguments, Answer, done, Call, event, signal, fire, refusedOr, tooShort, ledgerRefusals, callRefusals, callRefusal, after, next, callOutcome}
 use Rattle.rules.specs.Transcript.{firingsOf, heldTotal}
 use Rattle.rules.specs.ReferenceRun.{answersFrom}
 use Rattle.rules.proofs.Tests.{look, clash, and-true}
 use Rattle.rules.proofs.Acceptance.{Accepted, accepts}
 use Rattle.rules.proofs.Abandoning.{left-asleep, left-kept}
 use Rattle.restoration.specs.Firings.{firingsIn, isEventDone, isDeviation, isWithout}
-use Rattle.restoration.proofs.Seams.{turned-held, work, settle-cases, over-refused, next-accepted, next-refused, fire-accepted, may-fire}
+use Rattle.restoration.proofs.Seams.{turns, turned-held, work, settle-cases, over-refused, next-accepted, next-refused, fire-accepted, may-fire}
 use Rattle.restoration.proofs.Entries.{older-length, older-less}
 use Rattle.restoration.proofs.Entering.{Fate, enters, wakens, stays, fate, fresh-held}
 use Rattle.restoration.proofs.Firing.{fired-is, removed-here, removed-other}
@@ -84,11 +84,11 @@ module _ (p : Plan) (ok : Accepted p) (l : Ledger) where
       go (stays k w q) = rw q (omega arith)
 
 module _ (limit : ℕ) (p : Plan) (ok : Accepted p) (l : Ledger) where
-  signal-fewer : heldTotal p (abandoned p (turned l)) ≤ heldTotal p l
+  signal-fewer : (a : SignalArguments) → heldTotal p (abandoned p (turns p a l)) ≤ heldTotal p l
   unfolding heldTotal
-  signal-fewer =
-      sum-mono (trackCount p) (λ t. length (abandoned p (turned l) t .held)) (λ t. length (l t .held))
-      (λ t. let a = abandoned-fewer p ok (turned l) t in let e = ap length (turned-held l t) in omega arith)
+  signal-fewer a =
+      sum-mono (trackCount p) (λ t. length (abandoned p (turns p a l) t .held)) (λ t. length (l t .held))
+      (λ t. let b = abandoned-fewer p ok (turns p a l) t in let e = ap length (turned-held p a l t) in omega arith)
 
   fire-fewer : (t : ℕ) → mayFire p l t ≡ true → heldTotal p (abandoned p (fired p l t)) < heldTotal p l
   unfolding heldTotal
@@ -138,7 +138,7 @@ module _ (limit : ℕ) (bs : List ℕ) (k : Counts) (read : readPlan bs ≡ acce
       done-fewer : (d : Call) (fs : List ℕ) → isEventDone d (done fs) ≡ false → callRefusal limit p l d ≡ 0
           → firingsOf d (done fs) + heldTotal p (after limit p l d) ≤ heldTotal p l
       done-fewer (event a) fs e z = clash refl e
-      done-fewer (signal a) fs e z = let x = signal-fewer limit p ok l in let y = settled-fewer limit p ok l (signal a) in omega arith
+      done-fewer (signal a) fs e z = let x = signal-fewer limit p ok l a in let y = settled-fewer limit p ok l (signal a) in omega arith
       done-fewer (fire a) fs e z =
           let x = fire-fewer limit p ok l (a .track) (fire-accepted limit p l a z .1) in
           let y = settled-fewer limit p ok l (fire a) in omega arith

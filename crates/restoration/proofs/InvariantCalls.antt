@@ -11,7 +11,7 @@ use Rattle.rules.specs.Ledger.{Configuration, Ledger, isAwake, isForward}
 use Rattle.rules.specs.Scope.{isOpen}
 use Rattle.rules.specs.Opening.{begun}
 use Rattle.rules.specs.Event.{moved, isClosing, closed}
-use Rattle.rules.specs.Signal.{turned, abandoned}
+use Rattle.rules.specs.Signal.{abandoned}
 use Rattle.rules.specs.Fire.{newest, mayFire, fired}
 use Rattle.rules.specs.Call.{EventArguments, SignalArguments, FireArguments, Call, event, signal, fire, callRefusal, next}
 use Rattle.rules.specs.FinishedRun.{movesOf, Reached, Running, by-begin, by-call, over-event, over-signal, over-fire}
@@ -27,7 +27,7 @@ use Rattle.restoration.proofs.Composition as all
 use Rattle.restoration.proofs.Composition.{Word, when, join, when-nil, join-nil}
 use Rattle.restoration.proofs.Modes.{forward-awake}
 use Rattle.restoration.proofs.Nesting.{Nested, open-host, hosted-asleep}
-use Rattle.restoration.proofs.Seams.{Ask, ask, turned-awake, spared, fire-accepted, may-fire, next-cases}
+use Rattle.restoration.proofs.Seams.{Ask, ask, turns, turned-awake, spared, fire-accepted, may-fire, next-cases}
 use Rattle.restoration.proofs.Moving.{moved-nested, moved-busy}
 use Rattle.restoration.proofs.Closing.{sleeping-asleep, closing-open, closed-awake}
 use Rattle.restoration.proofs.Firing.{removed-mode, fired-busy}
@@ -145,27 +145,27 @@ module _ (limit : ℕ) (p : Plan) (ok : Accepted p) (k : Books p limit) where
       event-keeps =
           elim (next-cases limit p l (event a) acc) [ inr o ↦ inl o | inl q ↦ carry l s (event a) first _ (event-booked q) ]
 
-    -- a scope that is open after a signal was open before
-    signal-open : (z : ℕ) → isOpen p (abandoned p (turned l)) z ≡ true → isOpen p l z ≡ true
-    signal-open z o =
-        let (u, b, h, w) = open-find p (abandoned p (turned l)) z o in
-        let (c, r) = awake-kept p ok (turned l) u w in
-        open-at p l z u b h (sym (turned-awake l u) ∙ ap (λ (y : Configuration). isAwake (y .mode)) (sym r) ∙ w)
-
     module _ (a : SignalArguments) (acc : callRefusal limit p l (signal a) ≡ 0) where
-      signal-booked : next limit p l (signal a) ≡ abandoned p (turned l) → Booked (next limit p l (signal a)) first now
+      -- a scope that is open after a signal was open before
+      signal-open : (z : ℕ) → isOpen p (abandoned p (turns p a l)) z ≡ true → isOpen p l z ≡ true
+      signal-open z o =
+          let (u, b, h, w) = open-find p (abandoned p (turns p a l)) z o in
+          let (c, r) = awake-kept p ok (turns p a l) u w in
+          open-at p l z u b h (sym (turned-awake p a l u) ∙ ap (λ (y : Configuration). isAwake (y .mode)) (sym r) ∙ w)
+
+      signal-booked : next limit p l (signal a) ≡ abandoned p (turns p a l) → Booked (next limit p l (signal a)) first now
       signal-booked q =
           record {
             W = W;
             R = R;
             blocks =
                 subst (λ y. Blocks limit p ok k y W R) (sym q)
-                (abandoned-blocks limit p ok k (turned l) (turned-nested p ok l n) W R (turned-blocks limit p ok k l n W R (v .blocks)));
+                (abandoned-blocks limit p ok k (turns p a l) (turned-nested p ok l n a) W R (turned-blocks limit p ok k l n W R (v .blocks) a));
             running =
                 λ z o f.
                 let f′ = subst (λ y. isForward (y (owner p z) .mode) ≡ true) q f in
-                let (c, r) = awake-kept p ok (turned l) (owner p z) (forward-awake (abandoned p (turned l) (owner p z) .mode) f′) in
-                let (w, i) = spared p l z (ap (λ (y : Configuration). isForward (y .mode)) (sym r) ∙ f′) in
+                let (c, r) = awake-kept p ok (turns p a l) (owner p z) (forward-awake (abandoned p (turns p a l) (owner p z) .mode) f′) in
+                let (w, i) = spared p a l z (ap (λ (y : Configuration). isForward (y .mode)) (sym r) ∙ f′) in
                 over-signal (v .running z (signal-open z (subst (λ y. isOpen p y z ≡ true) q o)) w) a acc i o;
             books = v .books;
           }

@@ -48,13 +48,13 @@ module _ (limit : ℕ) (p : Plan) (ok : Accepted p) (l : Ledger) (s : Sound limi
         finish = f;
         abandoning = event-abandoning limit p ok l (s .formed) (ask a) (s .abandoning);
       }
-  work-sound (signal a) h f = signal-sound limit p ok l s f
+  work-sound (signal a) h f = signal-sound limit p ok l s a f
   work-sound (fire a) h f = fire-sound limit p ok l s (a .track) (fire-accepted limit p l a h .1) f
 
   -- where finish is not looked for, it is not due
   unfinished : (c : Call) → callRefusal limit p l c ≡ 0 → looksForFinish c ≡ false → isFinishing p (work p l c) ≡ false
   unfinished (event a) h n = clash refl n
-  unfinished (signal a) h n = signal-unfinished limit p ok l s
+  unfinished (signal a) h n = signal-unfinished limit p ok l s a
   unfinished (fire a) h n = fire-unfinished limit p ok l s (a .track) (fire-accepted limit p l a h .1)
 
   pub kept-after : (c : Call) → callRefusal limit p l c ≡ 0 → Kept limit p (after limit p l c)

@@ -13,7 +13,8 @@ use Rattle.rules.specs.Ledger.{Configuration, Ledger, isAwake, isForward, isUnd
 use Rattle.rules.specs.Scope.{hasOpenScope}
 use Rattle.rules.specs.Opening.{enter}
 use Rattle.rules.specs.Event.{isClosing, isFinishing}
-use Rattle.rules.specs.Signal.{turned, abandoned}
+use Rattle.rules.specs.Call.{SignalArguments}
+use Rattle.rules.specs.Signal.{abandoned}
 use Rattle.rules.specs.Fire.{newest, mayFire, removed, deviatesTo, fired}
 use Rattle.rules.proofs.Tests.{look, look-option, clash, refuted, and-true}
 use Rattle.rules.proofs.Acceptance.{Accepted}
@@ -23,7 +24,7 @@ use Rattle.rules.proofs.Closing.{closing-final}
 use Rattle.rules.proofs.Abandoning.{undoing-awake, awake-kept, left-kept, abandoned-done}
 use Rattle.restoration.proofs.Modes.{forward-awake, undoing-forward}
 use Rattle.restoration.proofs.Nesting.{Awake, Nested, root-above}
-use Rattle.restoration.proofs.Seams.{goes-on, finish-back, turned-awake, unturned, may-fire}
+use Rattle.restoration.proofs.Seams.{not-ended, finish-back, turns, turned-awake, unturned, may-fire}
 use Rattle.restoration.proofs.Entries.{Good, good-older, older-length, deviates}
 use Rattle.restoration.proofs.Entering.{Fate, enters, wakens, stays, fate, arrived-awake, fresh-awake, fresh-state}
 use Rattle.restoration.proofs.Closing.{closing-open, closing-of}
@@ -42,47 +43,48 @@ module _ (limit : ℕ) (p : Plan) (ok : Accepted p) (l : Ledger) (s : Sound limi
   abbrev n : Nested p l
   n = s .formed .nested
 
-  abbrev T : Ledger
-  T = turned l
+  module _ (a : SignalArguments) where
+    abbrev T : Ledger
+    T = turns p a l
 
-  turned-first : Formed limit p T
-  turned-first = turned-formed limit p ok l (s .formed)
+    turned-first : Formed limit p T
+    turned-first = turned-formed limit p ok l (s .formed) a
 
-  turned-root : (t : ℕ) → host p t ≡ none → abandoned p T t ≡ T t
-  turned-root t e = left-root p ok T (turned-first .nested) t e
+    turned-root : (t : ℕ) → host p t ≡ none → abandoned p T t ≡ T t
+    turned-root t e = left-root p ok T (turned-first .nested) t e
 
-  -- what is forward after a signal is as it was
-  spared-track : (t : ℕ) → isForward (abandoned p T t .mode) ≡ true → abandoned p T t ≡ l t
-  spared-track t f =
-      let q = awake-kept p ok T t (forward-awake (abandoned p T t .mode) f) .1 in
-      q ∙ unturned l t (ap (λ (c : Configuration). isForward (c .mode)) (sym q) ∙ f)
+    -- what is forward after a signal is as it was
+    spared-track : (t : ℕ) → isForward (abandoned p T t .mode) ≡ true → abandoned p T t ≡ l t
+    spared-track t f =
+        let q = awake-kept p ok T t (forward-awake (abandoned p T t .mode) f) .1 in
+        q ∙ unturned p a l t (ap (λ (c : Configuration). isForward (c .mode)) (sym q) ∙ f)
 
-  pub signal-unfinished : isFinishing p (abandoned p T) ≡ false
-  signal-unfinished =
-      finish-back p l (abandoned p T)
-      (λ t e h.
-      let f = and-true (isForward (abandoned p T t .mode)) (isFinal p (abandoned p T t .state)) h .0 in
-      ap (λ (c : Configuration). isForward (c .mode) && isFinal p (c .state)) (sym (spared-track t f)) ∙ h)
-      (s .finish)
+    pub signal-unfinished : isFinishing p (abandoned p T) ≡ false
+    signal-unfinished =
+        finish-back p l (abandoned p T)
+        (λ t e h.
+        let f = and-true (isForward (abandoned p T t .mode)) (isFinal p (abandoned p T t .state)) h .0 in
+        ap (λ (c : Configuration). isForward (c .mode) && isFinal p (c .state)) (sym (spared-track t f)) ∙ h)
+        (s .finish)
 
-  pub signal-sound : isFinishing p (abandoned p T) ≡ false → Sound limit p (abandoned p T)
-  signal-sound unfinished =
-      record {
-        formed = abandoned-formed limit p ok T turned-first;
-        roots = λ t b e. ap (λ (c : Configuration). isAwake (c .mode)) (turned-root t e) ∙ turned-awake l t ∙ s .roots t b e;
-        closing =
-            λ z.
-            refuted (isClosing p (abandoned p T) z)
-            (λ c.
-            let final : (v : ℕ) → host p v ≡ some z → (isForward (l v .mode) ≡ true) × (isFinal p (l v .state) ≡ true) =
-            λ v g.
-            let h = closing-final p (abandoned p T) z v c (ok .hosted v z g) g in
-            subst (λ (k : Configuration). (isForward (k .mode) ≡ true) × (isFinal p (k .state) ≡ true)) (spared-track v (h .0)) h in
-            let (u, b, e, a) = open-find p (abandoned p T) z (closing-open p (abandoned p T) z c) in
-            clash (closing-of p l z (open-at p l z u b e (forward-awake (l u .mode) (final u e .0))) final) (s .closing z));
-        finish = unfinished;
-        abandoning = abandoned-done p ok T;
-      }
+    pub signal-sound : isFinishing p (abandoned p T) ≡ false → Sound limit p (abandoned p T)
+    signal-sound unfinished =
+        record {
+          formed = abandoned-formed limit p ok T turned-first;
+          roots = λ t b e. ap (λ (c : Configuration). isAwake (c .mode)) (turned-root t e) ∙ turned-awake p a l t ∙ s .roots t b e;
+          closing =
+              λ z.
+              refuted (isClosing p (abandoned p T) z)
+              (λ c.
+              let final : (v : ℕ) → host p v ≡ some z → (isForward (l v .mode) ≡ true) × (isFinal p (l v .state) ≡ true) =
+              λ v g.
+              let h = closing-final p (abandoned p T) z v c (ok .hosted v z g) g in
+              subst (λ (k : Configuration). (isForward (k .mode) ≡ true) × (isFinal p (k .state) ≡ true)) (spared-track v (h .0)) h in
+              let (u, b, e, w) = open-find p (abandoned p T) z (closing-open p (abandoned p T) z c) in
+              clash (closing-of p l z (open-at p l z u b e (forward-awake (l u .mode) (final u e .0))) final) (s .closing z));
+          finish = unfinished;
+          abandoning = abandoned-done p ok T;
+        }
 
   module _ (t : ℕ) (may : mayFire p l t ≡ true) where
     undoing : isUndoing (l t .mode) ≡ true
@@ -176,13 +178,13 @@ module _ (limit : ℕ) (p : Plan) (ok : Accepted p) (l : Ledger) (s : Sound limi
               ap (λ (c : Configuration). c .state)
               (root t e ∙ ap (λ m. m t) (fired-is p l t)
               ∙ enter-to p ok (deviatesTo p l t) (removed p l t) t (d .0) (deviates-here p l t ∙ d .1)) in
-              goes-on p (abandoned p X) t (n .below t fired-awake) e
+              not-ended p (abandoned p X) t (n .below t fired-awake) e
               (not-final (isForward (abandoned p X t .mode)) (isFinal p (abandoned p X t .state)) (ap (isFinal p) st ∙ f))
           | inl d ↦
               let (r, b, e, m) = root-above p ok l n t fired-awake in
               let q = fired-still p l t ok n good free fired-awake r (s .roots r b e) (deviates-not p l t d r) in
               let md : abandoned p X r .mode ≡ l t .mode = ap (λ (c : Configuration). c .mode) (root r e ∙ q) ∙ removed-mode p l t r ∙ m in
-              goes-on p (abandoned p X) r b e
+              not-ended p (abandoned p X) r b e
               (not-forward (isForward (abandoned p X r .mode)) (isFinal p (abandoned p X r .state))
               (ap isForward md ∙ undoing-forward (l t .mode) undoing))
         ]
