@@ -16,6 +16,7 @@ pub mod Soundness
 pub mod SoundBegin
 pub mod SoundEvent
 pub mod SoundRetraction
+pub mod Unfinished
 pub mod SoundKept
 pub mod SoundWords
 -- Progress, and the bound on firings.

@@ -18,10 +18,10 @@ use Rattle.rules.specs.Event.{install, installed, destinationOf, installedBy, h
 use Rattle.rules.specs.Signal.{turnedTrack, turned, isBare, abandoned, afterSignal}
 use Rattle.rules.specs.Fire.{mayFire, fired, afterFire}
 use Rattle.rules.specs.Call.{EventArguments, SignalArguments, FireArguments, Call, event, signal, fire, callRefusals, callRefusal, after, next}
-use Rattle.rules.proofs.Tests.{look, look-option, clash, none-some, and-true, or-false, implies, implied, passed}
-use Rattle.rules.proofs.Folds.{every-at, every-of}
+use Rattle.rules.proofs.Tests.{look, look-option, clash, none-some, and-true, or-false, passed}
+use Rattle.rules.proofs.Folds.{every-at}
 use Rattle.rules.proofs.Acceptance.{transition-for}
-use Rattle.rules.proofs.Scopes.{root-of, root-none}
+use Rattle.rules.proofs.Scopes.{root-of}
 
 -- What the rules of an event read of its arguments.
 abbrev pub Ask : Type 0
@@ -130,34 +130,15 @@ module _ (p : Plan) where
   abbrev pub ended : Ledger → ℕ → Bool
   ended l t = isForward (l t .mode) && isFinal p (l t .state)
 
-  pub not-ended : (l : Ledger) (t : ℕ) → t < trackCount p → host p t ≡ none → ended l t ≡ false → isFinishing p l ≡ false
+  pub goes-on : (l : Ledger) (t : ℕ) → t < trackCount p → host p t ≡ none → (ended l t || isBare p l t) ≡ false → isFinishing p l ≡ false
   unfolding isFinishing
-  not-ended l t b e n =
+  goes-on l t b e n =
       elim (look (isFinishing p l)) [
         | inr h ↦ h
         | inl h ↦
             let q = every-at (trackCount p) (λ t. not (isRoot p t) || ended l t) h t b in
             let r : ended l t ≡ true = rw (root-of p t e) at q in
-            clash r n
-      ]
-
-  pub goes-on : (l : Ledger) (t : ℕ) → t < trackCount p → host p t ≡ none → (ended l t || isBare p l t) ≡ false → isFinishing p l ≡ false
-  goes-on l t b e n = not-ended l t b e (or-false (ended l t) (isBare p l t) n .0)
-
-  -- finish is due only where it was, if no root ended meanwhile
-  pub finish-back : (l m : Ledger) → ((t : ℕ) → host p t ≡ none → ended m t ≡ true → ended l t ≡ true) → isFinishing p l ≡ false
-      → isFinishing p m ≡ false
-  unfolding isFinishing
-  finish-back l m f n =
-      elim (look (isFinishing p m)) [
-        | inr h ↦ h
-        | inl h ↦
-            clash
-            (every-of (trackCount p) (λ t. not (isRoot p t) || ended l t)
-            (λ t b.
-            implied (isRoot p t) (ended l t)
-            (λ r. f t (root-none p t r) (implies (isRoot p t) (ended m t) (every-at (trackCount p) (λ t. not (isRoot p t) || ended m t) h t b) r))))
-            n
+            clash r (or-false (ended l t) (isBare p l t) n .0)
       ]
 
 -- Whom a signal turns.
