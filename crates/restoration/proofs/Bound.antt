@@ -2,31 +2,32 @@
 -- so without an accepted event no more firings are accepted than entries were held. Assumes nothing.
 use mathlib.Core.Path.{_≡_, refl, sym, ap, _∙_, subst}
 use mathlib.Core.Logic.{_⊎_, inl, inr}
-use mathlib.Core.Bool.{Bool, true, false, not, _&&_}
+use mathlib.Core.Bool.{true, false, not}
 use mathlib.Core.List.{List, [], _∷_, _++_}
 use Prim.Native.Nat.{ℕ, zero, suc, _+_, _*_, _<_, _≤_}
 use native.Mathlib.Omega.{arith}
 use native.Mathlib.Nat.{not-suc-le-zero}
-use lib.ListN.{length, getD}
+use lib.ListN.{length}
 use lib.Dec.{eqb}
 use borrow.Author.Tests.{eqb-true, eqb-false, eq-eqb, not-true}
 use Rattle.rules.specs.declared.Counts.{Counts}
 use Rattle.rules.specs.Fold.{sumBelow, firstRefusal}
-use Rattle.rules.specs.Plan.{Plan, trackCount, noState, planOf}
+use Rattle.rules.specs.Plan.{Plan, trackCount, planOf}
 use Rattle.rules.specs.Acceptance.{accepted, readPlan}
 use Rattle.rules.specs.Layout.{entryLimit}
 use Rattle.rules.specs.Ledger.{Ledger}
 use Rattle.rules.specs.Opening.{enter}
-use Rattle.rules.specs.Signal.{turned, isAbandoned, abandoned}
+use Rattle.rules.specs.Signal.{isAbandoned, abandoned}
 use Rattle.rules.specs.Fire.{mayFire, older, removed, deviatesTo, fired}
 use Rattle.rules.specs.Soundness.{isSound}
-use Rattle.rules.specs.Call.{Answer, refusal, done, Call, event, signal, fire, refusedOr, tooShort, ledgerRefusals, callRefusals, callRefusal, after, next, callOutcome}
+use Rattle.rules.specs.Call.{SignalArguments, Answer, done, Call, event, signal, fire, refusedOr, tooShort, ledgerRefusals, callRefusals, callRefusal, after, next, callOutcome}
 use Rattle.rules.specs.Transcript.{firingsOf, heldTotal}
 use Rattle.rules.specs.ReferenceRun.{answersFrom}
 use Rattle.rules.proofs.Tests.{look, clash, and-true}
 use Rattle.rules.proofs.Acceptance.{Accepted, accepts}
 use Rattle.rules.proofs.Abandoning.{left-asleep, left-kept}
-use Rattle.restoration.proofs.Seams.{turned-held, work, settle-cases, over-refused, next-accepted, next-refused, fire-accepted, may-fire}
+use Rattle.restoration.specs.Firings.{firingsIn, isEventDone, isDeviation, isWithout}
+use Rattle.restoration.proofs.Seams.{turns, turned-held, work, settle-cases, over-refused, next-accepted, next-refused, fire-accepted, may-fire}
 use Rattle.restoration.proofs.Entries.{older-length, older-less}
 use Rattle.restoration.proofs.Entering.{Fate, enters, wakens, stays, fate, fresh-held}
 use Rattle.restoration.proofs.Firing.{fired-is, removed-here, removed-other}
@@ -83,11 +84,11 @@ module _ (p : Plan) (ok : Accepted p) (l : Ledger) where
       go (stays k w q) = rw q (omega arith)
 
 module _ (limit : ℕ) (p : Plan) (ok : Accepted p) (l : Ledger) where
-  signal-fewer : heldTotal p (abandoned p (turned l)) ≤ heldTotal p l
+  signal-fewer : (a : SignalArguments) → heldTotal p (abandoned p (turns p a l)) ≤ heldTotal p l
   unfolding heldTotal
-  signal-fewer =
-      sum-mono (trackCount p) (λ t. length (abandoned p (turned l) t .held)) (λ t. length (l t .held))
-      (λ t. let a = abandoned-fewer p ok (turned l) t in let e = ap length (turned-held l t) in omega arith)
+  signal-fewer a =
+      sum-mono (trackCount p) (λ t. length (abandoned p (turns p a l) t .held)) (λ t. length (l t .held))
+      (λ t. let b = abandoned-fewer p ok (turns p a l) t in let e = ap length (turned-held p a l t) in omega arith)
 
   fire-fewer : (t : ℕ) → mayFire p l t ≡ true → heldTotal p (abandoned p (fired p l t)) < heldTotal p l
   unfolding heldTotal
@@ -114,30 +115,6 @@ module _ (limit : ℕ) (p : Plan) (ok : Accepted p) (l : Ledger) where
             (λ t. rw (o t, sleeping-held) (omega arith))
       ]
 
--- Along a list of calls and its answers: the firings done, and whether an event was accepted; whether an event was accepted or a firing
--- carried a deviation.
-unfoldable pub firingsIn : List Call → List Answer → ℕ
-firingsIn [] rs = 0
-firingsIn (c ∷ cs) [] = 0
-firingsIn (c ∷ cs) (r ∷ rs) = firingsOf c r + firingsIn cs rs
-
-unfoldable pub isEventDone : Call → Answer → Bool
-isEventDone (event a) (done figures) = true
-isEventDone (event a) (refusal n) = false
-isEventDone (signal a) r = false
-isEventDone (fire a) r = false
-
-unfoldable pub isDeviation : Call → Answer → Bool
-isDeviation (fire a) (done figures) = not (eqb (getD figures 1 noState) noState)
-isDeviation (fire a) (refusal n) = false
-isDeviation (event a) r = false
-isDeviation (signal a) r = false
-
-unfoldable pub isWithout : (Call → Answer → Bool) → List Call → List Answer → Bool
-isWithout f [] rs = true
-isWithout f (c ∷ cs) [] = true
-isWithout f (c ∷ cs) (r ∷ rs) = not (f c r) && isWithout f cs rs
-
 module _ (limit : ℕ) (bs : List ℕ) (k : Counts) (read : readPlan bs ≡ accepted k) where
   abbrev p : Plan
   p = planOf bs k
@@ -161,7 +138,7 @@ module _ (limit : ℕ) (bs : List ℕ) (k : Counts) (read : readPlan bs ≡ acce
       done-fewer : (d : Call) (fs : List ℕ) → isEventDone d (done fs) ≡ false → callRefusal limit p l d ≡ 0
           → firingsOf d (done fs) + heldTotal p (after limit p l d) ≤ heldTotal p l
       done-fewer (event a) fs e z = clash refl e
-      done-fewer (signal a) fs e z = let x = signal-fewer limit p ok l in let y = settled-fewer limit p ok l (signal a) in omega arith
+      done-fewer (signal a) fs e z = let x = signal-fewer limit p ok l a in let y = settled-fewer limit p ok l (signal a) in omega arith
       done-fewer (fire a) fs e z =
           let x = fire-fewer limit p ok l (a .track) (fire-accepted limit p l a z .1) in
           let y = settled-fewer limit p ok l (fire a) in omega arith

@@ -10,49 +10,19 @@ use native.Mathlib.Omega.{arith}
 use lib.ListN.{replicate}
 use lib.Dec.{eqb}
 use Rattle.rules.specs.declared.Counts.{Counts}
-use Rattle.rules.specs.Plan.{Plan, planOf, trackCount, transitionCount, transition, host, owner, replacement, isAbove}
+use Rattle.rules.specs.Plan.{Plan, planOf, trackCount, transition, host, owner, replacement, isAbove}
 use Rattle.rules.specs.Acceptance.{accepted, readPlan}
 use Rattle.rules.specs.Layout.{entryLimit}
 use Rattle.rules.specs.Ledger.{Ledger, ledgerAt}
-use Rattle.rules.specs.Fire.{newest}
 use Rattle.rules.specs.Call.{Answer, refusal, done, Call, event, signal, fire, nothing, beginOutcome, callOutcome}
-use Rattle.rules.specs.FinishedRun.{movesOf, Finished}
-use Rattle.rules.specs.Books.{Apart, Deed, change, retraction, replacing, does, act, Books}
+use Rattle.rules.specs.Books.{Apart, Deed, change, retraction, replacing, act, Books}
 use Rattle.rules.specs.ReferenceRun.{bookedCall, booked, booksFrom, booksAfter, ledgerAfter, AllWithdrawn}
 use Rattle.rules.proofs.Tests.{clash, none-some}
 use Rattle.rules.proofs.Acceptance.{accepts}
 use Rattle.runs.specs.SamplePlan.{bytesOf}
 use Rattle.runs.specs.Computing.{computing}
-use Rattle.restoration.proofs.Restored.{restored}
-
--- The conditions of property 3, asked of a transition only if its code passes a test, and of a hosting state if its replacement does.
-pub record Lenient (p : Plan) (limit : ℕ) (ofCode ofReplacement : ℕ → Bool) : Type 1 where
-  pub State : Type 0
-  pub changed : ℕ → State → State
-  pub retracted : ℕ → State → State
-  pub nothing : (b : State) → retracted 0 b ≡ b
-  pub undo : (x : ℕ) → x < transitionCount p → ofCode (transition p x .code) ≡ true → (b : State) → retracted (transition p x .code) (changed x b) ≡ b
-  pub undo-run : (s t : ℕ) → host p t ≡ some s → ofReplacement (replacement p s) ≡ true → (w : List ℕ) → Finished p limit s w
-      → (b : State) → retracted (replacement p s) (act changed w b) ≡ b
-  pub commute : (t u : ℕ) → Apart p t u → (d : Deed p t) (e : Deed p u)
-      → (b : State) → does p changed retracted d (does p changed retracted e b) ≡ does p changed retracted e (does p changed retracted d b)
-
--- The reference run's books, with no condition on the changes.
-module _ (limit : ℕ) (bs : List ℕ) (p : Plan) {S : Type 0} (changed retracted : ℕ → S → S) where
-  unfoldable pub freelyCall : Ledger → Call → S → S
-  freelyCall l (event a) b = act changed (movesOf p (λ t. true) l (a .event)) b
-  freelyCall l (signal a) b = b
-  freelyCall l (fire a) b = retracted (newest (l (a .track) .held) .code) b
-
-  unfoldable pub freelyBooked : Ledger → Call → Answer → S → S
-  freelyBooked l c (refusal n) b = b
-  freelyBooked l c (done figures) b = freelyCall l c b
-
-  unfoldable pub freely : List ℕ → List Call → S → S
-  freely ws [] b = b
-  freely ws (c ∷ cs) b =
-      freely (callOutcome limit bs ws c .words) cs
-      (freelyBooked (ledgerAt limit ws (trackCount p)) c (callOutcome limit bs ws c .answer) b)
+use Rattle.restoration.specs.LenientBooks.{Lenient, freelyCall, freelyBooked, freely, Claim}
+use Rattle.restoration.proofs.Restoration.{restored}
 
 -- it is the reference run's where the changes are those of books
 module _ (limit : ℕ) (bs : List ℕ) (p : Plan) (k : Books p limit) where
@@ -76,16 +46,6 @@ module _ (limit : ℕ) (bs : List ℕ) (p : Plan) (k : Books p limit) where
       (freelyBooked limit bs p (k .changed) (k .retracted) (ledgerAt limit ws (trackCount p)) c (callOutcome limit bs ws c .answer) b)
       ∙ ap (booksFrom limit bs p k (callOutcome limit bs ws c .words) cs)
       (same-booked (ledgerAt limit ws (trackCount p)) c (callOutcome limit bs ws c .answer) b)
-
--- the claim, under such conditions
-abbrev pub Claim : (ℕ → Bool) → (ℕ → Bool) → Type 1
-Claim ofCode ofReplacement =
-    (bs : List ℕ) (c : Counts) → readPlan bs ≡ accepted c
-    → (k : Lenient (planOf bs c) entryLimit ofCode ofReplacement) (lent : List ℕ) (cs : List Call)
-    → beginOutcome entryLimit bs lent .answer ≡ done []
-    → AllWithdrawn (planOf bs c) (ledgerAfter entryLimit bs (planOf bs c) lent cs)
-    → (b : k .State)
-    → freely entryLimit bs (planOf bs c) (k .changed) (k .retracted) (beginOutcome entryLimit bs lent .words) cs b ≡ b
 
 -- asked of every code it is true
 pub asked-of-all : Claim (λ c. true) (λ c. true)

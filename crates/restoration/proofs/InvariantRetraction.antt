@@ -12,7 +12,8 @@ use Rattle.rules.specs.Plan.{Plan, trackCount, host, owner, isInside}
 use Rattle.rules.specs.Ledger.{Entry, Configuration, Ledger, isForward, isEmpty}
 use Rattle.rules.specs.Scope.{isOpen, hasOpenScope}
 use Rattle.rules.specs.Opening.{enter}
-use Rattle.rules.specs.Signal.{turned, isAbandoned, abandoned}
+use Rattle.rules.specs.Call.{SignalArguments}
+use Rattle.rules.specs.Signal.{isAbandoned, abandoned}
 use Rattle.rules.specs.Fire.{newest, older, mayFire, removed, deviatesTo, fired}
 use Rattle.rules.specs.Books.{act, Books}
 use Rattle.rules.proofs.Tests.{look, look-option, clash}
@@ -22,7 +23,7 @@ use Rattle.rules.proofs.Abandoning.{spent-parts, abandoned-root, abandoned-spen
 use Rattle.restoration.proofs.Composition.{Word, when, join, All, Swap, nil-swap, join-same, join-single, put-behind}
 use Rattle.restoration.proofs.Modes.{undoing-forward}
 use Rattle.restoration.proofs.Nesting.{Awake, Nested, open-same, mode-inside}
-use Rattle.restoration.proofs.Seams.{turned-awake, turned-held, spared, may-fire}
+use Rattle.restoration.proofs.Seams.{turns, turned-awake, turned-held, spared, may-fire}
 use Rattle.restoration.proofs.Leaving.{left-awake, left-host-stays}
 use Rattle.restoration.proofs.Firing.{fired-is, removed-mode, removed-awake, removed-here, removed-other, removed-nested, deviates-free}
 use Rattle.restoration.proofs.Soundness.{Sound, sleeping-held}
@@ -36,11 +37,11 @@ empty-nil (e ∷ es) h = clash h refl
 
 module _ (limit : ℕ) (p : Plan) (ok : Accepted p) (k : Books p limit) (l : Ledger) (n : Nested p l) (W R : ℕ → Word)
     (g : Blocks limit p ok k l W R) where
-  pub turned-blocks : Blocks limit p ok k (turned l) W R
-  turned-blocks =
+  pub turned-blocks : (a : SignalArguments) → Blocks limit p ok k (turns p a l) W R
+  turned-blocks a =
       record {
-        held = λ t. rw (turned-held l t) (g .held t);
-        runs = λ s o f. g .runs s (sym (open-same p (turned l) l (turned-awake l) s) ∙ o) (spared p l s f .0);
+        held = λ t. rw (turned-held p a l t) (g .held t);
+        runs = λ s o f. g .runs s (sym (open-same p (turns p a l) l (turned-awake p a l) s) ∙ o) (spared p a l s f .0);
       }
 
   -- an abandoned track held nothing

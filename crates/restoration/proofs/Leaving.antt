@@ -8,27 +8,28 @@ use Prim.Native.Nat.{ℕ}
 use Rattle.rules.specs.Plan.{Plan, host, owner, isStateOf, everyIn}
 use Rattle.rules.specs.Ledger.{Ledger, isAwake}
 use Rattle.rules.specs.Scope.{isOpen}
-use Rattle.rules.specs.Signal.{turned, isSpent, isLeft, isAbandoned, abandoned}
+use Rattle.rules.specs.Call.{SignalArguments}
+use Rattle.rules.specs.Signal.{isSpent, isLeft, isAbandoned, abandoned}
 use Rattle.rules.proofs.Tests.{look, clash, refuted, and-both}
 use Rattle.rules.proofs.Acceptance.{Accepted}
 use Rattle.rules.proofs.Scopes.{in-host, host-by, every-in-of}
 use Rattle.rules.proofs.Abandoning.{spent-parts, abandoned-host, abandoned-root, abandoned-spent, left-asleep, left-kept, awake-kept}
 use Rattle.restoration.proofs.Nesting.{Awake, Sleeps, Nested, host-awake, scope-open}
-use Rattle.restoration.proofs.Seams.{turned-awake, turned-state, turned-blank, turned-alike}
+use Rattle.restoration.proofs.Seams.{turns, turned-awake, turned-state, turned-blank, turned-alike}
 use Rattle.restoration.proofs.Closing.{sleeping-asleep}
 
 module _ (p : Plan) (ok : Accepted p) (l : Ledger) (n : Nested p l) where
-  pub turned-nested : Nested p (turned l)
-  turned-nested =
+  pub turned-nested : (a : SignalArguments) → Nested p (turns p a l)
+  turned-nested a =
       record {
-        below = λ t a. n .below t (sym (turned-awake l t) ∙ a);
-        own = λ t a. ap (isStateOf p t) (turned-state l t) ∙ n .own t (sym (turned-awake l t) ∙ a);
+        below = λ t w. n .below t (sym (turned-awake p a l t) ∙ w);
+        own = λ t w. ap (isStateOf p t) (turned-state p a l t) ∙ n .own t (sym (turned-awake p a l t) ∙ w);
         hosted =
-            λ t h a e.
-            let u = n .hosted t h (sym (turned-awake l t) ∙ a) e in
-            (turned-state l (owner p h) ∙ u .0, turned-alike l (owner p h) t (u .1));
-        whole = λ t u h e f. turned-awake l t ∙ n .whole t u h e f ∙ sym (turned-awake l u);
-        blank = λ t a. turned-blank l t (n .blank t (sym (turned-awake l t) ∙ a));
+            λ t h w e.
+            let u = n .hosted t h (sym (turned-awake p a l t) ∙ w) e in
+            (turned-state p a l (owner p h) ∙ u .0, turned-alike p a l t h e (u .1));
+        whole = λ t u h e f. turned-awake p a l t ∙ n .whole t u h e f ∙ sym (turned-awake p a l u);
+        blank = λ t w. turned-blank p a l t (n .blank t (sym (turned-awake p a l t) ∙ w));
       }
 
   -- the tracks of a scope are abandoned together

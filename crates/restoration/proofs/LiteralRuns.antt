@@ -1,15 +1,15 @@
 -- "no signal turning any of them meanwhile", literally: a forward scope's run went over no signal at all. An accepted signal turns every
 -- forward scope, and nothing but a root ever goes forward again, so a scope that is forward was so all along. Assumes nothing.
 use mathlib.Core.Path.{_≡_, refl, sym, ap, _∙_, subst}
-use mathlib.Core.Bool.{Bool, true, false}
-use mathlib.Core.List.{List, [], _++_}
+use mathlib.Core.Bool.{true, false}
+use mathlib.Core.List.{[], _++_}
 use Prim.Native.Nat.{ℕ}
 use Rattle.rules.specs.Plan.{Plan, owner, isInside}
 use Rattle.rules.specs.Ledger.{Configuration, Ledger, isForward}
 use Rattle.rules.specs.Scope.{isOpen}
 use Rattle.rules.specs.Opening.{begun}
 use Rattle.rules.specs.Event.{moved, isClosing, closed}
-use Rattle.rules.specs.Signal.{turned, abandoned}
+use Rattle.rules.specs.Signal.{abandoned}
 use Rattle.rules.specs.Fire.{fired}
 use Rattle.rules.specs.Call.{EventArguments, SignalArguments, FireArguments, Call, event, signal, fire, callRefusal, next}
 use Rattle.rules.specs.FinishedRun.{movesOf, Reached, Running, Finished}
@@ -22,12 +22,11 @@ use Rattle.rules.proofs.Abandoning.{awake-kept}
 use Rattle.restoration.proofs.Composition.{Word}
 use Rattle.restoration.proofs.Modes.{forward-awake}
 use Rattle.restoration.proofs.Nesting.{open-host}
-use Rattle.restoration.proofs.Seams.{Ask, ask, unturned, fire-accepted, may-fire}
+use Rattle.restoration.proofs.Seams.{Ask, ask, turns, unturned, fire-accepted, may-fire}
 use Rattle.restoration.proofs.Moving.{moved-nested, moved-busy}
 use Rattle.restoration.proofs.Closing.{closing-open, closed-awake}
 use Rattle.restoration.proofs.Firing.{removed-mode, fired-busy}
 use Rattle.restoration.proofs.Soundness.{Sound}
-use Rattle.restoration.proofs.SoundEvent.{was-open}
 use Rattle.restoration.proofs.SoundRetraction.{fired-awake}
 use Rattle.restoration.proofs.ScopeRuns.{reached-kept, running-reached, running-open, open-sound, open-next, signal-turns}
 
@@ -56,11 +55,11 @@ module _ (limit : ℕ) (p : Plan) (ok : Accepted p) (s : ℕ) where
         ap (λ (y : Configuration). isForward (y .mode)) (sym (moved-busy p l d ok (k .formed .nested) (owner p s) w b))
         ∙ ap isForward (sym (closed-alike p m (owner p s) c .0)) ∙ f
 
-    signal-forward : Forward (abandoned p (turned l)) → Forward l
-    signal-forward f =
-        let q = awake-kept p ok (turned l) (owner p s) (forward-awake (abandoned p (turned l) (owner p s) .mode) f) .1 in
+    signal-forward : (a : SignalArguments) → Forward (abandoned p (turns p a l)) → Forward l
+    signal-forward a f =
+        let q = awake-kept p ok (turns p a l) (owner p s) (forward-awake (abandoned p (turns p a l) (owner p s) .mode) f) .1 in
         let g = ap (λ (y : Configuration). isForward (y .mode)) (sym q) ∙ f in
-        ap (λ (y : Configuration). isForward (y .mode)) (sym (unturned l (owner p s) g)) ∙ g
+        ap (λ (y : Configuration). isForward (y .mode)) (sym (unturned p a l (owner p s) g)) ∙ g
 
     fire-forward : (a : FireArguments) → callRefusal limit p l (fire a) ≡ 0 → Forward (abandoned p (fired p l (a .track))) → Forward l
     fire-forward a h f =
@@ -84,7 +83,7 @@ module _ (limit : ℕ) (p : Plan) (ok : Accepted p) (s : ℕ) where
   unsignalled (run.over-signal {l = l} r a h n o) f =
       let q = open-next limit p ok s l (signal a) h o in
       let k = run-sound r in
-      let g = signal-forward l k (running-open limit p ok r) (subst Forward q f) in
+      let g = signal-forward l k (running-open limit p ok r) a (subst Forward q f) in
       let (t, i, j) = signal-turns limit p ok l s k (running-open limit p ok r) g in
       clash j (n t i)
   unsignalled (run.over-fire {l = l} r a h o) f =

@@ -9,7 +9,7 @@ use Rattle.rules.specs.Acceptance.{accepted, readPlan}
 use Rattle.rules.specs.Call.{Answer, done, Call, event, signal, fire, callOutcome, eventOutcome, signalOutcome, fireOutcome, beginOutcome, Meets}
 use Rattle.rules.specs.ReferenceRun.{wordsFrom, wordsAfter, answersFrom, answersAfter}
 use Rattle.rules.specs.History.{History, none, event-made, signal-made, fire-made, Property3}
-use Rattle.restoration.proofs.Restored.{restored, goes-on}
+use Rattle.restoration.proofs.Restoration.{restored, goes-on}
 
 module _ (limit : ℕ) (bs : List ℕ) where
   -- what a list of calls left and answered, if it did with its first call and with the others as it should

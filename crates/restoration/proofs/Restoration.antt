@@ -1,272 +1,110 @@
--- Restoration, on ledgers: begin sets the invariant up, every call keeps it, and where every root is withdrawn no track has a word left, so
--- that the books stand as at the begin. A scope's run is witnessed by the very list of calls that led here. Assumes nothing.
+-- Restoration and progress for the reference run, on words: the words hold the ledger of the rules, on which each call keeps the invariant.
+-- Assumes nothing.
 use mathlib.Core.Path.{_≡_, refl, sym, ap, _∙_, subst}
-use mathlib.Core.Logic.{_⊎_, inl, inr}
-use mathlib.Core.Bool.{Bool, true}
-use mathlib.Core.List.{[], _++_}
-use mathlib.Core.Option.{none}
-use Prim.Native.Nat.{ℕ}
-use Rattle.rules.specs.Plan.{Plan, trackCount, host, owner, replacement, isInside}
-use Rattle.rules.specs.Ledger.{Configuration, Ledger, isAwake, isForward}
-use Rattle.rules.specs.Scope.{isOpen}
+use mathlib.Core.Logic.{inl, inr}
+use mathlib.Core.Bool.{true, false}
+use mathlib.Core.List.{List, [], _∷_}
+use Prim.Native.Nat.{ℕ, zero, suc}
+use native.Mathlib.Omega.{arith}
+use Rattle.rules.specs.declared.Counts.{Counts}
+use Rattle.rules.specs.declared.Mode.the-variants.{Undoing}
+use Rattle.rules.specs.Plan.{Plan, trackCount, planOf}
+use Rattle.rules.specs.Acceptance.{accepted, readPlan}
+use Rattle.rules.specs.Ledger.{Configuration, Ledger, isAwake, isEmpty, ledgerAt}
 use Rattle.rules.specs.Opening.{begun}
-use Rattle.rules.specs.Event.{moved, isClosing, closed}
-use Rattle.rules.specs.Signal.{turned, abandoned}
-use Rattle.rules.specs.Fire.{newest, mayFire, fired}
-use Rattle.rules.specs.Call.{EventArguments, SignalArguments, FireArguments, Call, event, signal, fire, callRefusal, next}
-use Rattle.rules.specs.FinishedRun.{movesOf, Reached, Running, by-begin, by-call, over-event, over-signal, over-fire}
+use Rattle.rules.specs.Fire.{mayFire}
+use Rattle.rules.specs.Call.{done, Call, event, signal, fire, callRefusal, next, callOutcome, beginOutcome}
+use Rattle.rules.specs.FinishedRun.{Reached}
 use Rattle.rules.specs.FinishedRun as run
-use Rattle.rules.specs.Books.{act, Books}
-use Rattle.rules.specs.ReferenceRun.{AllWithdrawn}
-use Rattle.rules.proofs.Tests.{look, look-option, clash}
-use Rattle.rules.proofs.Acceptance.{Accepted}
-use Rattle.rules.proofs.Scopes.{root-of, open-at, open-find}
-use Rattle.rules.proofs.Closing.{closing-final, closed-alike}
-use Rattle.rules.proofs.Abandoning.{awake-kept}
-use Rattle.restoration.proofs.Composition as all
-use Rattle.restoration.proofs.Composition.{Word, when, join, when-nil, join-nil}
-use Rattle.restoration.proofs.Modes.{forward-awake}
-use Rattle.restoration.proofs.Nesting.{Nested, open-host, hosted-asleep}
-use Rattle.restoration.proofs.Seams.{Ask, ask, turned-awake, spared, fire-accepted, may-fire, next-cases}
-use Rattle.restoration.proofs.Moving.{moved-nested, moved-busy}
-use Rattle.restoration.proofs.Closing.{sleeping-asleep, closing-open, closed-awake}
-use Rattle.restoration.proofs.Firing.{removed-mode, fired-busy}
-use Rattle.restoration.proofs.Leaving.{turned-nested}
-use Rattle.restoration.proofs.Entering.{fresh-held}
-use Rattle.restoration.proofs.Soundness.{Sound, sleeping-held}
-use Rattle.restoration.proofs.SoundBegin.{root-zero, begun-sound, begun-fresh}
-use Rattle.restoration.proofs.SoundEvent.{was-open}
-use Rattle.restoration.proofs.SoundRetraction.{fired-awake, fired-formed}
-use Rattle.restoration.proofs.SoundKept.{Over}
-use Rattle.restoration.proofs.SoundWords.{kept-next}
-use Rattle.restoration.proofs.Invariant.{Undoes, Held, Blocks, quiet}
-use Rattle.restoration.proofs.InvariantMoving.{grown, fresher, moves-last, moved-blocks}
-use Rattle.restoration.proofs.InvariantClosing.{settled, closed-blocks, closed-whole}
-use Rattle.restoration.proofs.InvariantRetraction.{turned-blocks, abandoned-blocks, shorter, fired-books, fired-blocks}
+use Rattle.rules.specs.Books.{Books}
+use Rattle.rules.specs.ReferenceRun.{wordsFrom, wordsAfter, bookedCall, booked, booksFrom, booksAfter, ledgerAfter, AllWithdrawn}
+use Rattle.rules.proofs.Tests.{clash}
+use Rattle.rules.proofs.Acceptance.{Accepted, accepts}
+use Rattle.restoration.proofs.Seams.{over-refused, next-refused}
+use Rattle.restoration.proofs.Closing.{sleeping-asleep}
+use Rattle.restoration.proofs.SoundKept.{Kept, over-is}
+use Rattle.restoration.proofs.SoundWords.{Holds, call-accepted, call-refused, call-holds, begin-holds}
+use Rattle.restoration.proofs.Progress.{progress}
+use Rattle.restoration.proofs.InvariantCalls.{Invariant, event-keeps, signal-keeps, fire-keeps, begun-keeps, withdrawn-books}
 
-module _ (limit : ℕ) (p : Plan) (ok : Accepted p) (k : Books p limit) where
-  -- the words, the runs, and the books' states at the begin and now
-  pub record Booked (l : Ledger) (first now : k .State) : Type 0 where
-    pub W : ℕ → Word
-    pub R : ℕ → Word
-    pub blocks : Blocks limit p ok k l W R
-    pub running : (s : ℕ) → isOpen p l s ≡ true → isForward (l (owner p s) .mode) ≡ true → Running p limit s l (R s)
-    pub books : now ≡ act (k .changed) (join (trackCount p) W) first
+module _ (limit : ℕ) (bs : List ℕ) (c : Counts) (read : readPlan bs ≡ accepted c) where
+  abbrev p : Plan
+  p = planOf bs c
 
-  -- over, or sound and booked
-  abbrev pub Invariant : Ledger → k .State → k .State → Type 0
-  Invariant l first now = Over l ⊎ (Sound limit p l × Booked l first now)
+  abbrev n : ℕ
+  n = trackCount p
 
-  -- what the call did to the books: on the next ledger, which is sound or over
-  carry : (l : Ledger) → Sound limit p l → (c : Call) (first now : k .State) → Booked (next limit p l c) first now → Invariant (next limit p l c) first now
-  carry l s c first now b =
-      elim (kept-next limit p ok l (inr s) c) [ inl o ↦ inl o | inr s′ ↦ inr (s′, b) ]
+  abbrev ok : Accepted p
+  ok = accepts bs c read
 
-  module _ (l : Ledger) (first now : k .State) (reach : Reached p limit l) (s : Sound limit p l) (v : Booked l first now) where
-    abbrev n : Nested p l
-    n = s .formed .nested
+  abbrev Hold : List ℕ → Ledger → Type 0
+  Hold ws l = Holds limit bs c read ws l
 
-    abbrev W : ℕ → Word
-    W = v .W
+  module _ (k : Books p limit) where
+    abbrev Inv : Ledger → k .State → k .State → Type 0
+    Inv = Invariant limit p ok k
 
-    abbrev R : ℕ → Word
-    R = v .R
+    -- an accepted call, by the ledger that the words hold
+    accepted-keeps : (l : Ledger) (first now : k .State) → Reached p limit l → Inv l first now → (d : Call) → callRefusal limit p l d ≡ 0
+        → Inv (next limit p l d) first (bookedCall limit bs p k l d now)
+    unfolding bookedCall
+    accepted-keeps l first now r (inl o) d z = absurd (over-refused limit p l (over-is p l o) d z)
+    accepted-keeps l first now r (inr i) (event a) z = event-keeps limit p ok k l first now r (i .0) (i .1) a z
+    accepted-keeps l first now r (inr i) (signal a) z = signal-keeps limit p ok k l first now r (i .0) (i .1) a z
+    accepted-keeps l first now r (inr i) (fire a) z = fire-keeps limit p ok k l first now r (i .0) (i .1) a z
 
-    module _ (a : EventArguments) (acc : callRefusal limit p l (event a) ≡ 0) where
-      abbrev e : Ask
-      e = ask a
+    -- any call, by the words
+    keeps : (ws : List ℕ) (l : Ledger) (first now : k .State) → Hold ws l → Reached p limit l → Inv l first now → (d : Call)
+        → Inv (next limit p l d) first (booked limit bs p k (ledgerAt limit ws n) d (callOutcome limit bs ws d .answer) now)
+    unfolding booked
+    keeps ws l first now h r i d = go (callRefusal limit p l d) refl
+      where
+        go : (x : ℕ) → callRefusal limit p l d ≡ x
+            → Inv (next limit p l d) first (booked limit bs p k (ledgerAt limit ws n) d (callOutcome limit bs ws d .answer) now)
+        go zero e = rw (call-accepted limit bs c read ws l h d e, h .reads) (accepted-keeps l first now r i d e)
+        go (suc x) e =
+            rw (
+              call-refused limit bs c read ws l h d x e,
+              next-refused limit p l d (λ z. let w : suc x ≡ 0 = sym e ∙ z in omega arith),
+            )
+            i
 
-      abbrev m : Ledger
-      m = moved p l e
+    through : (cs : List Call) (ws : List ℕ) (l : Ledger) (first now : k .State) → Hold ws l → Reached p limit l → Inv l first now
+        → AllWithdrawn p (ledgerAt limit (wordsFrom limit bs ws cs) n) → booksFrom limit bs p k ws cs now ≡ first
+    unfolding wordsFrom booksFrom
+    through [] ws l first now h r i w = withdrawn-books limit p ok k l first now i (subst (AllWithdrawn p) (h .reads) w)
+    through (d ∷ cs) ws l first now h r i w =
+        through cs (callOutcome limit bs ws d .words) (next limit p l d) first
+        (booked limit bs p k (ledgerAt limit ws n) d (callOutcome limit bs ws d .answer) now)
+        (call-holds limit bs c read ws l h d) (run.then r d) (keeps ws l first now h r i d) w
 
-      abbrev x : Ledger
-      x = next limit p l (event a)
+    -- "if every root is undoing, holds nothing and has no open scope, her books stand exactly as at that begin"
+    pub restored : (lent : List ℕ) (cs : List Call) → beginOutcome limit bs lent .answer ≡ done [] → (b : k .State)
+        → AllWithdrawn p (ledgerAfter limit bs p lent cs) → booksAfter limit bs p k lent cs b ≡ b
+    unfolding ledgerAfter wordsAfter booksAfter
+    restored lent cs h b w =
+        through cs (beginOutcome limit bs lent .words) (begun p) b b (begin-holds limit bs c read lent h) run.start
+        (begun-keeps limit p ok k b) w
 
-      m-nested : Nested p m
-      m-nested = moved-nested p l e ok n
+  -- words along a list hold ledgers of the rules
+  pub list-holds : (cs : List Call) (ws : List ℕ) (l : Ledger) → Hold ws l → (m : Ledger) × Hold (wordsFrom limit bs ws cs) m
+  unfolding wordsFrom
+  list-holds [] ws l h = (l, h)
+  list-holds (d ∷ cs) ws l h = list-holds cs (callOutcome limit bs ws d .words) (next limit p l d) (call-holds limit bs c read ws l h d)
 
-      -- words and runs after the moves
-      abbrev W₁ : ℕ → Word
-      W₁ = grown limit p ok k l n W R (v .blocks) e
-
-      abbrev R₁ : ℕ → Word
-      R₁ = fresher limit p ok k l n W R (v .blocks) e
-
-      after-moves : Blocks limit p ok k m W₁ R₁
-      after-moves = moved-blocks limit p ok k l n W R (v .blocks) e
-
-      -- the host of a scope that was open did not move
-      host-still : (z : ℕ) → isOpen p l z ≡ true → m (owner p z) ≡ l (owner p z)
-      host-still z o = let (w, b, q) = open-host p ok l n z o in moved-busy p l e ok n (owner p z) w b
-
-      -- the run of a scope that closes is finished, so its replacement undoes it
-      closing-undone : (z : ℕ) → isClosing p m z ≡ true → Undoes limit p ok k (replacement p z) (R₁ z)
-      closing-undone z c =
-          let o = was-open limit p ok l (s .formed) e z c in
-          let (u, b, h, w) = open-find p m z (closing-open p m z c) in
-          let f : isForward (l (owner p z) .mode) ≡ true =
-          ap (λ (y : Configuration). isForward (y .mode)) (sym (host-still z o))
-          ∙ ap isForward (m-nested .hosted u z w h .1) ∙ closing-final p m z u c b h .0 in
-          rw o (k .undo-run z u h (R z ++ movesOf p (isInside p z) l e) (run.closed (v .running z o f) a acc c))
-
-      -- words after the closings
-      abbrev W₂ : ℕ → Word
-      W₂ = settled limit p ok k m m-nested W₁ R₁ after-moves closing-undone
-
-      after-closings : Blocks limit p ok k (closed p m) W₂ R₁
-      after-closings = closed-blocks limit p ok k m m-nested W₁ R₁ after-moves closing-undone
-
-      -- a scope that was open and is forward after the closings was forward before
-      was-forward : (z : ℕ) → isOpen p l z ≡ true → isForward (closed p m (owner p z) .mode) ≡ true → isForward (l (owner p z) .mode) ≡ true
-      was-forward z o f =
-          let (c, w) = closed-awake p m (owner p z) (forward-awake (closed p m (owner p z) .mode) f) in
-          ap (λ (y : Configuration). isForward (y .mode)) (sym (host-still z o)) ∙ ap isForward (sym (closed-alike p m (owner p z) c .0)) ∙ f
-
-      event-booked : x ≡ closed p m → Booked x first (act (k .changed) (movesOf p (λ t. true) l e) now)
-      event-booked q =
-          record {
-            W = W₂;
-            R = R₁;
-            blocks = subst (λ y. Blocks limit p ok k y W₂ R₁) (sym q) after-closings;
-            running =
-                λ z o f.
-                let f′ = subst (λ y. isForward (y (owner p z) .mode) ≡ true) q f in
-                elim (look (isOpen p l z)) [
-                  | inl w ↦ rw w (over-event (v .running z w (was-forward z w f′)) a acc o)
-                  | inr w ↦ rw w (by-call reach (event a) w o)
-                ];
-            books =
-                ap (act (k .changed) (movesOf p (λ t. true) l e)) (v .books)
-                ∙ sym (moves-last limit p ok k l n W R (v .blocks) e (λ t. true) first)
-                ∙ sym (closed-whole limit p ok k m m-nested W₁ R₁ after-moves closing-undone first);
-          }
-
-      pub event-keeps : Invariant x first (act (k .changed) (movesOf p (λ t. true) l e) now)
-      event-keeps =
-          elim (next-cases limit p l (event a) acc) [ inr o ↦ inl o | inl q ↦ carry l s (event a) first _ (event-booked q) ]
-
-    -- a scope that is open after a signal was open before
-    signal-open : (z : ℕ) → isOpen p (abandoned p (turned l)) z ≡ true → isOpen p l z ≡ true
-    signal-open z o =
-        let (u, b, h, w) = open-find p (abandoned p (turned l)) z o in
-        let (c, r) = awake-kept p ok (turned l) u w in
-        open-at p l z u b h (sym (turned-awake l u) ∙ ap (λ (y : Configuration). isAwake (y .mode)) (sym r) ∙ w)
-
-    module _ (a : SignalArguments) (acc : callRefusal limit p l (signal a) ≡ 0) where
-      signal-booked : next limit p l (signal a) ≡ abandoned p (turned l) → Booked (next limit p l (signal a)) first now
-      signal-booked q =
-          record {
-            W = W;
-            R = R;
-            blocks =
-                subst (λ y. Blocks limit p ok k y W R) (sym q)
-                (abandoned-blocks limit p ok k (turned l) (turned-nested p ok l n) W R (turned-blocks limit p ok k l n W R (v .blocks)));
-            running =
-                λ z o f.
-                let f′ = subst (λ y. isForward (y (owner p z) .mode) ≡ true) q f in
-                let (c, r) = awake-kept p ok (turned l) (owner p z) (forward-awake (abandoned p (turned l) (owner p z) .mode) f′) in
-                let (w, i) = spared p l z (ap (λ (y : Configuration). isForward (y .mode)) (sym r) ∙ f′) in
-                over-signal (v .running z (signal-open z (subst (λ y. isOpen p y z ≡ true) q o)) w) a acc i o;
-            books = v .books;
-          }
-
-      pub signal-keeps : Invariant (next limit p l (signal a)) first now
-      signal-keeps =
-          elim (next-cases limit p l (signal a) acc) [ inr o ↦ inl o | inl q ↦ carry l s (signal a) first now (signal-booked q) ]
-
-    module _ (a : FireArguments) (acc : callRefusal limit p l (fire a) ≡ 0) where
-      abbrev t : ℕ
-      t = a .track
-
-      may : mayFire p l t ≡ true
-      may = fire-accepted limit p l a acc .1
-
-      -- words and runs without the newest block
-      abbrev W₃ : ℕ → Word
-      W₃ = shorter limit p ok k l s W R (v .blocks) t may
-
-      abbrev R₃ : ℕ → Word
-      R₃ z = when (isOpen p l z) (R z)
-
-      -- the host of a scope that was open is left in its mode
-      fire-host : (z : ℕ) → isOpen p l z ≡ true → isForward (abandoned p (fired p l t) (owner p z) .mode) ≡ true → isForward (l (owner p z) .mode) ≡ true
-      fire-host z w f =
-          let (c, r) = awake-kept p ok (fired p l t) (owner p z) (forward-awake (abandoned p (fired p l t) (owner p z) .mode) f) in
-          let (i, j, h) = open-host p ok l n z w in
-          let y = fired-busy p l t ok n (s .formed .good t) (may-fire limit p l t may .3) (fired-awake limit p ok l s t may) (owner p z) i j in
-          ap isForward (sym (ap (λ (y : Configuration). y .mode) (r ∙ y) ∙ removed-mode p l t (owner p z))) ∙ f
-
-      fire-booked : next limit p l (fire a) ≡ abandoned p (fired p l t)
-          → Booked (next limit p l (fire a)) first (k .retracted (newest (l t .held) .code) now)
-      fire-booked q =
-          record {
-            W = W₃;
-            R = R₃;
-            blocks =
-                subst (λ y. Blocks limit p ok k y W₃ R₃) (sym q)
-                (abandoned-blocks limit p ok k (fired p l t) (fired-formed limit p ok l s t may .nested) W₃ R₃
-                (fired-blocks limit p ok k l s W R (v .blocks) t may));
-            running =
-                λ z o f.
-                let f′ = subst (λ y. isForward (y (owner p z) .mode) ≡ true) q f in
-                elim (look (isOpen p l z)) [
-                  | inr w ↦ rw w (by-call reach (fire a) w o)
-                  | inl w ↦ rw w (over-fire (v .running z w (fire-host z w f′)) a acc o)
-                ];
-            books =
-                ap (k .retracted (newest (l t .held) .code)) (v .books) ∙ fired-books limit p ok k l s W R (v .blocks) t may first;
-          }
-
-      pub fire-keeps : Invariant (next limit p l (fire a)) first (k .retracted (newest (l t .held) .code) now)
-      fire-keeps =
-          elim (next-cases limit p l (fire a) acc) [ inr o ↦ inl o | inl q ↦ carry l s (fire a) first _ (fire-booked q) ]
-
-  -- begin: no words, no runs
-  pub begun-keeps : (b : k .State) → Invariant (begun p) b b
-  unfolding act
-  begun-keeps b =
-      inr (
-        begun-sound limit p ok,
-        record {
-          W = λ t. [];
-          R = λ z. [];
-          blocks = record { held = λ t. held t; runs = λ z o f. (all.none, λ b. ap (λ w. act (k .changed) w b) (sym (nil (λ t. isInside p z t)))) };
-          running = λ z o f. by-begin o;
-          books = ap (λ w. act (k .changed) w b) (sym (join-nil (trackCount p) (λ t. []) (λ t i. refl)));
-        },
-      )
+  -- "if any track is undoing and holds an entry, some firing is allowed"
+  pub goes-on : (lent : List ℕ) (cs : List Call) → beginOutcome limit bs lent .answer ≡ done []
+      → (t : ℕ) → ledgerAfter limit bs p lent cs t .mode ≡ Undoing → isEmpty (ledgerAfter limit bs p lent cs t .held) ≡ false
+      → (u : ℕ) × (mayFire p (ledgerAfter limit bs p lent cs) u ≡ true)
+  unfolding ledgerAfter wordsAfter isAwake
+  goes-on lent cs h t u e =
+      let (m, g) = list-holds cs (beginOutcome limit bs lent .words) (begun p) (begin-holds limit bs c read lent h) in
+      let q = g .reads in
+      subst (λ l. (v : ℕ) × (mayFire p l v ≡ true)) (sym q)
+      (go m (g .kept) (ap (λ (l : Ledger). l t .mode) (sym q) ∙ u) (ap (λ (l : Ledger). isEmpty (l t .held)) (sym q) ∙ e))
     where
-      nil : (S : ℕ → Bool) → join (trackCount p) (λ t. when (S t) []) ≡ []
-      nil S = join-nil (trackCount p) (λ t. when (S t) []) (λ t i. when-nil (S t))
-
-      held : (t : ℕ) → Held limit p ok k t (begun p t .held) []
-      held t =
-          elim (look (isAwake (begun p t .mode))) [
-            | inl a ↦ subst (λ es. Held limit p ok k t es []) (sym (ap (λ (c : Configuration). c .held) (begun-fresh limit p ok t a) ∙ fresh-held p t)) refl
-            | inr a ↦
-                subst (λ es. Held limit p ok k t es [])
-                (sym (ap (λ (c : Configuration). c .held) (begun-sound limit p ok .formed .nested .blank t a) ∙ sleeping-held)) refl
-          ]
-
-  -- where every root is withdrawn, nothing hosted is awake and no track has a word
-  pub withdrawn-books : (l : Ledger) (first now : k .State) → Invariant l first now → AllWithdrawn p l → now ≡ first
-  unfolding isAwake act
-  withdrawn-books l first now (inl o) w =
-      let z = root-zero p ok in
-      let u = w 0 (ok .some-track) (root-of p 0 z) .undoing in
-      let a : isAwake (l 0 .mode) ≡ true = rw u in
-      clash a (ap (λ (c : Configuration). isAwake (c .mode)) (o 0) ∙ sleeping-asleep)
-  withdrawn-books l first now (inr i) w =
-      let s = i .0 in
-      let v = i .1 in
-      let n = s .formed .nested in
-      v .books
-      ∙ ap (λ x. act (k .changed) x first)
-      (join-nil (trackCount p) (v .W)
-      (λ t b.
-      elim (look-option (host p t)) [
-        | inl e ↦ subst (λ es. Held limit p ok k t es (v .W t)) (w t b (root-of p t e) .empty) (v .blocks .held t)
-        | inr e ↦
-            quiet limit p ok k l n (v .W) (v .R) (v .blocks) t
-            (hosted-asleep p ok l n (λ r c f. w r c (root-of p r f) .shut) t (e .0) (e .1))
-      ]))
+      go : (m : Ledger) → Kept limit p m → m t .mode ≡ Undoing → isEmpty (m t .held) ≡ false → (v : ℕ) × (mayFire p m v ≡ true)
+      go m (inl o) d f =
+          let a : isAwake (m t .mode) ≡ true = rw d in
+          clash a (ap (λ (x : Configuration). isAwake (x .mode)) (o t) ∙ sleeping-asleep)
+      go m (inr s) d f = progress limit p ok m s t d f

@@ -1,15 +1,13 @@
 -- The conditions can be met: books for the sample plan P, of three numbers, on which the changes of each track raise that track's number and
 -- the retractions lower it again; replacement 90 lowers what every finished run of state 1 has raised. Assumes nothing.
 use mathlib.Core.Path.{_≡_, refl, sym, _∙_, subst}
-use mathlib.Core.Bool.{true, cond}
+use mathlib.Core.Bool.{true}
 use mathlib.Core.List.{List, [], _∷_}
 use mathlib.Core.Option.{some}
 use Prim.Native.Nat.{ℕ, zero, suc, _+_, _-_, _<_}
 use native.Mathlib.Omega.{arith}
 use lib.ListN.{getD}
-use lib.Dec.{eqb}
-use Rattle.rules.specs.declared.Counts.{Counts}
-use Rattle.rules.specs.Plan.{Plan, planOf, stateCount, transitionCount, transition, host, replacement, mover, isStateOf, isFinal, isInside}
+use Rattle.rules.specs.Plan.{stateCount, transitionCount, transition, host, replacement, mover, isStateOf, isFinal, isInside}
 use Rattle.rules.specs.Acceptance.{accepted, readPlan}
 use Rattle.rules.specs.FinishedRun.{Finished}
 use Rattle.rules.specs.Books.{act}
@@ -17,15 +15,10 @@ use Rattle.rules.proofs.Tests.{clash, none-some}
 use Rattle.rules.proofs.Acceptance.{Accepted, accepts}
 use Rattle.runs.specs.SamplePlan.{planP}
 use Rattle.runs.specs.Computing.{computing}
+use Rattle.restoration.specs.SampleAccount.{countsP, P, Account, rootAdds, leftAdds, rightAdds, raised, lowered}
 use Rattle.restoration.proofs.Composition.{Word}
 use Rattle.restoration.proofs.Nesting.{state-of}
 use Rattle.restoration.proofs.Potential.{weight, Potential, finished-weight, outside-weight}
-
-abbrev pub countsP : Counts
-countsP = record { tracks = 3; states = 8; transitions = 5 }
-
-abbrev pub P : Plan
-P = planOf planP countsP
 
 pub accepts-P : readPlan planP ≡ accepted countsP
 unfolding computing
@@ -33,37 +26,6 @@ accepts-P = refl
 
 pub ok-P : Accepted P
 ok-P = accepts planP countsP accepts-P
-
--- one number for each track
-pub record Account : Type 0 where
-  pub root : ℕ
-  pub left : ℕ
-  pub right : ℕ
-
--- what a transition adds to each, and what a code takes off
-abbrev rootAdds : ℕ → ℕ
-rootAdds x = getD (1 ∷ []) x 0
-
-abbrev leftAdds : ℕ → ℕ
-leftAdds x = getD (0 ∷ 0 ∷ 7 ∷ []) x 0
-
-abbrev rightAdds : ℕ → ℕ
-rightAdds x = getD (0 ∷ 0 ∷ 0 ∷ 2 ∷ 5 ∷ []) x 0
-
-abbrev rootTakes : ℕ → ℕ
-rootTakes c = cond (eqb c 50) 1 0
-
-abbrev leftTakes : ℕ → ℕ
-leftTakes c = cond (eqb c 51) 7 (cond (eqb c 90) 7 0)
-
-abbrev rightTakes : ℕ → ℕ
-rightTakes c = cond (eqb c 52) 2 (cond (eqb c 54) 5 (cond (eqb c 90) 7 0))
-
-unfoldable pub raised : ℕ → Account → Account
-raised x b = record { root = b .root + rootAdds x; left = b .left + leftAdds x; right = b .right + rightAdds x }
-
-unfoldable pub lowered : ℕ → Account → Account
-lowered c b = record { root = b .root - rootTakes c; left = b .left - leftTakes c; right = b .right - rightTakes c }
 
 pub same : (b : Account) (r l t : ℕ) → r ≡ b .root → l ≡ b .left → t ≡ b .right → _≡_ {A = Account} (record { root = r; left = l; right = t }) b
 same b r l t e f g = λ i. record { root = e i; left = f i; right = g i }

@@ -13,8 +13,9 @@ use Rattle.rules.specs.ReferenceRun.{bookedCall, booked, booksFrom, booksAfter,
 use Rattle.rules.proofs.Tests.{clash}
 use Rattle.runs.specs.SamplePlan.{planP}
 use Rattle.runs.specs.Computing.{computing}
-use Rattle.restoration.proofs.SampleBooks.{countsP, P, accepts-P, Account, raised, lowered, same, five, hosts-P, undo-P, undo-run-P}
-use Rattle.restoration.proofs.Restored.{restored}
+use Rattle.restoration.specs.SampleAccount.{countsP, P, Account, raised, lowered}
+use Rattle.restoration.proofs.SampleBooks.{accepts-P, same, five, hosts-P, undo-P, undo-run-P}
+use Rattle.restoration.proofs.Restoration.{restored}
 
 -- A deed that works on the left number alone, and one that works on the right.
 abbrev OnLeft : (Account → Account) → Type 0

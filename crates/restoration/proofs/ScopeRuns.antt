@@ -11,7 +11,6 @@ use Rattle.rules.specs.Plan.{Plan, transition, host, owner, firstState, isInsid
 use Rattle.rules.specs.Ledger.{Configuration, Ledger, isAwake, isForward}
 use Rattle.rules.specs.Scope.{isOpen}
 use Rattle.rules.specs.Event.{move, moved, closed}
-use Rattle.rules.specs.Signal.{turned}
 use Rattle.rules.specs.Fire.{fired}
 use Rattle.rules.specs.Call.{EventArguments, Call, event, signal, fire, callRefusal, next}
 use Rattle.rules.specs.FinishedRun.{Reached, Running, by-begin, by-call, over-event, over-signal, over-fire}
@@ -25,7 +24,7 @@ use Rattle.rules.proofs.Closing.{closed-alike}
 use Rattle.rules.proofs.Abandoning.{awake-kept}
 use Rattle.restoration.proofs.Composition.{Word}
 use Rattle.restoration.proofs.Nesting.{Awake, Sleeps, Nested}
-use Rattle.restoration.proofs.Seams.{Ask, ask, to-destination, work, next-cases, turned-awake, turned-state, fire-accepted, may-fire, next-refused}
+use Rattle.restoration.proofs.Seams.{Ask, ask, to-destination, work, next-cases, turns, turned-awake, turned-state, fire-accepted, may-fire, next-refused}
 use Rattle.restoration.proofs.Moving.{recorded, goes, moved-is, moved-still, moved-new}
 use Rattle.restoration.proofs.Entering.{fresh-state}
 use Rattle.restoration.proofs.Closing.{sleeping-asleep, closed-awake}
@@ -129,7 +128,7 @@ module _ (limit : ℕ) (p : Plan) (ok : Accepted p) where
       retraction-state (signal a) v h o o′ =
           let q = open-next s l (signal a) h o′ in
           let w = subst (λ (m : Ledger). isAwake (m t .mode) ≡ true) q (after-open (signal a) o′) in
-          ap (λ (m : Ledger). m t .state) q ∙ ap (λ (c : Configuration). c .state) (awake-kept p ok (turned l) t w .1) ∙ turned-state l t
+          ap (λ (m : Ledger). m t .state) q ∙ ap (λ (c : Configuration). c .state) (awake-kept p ok (turns p a l) t w .1) ∙ turned-state p a l t
       retraction-state (fire a) v h o o′ =
           let q = open-next s l (fire a) h o′ in
           let w = subst (λ (m : Ledger). isAwake (m t .mode) ≡ true) q (after-open (fire a) o′) in
@@ -159,7 +158,7 @@ module _ (limit : ℕ) (p : Plan) (ok : Accepted p) where
           go (signal a) h o′ =
               let q = open-next s l (signal a) h o′ in
               let w = subst (λ (m : Ledger). isAwake (m t .mode) ≡ true) q (after-open (signal a) o′) in
-              clash (sym (turned-awake l t) ∙ ap (λ (c : Configuration). isAwake (c .mode)) (sym (awake-kept p ok (turned l) t w .1)) ∙ w) slept
+              clash (sym (turned-awake p a l t) ∙ ap (λ (c : Configuration). isAwake (c .mode)) (sym (awake-kept p ok (turns p a l) t w .1)) ∙ w) slept
           go (fire a) h o′ =
               let q = open-next s l (fire a) h o′ in
               let w = subst (λ (m : Ledger). isAwake (m t .mode) ≡ true) q (after-open (fire a) o′) in

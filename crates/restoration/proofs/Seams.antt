@@ -15,13 +15,13 @@ use Rattle.rules.specs.Plan.{Plan, trackCount, transitionCount, transition, hos
 use Rattle.rules.specs.Ledger.{Entry, Configuration, Ledger, isAwake, isForward, isUndoing, isEmpty, sleeping}
 use Rattle.rules.specs.Scope.{hasOpenScope, isOver}
 use Rattle.rules.specs.Event.{install, installed, destinationOf, installedBy, hasCode, move, moved, closed, isFinishing, finished, isFull, afterEvent}
-use Rattle.rules.specs.Signal.{turnedTrack, turned, abandoned, afterSignal}
+use Rattle.rules.specs.Signal.{turnedTrack, turned, isBare, abandoned, afterSignal}
 use Rattle.rules.specs.Fire.{mayFire, fired, afterFire}
 use Rattle.rules.specs.Call.{EventArguments, SignalArguments, FireArguments, Call, event, signal, fire, callRefusals, callRefusal, after, next}
-use Rattle.rules.proofs.Tests.{look, look-option, clash, none-some, and-true, implies, implied, passed}
-use Rattle.rules.proofs.Folds.{every-at, every-of}
+use Rattle.rules.proofs.Tests.{look, look-option, clash, none-some, and-true, or-false, passed}
+use Rattle.rules.proofs.Folds.{every-at}
 use Rattle.rules.proofs.Acceptance.{transition-for}
-use Rattle.rules.proofs.Scopes.{root-of, root-none}
+use Rattle.rules.proofs.Scopes.{root-of}
 
 -- What the rules of an event read of its arguments.
 abbrev pub Ask : Type 0
@@ -125,12 +125,12 @@ module _ (p : Plan) where
   unfolding hasCode
   has-code o x h = rw (h, hasCode)
 
--- Finish: a root that has not ended, forward in a final state, keeps the ledger going.
+-- Finish: a root that neither has ended, forward in a final state, nor is undone keeps the ledger going.
 module _ (p : Plan) where
   abbrev pub ended : Ledger → ℕ → Bool
   ended l t = isForward (l t .mode) && isFinal p (l t .state)
 
-  pub goes-on : (l : Ledger) (t : ℕ) → t < trackCount p → host p t ≡ none → ended l t ≡ false → isFinishing p l ≡ false
+  pub goes-on : (l : Ledger) (t : ℕ) → t < trackCount p → host p t ≡ none → (ended l t || isBare p l t) ≡ false → isFinishing p l ≡ false
   unfolding isFinishing
   goes-on l t b e n =
       elim (look (isFinishing p l)) [
@@ -138,29 +138,17 @@ module _ (p : Plan) where
         | inl h ↦
             let q = every-at (trackCount p) (λ t. not (isRoot p t) || ended l t) h t b in
             let r : ended l t ≡ true = rw (root-of p t e) at q in
-            clash r n
+            clash r (or-false (ended l t) (isBare p l t) n .0)
       ]
 
-  -- finish is due only where it was, if no root ended meanwhile
-  pub finish-back : (l m : Ledger) → ((t : ℕ) → host p t ≡ none → ended m t ≡ true → ended l t ≡ true) → isFinishing p l ≡ false
-      → isFinishing p m ≡ false
-  unfolding isFinishing
-  finish-back l m f n =
-      elim (look (isFinishing p m)) [
-        | inr h ↦ h
-        | inl h ↦
-            clash
-            (every-of (trackCount p) (λ t. not (isRoot p t) || ended l t)
-            (λ t b.
-            implied (isRoot p t) (ended l t)
-            (λ r. f t (root-none p t r) (implies (isRoot p t) (ended m t) (every-at (trackCount p) (λ t. not (isRoot p t) || ended m t) h t b) r))))
-            n
-      ]
+-- Whom a signal turns.
+abbrev pub turns : Plan → SignalArguments → Ledger → Ledger
+turns p a l = turned l
 
 -- What a call does, finish apart; whether finish is looked for; and the ledger afterwards.
 abbrev pub work : Plan → Ledger → Call → Ledger
 work p l (event a) = closed p (moved p l (ask a))
-work p l (signal a) = abandoned p (turned l)
+work p l (signal a) = abandoned p (turns p a l)
 work p l (fire a) = abandoned p (fired p l (a .track))
 
 abbrev pub looksForFinish : Call → Bool
@@ -206,34 +194,34 @@ turned-case k = go (k .mode) refl
     go Forward e = unfold isForward isAwake in rw (e, isForward) (refl, refl, refl, refl)
     go Undoing e = unfold isForward isAwake in rw (e, isForward) (refl, refl, refl, refl)
 
-module _ (l : Ledger) where
-  pub turned-awake : (t : ℕ) → isAwake (turned l t .mode) ≡ isAwake (l t .mode)
+module _ (p : Plan) (a : SignalArguments) (l : Ledger) where
+  pub turned-awake : (t : ℕ) → isAwake (turns p a l t .mode) ≡ isAwake (l t .mode)
   unfolding turned
   turned-awake t = turned-case (l t) .0
 
-  turned-forward : (t : ℕ) → isForward (turned l t .mode) ≡ false
+  turned-forward : (t : ℕ) → isForward (turns p a l t .mode) ≡ false
   unfolding turned
   turned-forward t = turned-case (l t) .1
 
   -- what is forward afterwards was not turned
-  pub unturned : (t : ℕ) → isForward (turned l t .mode) ≡ true → turned l t ≡ l t
+  pub unturned : (t : ℕ) → isForward (turns p a l t .mode) ≡ true → turns p a l t ≡ l t
   unturned t h = clash h (turned-forward t)
 
-  pub turned-state : (t : ℕ) → turned l t .state ≡ l t .state
+  pub turned-state : (t : ℕ) → turns p a l t .state ≡ l t .state
   unfolding turned
   turned-state t = turned-case (l t) .2
 
-  pub turned-held : (t : ℕ) → turned l t .held ≡ l t .held
+  pub turned-held : (t : ℕ) → turns p a l t .held ≡ l t .held
   unfolding turned
   turned-held t = turned-case (l t) .3
 
-  pub turned-blank : (t : ℕ) → l t ≡ sleeping → turned l t ≡ sleeping
+  pub turned-blank : (t : ℕ) → l t ≡ sleeping → turns p a l t ≡ sleeping
   unfolding turned turnedTrack sleeping isForward
   turned-blank t h = rw h
 
-  pub turned-alike : (t u : ℕ) → l t .mode ≡ l u .mode → turned l t .mode ≡ turned l u .mode
+  pub turned-alike : (t h : ℕ) → host p t ≡ some h → l (owner p h) .mode ≡ l t .mode → turns p a l (owner p h) .mode ≡ turns p a l t .mode
   unfolding turned turnedTrack
-  turned-alike t u h = go (l t) (l u) h
+  turned-alike t h e m = go (l (owner p h)) (l t) m
     where
       after : (b : Bool) (c d : Configuration) → c .mode ≡ d .mode
           → _≡_ {A = Mode} (cond b (record { mode = Undoing; state = c .state; held = c .held }) c .mode)
@@ -244,10 +232,10 @@ module _ (l : Ledger) where
       go : (c d : Configuration) → c .mode ≡ d .mode → turnedTrack c .mode ≡ turnedTrack d .mode
       go c d e = rw (ap isForward e) (after (isForward (d .mode)) c d e)
 
--- a scope that is forward after a signal was forward before, and the signal turned none of its tracks
-pub spared : (p : Plan) (l : Ledger) (s : ℕ) → isForward (turned l (owner p s) .mode) ≡ true
-    → (isForward (l (owner p s) .mode) ≡ true) × ((t : ℕ) → isInside p s t ≡ true → isForward (l t .mode) ≡ false)
-spared p l s h = clash h (turned-forward l (owner p s))
+  -- a scope that is forward after a signal was forward before, and the signal turned none of its tracks
+  pub spared : (s : ℕ) → isForward (turns p a l (owner p s) .mode) ≡ true
+      → (isForward (l (owner p s) .mode) ≡ true) × ((t : ℕ) → isInside p s t ≡ true → isForward (l t .mode) ≡ false)
+  spared s h = clash h (turned-forward (owner p s))
 
 -- Refusals.
 module _ (limit : ℕ) (p : Plan) (l : Ledger) where

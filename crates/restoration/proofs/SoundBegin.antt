@@ -1,7 +1,7 @@
 -- Begin's ledger is sound: what is awake is fresh, and first states are not final. Assumes nothing.
 use mathlib.Core.Path.{_≡_, refl, ap, _∙_, subst}
 use mathlib.Core.Logic.{inl, inr}
-use mathlib.Core.Bool.{Bool, true, false, _&&_}
+use mathlib.Core.Bool.{Bool, true, false, _&&_, _||_}
 use mathlib.Core.Option.{none, some}
 use Prim.Native.Nat.{ℕ, _<_}
 use native.Mathlib.Omega.{arith}
@@ -21,7 +21,7 @@ use Rattle.rules.proofs.Abandoning.{bare-parts}
 use Rattle.rules.proofs.Opening.{begun-root, begun-woken, begun-asleep}
 use Rattle.restoration.proofs.Modes.{is-forward, undoing-forward}
 use Rattle.restoration.proofs.Nesting.{Awake}
-use Rattle.restoration.proofs.Seams.{goes-on}
+use Rattle.restoration.proofs.Seams.{ended, goes-on}
 use Rattle.restoration.proofs.Entering.{Enterable, fresh-awake, fresh-mode, fresh-state}
 use Rattle.restoration.proofs.Closing.{sleeping-asleep, closing-open}
 use Rattle.restoration.proofs.Soundness.{Formed, RootsAwake, Sound, sleeping-held, sleeping-few, sleeping-good, enter-formed}
@@ -113,6 +113,18 @@ module _ (limit : ℕ) (p : Plan) (ok : Accepted p) where
   both-false true b h = h
   both-false false b h = refl
 
+  -- nothing is undone yet
+  begun-not-bare : (t : ℕ) → Awake (begun p) t → isBare p (begun p) t ≡ false
+  begun-not-bare t a =
+      refuted (isBare p (begun p) t)
+      (λ h.
+      clash (is-forward (begun p t .mode) (ap (λ c. c .mode) (begun-fresh t a) ∙ fresh-mode p t))
+      (undoing-forward (begun p t .mode) (bare-parts p ok (begun p) t h .0)))
+
+  begun-going : (t : ℕ) → Awake (begun p) t → (ended p (begun p) t || isBare p (begun p) t) ≡ false
+  begun-going t a =
+      rw (both-false (isForward (begun p t .mode)) (isFinal p (begun p t .state)) (begun-open t a)) (begun-not-bare t a)
+
   pub begun-sound : Sound limit p (begun p)
   begun-sound =
       record {
@@ -126,14 +138,11 @@ module _ (limit : ℕ) (p : Plan) (ok : Accepted p) where
             clash (closing-final p (begun p) s t c b e .1) (begun-open t a));
         finish =
             let z = root-zero p ok in
-            goes-on p (begun p) 0 (ok .some-track) z
-            (both-false (isForward (begun p 0 .mode)) (isFinal p (begun p 0 .state)) (begun-open 0 (begun-roots 0 (ok .some-track) z)));
+            goes-on p (begun p) 0 (ok .some-track) z (begun-going 0 (begun-roots 0 (ok .some-track) z));
         abandoning =
             λ s.
             refuted (isAbandoning p (begun p) s)
             (λ c.
             let (t, b, e, a) = open-find p (begun p) s (abandoning-open p (begun p) s c) in
-            let u = bare-parts p ok (begun p) t (abandoning-bare p ok (begun p) s t c e) .0 in
-            clash (is-forward (begun p t .mode) (ap (λ c. c .mode) (begun-fresh t a) ∙ fresh-mode p t))
-            (undoing-forward (begun p t .mode) u));
+            clash (abandoning-bare p ok (begun p) s t c e) (begun-not-bare t a));
       }

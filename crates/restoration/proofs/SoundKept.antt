@@ -1,5 +1,5 @@
 -- Every accepted call takes every sound ledger, a crafted one too, to a sound one: on ledgers, and on words. Assumes nothing.
-use mathlib.Core.Path.{_≡_, refl, sym, ap, _∙_, subst}
+use mathlib.Core.Path.{_≡_, sym, ap, _∙_, subst}
 use mathlib.Core.Logic.{_⊎_, inl, inr}
 use mathlib.Core.Bool.{true, false, not, _||_}
 use mathlib.Core.List.{List}
@@ -11,7 +11,7 @@ use Rattle.rules.specs.Opening.{begun}
 use Rattle.rules.specs.Event.{moved, isFinishing}
 use Rattle.rules.specs.Soundness.{areTidy, isLive, isSound}
 use Rattle.rules.specs.Call.{Call, event, signal, fire, callRefusal, after}
-use Rattle.rules.proofs.Tests.{look, clash, and-both, or-right}
+use Rattle.rules.proofs.Tests.{look, and-both, or-right}
 use Rattle.rules.proofs.Folds.{every-of}
 use Rattle.rules.proofs.Acceptance.{Accepted}
 use Rattle.rules.proofs.Closing.{closed-done}
@@ -21,7 +21,8 @@ use Rattle.restoration.proofs.Closing.{sleeping-asleep}
 use Rattle.restoration.proofs.Soundness.{Sound, sound-of, sound-live, formed-storable, sleeping-held, sleeping-few}
 use Rattle.restoration.proofs.SoundBegin.{begun-sound}
 use Rattle.restoration.proofs.SoundEvent.{event-formed, event-roots, event-abandoning}
-use Rattle.restoration.proofs.SoundRetraction.{signal-unfinished, signal-sound, fire-unfinished, fire-sound}
+use Rattle.restoration.proofs.SoundRetraction.{signal-sound, fire-sound}
+use Rattle.restoration.proofs.Unfinished.{unfinished}
 
 -- all asleep
 abbrev pub Over : Ledger → Type 0
@@ -48,14 +49,8 @@ module _ (limit : ℕ) (p : Plan) (ok : Accepted p) (l : Ledger) (s : Sound limi
         finish = f;
         abandoning = event-abandoning limit p ok l (s .formed) (ask a) (s .abandoning);
       }
-  work-sound (signal a) h f = signal-sound limit p ok l s f
+  work-sound (signal a) h f = signal-sound limit p ok l s a f
   work-sound (fire a) h f = fire-sound limit p ok l s (a .track) (fire-accepted limit p l a h .1) f
-
-  -- where finish is not looked for, it is not due
-  unfinished : (c : Call) → callRefusal limit p l c ≡ 0 → looksForFinish c ≡ false → isFinishing p (work p l c) ≡ false
-  unfinished (event a) h n = clash refl n
-  unfinished (signal a) h n = signal-unfinished limit p ok l s
-  unfinished (fire a) h n = fire-unfinished limit p ok l s (a .track) (fire-accepted limit p l a h .1)
 
   pub kept-after : (c : Call) → callRefusal limit p l c ≡ 0 → Kept limit p (after limit p l c)
   kept-after c h =
@@ -64,7 +59,7 @@ module _ (limit : ℕ) (p : Plan) (ok : Accepted p) (l : Ledger) (s : Sound limi
         | inl q ↦
             inr
             (subst (Sound limit p) (sym (q .0))
-            (work-sound c h (elim (look (looksForFinish c)) [ inl y ↦ q .1 y | inr y ↦ unfinished c h y ])))
+            (work-sound c h (elim (look (looksForFinish c)) [ inl y ↦ q .1 y | inr y ↦ unfinished limit p ok l s c h y ])))
       ]
 
 module _ (limit : ℕ) (p : Plan) (ok : Accepted p) where

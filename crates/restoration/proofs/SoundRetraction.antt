@@ -1,88 +1,74 @@
--- A signal and a firing keep a ledger sound: abandoning leaves none due; what is forward after a signal is as it was; and after a firing
--- the root above the fired track is undoing, or just went forward into a state that is not final. Assumes nothing.
-use mathlib.Core.Path.{_≡_, refl, sym, ap, _∙_, subst}
+-- A signal and a firing keep a ledger sound, finish apart: abandoning leaves none due, what is forward after a signal is as it was, and
+-- what wakes at a deviation is in a first state, which is not final. Assumes nothing.
+use mathlib.Core.Path.{_≡_, sym, ap, _∙_, subst}
 use mathlib.Core.Logic.{inl, inr}
-use mathlib.Core.Bool.{Bool, true, false, _&&_}
+use mathlib.Core.Bool.{true, false}
 use mathlib.Core.Option.{none, some}
 use Prim.Native.Nat.{ℕ, _≤_}
 use native.Mathlib.Omega.{arith}
 use lib.ListN.{length}
 use lib.Dec.{eqb}
-use Rattle.rules.specs.Plan.{Plan, optional, host, isFinal}
+use Rattle.rules.specs.Plan.{Plan, host, isFinal}
 use Rattle.rules.specs.Ledger.{Configuration, Ledger, isAwake, isForward, isUndoing}
 use Rattle.rules.specs.Scope.{hasOpenScope}
 use Rattle.rules.specs.Opening.{enter}
 use Rattle.rules.specs.Event.{isClosing, isFinishing}
-use Rattle.rules.specs.Signal.{turned, abandoned}
-use Rattle.rules.specs.Fire.{newest, mayFire, removed, deviatesTo, fired}
-use Rattle.rules.proofs.Tests.{look, look-option, clash, refuted, and-true}
+use Rattle.rules.specs.Call.{SignalArguments}
+use Rattle.rules.specs.Signal.{abandoned}
+use Rattle.rules.specs.Fire.{mayFire, removed, deviatesTo, fired}
+use Rattle.rules.proofs.Tests.{look, clash, refuted}
 use Rattle.rules.proofs.Acceptance.{Accepted}
 use Rattle.rules.proofs.Scopes.{open-at, open-find}
-use Rattle.rules.proofs.Opening.{enter-to}
 use Rattle.rules.proofs.Closing.{closing-final}
 use Rattle.rules.proofs.Abandoning.{undoing-awake, awake-kept, left-kept, abandoned-done}
-use Rattle.restoration.proofs.Modes.{forward-awake, undoing-forward}
-use Rattle.restoration.proofs.Nesting.{Awake, Nested, root-above}
-use Rattle.restoration.proofs.Seams.{goes-on, finish-back, turned-awake, unturned, may-fire}
-use Rattle.restoration.proofs.Entries.{Good, good-older, older-length, deviates}
+use Rattle.restoration.proofs.Modes.{forward-awake}
+use Rattle.restoration.proofs.Nesting.{Awake, Nested}
+use Rattle.restoration.proofs.Seams.{turns, turned-awake, unturned, may-fire}
+use Rattle.restoration.proofs.Entries.{Good, good-older, older-length}
 use Rattle.restoration.proofs.Entering.{Fate, enters, wakens, stays, fate, arrived-awake, fresh-awake, fresh-state}
 use Rattle.restoration.proofs.Closing.{closing-open, closing-of}
 use Rattle.restoration.proofs.Leaving.{left-together, left-awake, left-root}
-use Rattle.restoration.proofs.Firing.{fired-is, removed-mode, removed-state, removed-here, removed-other, removed-awake, deviates-here, deviates-not, deviates-hosted, deviates-free, removed-nested, fired-still, fired-new}
+use Rattle.restoration.proofs.Firing.{fired-is, removed-mode, removed-state, removed-here, removed-other, removed-awake, deviates-hosted, deviates-free, removed-nested, fired-still, fired-new}
 use Rattle.restoration.proofs.Soundness.{Formed, Sound, enter-formed, turned-formed, abandoned-formed}
-
-not-forward : (a b : Bool) → a ≡ false → (a && b) ≡ false
-not-forward a b h = rw h
-
-not-final : (a b : Bool) → b ≡ false → (a && b) ≡ false
-not-final true b h = h
-not-final false b h = refl
 
 module _ (limit : ℕ) (p : Plan) (ok : Accepted p) (l : Ledger) (s : Sound limit p l) where
   abbrev n : Nested p l
   n = s .formed .nested
 
-  abbrev T : Ledger
-  T = turned l
+  module _ (a : SignalArguments) where
+    abbrev T : Ledger
+    T = turns p a l
 
-  turned-first : Formed limit p T
-  turned-first = turned-formed limit p ok l (s .formed)
+    turned-first : Formed limit p T
+    turned-first = turned-formed limit p ok l (s .formed) a
 
-  turned-root : (t : ℕ) → host p t ≡ none → abandoned p T t ≡ T t
-  turned-root t e = left-root p ok T (turned-first .nested) t e
+    turned-root : (t : ℕ) → host p t ≡ none → abandoned p T t ≡ T t
+    turned-root t e = left-root p ok T (turned-first .nested) t e
 
-  -- what is forward after a signal is as it was
-  spared-track : (t : ℕ) → isForward (abandoned p T t .mode) ≡ true → abandoned p T t ≡ l t
-  spared-track t f =
-      let q = awake-kept p ok T t (forward-awake (abandoned p T t .mode) f) .1 in
-      q ∙ unturned l t (ap (λ (c : Configuration). isForward (c .mode)) (sym q) ∙ f)
+    -- what is forward after a signal is as it was
+    pub spared-track : (t : ℕ) → isForward (abandoned p T t .mode) ≡ true → abandoned p T t ≡ l t
+    spared-track t f =
+        let q = awake-kept p ok T t (forward-awake (abandoned p T t .mode) f) .1 in
+        q ∙ unturned p a l t (ap (λ (c : Configuration). isForward (c .mode)) (sym q) ∙ f)
 
-  pub signal-unfinished : isFinishing p (abandoned p T) ≡ false
-  signal-unfinished =
-      finish-back p l (abandoned p T)
-      (λ t e h.
-      let f = and-true (isForward (abandoned p T t .mode)) (isFinal p (abandoned p T t .state)) h .0 in
-      ap (λ (c : Configuration). isForward (c .mode) && isFinal p (c .state)) (sym (spared-track t f)) ∙ h)
-      (s .finish)
-
-  pub signal-sound : isFinishing p (abandoned p T) ≡ false → Sound limit p (abandoned p T)
-  signal-sound unfinished =
-      record {
-        formed = abandoned-formed limit p ok T turned-first;
-        roots = λ t b e. ap (λ (c : Configuration). isAwake (c .mode)) (turned-root t e) ∙ turned-awake l t ∙ s .roots t b e;
-        closing =
-            λ z.
-            refuted (isClosing p (abandoned p T) z)
-            (λ c.
-            let final : (v : ℕ) → host p v ≡ some z → (isForward (l v .mode) ≡ true) × (isFinal p (l v .state) ≡ true) =
-            λ v g.
-            let h = closing-final p (abandoned p T) z v c (ok .hosted v z g) g in
-            subst (λ (k : Configuration). (isForward (k .mode) ≡ true) × (isFinal p (k .state) ≡ true)) (spared-track v (h .0)) h in
-            let (u, b, e, a) = open-find p (abandoned p T) z (closing-open p (abandoned p T) z c) in
-            clash (closing-of p l z (open-at p l z u b e (forward-awake (l u .mode) (final u e .0))) final) (s .closing z));
-        finish = unfinished;
-        abandoning = abandoned-done p ok T;
-      }
+    pub signal-sound : isFinishing p (abandoned p T) ≡ false → Sound limit p (abandoned p T)
+    signal-sound unfinished =
+        record {
+          formed = abandoned-formed limit p ok T turned-first;
+          roots = λ t b e. ap (λ (c : Configuration). isAwake (c .mode)) (turned-root t e) ∙ turned-awake p a l t ∙ s .roots t b e;
+          closing =
+              λ z.
+              refuted (isClosing p (abandoned p T) z)
+              (λ c.
+              let final : (v : ℕ) → host p v ≡ some z → (isForward (l v .mode) ≡ true) × (isFinal p (l v .state) ≡ true) =
+              λ v g.
+              let h = closing-final p (abandoned p T) z v c (ok .hosted v z g) g in
+              subst (λ (k : Configuration). (isForward (k .mode) ≡ true) × (isFinal p (k .state) ≡ true)) (spared-track v (h .0)) h in
+              let (u, b, e, w) = open-find p (abandoned p T) z (closing-open p (abandoned p T) z c) in
+              clash (closing-of p l z (open-at p l z u b e (forward-awake (l u .mode) (final u e .0))) final) (s .closing z));
+          finish = unfinished;
+          abandoning = abandoned-done p ok T;
+        }
 
   module _ (t : ℕ) (may : mayFire p l t ≡ true) where
     undoing : isUndoing (l t .mode) ≡ true
@@ -124,8 +110,8 @@ module _ (limit : ℕ) (p : Plan) (ok : Accepted p) (l : Ledger) (s : Sound limi
     after : Formed limit p (abandoned p X)
     after = abandoned-formed limit p ok X fired-formed
 
-    root : (u : ℕ) → host p u ≡ none → abandoned p X u ≡ X u
-    root u e = left-root p ok X (fired-formed .nested) u e
+    pub fired-root : (u : ℕ) → host p u ≡ none → abandoned p X u ≡ X u
+    fired-root u e = left-root p ok X (fired-formed .nested) u e
 
     fired-roots : (u : ℕ) → Awake l u → Awake X u
     fired-roots u a = ap (λ m. isAwake (m u .mode)) (fired-is p l t) ∙ go (fate p ok (removed p l t) (deviatesTo p l t) u)
@@ -167,31 +153,11 @@ module _ (limit : ℕ) (p : Plan) (ok : Accepted p) (l : Ledger) (s : Sound limi
               (s .closing z)
         ])
 
-    pub fire-unfinished : isFinishing p (abandoned p X) ≡ false
-    fire-unfinished =
-        elim (look-option (optional (newest (l t .held) .deviation))) [
-          | inr d ↦
-              let (e, o, f) = deviates p t (d .0) (l t .held) good (d .1) in
-              let st : abandoned p X t .state ≡ d .0 =
-              ap (λ (c : Configuration). c .state)
-              (root t e ∙ ap (λ m. m t) (fired-is p l t)
-              ∙ enter-to p ok (deviatesTo p l t) (removed p l t) t (d .0) (deviates-here p l t ∙ d .1)) in
-              goes-on p (abandoned p X) t (n .below t fired-awake) e
-              (not-final (isForward (abandoned p X t .mode)) (isFinal p (abandoned p X t .state)) (ap (isFinal p) st ∙ f))
-          | inl d ↦
-              let (r, b, e, m) = root-above p ok l n t fired-awake in
-              let q = fired-still p l t ok n good free fired-awake r (s .roots r b e) (deviates-not p l t d r) in
-              let md : abandoned p X r .mode ≡ l t .mode = ap (λ (c : Configuration). c .mode) (root r e ∙ q) ∙ removed-mode p l t r ∙ m in
-              goes-on p (abandoned p X) r b e
-              (not-forward (isForward (abandoned p X r .mode)) (isFinal p (abandoned p X r .state))
-              (ap isForward md ∙ undoing-forward (l t .mode) undoing))
-        ]
-
     pub fire-sound : isFinishing p (abandoned p X) ≡ false → Sound limit p (abandoned p X)
     fire-sound unfinished =
         record {
           formed = after;
-          roots = λ u b e. ap (λ (c : Configuration). isAwake (c .mode)) (root u e) ∙ fired-roots u (s .roots u b e);
+          roots = λ u b e. ap (λ (c : Configuration). isAwake (c .mode)) (fired-root u e) ∙ fired-roots u (s .roots u b e);
           closing = fire-closing;
           finish = unfinished;
           abandoning = abandoned-done p ok X;

@@ -14,15 +14,16 @@ use Rattle.rules.specs.Plan.{Plan, trackCount, host}
 use Rattle.rules.specs.Ledger.{Configuration, Ledger, isAwake, sleeping}
 use Rattle.rules.specs.Opening.{enter}
 use Rattle.rules.specs.Event.{isClosing, isFinishing}
-use Rattle.rules.specs.Signal.{isAbandoning, turned, isAbandoned, abandoned}
+use Rattle.rules.specs.Signal.{isAbandoning, isAbandoned, abandoned}
 use Rattle.rules.specs.Soundness.{isLive}
+use Rattle.rules.specs.Call.{SignalArguments}
 use Rattle.rules.proofs.Tests.{look, clash}
 use Rattle.rules.proofs.Acceptance.{Accepted}
 use Rattle.rules.proofs.Abandoning.{left-asleep, left-kept}
 use Rattle.rules.proofs.Soundness.{Live, live-facts, live-of}
 use Rattle.rules.proofs.Stored.{Storable}
 use Rattle.restoration.proofs.Nesting.{Awake, Nested}
-use Rattle.restoration.proofs.Seams.{turned-held}
+use Rattle.restoration.proofs.Seams.{turns, turned-held}
 use Rattle.restoration.proofs.Entries.{Good, may-deviate, good-nil}
 use Rattle.restoration.proofs.Entering.{Enterable, Fate, enters, wakens, stays, fate, fresh-held, enter-nested}
 use Rattle.restoration.proofs.Closing.{sleeping-asleep}
@@ -150,12 +151,12 @@ module _ (limit : ℕ) (p : Plan) where
         good t (wakens e w q) = sleeping-good t (enter p to l t) (ap (λ c. c .held) q ∙ fresh-held p t)
         good t (stays e w q) = subst (λ c. Good p t (c .held)) (sym q) (f .good t)
 
-    pub turned-formed : Formed limit p (turned l)
-    turned-formed =
+    pub turned-formed : (a : SignalArguments) → Formed limit p (turns p a l)
+    turned-formed a =
         record {
-          nested = turned-nested p ok l (f .nested);
-          few = λ t. rw (turned-held l t) (f .few t);
-          good = λ t. rw (turned-held l t) (f .good t);
+          nested = turned-nested p ok l (f .nested) a;
+          few = λ t. rw (turned-held p a l t) (f .few t);
+          good = λ t. rw (turned-held p a l t) (f .good t);
         }
 
     pub abandoned-formed : Formed limit p (abandoned p l)

@@ -1,0 +1,35 @@
+-- Firings along a list of calls and its answers, and the lists without an event or a deviation. Assumes nothing.
+use mathlib.Core.Bool.{Bool, true, false, not, _&&_}
+use mathlib.Core.List.{List, [], _∷_}
+use Prim.Native.Nat.{ℕ, _+_}
+use lib.ListN.{getD}
+use lib.Dec.{eqb}
+use Rattle.rules.specs.Plan.{noState}
+use Rattle.rules.specs.Call.{Answer, refusal, done, Call, event, signal, fire}
+use Rattle.rules.specs.Transcript.{firingsOf}
+
+-- how many firings were done
+unfoldable pub firingsIn : List Call → List Answer → ℕ
+firingsIn [] rs = 0
+firingsIn (c ∷ cs) [] = 0
+firingsIn (c ∷ cs) (r ∷ rs) = firingsOf c r + firingsIn cs rs
+
+-- an event that was accepted
+unfoldable pub isEventDone : Call → Answer → Bool
+isEventDone (event a) (done figures) = true
+isEventDone (event a) (refusal n) = false
+isEventDone (signal a) r = false
+isEventDone (fire a) r = false
+
+-- an accepted firing whose entry carried a deviation
+unfoldable pub isDeviation : Call → Answer → Bool
+isDeviation (fire a) (done figures) = not (eqb (getD figures 1 noState) noState)
+isDeviation (fire a) (refusal n) = false
+isDeviation (event a) r = false
+isDeviation (signal a) r = false
+
+-- no call with its answer passes the test
+unfoldable pub isWithout : (Call → Answer → Bool) → List Call → List Answer → Bool
+isWithout f [] rs = true
+isWithout f (c ∷ cs) [] = true
+isWithout f (c ∷ cs) (r ∷ rs) = not (f c r) && isWithout f cs rs
