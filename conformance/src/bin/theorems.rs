@@ -3,8 +3,8 @@
 //! proved by computing the definitions of the rules.
 //!
 //! Taken are the first HISTORIES histories, PLANS refused plans and LEDGERS
-//! calls on damaged ledgers, and fewer whole runs, accepted plans and other
-//! calls. Cases too large to be computed quickly are dropped.
+//! calls on damaged ledgers, and fewer whole runs, accepted plans and calls
+//! on sound ledgers. Cases too large to be computed quickly are dropped.
 
 use std::fs;
 use std::io;
@@ -35,6 +35,8 @@ enum Sort {
     Oversized,
     Accepted,
     Damaged,
+    /// A signal or a firing that is done: what abandoning follows.
+    Undoing,
     Other,
 }
 
@@ -70,7 +72,7 @@ impl Share {
 }
 
 /// The shares, in the order of the sorts.
-fn shares(histories: usize, plans: usize, ledgers: usize) -> [Share; 7] {
+fn shares(histories: usize, plans: usize, ledgers: usize) -> [Share; 8] {
     [
         Share::new("histories", histories, 900),
         Share::new("whole runs", histories / 10, 1500),
@@ -78,7 +80,8 @@ fn shares(histories: usize, plans: usize, ledgers: usize) -> [Share; 7] {
         Share::new("plans refused as 6 or 16", plans / 20, 500),
         Share::new("accepted plans", plans / 20, 300),
         Share::new("calls on damaged ledgers", ledgers, 200),
-        Share::new("other calls", ledgers / 2, 200),
+        Share::new("signals and firings done", ledgers / 4, 200),
+        Share::new("other calls", ledgers / 4, 200),
     ]
 }
 
@@ -93,9 +96,14 @@ fn sort_of(fields: &[&str]) -> Option<(Sort, usize)> {
         ["P", _, answer] if answer.starts_with('A') => (Sort::Accepted, plan),
         ["P", _, _] => (Sort::Refused, plan),
         ["L", _, _, _, "R17" | "R18", _] => (Sort::Damaged, plan),
+        ["L", _, _, call, answer, _] if is_undoing(call, answer) => (Sort::Undoing, plan),
         ["L", _, _, _, _, _] => (Sort::Other, plan),
         _ => return None,
     })
+}
+
+fn is_undoing(call: &str, answer: &str) -> bool {
+    call.starts_with(['S', 'F']) && answer.starts_with('D')
 }
 
 /// What the theorem of a case says.
@@ -231,7 +239,7 @@ fn write(folder: &Path, theorems: &[String]) -> io::Result<()> {
     fs::write(folder.join("Lib.antt"), modules)
 }
 
-fn run(folder: &Path, mut shares: [Share; 7]) -> io::Result<()> {
+fn run(folder: &Path, mut shares: [Share; 8]) -> io::Result<()> {
     let theorems = theorems(&mut shares)?;
     write(folder, &theorems)?;
     for share in shares {
