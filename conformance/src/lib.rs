@@ -7,6 +7,7 @@
 //! - [`manager`]: the six calls, on plan bytes and lent words.
 //! - [`journal`]: the program `unwind` as a function of bytes.
 //! - [`generate`], [`coverage`], [`vectors`]: random cases for the comparison.
+//! - [`theorems`]: the same cases, said of the definitions of the rules.
 
 pub mod automaton;
 pub mod coverage;
@@ -17,4 +18,5 @@ pub mod manager;
 pub mod plan;
 pub mod record;
 pub mod refusal;
+pub mod theorems;
 pub mod vectors;

@@ -12,7 +12,7 @@ fn theorems(name: &str, lines: &str) -> Option<String> {
     fs::create_dir_all(&folder).expect("directory");
     let mut child = Command::new(env!("CARGO_BIN_EXE_theorems"))
         .arg(&folder)
-        .args(["1", "20", "2"])
+        .args(["1", "20", "4"])
         .stdin(Stdio::piped())
         .stdout(Stdio::null())
         .stderr(Stdio::null())

@@ -2,14 +2,20 @@
 //! prints and writes them to FOLDER as theorems for antt, one to a case, each
 //! proved by computing the definitions of the rules.
 //!
-//! Taken are the first HISTORIES histories, PLANS refused plans and LEDGERS
-//! calls on damaged ledgers, and fewer whole runs, accepted plans and other
-//! calls. Cases too large to be computed quickly are dropped.
+//! Taken are HISTORIES histories, PLANS refused plans and LEDGERS calls on
+//! damaged ledgers, and fewer whole runs, accepted plans and calls on sound
+//! ledgers: of each sort as many different ones as there are. Cases too large
+//! to be computed quickly are dropped.
 
+use std::collections::{BTreeSet, HashMap};
 use std::fs;
 use std::io;
 use std::path::Path;
 use std::process::ExitCode;
+
+use conformance::ledger::{self, TRACK_WORDS};
+use conformance::plan::{self, Plan};
+use conformance::theorems::{parts, statement};
 
 /// Theorems to a file.
 const FILE: usize = 30;
@@ -26,7 +32,7 @@ use Rattle.agreement.specs.Statements.{e, f, s, acceptedWith, \
 ";
 
 /// The sorts of cases.
-#[derive(Clone, Copy)]
+#[derive(Clone, Copy, PartialEq)]
 enum Sort {
     History,
     Run,
@@ -35,51 +41,48 @@ enum Sort {
     Oversized,
     Accepted,
     Damaged,
+    /// A signal or a firing that is done: what abandoning follows.
+    Undoing,
     Other,
 }
 
-/// How many cases of a sort are wanted, and what became of those read.
+/// How many cases of a sort are wanted, of a size that is computed quickly.
 struct Share {
+    sort: Sort,
     name: &'static str,
     wanted: usize,
-    /// The greatest size that is computed quickly.
     limit: usize,
-    taken: usize,
-    dropped: usize,
 }
 
-impl Share {
-    fn new(name: &'static str, wanted: usize, limit: usize) -> Share {
-        Share {
-            name,
-            wanted,
-            limit,
-            taken: 0,
-            dropped: 0,
-        }
-    }
-
-    /// Whether to take a case of this size.
-    fn takes(&mut self, size: usize) -> bool {
-        let open = self.taken < self.wanted;
-        let small = size <= self.limit;
-        self.taken += usize::from(open && small);
-        self.dropped += usize::from(open && !small);
-        open && small
-    }
-}
-
-/// The shares, in the order of the sorts.
-fn shares(histories: usize, plans: usize, ledgers: usize) -> [Share; 7] {
+fn shares(histories: usize, plans: usize, ledgers: usize) -> [Share; 8] {
+    let share = |sort, name, wanted, limit| Share {
+        sort,
+        name,
+        wanted,
+        limit,
+    };
     [
-        Share::new("histories", histories, 900),
-        Share::new("whole runs", histories / 10, 1500),
-        Share::new("refused plans", plans, 300),
-        Share::new("plans refused as 6 or 16", plans / 20, 500),
-        Share::new("accepted plans", plans / 20, 300),
-        Share::new("calls on damaged ledgers", ledgers, 200),
-        Share::new("other calls", ledgers / 2, 200),
+        share(Sort::History, "histories", histories, 900),
+        share(Sort::Run, "whole runs", histories / 10, 1500),
+        share(Sort::Refused, "refused plans", plans, 300),
+        share(Sort::Oversized, "plans refused as 6 or 16", plans / 20, 500),
+        share(Sort::Accepted, "accepted plans", plans / 20, 300),
+        share(Sort::Damaged, "calls on damaged ledgers", ledgers, 240),
+        share(Sort::Undoing, "signals and firings done", ledgers / 4, 240),
+        share(Sort::Other, "other calls", ledgers / 4, 200),
     ]
+}
+
+/// A case small enough to be taken.
+struct Case {
+    number: usize,
+    line: String,
+    /// How many cases that show the same stand before it.
+    rank: usize,
+}
+
+fn fields_of(line: &str) -> Vec<&str> {
+    line.split(';').collect()
 }
 
 /// The sort of a case and its size: the bytes of the plan, read once for
@@ -93,128 +96,123 @@ fn sort_of(fields: &[&str]) -> Option<(Sort, usize)> {
         ["P", _, answer] if answer.starts_with('A') => (Sort::Accepted, plan),
         ["P", _, _] => (Sort::Refused, plan),
         ["L", _, _, _, "R17" | "R18", _] => (Sort::Damaged, plan),
+        ["L", _, _, call, answer, _] if is_undoing(call, answer) => (Sort::Undoing, plan),
         ["L", _, _, _, _, _] => (Sort::Other, plan),
         _ => return None,
     })
 }
 
-/// What the theorem of a case says.
-fn statement(fields: &[&str]) -> Option<String> {
-    Some(match *fields {
-        ["H", plan, lent, calls, answers, after] => {
-            let given = format!("{} {}", bytes(plan)?, words(lent)?);
-            let calls = list(parts(calls, ',').map(call))?;
-            let answers = list(parts(answers, '|').map(answer))?;
-            format!("HistoryAgrees {given} {calls} {answers} {}", words(after)?)
-        }
-        ["P", plan, answer] => format!("PlanAgrees {} ({})", bytes(plan)?, reading(answer)?),
-        ["L", plan, before, called, answered, after] => {
-            let given = format!("{} {}", bytes(plan)?, words(before)?);
-            single(&given, called, answered, &words(after)?)?
-        }
-        ["U", plan, journal, output] => {
-            let given = format!("{} {}", bytes(plan)?, bytes(journal)?);
-            format!("RunAgrees {given} {}", bytes(output)?)
-        }
-        _ => return None,
-    })
+fn is_undoing(call: &str, answer: &str) -> bool {
+    call.starts_with(['S', 'F']) && answer.starts_with('D')
 }
 
-/// The same for a single call, with the plan and the ledger it was given.
-fn single(given: &str, called: &str, answered: &str, after: &str) -> Option<String> {
-    Some(match called.split_at_checked(1)? {
-        ("N", track) => format!("EntriesAgree {given} {track} {}", words(answered)?),
-        ("Y", "") => format!("ReadyAgrees {given} ({}) {after}", answer(answered)?),
-        _ => {
-            let (called, answered) = (call(called)?, answer(answered)?);
-            format!("CallAgrees {given} ({called}) ({answered}) {after}")
+/// What a case shows: a history its plan's height and the outcomes of its
+/// calls, a run its sorts of lines, a plan its refusal, a call what it changes
+/// or the clauses violated.
+fn shows(fields: &[&str]) -> String {
+    match *fields {
+        ["H", plan, _, calls, answers, _] => {
+            let made = parts(calls, ',').zip(parts(answers, '|').skip(1));
+            let outcomes: BTreeSet<String> = made.map(|(c, a)| outcome(c, a)).collect();
+            format!("{:?} {outcomes:?}", height(plan))
         }
-    })
-}
-
-fn call(text: &str) -> Option<String> {
-    match text.split_at_checked(1)? {
-        ("E", event) => Some(format!("e {event}")),
-        ("S", "") => Some("s".to_string()),
-        ("F", track) => Some(format!("f {track}")),
-        _ => None,
+        ["U", _, _, output] => {
+            let output = String::from_utf8(numbers(output, 2)).unwrap_or_default();
+            let firsts: BTreeSet<&str> = output.lines().filter_map(|l| l.get(..1)).collect();
+            format!("{firsts:?}")
+        }
+        ["P", _, answer] => parts(answer, ',').take(1).collect(),
+        ["L", plan, before, call, answer, after] => match plan::read(&numbers(plan, 2)) {
+            Ok(plan) if answer == "R18" => {
+                format!("{:?}", ledger::violated(&plan, &numbers(before, 4)))
+            }
+            Ok(plan) if answer.starts_with('D') => {
+                let changes = changes(&plan, &numbers(before, 4), &numbers(after, 4));
+                format!("{} {changes}", outcome(call, answer))
+            }
+            _ => outcome(call, answer),
+        },
+        _ => String::new(),
     }
 }
 
-fn answer(text: &str) -> Option<String> {
-    if text == "begun" {
-        return Some("done []".to_string());
+fn height(plan: &str) -> Option<u32> {
+    let plan = plan::read(&numbers(plan, 2)).ok()?;
+    plan.heights().into_iter().max()
+}
+
+/// A call's letter and its refusal, whether an event closed, or whether a
+/// firing deviated.
+fn outcome(call: &str, answer: &str) -> String {
+    let letter = &call[..1];
+    match letter {
+        _ if answer.starts_with('R') => format!("{letter}{answer}"),
+        "E" => format!("E{}", !answer.ends_with(",0")),
+        "F" => format!("F{}", !answer.ends_with(",65535")),
+        _ => letter.to_string(),
     }
-    match text.split_at_checked(1)? {
-        ("R", number) => Some(format!("refusal {number}")),
-        ("D", figures) => Some(format!("done {}", numbers(figures)?)),
-        _ => None,
-    }
 }
 
-fn reading(text: &str) -> Option<String> {
-    Some(match text.strip_prefix('A') {
-        Some(counts) => format!("acceptedWith {}", counts.replace(',', " ")),
-        None => format!("turnedBack {text}"),
-    })
-}
-
-/// The parts of a text between separators; the empty text has none.
-fn parts(text: &str, separator: char) -> impl Iterator<Item = &str> {
-    text.split(separator).filter(|part| !part.is_empty())
-}
-
-fn list(items: impl Iterator<Item = Option<String>>) -> Option<String> {
-    let mut text = String::from("(");
-    for item in items {
-        text.push_str(&item?);
-        text.push_str(" ∷ ");
-    }
-    Some(text + "[])")
-}
-
-fn numbers(text: &str) -> Option<String> {
-    list(parts(text, ',').map(|part| Some(part.to_string())))
-}
-
-fn bytes(hex: &str) -> Option<String> {
-    hex_list(hex, 2)
-}
-
-fn words(hex: &str) -> Option<String> {
-    hex_list(hex, 4)
+/// The modes that changed, and whether a track fell asleep with its host.
+fn changes(plan: &Plan, before: &[u16], after: &[u16]) -> String {
+    let modes = |t: usize| (before[t * TRACK_WORDS], after[t * TRACK_WORDS]);
+    let changed = |t: &usize| modes(*t).0 != modes(*t).1;
+    let falls = |t: usize| changed(&t) && modes(t).1 == 0;
+    let tracks = 0..plan.track_count();
+    let climbs = tracks
+        .clone()
+        .any(|t| falls(t) && plan.host_track(t).is_some_and(falls));
+    let mut pairs: Vec<(u16, u16)> = tracks.filter(changed).map(modes).collect();
+    pairs.sort_unstable();
+    format!("{pairs:?} {climbs}")
 }
 
 /// Numbers of so many hex digits each.
-fn hex_list(hex: &str, digits: usize) -> Option<String> {
+fn numbers<Number: TryFrom<u32>>(hex: &str, digits: usize) -> Vec<Number> {
     let starts = (0..hex.len()).step_by(digits);
-    list(starts.map(|at| {
-        let number = u16::from_str_radix(hex.get(at..at + digits)?, 16).ok()?;
-        Some(number.to_string())
-    }))
+    starts
+        .filter_map(|at| u32::from_str_radix(hex.get(at..at + digits)?, 16).ok())
+        .filter_map(|number| number.try_into().ok())
+        .collect()
 }
 
-/// The theorems of the cases taken, each under the line that it comes from.
-/// A history's has two parts, its answers and its words.
-fn theorems(shares: &mut [Share]) -> io::Result<Vec<String>> {
-    let mut taken = Vec::new();
-    for (number, line) in io::stdin().lines().enumerate() {
-        let line = line?;
-        let fields: Vec<&str> = line.split(';').collect();
-        let (sort, size) = sort_of(&fields).ok_or(io::ErrorKind::InvalidData)?;
-        if shares[sort as usize].takes(size) {
-            let says = statement(&fields).ok_or(io::ErrorKind::InvalidData)?;
-            let proof = match sort {
-                Sort::History => "(refl, refl)",
-                _ => "refl",
-            };
-            let name = format!("case-{number}");
-            taken.push(format!(
-                "-- {line}\npub {name} : {says}\nunfolding computing\n{name} = {proof}\n"
-            ));
+/// The cases of a share, those that show something new first, and how many
+/// were too large.
+fn choose(share: &Share, lines: &[String]) -> (Vec<Case>, usize) {
+    let mut seen: HashMap<String, usize> = HashMap::new();
+    let mut cases = Vec::new();
+    let mut dropped = 0;
+    for (number, line) in lines.iter().enumerate() {
+        let fields = fields_of(line);
+        match sort_of(&fields) {
+            Some((sort, size)) if sort == share.sort && size <= share.limit => {
+                let before = seen.entry(shows(&fields)).or_default();
+                let (line, rank) = (line.clone(), *before);
+                cases.push(Case { number, line, rank });
+                *before += 1;
+            }
+            Some((sort, _)) => dropped += usize::from(sort == share.sort),
+            None => {}
         }
     }
-    Ok(taken)
+    cases.sort_by_key(|case| case.rank);
+    cases.truncate(share.wanted);
+    (cases, dropped)
+}
+
+/// A case's theorem, under the line that it comes from. A history's has two
+/// parts, its answers and its words.
+fn theorem(sort: Sort, case: &Case) -> Option<String> {
+    let Case { number, line, .. } = case;
+    let says = statement(&fields_of(line))?;
+    let proof = match sort {
+        Sort::History => "(refl, refl)",
+        _ => "refl",
+    };
+    let name = format!("case-{number}");
+    Some(format!(
+        "-- {line}\npub {name} : {says}\nunfolding computing\n{name} = {proof}\n"
+    ))
 }
 
 /// Writes the files and the list of them.
@@ -231,30 +229,34 @@ fn write(folder: &Path, theorems: &[String]) -> io::Result<()> {
     fs::write(folder.join("Lib.antt"), modules)
 }
 
-fn run(folder: &Path, mut shares: [Share; 7]) -> io::Result<()> {
-    let theorems = theorems(&mut shares)?;
-    write(folder, &theorems)?;
+fn run(folder: &Path, shares: &[Share]) -> io::Result<()> {
+    let lines: Vec<String> = io::stdin().lines().collect::<Result<_, _>>()?;
+    if lines.iter().any(|line| sort_of(&fields_of(line)).is_none()) {
+        return Err(io::ErrorKind::InvalidData.into());
+    }
+    let mut theorems = Vec::new();
     for share in shares {
-        let (name, taken, wanted) = (share.name, share.taken, share.wanted);
-        let dropped = share.dropped;
+        let (cases, dropped) = choose(share, &lines);
+        let (name, taken, wanted) = (share.name, cases.len(), share.wanted);
         println!("{name}: {taken} of {wanted} wanted, {dropped} dropped as too large");
+        for case in &cases {
+            let theorem = theorem(share.sort, case);
+            theorems.push(theorem.ok_or(io::ErrorKind::InvalidData)?);
+        }
     }
     println!("{} cases", theorems.len());
-    Ok(())
+    write(folder, &theorems)
 }
 
 fn main() -> ExitCode {
     let given: Vec<String> = std::env::args().skip(1).collect();
-    let counts: Vec<usize> = given
-        .iter()
-        .skip(1)
-        .filter_map(|a| a.parse().ok())
-        .collect();
+    let counts = given.iter().skip(1).filter_map(|a| a.parse().ok());
+    let counts: Vec<usize> = counts.collect();
     let (Some(folder), &[histories, plans, ledgers]) = (given.first(), &counts[..]) else {
         eprintln!("usage: theorems FOLDER HISTORIES PLANS LEDGERS < lines of vectors");
         return ExitCode::FAILURE;
     };
-    match run(Path::new(folder), shares(histories, plans, ledgers)) {
+    match run(Path::new(folder), &shares(histories, plans, ledgers)) {
         Ok(()) => ExitCode::SUCCESS,
         Err(error) => {
             eprintln!("theorems: {error}");
