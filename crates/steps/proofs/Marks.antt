@@ -60,12 +60,13 @@ module _ (p : Plan) (ok : Accepted p) (few : trackCount p ≤ slots) where
       → getD (setHost p (host p t) b ms) u false ≡ cond (eqb (owner p h) u) b (getD ms u false)
   unfolding setHost
   set-host t u h b ms n e =
-      elim (look (eqb (owner p h) u))
-      [ inl q ↦
-          let r = eqb-true (owner p h) u q in
-          let low : owner p h < length ms = let x = ok .owned h (ok .host-state t h e) in omega (arith, n) in
-          rw (e, setHost, q) (subst (λ z. getD (set ms (owner p h) b) z false ≡ b) r (getD-set-same ms (owner p h) b false low))
-      | inr q ↦ rw (e, setHost, q) (getD-set-other ms (owner p h) u b false (λ z. eqb-false (owner p h) u q (sym z))) ]
+      elim (look (eqb (owner p h) u)) [
+        | inl q ↦
+            let r = eqb-true (owner p h) u q in
+            let low : owner p h < length ms = let x = ok .owned h (ok .host-state t h e) in omega (arith, n) in
+            rw (e, setHost, q) (subst (λ z. getD (set ms (owner p h) b) z false ≡ b) r (getD-set-same ms (owner p h) b false low))
+        | inr q ↦ rw (e, setHost, q) (getD-set-other ms (owner p h) u b false (λ z. eqb-false (owner p h) u q (sym z)))
+      ]
 
   by-eqb : (u t h : ℕ) → host p t ≡ some h → isHostedBy p u t ≡ eqb (owner p h) u
   unfolding isHostedBy
@@ -89,21 +90,23 @@ module _ (p : Plan) (ok : Accepted p) (few : trackCount p ≤ slots) where
     unfolding wakeMarks wakesAt
     wake-marks zero b t l = absurd (not-suc-le-zero l)
     wake-marks (suc n) b t l =
-        elim (look (eqb t n))
-        [ inr e ↦
-            let q = eqb-false t n e in
-            getD-set-other (wakeMarks p to n) n t _ false q ∙ wake-marks n (omega arith) t (let r : t ≡ n → ⊥ = q in omega arith)
-        | inl e ↦
-            let q = eqb-true t n e in
-            rw q
-            (getD-set-same (wakeMarks p to n) n _ false (omega (arith, length-wake n))
-            ∙ elim (look-option (host p n))
-              [ inl z ↦ rw (z, wakesAt) (sym (wakes-root p ok enters n z))
-              | inr z ↦
-                  let d = ok .lower n (z .0) (z .1) in
-                  rw (z .1, wakesAt)
-                  (ap (wakesIn p (firstState p (owner p (z .0))) (enters (owner p (z .0))) (z .0)) (wake-marks n (omega arith) (owner p (z .0)) d)
-                  ∙ sym (wakes-host p ok enters n (z .0) (z .1))) ]) ]
+        elim (look (eqb t n)) [
+          | inr e ↦
+              let q = eqb-false t n e in
+              getD-set-other (wakeMarks p to n) n t _ false q ∙ wake-marks n (omega arith) t (let r : t ≡ n → ⊥ = q in omega arith)
+          | inl e ↦
+              let q = eqb-true t n e in
+              rw q
+              (getD-set-same (wakeMarks p to n) n _ false (omega (arith, length-wake n))
+              ∙ elim (look-option (host p n)) [
+                | inl z ↦ rw (z, wakesAt) (sym (wakes-root p ok enters n z))
+                | inr z ↦
+                    let d = ok .lower n (z .0) (z .1) in
+                    rw (z .1, wakesAt)
+                    (ap (wakesIn p (firstState p (owner p (z .0))) (enters (owner p (z .0))) (z .0)) (wake-marks n (omega arith) (owner p (z .0)) d)
+                    ∙ sym (wakes-host p ok enters n (z .0) (z .1)))
+              ])
+        ]
 
   module _ (l : Ledger) where
     -- Who has an open scope.
@@ -124,24 +127,29 @@ module _ (p : Plan) (ok : Accepted p) (few : trackCount p ≤ slots) where
             (λ b. let r : length (replicate slots false) ≤ u = let q = ltb-false u slots b in omega (arith, length-replicate slots false) in List·getD-eq-default (replicate slots false) false r)
             (look (ltb u slots))
     open-marks (suc n) u =
-        elim (look (isAwake (l n .mode)))
-        [ inr a ↦ rw a (open-marks n u ∙ sym (ap (λ z. someBelow n (λ t. isHostedBy p u t && isAwake (l t .mode)) || z) (no-and (isHostedBy p u n)) ∙ no-or (someBelow n (λ t. isHostedBy p u t && isAwake (l t .mode)))))
-        | inl a ↦
-            elim (look-option (host p n))
-            [ inl e ↦ rw (a, by-none u n e) (setHost-none e ∙ open-marks n u ∙ sym (no-or (someBelow n (λ t. isHostedBy p u t && isAwake (l t .mode)))))
-            | inr e ↦
-                rw (a, by-eqb u n (e .0) (e .1))
-                (set-host n u (e .0) true (openMarks p l n) (length-open n) (e .1)
-                ∙ turn (eqb (owner p (e .0)) u) (open-marks n u)) ] ]
+        elim (look (isAwake (l n .mode))) [
+          | inr a ↦ rw a (open-marks n u ∙ sym (ap (λ z. someBelow n (λ t. isHostedBy p u t && isAwake (l t .mode)) || z) (no-and (isHostedBy p u n)) ∙ no-or (someBelow n (λ t. isHostedBy p u t && isAwake (l t .mode)))))
+          | inl a ↦
+              elim (look-option (host p n)) [
+                | inl e ↦ rw (a, by-none u n e) (setHost-none e ∙ open-marks n u ∙ sym (no-or (someBelow n (λ t. isHostedBy p u t && isAwake (l t .mode)))))
+                | inr e ↦
+                    rw (a, by-eqb u n (e .0) (e .1))
+                    (set-host n u (e .0) true (openMarks p l n) (length-open n) (e .1)
+                    ∙ turn (eqb (owner p (e .0)) u) (open-marks n u))
+              ]
+        ]
       where
         no-and : (b : Bool) → (b && false) ≡ false
         no-and true = refl
         no-and false = refl
+
         no-or : (b : Bool) → (b || false) ≡ b
         no-or true = refl
         no-or false = refl
+
         setHost-none : host p n ≡ none → getD (setHost p (host p n) true (openMarks p l n)) u false ≡ getD (openMarks p l n) u false
         setHost-none e = unfold setHost in rw (e, setHost)
+
         turn : (b : Bool) {x y : Bool} → x ≡ y → cond b true x ≡ (y || (b && true))
         turn true {x} {y} e = sym (or-right y true refl)
         turn false {x} {y} e = e ∙ sym (no-or y)
@@ -152,7 +160,7 @@ module _ (p : Plan) (ok : Accepted p) (few : trackCount p ≤ slots) where
 
     -- Which transition each takes.
     module _ (live : Live p l) (event : ℕ) (opens : List Bool) (marked : Marks false opens (trackCount p) (hasOpenScope p l))
-      (many : transitionCount p ≤ 256) where
+        (many : transitionCount p ≤ 256) where
       abbrev answers : ℕ → ℕ → Bool
       answers t y = eqb (transition p y .source) (l t .state) && eqb (transition p y .event) event
 
@@ -193,9 +201,9 @@ module _ (p : Plan) (ok : Accepted p) (few : trackCount p ≤ slots) where
       taken-test n ts b =
           let m = marked (mover p n) b in
           ap (λ z. eqb (transition p n .event) event && isForward (l (mover p n) .mode) && not z
-            && eqb (transition p n .source) (l (mover p n) .state) && eqb (getD ts (mover p n) noState) noState) m
+          && eqb (transition p n .source) (l (mover p n) .state) && eqb (getD ts (mover p n) noState) noState) m
           ∙ shuffle (eqb (transition p n .event) event) (isForward (l (mover p n) .mode)) (not (hasOpenScope p l (mover p n)))
-            (eqb (transition p n .source) (l (mover p n) .state)) (eqb (getD ts (mover p n) noState) noState)
+          (eqb (transition p n .source) (l (mover p n) .state)) (eqb (getD ts (mover p n) noState) noState)
         where
           shuffle : (a b c d e : Bool) → (a && b && c && d && e) ≡ ((b && c) && (d && a) && e)
           shuffle true true true true e = refl
@@ -247,6 +255,7 @@ module _ (p : Plan) (ok : Accepted p) (few : trackCount p ≤ slots) where
             where
               test : isTaken p l event opens n (takeMarks p l event opens n) ≡ (may t && answers t n && eqb (getD (takeMarks p l event opens n) t noState) noState)
               test = subst (λ z. isTaken p l event opens n (takeMarks p l event opens n) ≡ (may z && answers z n && eqb (getD (takeMarks p l event opens n) z noState) noState)) (sym e) (taken-test n (takeMarks p l event opens n) low)
+
               go : (a : Bool) → answers t n ≡ a → (o : Option ℕ) → firstBelow n (answers t) ≡ o
                   → getD (takeMarks p l event opens (suc n)) t noState ≡ wordOf (firstBelow (suc n) (answers t))
               go false a o q =
@@ -270,7 +279,7 @@ module _ (p : Plan) (ok : Accepted p) (few : trackCount p ≤ slots) where
           step ih (inl d) (inr m) =
               let e = eqb-true t (mover p n) d in
               let y : isTaken p l event opens n (takeMarks p l event opens n) ≡ false =
-                  taken-test n (takeMarks p l event opens n) low ∙ ap (λ z. z && answers (mover p n) n && eqb (getD (takeMarks p l event opens n) (mover p n) noState) noState) (ap may (sym e) ∙ m) in
+              taken-test n (takeMarks p l event opens n) low ∙ ap (λ z. z && answers (mover p n) n && eqb (getD (takeMarks p l event opens n) (mover p n) noState) noState) (ap may (sym e) ∙ m) in
               rw m (turn-no n t y ∙ (rw m at ih))
 
       -- each track's transition is its move
