@@ -15,7 +15,7 @@ use Rattle.rules.specs.Ledger.{Entry, Ledger, sleeping, modeOf, modeWord, confi
 use Rattle.rules.proofs.TrackWords.{length-heldAt, place-below}
 use Rattle.rules.proofs.Stored.{Fits, read-track}
 use Rattle.rules.proofs.Replaced.{updated, inTrack, set-three, install-entry, remove-entry, sleep-track}
-use Rattle.ledger.specs.Words.{Within, trackOf, trackAt, withTrack, entryPlace, withEntry, withInstalled, withRemoved, withAsleep}
+use Rattle.ledger.specs.Words.{Within, Room, trackOf, trackAt, withTrack, entryPlace, withEntry, withInstalled, withRemoved, withAsleep}
 
 -- what a mode's word is read as
 pub mode-zero : (w : ℕ) → w ≡ 0 → Asleep ≡ modeOf w
@@ -41,9 +41,9 @@ track-words ws t m h =
     λ x. record { mode = h x; state = getD ws (trackPlace entryLimit t + 1) 0; count = sym n x }
 
 -- the tracks of a plan have room where all of them have
-pub within : (ws : List ℕ) (tracks t : ℕ) → tracks ≤ 32 → wordCount entryLimit tracks ≤ length ws → t < tracks → Within ws t
+pub within : (ws : List ℕ) (tracks t : ℕ) → Room ws tracks → t < tracks → Within ws t
 unfolding wordCount
-within ws tracks t a b h = record { number = omega arith; room = omega (arith, place-below entryLimit tracks t h) }
+within ws tracks t r h = record { number = omega (arith, r .few); room = omega (arith, r .words, place-below entryLimit tracks t h) }
 
 -- In words that hold a ledger: a track is read as the ledger has it, and a track's words written are those of the ledger with that track
 -- replaced.

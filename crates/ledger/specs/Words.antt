@@ -4,13 +4,18 @@ use Prim.Native.Nat.{ℕ, suc, pred, _+_, _*_, _<_, _≤_}
 use lib.ListN.{length, getD, set, take, drop, replicate}
 use Rattle.rules.specs.declared.Mode.{Mode}
 use Rattle.rules.specs.declared.Track.{Track}
-use Rattle.rules.specs.Layout.{entryLimit, entryWidth, trackWidth, trackPlace, entriesPlace}
+use Rattle.rules.specs.Layout.{entryLimit, entryWidth, trackWidth, trackPlace, entriesPlace, wordCount}
 use Rattle.rules.specs.Ledger.{Configuration, modeWord, configurationAt}
 
 -- the ledger has room for the words of the track
 pub record Within (ws : List ℕ) (t : ℕ) : Type 0 where
   pub number : t < 32
   pub room : trackPlace entryLimit t + trackWidth entryLimit ≤ length ws
+
+-- it has room for the words of so many tracks
+pub record Room (ws : List ℕ) (tracks : ℕ) : Type 0 where
+  pub few : tracks ≤ 32
+  pub words : wordCount entryLimit tracks ≤ length ws
 
 -- a configuration without its entries
 unfoldable pub trackOf : Configuration → Track

@@ -24,6 +24,12 @@ pub const ENTRY_WIDTH: usize = 2;
 
 pub const TRACK_WIDTH: usize = HEAD_WORDS + ENTRY_WIDTH * ENTRY_LIMIT;
 
+pub fn wide(x: u16) -> usize
+    ensures { λ r. ⌜ (r ≡ x) × (r < 65536) ⌝ }
+{
+    x as usize
+}
+
 // Where a track's words start, which is where those of the tracks below it end.
 pub fn track_place(t: usize) -> usize
     requires { ⌜ t ≤ 32 ⌝ }
