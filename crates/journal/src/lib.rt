@@ -1,0 +1,2 @@
+// The program's text in a lent buffer.
+pub mod text;
