@@ -1,0 +1,25 @@
+-- A line of one number. Assumes nothing.
+use native.Mathlib.Omega.{arith}
+use borrow.Author.Needs.{needs}
+use Rattle.rules.specs.Text.{ascii}
+use Rattle.rules.specs.Transcript.{refusalLine}
+use Rattle.journal.proofs.LineText.{digits-byte}
+use Rattle.journal.proofs.lines.refusal_line.Statement.{statement}
+use Rattle.journal.proofs.lines.refusal_line.Tie as tie
+
+slice-aggregate-put-one : tie.Need-slice-aggregate-put-one
+slice-aggregate-put-one c = search needs
+
+put-one-requires : tie.Need-put-one-requires
+put-one-requires c κs = omega (arith, digits-byte (c .before .before .before .args .number) (c .before .before .before .fits .number .fits))
+
+same-length : tie.Need-same-length
+same-length c = search needs
+
+returns : tie.Need-returns
+unfolding refusalLine ascii
+returns c = c .before .before .put-one .ensures
+
+pub refusal-line-spec : {M : Type 1} → statement M
+refusal-line-spec =
+    tie.close (tie.spec slice-aggregate-put-one put-one-requires same-length returns)

@@ -1,0 +1,14 @@
+-- Text written into lent bytes at a place: every byte afterwards, and the place after the text. Assumes nothing.
+use mathlib.Core.Path.{_≡_}
+use mathlib.Core.List.{List, _++_}
+use Prim.Native.Nat.{ℕ, _+_}
+use lib.ListN.{length, take, drop}
+
+-- the bytes with the text at the place, in the stead of as many of theirs
+unfoldable pub writtenAt : List ℕ → ℕ → List ℕ → List ℕ
+writtenAt out at text = take at out ++ (text ++ drop (at + length text) out)
+
+-- What a writer's contract promises: the place that it answers, and every lent byte afterwards.
+pub record Wrote (out : List ℕ) (at : ℕ) (text out′ : List ℕ) (end : ℕ) : Type 0 where
+  pub place : end ≡ at + length text
+  pub bytes : out′ ≡ writtenAt out at text

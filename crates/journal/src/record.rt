@@ -1,0 +1,113 @@
+// The records of the journal.
+use plan::fields::word_at;
+ghost use mathlib.Core.Path.{_≡_};
+ghost use Prim.Native.Nat.{_+_, _≤_};
+ghost use lib.ListN.{length};
+ghost use Rattle.rules.specs.Record.{word};
+ghost use Rattle.rules.specs.Journal.{journalLength, recordOf, enteredAt};
+ghost use Rattle.journal.specs.Entered.{entered, sizeOf};
+
+// The journal's kinds.
+const EVENT: u16 = 16;
+
+const SIGNAL: u16 = 17;
+
+const FIRE: u16 = 18;
+
+const FIRE_LOWEST: u16 = 19;
+
+// The length of a record without a field and of one with a field.
+const BARE: u16 = 4;
+
+const WITH_FIELD: u16 = 6;
+
+// What stands at a place of the journal: its end, a broken record, or what is asked for, with its field.
+pub enum Record {
+    Ended,
+    Broken,
+    Event(u16),
+    Signal,
+    Fire(u16),
+    FireLowest,
+}
+
+fn wide(x: u16) -> usize
+    ensures { λ r. ⌜ r ≡ x ⌝ }
+{
+    x as usize
+}
+
+// The length of a kind's records, 0 where there is no such kind.
+fn length_of(kind: u16) -> u16
+    ensures { λ r. ⌜ r ≡ journalLength kind ⌝ }
+{
+    if kind == EVENT {
+        return WITH_FIELD;
+    }
+    if kind == SIGNAL {
+        return BARE;
+    }
+    if kind == FIRE {
+        return WITH_FIELD;
+    }
+    if kind == FIRE_LOWEST {
+        return BARE;
+    }
+    0
+}
+
+// The record at a place where one of a known kind stands whole.
+fn whole_at(journal: &[u8], at: usize, kind: u16) -> Record
+    requires { ⌜ at + journalLength kind ≤ length (now journal) ⌝ }
+    ensures { λ r. ⌜ entered r ≡ recordOf kind (word (now (journal .entry)) (at + 4)) ⌝ }
+{
+    if kind == EVENT {
+        return Record::Event(word_at(journal, at + 4));
+    }
+    if kind == SIGNAL {
+        return Record::Signal;
+    }
+    if kind == FIRE {
+        return Record::Fire(word_at(journal, at + 4));
+    }
+    Record::FireLowest
+}
+
+// What stands at a place of the journal.
+pub fn record_at(journal: &[u8], at: usize) -> Record
+    ensures { λ r. ⌜ entered r ≡ enteredAt (now (journal .entry)) at ⌝ }
+{
+    if journal.len() <= at {
+        return Record::Ended;
+    }
+    let left = journal.len() - at;
+    if left < 4 {
+        return Record::Broken;
+    }
+    let kind = word_at(journal, at + 2);
+    let length = length_of(kind);
+    if length == 0 {
+        return Record::Broken;
+    }
+    if word_at(journal, at) != length {
+        return Record::Broken;
+    }
+    if left < wide(length) {
+        return Record::Broken;
+    }
+    whole_at(journal, at, kind)
+}
+
+// How many bytes a record has.
+pub fn size_of(found: Record) -> usize
+    ensures { λ r. ⌜ r ≡ sizeOf (entered found) ⌝ }
+{
+    match found {
+        Record::Ended => 0,
+        Record::Broken => 0,
+        Record::Event(_) => 6,
+        Record::Signal => 4,
+        Record::Fire(_) => 6,
+        Record::FireLowest => 4,
+    }
+}

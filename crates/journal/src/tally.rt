@@ -1,0 +1,29 @@
+// The running tally for the last line.
+ghost use mathlib.Core.Path.{_≡_};
+ghost use Prim.Native.Nat.{_+_, _<_, _^_};
+ghost use Rattle.journal.specs.Tallied.{tallied};
+
+pub struct Tally {
+    pub held: u32,
+    pub fired: u32,
+}
+
+// One journal record's figures: the entries held after it, and the firings that it did. The caller keeps the sum of the firings
+// below 2 ^ 32.
+pub fn advance(tally: &mut Tally, held: u32, fired: u32)
+    requires { ⌜ now tally .fired + fired < 2 ^ 32 ⌝ }
+    ensures { λ _. ⌜ now (tally .exit) ≡ tallied (now (tally .entry)) held fired ⌝ }
+{
+    tally.held = held;
+    tally.fired = tally.fired + fired;
+}
+
+// The same by value, for loops.
+pub fn advanced(tally: Tally, held: u32, fired: u32) -> Tally
+    requires { ⌜ tally .fired + fired < 2 ^ 32 ⌝ }
+    ensures { λ r. ⌜ r ≡ tallied tally held fired ⌝ }
+{
+    let mut next = tally;
+    advance(&mut next, held, fired);
+    next
+}
