@@ -88,7 +88,7 @@ module _ (limit : ℕ) (p : Plan) (ok : Accepted p) (l : Ledger) where
   unfolding heldTotal
   signal-fewer a =
       sum-mono (trackCount p) (λ t. length (abandoned p (turns p a l) t .held)) (λ t. length (l t .held))
-      (λ t. let b = abandoned-fewer p ok (turns p a l) t in let e = ap length (turned-held p a l t) in omega arith)
+      (λ t. let b = abandoned-fewer p ok (turns p a l) t in let e = ap length (turned-held p ok a l t) in omega arith)
 
   fire-fewer : (t : ℕ) → mayFire p l t ≡ true → heldTotal p (abandoned p (fired p l t)) < heldTotal p l
   unfolding heldTotal

@@ -151,7 +151,7 @@ module _ (limit : ℕ) (p : Plan) (ok : Accepted p) (k : Books p limit) where
       signal-open z o =
           let (u, b, h, w) = open-find p (abandoned p (turns p a l)) z o in
           let (c, r) = awake-kept p ok (turns p a l) u w in
-          open-at p l z u b h (sym (turned-awake p a l u) ∙ ap (λ (y : Configuration). isAwake (y .mode)) (sym r) ∙ w)
+          open-at p l z u b h (sym (turned-awake p ok a l u) ∙ ap (λ (y : Configuration). isAwake (y .mode)) (sym r) ∙ w)
 
       signal-booked : next limit p l (signal a) ≡ abandoned p (turns p a l) → Booked (next limit p l (signal a)) first now
       signal-booked q =
@@ -165,7 +165,7 @@ module _ (limit : ℕ) (p : Plan) (ok : Accepted p) (k : Books p limit) where
                 λ z o f.
                 let f′ = subst (λ y. isForward (y (owner p z) .mode) ≡ true) q f in
                 let (c, r) = awake-kept p ok (turns p a l) (owner p z) (forward-awake (abandoned p (turns p a l) (owner p z) .mode) f′) in
-                let (w, i) = spared p a l z (ap (λ (y : Configuration). isForward (y .mode)) (sym r) ∙ f′) in
+                let (w, i) = spared p ok a l z (ap (λ (y : Configuration). isForward (y .mode)) (sym r) ∙ f′) in
                 over-signal (v .running z (signal-open z (subst (λ y. isOpen p y z ≡ true) q o)) w) a acc i o;
             books = v .books;
           }

@@ -40,8 +40,8 @@ module _ (limit : ℕ) (p : Plan) (ok : Accepted p) (k : Books p limit) (l : Led
   pub turned-blocks : (a : SignalArguments) → Blocks limit p ok k (turns p a l) W R
   turned-blocks a =
       record {
-        held = λ t. rw (turned-held p a l t) (g .held t);
-        runs = λ s o f. g .runs s (sym (open-same p (turns p a l) l (turned-awake p a l) s) ∙ o) (spared p a l s f .0);
+        held = λ t. rw (turned-held p ok a l t) (g .held t);
+        runs = λ s o f. g .runs s (sym (open-same p (turns p a l) l (turned-awake p ok a l) s) ∙ o) (spared p ok a l s f .0);
       }
 
   -- an abandoned track held nothing

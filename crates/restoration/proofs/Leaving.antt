@@ -22,14 +22,14 @@ module _ (p : Plan) (ok : Accepted p) (l : Ledger) (n : Nested p l) where
   pub turned-nested : (a : SignalArguments) → Nested p (turns p a l)
   turned-nested a =
       record {
-        below = λ t w. n .below t (sym (turned-awake p a l t) ∙ w);
-        own = λ t w. ap (isStateOf p t) (turned-state p a l t) ∙ n .own t (sym (turned-awake p a l t) ∙ w);
+        below = λ t w. n .below t (sym (turned-awake p ok a l t) ∙ w);
+        own = λ t w. ap (isStateOf p t) (turned-state p ok a l t) ∙ n .own t (sym (turned-awake p ok a l t) ∙ w);
         hosted =
             λ t h w e.
-            let u = n .hosted t h (sym (turned-awake p a l t) ∙ w) e in
-            (turned-state p a l (owner p h) ∙ u .0, turned-alike p a l t h e (u .1));
-        whole = λ t u h e f. turned-awake p a l t ∙ n .whole t u h e f ∙ sym (turned-awake p a l u);
-        blank = λ t w. turned-blank p a l t (n .blank t (sym (turned-awake p a l t) ∙ w));
+            let u = n .hosted t h (sym (turned-awake p ok a l t) ∙ w) e in
+            (turned-state p ok a l (owner p h) ∙ u .0, turned-alike p ok a l t h e (u .1));
+        whole = λ t u h e f. turned-awake p ok a l t ∙ n .whole t u h e f ∙ sym (turned-awake p ok a l u);
+        blank = λ t w. turned-blank p ok a l t (n .blank t (sym (turned-awake p ok a l t) ∙ w));
       }
 
   -- the tracks of a scope are abandoned together

@@ -59,7 +59,7 @@ module _ (limit : ℕ) (p : Plan) (ok : Accepted p) (s : ℕ) where
     signal-forward a f =
         let q = awake-kept p ok (turns p a l) (owner p s) (forward-awake (abandoned p (turns p a l) (owner p s) .mode) f) .1 in
         let g = ap (λ (y : Configuration). isForward (y .mode)) (sym q) ∙ f in
-        ap (λ (y : Configuration). isForward (y .mode)) (sym (unturned p a l (owner p s) g)) ∙ g
+        ap (λ (y : Configuration). isForward (y .mode)) (sym (unturned p ok a l (owner p s) g)) ∙ g
 
     fire-forward : (a : FireArguments) → callRefusal limit p l (fire a) ≡ 0 → Forward (abandoned p (fired p l (a .track))) → Forward l
     fire-forward a h f =

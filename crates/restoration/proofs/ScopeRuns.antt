@@ -128,7 +128,7 @@ module _ (limit : ℕ) (p : Plan) (ok : Accepted p) where
       retraction-state (signal a) v h o o′ =
           let q = open-next s l (signal a) h o′ in
           let w = subst (λ (m : Ledger). isAwake (m t .mode) ≡ true) q (after-open (signal a) o′) in
-          ap (λ (m : Ledger). m t .state) q ∙ ap (λ (c : Configuration). c .state) (awake-kept p ok (turns p a l) t w .1) ∙ turned-state p a l t
+          ap (λ (m : Ledger). m t .state) q ∙ ap (λ (c : Configuration). c .state) (awake-kept p ok (turns p a l) t w .1) ∙ turned-state p ok a l t
       retraction-state (fire a) v h o o′ =
           let q = open-next s l (fire a) h o′ in
           let w = subst (λ (m : Ledger). isAwake (m t .mode) ≡ true) q (after-open (fire a) o′) in
@@ -158,7 +158,7 @@ module _ (limit : ℕ) (p : Plan) (ok : Accepted p) where
           go (signal a) h o′ =
               let q = open-next s l (signal a) h o′ in
               let w = subst (λ (m : Ledger). isAwake (m t .mode) ≡ true) q (after-open (signal a) o′) in
-              clash (sym (turned-awake p a l t) ∙ ap (λ (c : Configuration). isAwake (c .mode)) (sym (awake-kept p ok (turns p a l) t w .1)) ∙ w) slept
+              clash (sym (turned-awake p ok a l t) ∙ ap (λ (c : Configuration). isAwake (c .mode)) (sym (awake-kept p ok (turns p a l) t w .1)) ∙ w) slept
           go (fire a) h o′ =
               let q = open-next s l (fire a) h o′ in
               let w = subst (λ (m : Ledger). isAwake (m t .mode) ≡ true) q (after-open (fire a) o′) in

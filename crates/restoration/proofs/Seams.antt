@@ -20,7 +20,7 @@ use Rattle.rules.specs.Fire.{mayFire, fired, afterFire}
 use Rattle.rules.specs.Call.{EventArguments, SignalArguments, FireArguments, Call, event, signal, fire, callRefusals, callRefusal, after, next}
 use Rattle.rules.proofs.Tests.{look, look-option, clash, none-some, and-true, or-false, passed}
 use Rattle.rules.proofs.Folds.{every-at}
-use Rattle.rules.proofs.Acceptance.{transition-for}
+use Rattle.rules.proofs.Acceptance.{Accepted, transition-for}
 use Rattle.rules.proofs.Scopes.{root-of}
 
 -- What the rules of an event read of its arguments.
@@ -194,7 +194,7 @@ turned-case k = go (k .mode) refl
     go Forward e = unfold isForward isAwake in rw (e, isForward) (refl, refl, refl, refl)
     go Undoing e = unfold isForward isAwake in rw (e, isForward) (refl, refl, refl, refl)
 
-module _ (p : Plan) (a : SignalArguments) (l : Ledger) where
+module _ (p : Plan) (ok : Accepted p) (a : SignalArguments) (l : Ledger) where
   pub turned-awake : (t : ℕ) → isAwake (turns p a l t .mode) ≡ isAwake (l t .mode)
   unfolding turned
   turned-awake t = turned-case (l t) .0

@@ -49,13 +49,13 @@ module _ (limit : ℕ) (p : Plan) (ok : Accepted p) (l : Ledger) (s : Sound limi
     pub spared-track : (t : ℕ) → isForward (abandoned p T t .mode) ≡ true → abandoned p T t ≡ l t
     spared-track t f =
         let q = awake-kept p ok T t (forward-awake (abandoned p T t .mode) f) .1 in
-        q ∙ unturned p a l t (ap (λ (c : Configuration). isForward (c .mode)) (sym q) ∙ f)
+        q ∙ unturned p ok a l t (ap (λ (c : Configuration). isForward (c .mode)) (sym q) ∙ f)
 
     pub signal-sound : isFinishing p (abandoned p T) ≡ false → Sound limit p (abandoned p T)
     signal-sound unfinished =
         record {
           formed = abandoned-formed limit p ok T turned-first;
-          roots = λ t b e. ap (λ (c : Configuration). isAwake (c .mode)) (turned-root t e) ∙ turned-awake p a l t ∙ s .roots t b e;
+          roots = λ t b e. ap (λ (c : Configuration). isAwake (c .mode)) (turned-root t e) ∙ turned-awake p ok a l t ∙ s .roots t b e;
           closing =
               λ z.
               refuted (isClosing p (abandoned p T) z)

@@ -155,8 +155,8 @@ module _ (limit : ℕ) (p : Plan) where
     turned-formed a =
         record {
           nested = turned-nested p ok l (f .nested) a;
-          few = λ t. rw (turned-held p a l t) (f .few t);
-          good = λ t. rw (turned-held p a l t) (f .good t);
+          few = λ t. rw (turned-held p ok a l t) (f .few t);
+          good = λ t. rw (turned-held p ok a l t) (f .good t);
         }
 
     pub abandoned-formed : Formed limit p (abandoned p l)
