@@ -1,5 +1,6 @@
 -- What the theorems know of the rules that may change: who moves and by which transition, what an entry keeps and how it is installed,
--- when all is finished, whom a signal turns, when a call is refused. Only here are the texts of those rules unfolded. Assumes nothing.
+-- when all is finished, whom a signal turns, when a call is refused. Only here are the texts of those rules unfolded (and finish's once
+-- more in Unfinished, for the calls after which it is not looked for). Assumes nothing.
 use mathlib.Core.Path.{_≡_, refl, ap, _∙_, fun-ext}
 use mathlib.Core.Logic.{_⊎_, inl, inr}
 use mathlib.Core.Bool.{Bool, true, false, cond, not, _&&_, _||_}
