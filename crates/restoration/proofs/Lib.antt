@@ -36,4 +36,5 @@ pub mod LiteralRuns
 pub mod Potential
 pub mod SampleBooks
 pub mod SampleRun
+pub mod SampleFinished
 pub mod Counterexamples

@@ -2,14 +2,15 @@
 -- weigh as much as the potential of the state that the track stands in; of a finished run, that of a final state. Assumes nothing.
 use mathlib.Core.Path.{_≡_, refl, sym, ap, _∙_, subst}
 use mathlib.Core.Logic.{inl, inr}
-use mathlib.Core.Bool.{true}
+use mathlib.Core.Bool.{Bool, true, cond, _&&_}
 use mathlib.Core.List.{[], _∷_, _++_}
 use mathlib.Core.Option.{Option, none, some}
 use Prim.Native.Nat.{ℕ, zero, suc, _+_, _<_}
 use native.Mathlib.Nat.{not-suc-le-zero}
 use native.Mathlib.Omega.{arith}
 use lib.Dec.{eqb}
-use borrow.Author.Tests.{eqb-true, eqb-false, eq-eqb}
+use borrow.Author.Tests.{eqb-true, eqb-false, eq-eqb, ne-eqb}
+use Rattle.rules.specs.Fold.{everyBelow}
 use Rattle.rules.specs.Plan.{Plan, trackCount, transitionCount, transition, host, mover, firstState, isStateOf, isFinal, isInside}
 use Rattle.rules.specs.Ledger.{Configuration, Ledger}
 use Rattle.rules.specs.Scope.{isOpen}
@@ -17,7 +18,8 @@ use Rattle.rules.specs.Event.{move, moved}
 use Rattle.rules.specs.Call.{signal, fire, next}
 use Rattle.rules.specs.FinishedRun.{taken, movesOf, Running, by-begin, by-call, over-event, over-signal, over-fire, Finished}
 use Rattle.rules.specs.FinishedRun as run
-use Rattle.rules.proofs.Tests.{look, look-option, clash}
+use Rattle.rules.proofs.Tests.{look, look-option, clash, and-true}
+use Rattle.rules.proofs.Folds.{every-at}
 use Rattle.rules.proofs.Acceptance.{Accepted}
 use Rattle.rules.proofs.Forest.{inside-host}
 use Rattle.rules.proofs.Closing.{closing-final}
@@ -74,6 +76,33 @@ pub record Potential (p : Plan) (t : ℕ) (v φ : ℕ → ℕ) : Type 0 where
   pub start : φ (firstState p t) ≡ 0
   pub along : (x : ℕ) → x < transitionCount p → mover p x ≡ t → φ (transition p x .destination) ≡ φ (transition p x .source) + v x
   pub others : (x : ℕ) → x < transitionCount p → (mover p x ≡ t → ⊥) → v x ≡ 0
+
+-- the same as one test over the table of transitions, to be computed
+unfoldable pub isPotential : Plan → ℕ → (ℕ → ℕ) → (ℕ → ℕ) → Bool
+isPotential p t v φ =
+    eqb (φ (firstState p t)) 0
+    && everyBelow (transitionCount p)
+    (λ x. cond (eqb (mover p x) t) (eqb (φ (transition p x .destination)) (φ (transition p x .source) + v x)) (eqb (v x) 0))
+
+pub potential-of : (p : Plan) (t : ℕ) (v φ : ℕ → ℕ) → isPotential p t v φ ≡ true → Potential p t v φ
+unfolding isPotential
+potential-of p t v φ h =
+    let (a, b) = and-true (eqb (φ (firstState p t)) 0) (everyBelow (transitionCount p) at) h in
+    record {
+      start = eqb-true (φ (firstState p t)) 0 a;
+      along =
+          λ x l m.
+          let q : eqb (φ (transition p x .destination)) (φ (transition p x .source) + v x) ≡ true =
+          rw (eq-eqb (mover p x) t m) at (every-at (transitionCount p) at b x l) in
+          eqb-true _ _ q;
+      others =
+          λ x l m.
+          let q : eqb (v x) 0 ≡ true = rw (ne-eqb (mover p x) t m) at (every-at (transitionCount p) at b x l) in
+          eqb-true (v x) 0 q;
+    }
+  where
+    at : ℕ → Bool
+    at x = cond (eqb (mover p x) t) (eqb (φ (transition p x .destination)) (φ (transition p x .source) + v x)) (eqb (v x) 0)
 
 module _ (limit : ℕ) (p : Plan) (ok : Accepted p) (s t : ℕ) (e : host p t ≡ some s) (v φ : ℕ → ℕ) (pot : Potential p t v φ) where
   -- the moves of an event weigh as much as the step of the track's own

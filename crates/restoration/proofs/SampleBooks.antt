@@ -1,6 +1,6 @@
 -- The conditions can be met: books for the sample plan P, of three numbers, on which the changes of each track raise that track's number and
 -- the retractions lower it again; replacement 90 lowers what every finished run of state 1 has raised. Assumes nothing.
-use mathlib.Core.Path.{_≡_, refl, sym, _∙_, subst}
+use mathlib.Core.Path.{_≡_, refl, sym, ap, _∙_, subst}
 use mathlib.Core.Bool.{true}
 use mathlib.Core.List.{List, [], _∷_}
 use mathlib.Core.Option.{some}
@@ -18,7 +18,7 @@ use Rattle.runs.specs.Computing.{computing}
 use Rattle.restoration.specs.SampleAccount.{countsP, P, Account, rootAdds, leftAdds, rightAdds, raised, lowered}
 use Rattle.restoration.proofs.Composition.{Word}
 use Rattle.restoration.proofs.Nesting.{state-of}
-use Rattle.restoration.proofs.Potential.{weight, Potential, finished-weight, outside-weight}
+use Rattle.restoration.proofs.Potential.{weight, Potential, isPotential, potential-of, finished-weight, outside-weight}
 
 pub accepts-P : readPlan planP ≡ accepted countsP
 unfolding computing
@@ -80,49 +80,30 @@ abbrev rightHeight : ℕ → ℕ
 rightHeight q = getD (0 ∷ 0 ∷ 0 ∷ 0 ∷ 0 ∷ 0 ∷ 2 ∷ 7 ∷ []) q 0
 
 left-climbs : Potential P 1 leftAdds leftHeight
-unfolding computing
-left-climbs =
-    record {
-      start = refl;
-      along =
-          λ x l m.
-          five (λ x. mover P x ≡ 1 → leftHeight (transition P x .destination) ≡ leftHeight (transition P x .source) + leftAdds x)
-          (λ e. absurd (omega arith)) (λ e. absurd (omega arith)) (λ e. refl) (λ e. absurd (omega arith)) (λ e. absurd (omega arith)) x l m;
-      others =
-          λ x l m.
-          five (λ x. (mover P x ≡ 1 → ⊥) → leftAdds x ≡ 0) (λ f. refl) (λ f. refl) (λ f. absurd (f refl)) (λ f. refl) (λ f. refl) x l m;
-    }
+unfolding computing isPotential
+left-climbs = potential-of P 1 leftAdds leftHeight refl
 
 right-climbs : Potential P 2 rightAdds rightHeight
-unfolding computing
-right-climbs =
-    record {
-      start = refl;
-      along =
-          λ x l m.
-          five (λ x. mover P x ≡ 2 → rightHeight (transition P x .destination) ≡ rightHeight (transition P x .source) + rightAdds x)
-          (λ e. absurd (omega arith)) (λ e. absurd (omega arith)) (λ e. absurd (omega arith)) (λ e. refl) (λ e. refl) x l m;
-      others =
-          λ x l m.
-          five (λ x. (mover P x ≡ 2 → ⊥) → rightAdds x ≡ 0) (λ f. refl) (λ f. refl) (λ f. refl) (λ f. absurd (f refl)) (λ f. absurd (f refl)) x l m;
-    }
+unfolding computing isPotential
+right-climbs = potential-of P 2 rightAdds rightHeight refl
 
 root-outside : (x : ℕ) → x < transitionCount P → isInside P 1 (mover P x) ≡ true → rootAdds x ≡ 0
 unfolding computing
 root-outside x l i =
     five (λ x. isInside P 1 (mover P x) ≡ true → rootAdds x ≡ 0) (λ f. clash f refl) (λ f. refl) (λ f. refl) (λ f. refl) (λ f. refl) x l i
 
-left-final : (q : ℕ) → isStateOf P 1 q ≡ true → isFinal P q ≡ true → leftHeight q ≡ 7
+-- the hosted tracks end in states 4 and 7
+pub left-end : (q : ℕ) → isStateOf P 1 q ≡ true → isFinal P q ≡ true → q ≡ 4
 unfolding computing
-left-final q o f =
-    eight (λ q. isStateOf P 1 q ≡ true → isFinal P q ≡ true → leftHeight q ≡ 7)
+left-end q o f =
+    eight (λ q. isStateOf P 1 q ≡ true → isFinal P q ≡ true → q ≡ 4)
     (λ o f. clash o refl) (λ o f. clash o refl) (λ o f. clash o refl) (λ o f. clash f refl) (λ o f. refl)
     (λ o f. clash o refl) (λ o f. clash o refl) (λ o f. clash o refl) q (state-of P 1 q o .0) o f
 
-right-final : (q : ℕ) → isStateOf P 2 q ≡ true → isFinal P q ≡ true → rightHeight q ≡ 7
+pub right-end : (q : ℕ) → isStateOf P 2 q ≡ true → isFinal P q ≡ true → q ≡ 7
 unfolding computing
-right-final q o f =
-    eight (λ q. isStateOf P 2 q ≡ true → isFinal P q ≡ true → rightHeight q ≡ 7)
+right-end q o f =
+    eight (λ q. isStateOf P 2 q ≡ true → isFinal P q ≡ true → q ≡ 7)
     (λ o f. clash o refl) (λ o f. clash o refl) (λ o f. clash o refl) (λ o f. clash o refl) (λ o f. clash o refl)
     (λ o f. clash f refl) (λ o f. clash f refl) (λ o f. refl) q (state-of P 2 q o .0) o f
 
@@ -135,13 +116,19 @@ hosts-P (suc (suc zero)) s e = sym (cc)
 hosts-P (suc (suc (suc t))) s e = let l : suc (suc (suc t)) < 3 = ok-P .hosted (suc (suc (suc t))) s e in absurd (omega arith)
 
 module _ (limit : ℕ) where
+  -- what the moves of tracks 1 and 2 in a finished run of state 1 add up to
+  pub left-weight : (w : Word) → Finished P limit 1 w → (v φ : ℕ → ℕ) → Potential P 1 v φ → weight v w ≡ φ 4
+  unfolding computing
+  left-weight w f v φ c = let (q, o, z, e) = finished-weight limit P ok-P 1 1 refl v φ c f in e ∙ ap φ (left-end q o z)
+
+  pub right-weight : (w : Word) → Finished P limit 1 w → (v φ : ℕ → ℕ) → Potential P 2 v φ → weight v w ≡ φ 7
+  unfolding computing
+  right-weight w f v φ c = let (q, o, z, e) = finished-weight limit P ok-P 1 2 refl v φ c f in e ∙ ap φ (right-end q o z)
+
   -- every finished run of state 1 has raised the two hosted tracks' numbers by 7, and the root's by nothing
   finished-P : (w : Word) → Finished P limit 1 w → (weight rootAdds w ≡ 0) × (weight leftAdds w ≡ 7) × (weight rightAdds w ≡ 7)
-  unfolding computing
   finished-P w f =
-      let (q, o, z, e) = finished-weight limit P ok-P 1 1 refl leftAdds leftHeight left-climbs f in
-      let (r, u, y, g) = finished-weight limit P ok-P 1 2 refl rightAdds rightHeight right-climbs f in
-      (outside-weight limit P ok-P 1 rootAdds root-outside f, e ∙ left-final q o z, g ∙ right-final r u y)
+      (outside-weight limit P ok-P 1 rootAdds root-outside f, left-weight w f leftAdds leftHeight left-climbs, right-weight w f rightAdds rightHeight right-climbs)
 
   pub undo-run-P : (s t : ℕ) → host P t ≡ some s → (w : List ℕ) → Finished P limit s w → (b : Account) → lowered (replacement P s) (act raised w b) ≡ b
   unfolding computing lowered
