@@ -10,7 +10,7 @@ use borrow.Author.Tests.{ltb-true, ltb-false, leb-false, lt-ltb, le-ltb, le-leb,
 use Rattle.rules.specs.declared.Counts.{Counts}
 use Rattle.rules.specs.Fold.{someBelow}
 use Rattle.rules.specs.Plan.{Plan, planOf, stateCount, trackCount, noState, hostWord, state, owner, replacement, transition, mover, isRoot, isStateOf, isFinal, isHosting, first, firstState}
-use Rattle.rules.specs.Acceptance.{badState, badHost, badFirst, badHosting, badTransition, badDeviation, repeatsEvent}
+use Rattle.rules.specs.Acceptance.{badState, badHost, badFirst, badHosting, badTransition, badDeviation}
 use Rattle.rules.proofs.Tests.{and-true, or-false}
 use Rattle.rules.proofs.Folds.{first-found, some-not}
 use Rattle.plan.proofs.FieldLaws.{track-count, state-count}
