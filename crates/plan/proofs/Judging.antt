@@ -1,4 +1,4 @@
--- The tests of refusals 9 to 15, part by part, in the order in which the code looks at a record's fields. Assumes nothing.
+-- The tests of refusals 9 to 14, part by part, in the order in which the code looks at a record's fields. Assumes nothing.
 use mathlib.Core.Path.{_≡_, refl, sym, _∙_}
 use mathlib.Core.Bool.{Bool, true, false, not, _&&_, _||_}
 use mathlib.Core.List.{List}
@@ -10,7 +10,7 @@ use borrow.Author.Tests.{ltb-true, ltb-false, leb-false, lt-ltb, le-ltb, le-leb,
 use Rattle.rules.specs.declared.Counts.{Counts}
 use Rattle.rules.specs.Fold.{someBelow}
 use Rattle.rules.specs.Plan.{Plan, planOf, stateCount, trackCount, noState, hostWord, state, owner, replacement, transition, mover, isRoot, isStateOf, isFinal, isHosting, first, firstState}
-use Rattle.rules.specs.Acceptance.{badState, badHost, badFirst, badHosting, badTransition, badDeviation, repeatsEvent}
+use Rattle.rules.specs.Acceptance.{badState, badHost, badFirst, badHosting, badTransition, badDeviation}
 use Rattle.rules.proofs.Tests.{and-true, or-false}
 use Rattle.rules.proofs.Folds.{first-found, some-not}
 use Rattle.plan.proofs.FieldLaws.{track-count, state-count}
@@ -174,33 +174,17 @@ module _ (p : Plan) where
   unfolding badState
   owner-passed s h = leb-false (trackCount p) (owner p s) (or-false (leb (trackCount p) (owner p s)) (ltb 1 (state p s .final)) h .0)
 
+pub source-within : (bs : List ℕ) (c : Counts) → someBelow (c .transitions) (badTransition (planOf bs c)) ≡ false → (x : ℕ)
+    → x < c .transitions → transition (planOf bs c) x .source < c .states
+source-within bs c k x l =
+    rw state-count at (source-passed (planOf bs c) x (some-not (c .transitions) (badTransition (planOf bs c)) k x l))
+
 pub mover-passed : (bs : List ℕ) (c : Counts) → someBelow (c .states) (badState (planOf bs c)) ≡ false
     → someBelow (c .transitions) (badTransition (planOf bs c)) ≡ false → (x : ℕ) → x < c .transitions
     → (transition (planOf bs c) x .source < c .states) × (mover (planOf bs c) x < c .tracks)
 unfolding mover
 mover-passed bs c h k x l =
     let p = planOf bs c in
-    let a = rw state-count at (source-passed p x (some-not (c .transitions) (badTransition p) k x l)) in
+    let a = source-within bs c k x l in
     let b = rw track-count at (owner-passed p (transition p x .source) (some-not (c .states) (badState p) h _ a)) in
     (a, b)
-
--- 15: an earlier transition has the source and the event of x
-unfoldable pub shares : Plan → ℕ → ℕ → Bool
-shares p x y = eqb (transition p y .source) (transition p x .source) && eqb (transition p y .event) (transition p x .event)
-
-pub repeats : (p : Plan) (x : ℕ) → repeatsEvent p x ≡ someBelow x (shares p x)
-unfolding repeatsEvent shares
-repeats p x = refl
-
-pub shared : (p : Plan) (x y : ℕ) → transition p y .source ≡ transition p x .source → transition p y .event ≡ transition p x .event
-    → shares p x y ≡ true
-unfolding shares
-shared p x y h k = rw (eq-eqb _ _ h, eq-eqb _ _ k)
-
-pub other-source : (p : Plan) (x y : ℕ) → (transition p y .source ≡ transition p x .source → ⊥) → shares p x y ≡ false
-unfolding shares
-other-source p x y h = rw (ne-eqb _ _ h)
-
-pub other-event : (p : Plan) (x y : ℕ) → (transition p y .event ≡ transition p x .event → ⊥) → shares p x y ≡ false
-unfolding shares
-other-event p x y h = rw (ne-eqb _ _ h) (and-none (eqb (transition p y .source) (transition p x .source)))

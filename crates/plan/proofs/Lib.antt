@@ -1,4 +1,5 @@
 -- Laws of the plan reader.
+pub mod ChainLaws
 pub mod FieldLaws
 pub mod Searches
 pub mod HeightLaws

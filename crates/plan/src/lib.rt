@@ -1,9 +1,11 @@
 // The plan reader: plan bytes to the counts of tracks, states and transitions, or to the refusal 2 to 16. It takes any bytes.
+pub mod events;
 pub mod fields;
 pub mod heights;
 pub mod records;
 pub mod refusals;
 
+use crate::events::some_repeated_event;
 use crate::heights::some_too_high;
 use crate::records::Scanned;
 use crate::records::scan_records;
@@ -14,12 +16,11 @@ use crate::refusals::some_bad_host;
 use crate::refusals::some_bad_hosting;
 use crate::refusals::some_bad_state;
 use crate::refusals::some_bad_transition;
-use crate::refusals::some_repeated_event;
 use rules::Counts;
 use rules::PlanAnswer;
 ghost use mathlib.Core.Path.{_≡_};
 ghost use Rattle.rules.specs.Plan.{planOf};
-ghost use Rattle.rules.specs.Acceptance.{judgePlan, judged, readPlan};
+ghost use Rattle.rules.specs.Acceptance.{judgePlan, readPlan};
 ghost use Rattle.rules.specs.Answers.{planTold};
 ghost use Rattle.plan.specs.Holds.{Holds};
 

@@ -1,4 +1,4 @@
-// Refusals 8 to 15, judged over the whole plan: for each a test of one record, and whether some record of the plan meets it.
+// Refusals 8 to 14, judged over the whole plan: for each a test of one record, and whether some record of the plan meets it.
 use crate::fields::NO_STATE;
 use crate::fields::code_of;
 use crate::fields::destination_of;
@@ -20,7 +20,7 @@ ghost use mathlib.Core.Bool.{false};
 ghost use Prim.Native.Nat.{_+_, _<_, _≤_};
 ghost use Rattle.rules.specs.Fold.{someBelow};
 ghost use Rattle.rules.specs.Plan.{planOf, firstState, isHosting, transition, mover};
-ghost use Rattle.rules.specs.Acceptance.{noTrack, badState, badHost, badFirst, badHosting, badTransition, badDeviation, repeatsEvent};
+ghost use Rattle.rules.specs.Acceptance.{noTrack, badState, badHost, badFirst, badHosting, badTransition, badDeviation};
 ghost use Rattle.plan.specs.Holds.{Holds};
 
 // 8: there is no track.
@@ -212,40 +212,6 @@ pub fn some_bad_deviation(plan: &[u8], c: Counts) -> bool
     let mut x: usize = 0;
     while x < transitions {
         if bad_deviation(plan, c, x) {
-            return true;
-        }
-        x += 1;
-    }
-    false
-}
-
-// 15: an earlier transition shares source and event.
-pub fn repeats_event(plan: &[u8], c: Counts, x: usize) -> bool
-    requires { ⌜ Holds (now plan) c × (x < c .transitions) ⌝ }
-    ensures { λ r. ⌜ r ≡ repeatsEvent (planOf (now (plan .entry)) c) x ⌝ }
-{
-    let source = source_of(plan, c, x);
-    let event = event_of(plan, c, x);
-    let mut y: usize = 0;
-    while y < x {
-        if source_of(plan, c, y) == source {
-            if event_of(plan, c, y) == event {
-                return true;
-            }
-        }
-        y += 1;
-    }
-    false
-}
-
-pub fn some_repeated_event(plan: &[u8], c: Counts) -> bool
-    requires { ⌜ Holds (now plan) c ⌝ }
-    ensures { λ r. ⌜ r ≡ someBelow (c .transitions) (repeatsEvent (planOf (now (plan .entry)) c)) ⌝ }
-{
-    let transitions = c.transitions;
-    let mut x: usize = 0;
-    while x < transitions {
-        if repeats_event(plan, c, x) {
             return true;
         }
         x += 1;

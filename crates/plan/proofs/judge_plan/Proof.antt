@@ -89,7 +89,7 @@ returns-7 c =
     ))
 
 some-repeated-event-requires : tie.Need-some-repeated-event-requires
-some-repeated-event-requires c κs = search needs
+some-repeated-event-requires c κs = (search needs, sym (c .before .before .before .some-bad-transition .ensures) ∙ c .before .before .if6 .left)
 
 returns-8 : tie.Need-returns-8
 returns-8 c =
