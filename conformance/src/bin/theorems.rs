@@ -15,6 +15,7 @@ use std::process::ExitCode;
 
 use conformance::ledger::{self, TRACK_WORDS};
 use conformance::plan::{self, Plan};
+use conformance::record::{self, Header};
 use conformance::theorems::{parts, statement};
 
 /// Theorems to a file.
@@ -62,12 +63,12 @@ fn shares(histories: usize, plans: usize, ledgers: usize) -> [Share; 8] {
         limit,
     };
     [
-        share(Sort::History, "histories", histories, 900),
-        share(Sort::Run, "whole runs", histories / 10, 1500),
+        share(Sort::History, "histories", histories, 700),
+        share(Sort::Run, "whole runs", histories / 10, 1200),
         share(Sort::Refused, "refused plans", plans, 300),
         share(Sort::Oversized, "plans refused as 6 or 16", plans / 20, 500),
         share(Sort::Accepted, "accepted plans", plans / 20, 300),
-        share(Sort::Damaged, "calls on damaged ledgers", ledgers, 240),
+        share(Sort::Damaged, "calls on damaged ledgers", ledgers, 200),
         share(Sort::Undoing, "signals and firings done", ledgers / 4, 240),
         share(Sort::Other, "other calls", ledgers / 4, 200),
     ]
@@ -121,6 +122,7 @@ fn shows(fields: &[&str]) -> String {
             let firsts: BTreeSet<&str> = output.lines().filter_map(|l| l.get(..1)).collect();
             format!("{firsts:?}")
         }
+        ["P", plan, "3"] => format!("3 {}", falls(&numbers(plan, 2))),
         ["P", _, answer] => parts(answer, ',').take(1).collect(),
         ["L", plan, before, call, answer, after] => match plan::read(&numbers(plan, 2)) {
             Ok(plan) if answer == "R18" => {
@@ -134,6 +136,19 @@ fn shows(fields: &[&str]) -> String {
         },
         _ => String::new(),
     }
+}
+
+/// Of a plan refused as 3: whether a kind falls, rather than being none.
+fn falls(plan: &[u8]) -> bool {
+    let mut kinds = Vec::new();
+    let mut rest = plan;
+    while let Some(header) = Header::read(rest) {
+        kinds.push(header.kind);
+        let length = usize::from(header.length).max(record::HEADER);
+        rest = rest.get(length..).unwrap_or_default();
+    }
+    let fall = kinds.windows(2).position(|pair| pair[1] < pair[0]);
+    fall.is_some_and(|at| kinds[..at + 2].iter().all(|kind| (1..=4).contains(kind)))
 }
 
 fn height(plan: &str) -> Option<u32> {
