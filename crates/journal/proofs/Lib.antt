@@ -3,3 +3,5 @@ pub mod Decimal
 pub mod Written
 pub mod LineText
 pub mod Entering
+pub mod Replaying
+pub mod Ready

@@ -11,6 +11,7 @@ use Rattle.rules.specs.Text.{ascii, decimal, fieldsText, line}
 use Rattle.rules.specs.Plan.{noState}
 use Rattle.rules.specs.Transcript.{deviationText}
 use Rattle.rules.proofs.Tests.{look}
+use Rattle.journal.specs.Writing.{Wrote, lineRoom, Lined}
 use Rattle.journal.proofs.Decimal.{digits-most}
 
 pub deviation-none : (d : ℕ) → d ≡ 65535 → deviationText d ≡ 45 ∷ []
@@ -40,6 +41,18 @@ module _ (name : List ℕ) where
   unfolding ascii
   length-head f = rw length-append (omega arith)
 
+pub length-one : (name f : List ℕ) → length (line name (f ∷ [])) ≡ length name + 2 + length f
+unfolding line fieldsText ascii
+length-one name f = simp length-append (omega arith)
+
+pub length-two : (name f g : List ℕ) → length (line name (f ∷ g ∷ [])) ≡ length name + 3 + length f + length g
+unfolding line fieldsText ascii
+length-two name f g = simp length-append (omega arith)
+
+pub length-three : (name f g h : List ℕ) → length (line name (f ∷ g ∷ h ∷ [])) ≡ length name + 4 + length f + length g + length h
+unfolding line fieldsText ascii
+length-three name f g h = simp length-append (omega arith)
+
 pub length-field : (f : List ℕ) → length (ascii " " ++ f) ≡ 1 + length f
 unfolding ascii
 length-field f = omega arith
@@ -60,3 +73,16 @@ deviation-most d h =
       | inl e ↦ rw (deviation-none d (eqb-true d 65535 e)) (omega arith)
       | inr e ↦ rw (deviation-some d (eqb-false d 65535 e)) (digits-word d h)
     ]
+
+-- a written line that is short enough
+module _ {out out′ : List ℕ} {at end : ℕ} (name : List ℕ) where
+  pub lined-one : (f : List ℕ) → Wrote out at (line name (f ∷ [])) out′ end → length name + 2 + length f ≤ lineRoom → Lined out at (line name (f ∷ [])) out′ end
+  lined-one f w h = let n = length-one name f in let p = w .place in record { wrote = w; short = omega arith }
+
+  pub lined-two : (f g : List ℕ) → Wrote out at (line name (f ∷ g ∷ [])) out′ end → length name + 3 + length f + length g ≤ lineRoom
+      → Lined out at (line name (f ∷ g ∷ [])) out′ end
+  lined-two f g w h = let n = length-two name f g in let p = w .place in record { wrote = w; short = omega arith }
+
+  pub lined-three : (f g h : List ℕ) → Wrote out at (line name (f ∷ g ∷ h ∷ [])) out′ end
+      → length name + 4 + length f + length g + length h ≤ lineRoom → Lined out at (line name (f ∷ g ∷ h ∷ [])) out′ end
+  lined-three f g h w l = let n = length-three name f g h in let p = w .place in record { wrote = w; short = omega arith }

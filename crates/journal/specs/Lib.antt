@@ -2,3 +2,4 @@
 pub mod Writing
 pub mod Entered
 pub mod Tallied
+pub mod Replayed

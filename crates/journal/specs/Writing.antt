@@ -1,7 +1,7 @@
 -- Text written into lent bytes at a place: every byte afterwards, and the place after the text. Assumes nothing.
 use mathlib.Core.Path.{_≡_}
 use mathlib.Core.List.{List, _++_}
-use Prim.Native.Nat.{ℕ, _+_}
+use Prim.Native.Nat.{ℕ, _+_, _≤_}
 use lib.ListN.{length, take, drop}
 
 -- the bytes with the text at the place, in the stead of as many of theirs
@@ -12,3 +12,12 @@ writtenAt out at text = take at out ++ (text ++ drop (at + length text) out)
 pub record Wrote (out : List ℕ) (at : ℕ) (text out′ : List ℕ) (end : ℕ) : Type 0 where
   pub place : end ≡ at + length text
   pub bytes : out′ ≡ writtenAt out at text
+
+-- no line is longer
+abbrev pub lineRoom : ℕ
+lineRoom = 24
+
+-- What a line's contract promises besides: how far it goes at most.
+pub record Lined (out : List ℕ) (at : ℕ) (text out′ : List ℕ) (end : ℕ) : Type 0 where
+  pub wrote : Wrote out at text out′ end
+  pub short : end ≤ at + lineRoom

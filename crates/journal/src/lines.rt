@@ -15,9 +15,12 @@ ghost use Rattle.rules.specs.Text.{ascii, decimal, line};
 ghost use Rattle.rules.specs.Transcript.{refusalLine, planLine, tallyLine, deviationText, callLine, doneLine};
 ghost use Rattle.rules.specs.Answers.{eventTold, signalTold, fireTold};
 ghost use Rattle.rules.specs.Call.{event, signal, fire, nothing};
-ghost use Rattle.journal.specs.Writing.{Wrote};
+ghost use Rattle.journal.specs.Writing.{lineRoom, Wrote, Lined};
 
 pub const LINE_ROOM: usize = 24;
+
+// What ends a line.
+const NEWLINE: u8 = b'\n';
 
 // A space and a number.
 fn put_field(out: &mut [u8], at: usize, n: u64) -> usize
@@ -52,7 +55,7 @@ fn put_one(out: &mut [u8], at: usize, name: &[u8], n: u64) -> usize
     ensures { λ r. ⌜ Wrote (now (out .entry)) at (line (now (name .entry)) (decimal n ∷ [])) (now (out .exit)) r ⌝ }
 {
     let end = put_head(&mut out[..], at, name, n);
-    put_byte(out, end, b'\n')
+    put_byte(out, end, NEWLINE)
 }
 
 // A line of three numbers.
@@ -63,13 +66,13 @@ fn put_three(out: &mut [u8], at: usize, name: &[u8], n: u64, m: u64, k: u64) -> 
     let second = put_head(&mut out[..], at, name, n);
     let third = put_field(&mut out[..], second, m);
     let end = put_field(&mut out[..], third, k);
-    put_byte(out, end, b'\n')
+    put_byte(out, end, NEWLINE)
 }
 
 // `PLAN` tracks states transitions.
 pub fn plan_line(out: &mut [u8], at: usize, c: Counts) -> usize
-    requires { ⌜ (at + 24 ≤ length (now out)) × (c .tracks < 65536) × (c .states < 65536) × (c .transitions < 65536) ⌝ }
-    ensures { λ r. ⌜ Wrote (now (out .entry)) at (planLine c) (now (out .exit)) r ⌝ }
+    requires { ⌜ (at + lineRoom ≤ length (now out)) × (c .tracks < 65536) × (c .states < 65536) × (c .transitions < 65536) ⌝ }
+    ensures { λ r. ⌜ Lined (now (out .entry)) at (planLine c) (now (out .exit)) r ⌝ }
 {
     put_three(
         out,
@@ -83,43 +86,43 @@ pub fn plan_line(out: &mut [u8], at: usize, c: Counts) -> usize
 
 // `R` number.
 pub fn refusal_line(out: &mut [u8], at: usize, number: u8) -> usize
-    requires { ⌜ at + 24 ≤ length (now out) ⌝ }
-    ensures { λ r. ⌜ Wrote (now (out .entry)) at (refusalLine number) (now (out .exit)) r ⌝ }
+    requires { ⌜ at + lineRoom ≤ length (now out) ⌝ }
+    ensures { λ r. ⌜ Lined (now (out .entry)) at (refusalLine number) (now (out .exit)) r ⌝ }
 {
     put_one(out, at, b"R", number as u64)
 }
 
 // `E` event moved closed.
 fn moved_line(out: &mut [u8], at: usize, name: u16, moved: u16, closed: u16) -> usize
-    requires { ⌜ at + 24 ≤ length (now out) ⌝ }
-    ensures { λ r. ⌜ Wrote (now (out .entry)) at (doneLine (event (record { event = name })) (moved ∷ closed ∷ [])) (now (out .exit)) r ⌝ }
+    requires { ⌜ at + lineRoom ≤ length (now out) ⌝ }
+    ensures { λ r. ⌜ Lined (now (out .entry)) at (doneLine (event (record { event = name })) (moved ∷ closed ∷ [])) (now (out .exit)) r ⌝ }
 {
     put_three(out, at, b"E", name as u64, moved as u64, closed as u64)
 }
 
 // `S` turned.
 fn turned_line(out: &mut [u8], at: usize, turned: u16) -> usize
-    requires { ⌜ at + 24 ≤ length (now out) ⌝ }
-    ensures { λ r. ⌜ Wrote (now (out .entry)) at (doneLine (signal nothing) (turned ∷ [])) (now (out .exit)) r ⌝ }
+    requires { ⌜ at + lineRoom ≤ length (now out) ⌝ }
+    ensures { λ r. ⌜ Lined (now (out .entry)) at (doneLine (signal nothing) (turned ∷ [])) (now (out .exit)) r ⌝ }
 {
     put_one(out, at, b"S", turned as u64)
 }
 
 // `F` track code deviation.
 fn fired_line(out: &mut [u8], at: usize, track: u16, code: u16, deviation: u16) -> usize
-    requires { ⌜ at + 24 ≤ length (now out) ⌝ }
-    ensures { λ r. ⌜ Wrote (now (out .entry)) at (doneLine (fire (record { track = track })) (code ∷ deviation ∷ [])) (now (out .exit)) r ⌝ }
+    requires { ⌜ at + lineRoom ≤ length (now out) ⌝ }
+    ensures { λ r. ⌜ Lined (now (out .entry)) at (doneLine (fire (record { track = track })) (code ∷ deviation ∷ [])) (now (out .exit)) r ⌝ }
 {
     let second = put_head(&mut out[..], at, b"F", track as u64);
     let third = put_field(&mut out[..], second, code as u64);
     let end = put_deviation_field(&mut out[..], third, deviation);
-    put_byte(out, end, b'\n')
+    put_byte(out, end, NEWLINE)
 }
 
 // The line of an event, refused or not.
 pub fn event_line(out: &mut [u8], at: usize, name: u16, answer: EventAnswer) -> usize
-    requires { ⌜ at + 24 ≤ length (now out) ⌝ }
-    ensures { λ r. ⌜ Wrote (now (out .entry)) at (callLine (event (record { event = name })) (eventTold answer)) (now (out .exit)) r ⌝ }
+    requires { ⌜ at + lineRoom ≤ length (now out) ⌝ }
+    ensures { λ r. ⌜ Lined (now (out .entry)) at (callLine (event (record { event = name })) (eventTold answer)) (now (out .exit)) r ⌝ }
 {
     match answer {
         EventAnswer::Moved(moved, closed) => moved_line(out, at, name, moved, closed),
@@ -129,8 +132,8 @@ pub fn event_line(out: &mut [u8], at: usize, name: u16, answer: EventAnswer) -> 
 
 // The line of a signal, refused or not.
 pub fn signal_line(out: &mut [u8], at: usize, answer: SignalAnswer) -> usize
-    requires { ⌜ at + 24 ≤ length (now out) ⌝ }
-    ensures { λ r. ⌜ Wrote (now (out .entry)) at (callLine (signal nothing) (signalTold answer)) (now (out .exit)) r ⌝ }
+    requires { ⌜ at + lineRoom ≤ length (now out) ⌝ }
+    ensures { λ r. ⌜ Lined (now (out .entry)) at (callLine (signal nothing) (signalTold answer)) (now (out .exit)) r ⌝ }
 {
     match answer {
         SignalAnswer::Turned(turned) => turned_line(out, at, turned),
@@ -140,8 +143,8 @@ pub fn signal_line(out: &mut [u8], at: usize, answer: SignalAnswer) -> usize
 
 // The line of a firing, refused or not.
 pub fn fire_line(out: &mut [u8], at: usize, track: u16, answer: FireAnswer) -> usize
-    requires { ⌜ at + 24 ≤ length (now out) ⌝ }
-    ensures { λ r. ⌜ Wrote (now (out .entry)) at (callLine (fire (record { track = track })) (fireTold answer)) (now (out .exit)) r ⌝ }
+    requires { ⌜ at + lineRoom ≤ length (now out) ⌝ }
+    ensures { λ r. ⌜ Lined (now (out .entry)) at (callLine (fire (record { track = track })) (fireTold answer)) (now (out .exit)) r ⌝ }
 {
     match answer {
         FireAnswer::Fired(code, deviation) => fired_line(out, at, track, code, deviation),
@@ -151,10 +154,10 @@ pub fn fire_line(out: &mut [u8], at: usize, track: u16, answer: FireAnswer) -> u
 
 // `H` entries held, firings done.
 pub fn tally_line(out: &mut [u8], at: usize, held: u32, fired: u32) -> usize
-    requires { ⌜ at + 24 ≤ length (now out) ⌝ }
-    ensures { λ r. ⌜ Wrote (now (out .entry)) at (tallyLine held fired) (now (out .exit)) r ⌝ }
+    requires { ⌜ at + lineRoom ≤ length (now out) ⌝ }
+    ensures { λ r. ⌜ Lined (now (out .entry)) at (tallyLine held fired) (now (out .exit)) r ⌝ }
 {
     let second = put_head(&mut out[..], at, b"H", held as u64);
     let end = put_field(&mut out[..], second, fired as u64);
-    put_byte(out, end, b'\n')
+    put_byte(out, end, NEWLINE)
 }

@@ -1,6 +1,10 @@
 // The running tally for the last line.
+use rules::FireAnswer;
 ghost use mathlib.Core.Path.{_≡_};
-ghost use Prim.Native.Nat.{_+_, _<_, _^_};
+ghost use Prim.Native.Nat.{ℕ, _+_, _<_, _^_};
+ghost use Rattle.rules.specs.Answers.{fireTold};
+ghost use Rattle.rules.specs.Call.{fire};
+ghost use Rattle.rules.specs.Transcript.{firingsOf};
 ghost use Rattle.journal.specs.Tallied.{tallied};
 
 pub struct Tally {
@@ -26,4 +30,14 @@ pub fn advanced(tally: Tally, held: u32, fired: u32) -> Tally
     let mut next = tally;
     advance(&mut next, held, fired);
     next
+}
+
+// The firings that an answered firing did: a refused one did none.
+pub fn firings_of(answer: FireAnswer) -> u32
+    ensures { λ r. ⌜ ((t : ℕ) → r ≡ firingsOf (fire (record { track = t })) (fireTold answer)) ⌝ }
+{
+    match answer {
+        FireAnswer::Fired(_, _) => 1,
+        FireAnswer::Refused(_) => 0,
+    }
 }

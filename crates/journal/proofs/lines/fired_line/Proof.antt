@@ -1,3 +1,5 @@
+use Rattle.journal.proofs.LineText.{lined-three}
+use Rattle.rules.specs.Text.{decimal}
 -- The head, two more fields, and the newline. Assumes nothing.
 use native.Mathlib.Omega.{arith}
 use borrow.Author.Needs.{needs}
@@ -31,7 +33,7 @@ same-length c = search needs
 
 returns : tie.Need-returns
 unfolding doneLine ascii
-returns c = retold (line-three (ascii "F") _ _ _) (wrote-then (search needs) (wrote-then (search needs) (wrote-then (search needs) (c .before .before .before .before .before .before .before .before .before .before .before .before .before .before .put-head .ensures) (c .before .before .before .before .before .before .before .before .before .before .put-field .ensures)) (c .before .before .before .before .before .before .put-deviation-field .ensures)) (c .before .before .put-byte .ensures))
+returns c = lined-three (ascii "F") (decimal (c .before .before .before .before .before .before .before .before .before .before .before .before .before .before .before .before .before .before .args .track)) (decimal (c .before .before .before .before .before .before .before .before .before .before .before .before .before .before .before .before .before .before .args .code)) (deviationText (c .before .before .before .before .before .before .before .before .before .before .before .before .before .before .before .before .before .before .args .deviation)) (retold (line-three (ascii "F") _ _ _) (wrote-then (search needs) (wrote-then (search needs) (wrote-then (search needs) (c .before .before .before .before .before .before .before .before .before .before .before .before .before .before .put-head .ensures) (c .before .before .before .before .before .before .before .before .before .before .put-field .ensures)) (c .before .before .before .before .before .before .put-deviation-field .ensures)) (c .before .before .put-byte .ensures))) (omega (arith, deviation-most (c .before .before .before .before .before .before .before .before .before .before .before .before .before .before .before .before .before .before .args .deviation) (c .before .before .before .before .before .before .before .before .before .before .before .before .before .before .before .before .before .before .fits .deviation .fits), digits-word (c .before .before .before .before .before .before .before .before .before .before .before .before .before .before .before .before .before .before .args .code) (c .before .before .before .before .before .before .before .before .before .before .before .before .before .before .before .before .before .before .fits .code .fits), digits-word (c .before .before .before .before .before .before .before .before .before .before .before .before .before .before .before .before .before .before .args .track) (c .before .before .before .before .before .before .before .before .before .before .before .before .before .before .before .before .before .before .fits .track .fits)))
 
 pub fired-line-spec : {M : Type 1} → statement M
 fired-line-spec =

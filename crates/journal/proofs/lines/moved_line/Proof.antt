@@ -1,3 +1,5 @@
+use Rattle.journal.proofs.LineText.{lined-three}
+use Rattle.rules.specs.Text.{decimal}
 -- A line of three numbers. Assumes nothing.
 use native.Mathlib.Omega.{arith}
 use borrow.Author.Needs.{needs}
@@ -18,7 +20,7 @@ same-length c = search needs
 
 returns : tie.Need-returns
 unfolding doneLine ascii
-returns c = c .before .before .put-three .ensures
+returns c = lined-three (ascii "E") (decimal (c .before .before .before .before .before .before .args .name)) (decimal (c .before .before .before .before .before .before .args .moved)) (decimal (c .before .before .before .before .before .before .args .closed)) (c .before .before .put-three .ensures) (omega (arith, digits-word (c .before .before .before .before .before .before .args .name) (c .before .before .before .before .before .before .fits .name .fits), digits-word (c .before .before .before .before .before .before .args .moved) (c .before .before .before .before .before .before .fits .moved .fits), digits-word (c .before .before .before .before .before .before .args .closed) (c .before .before .before .before .before .before .fits .closed .fits)))
 
 pub moved-line-spec : {M : Type 1} → statement M
 moved-line-spec =

@@ -1,3 +1,5 @@
+use Rattle.journal.proofs.LineText.{lined-three}
+use Rattle.rules.specs.Text.{decimal}
 -- A line of three numbers. Assumes nothing.
 use native.Mathlib.Omega.{arith}
 use borrow.Author.Needs.{needs}
@@ -18,7 +20,7 @@ same-length c = search needs
 
 returns : tie.Need-returns
 unfolding planLine ascii
-returns c = c .before .before .put-three .ensures
+returns c = lined-three (ascii "PLAN") (decimal (c .before .before .before .before .before .before .args .c .tracks)) (decimal (c .before .before .before .before .before .before .args .c .states)) (decimal (c .before .before .before .before .before .before .args .c .transitions)) (c .before .before .put-three .ensures) (omega (arith, digits-word (c .before .before .before .before .before .before .args .c .tracks) (search needs), digits-word (c .before .before .before .before .before .before .args .c .states) (search needs), digits-word (c .before .before .before .before .before .before .args .c .transitions) (search needs)))
 
 pub plan-line-spec : {M : Type 1} → statement M
 plan-line-spec =

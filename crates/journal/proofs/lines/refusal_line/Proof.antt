@@ -1,3 +1,5 @@
+use Rattle.journal.proofs.LineText.{lined-one}
+use Rattle.rules.specs.Text.{decimal}
 -- A line of one number. Assumes nothing.
 use native.Mathlib.Omega.{arith}
 use borrow.Author.Needs.{needs}
@@ -18,7 +20,7 @@ same-length c = search needs
 
 returns : tie.Need-returns
 unfolding refusalLine ascii
-returns c = c .before .before .put-one .ensures
+returns c = lined-one (ascii "R") (decimal (c .before .before .before .before .before .before .args .number)) (c .before .before .put-one .ensures) (omega (arith, digits-byte (c .before .before .before .before .before .before .args .number) (c .before .before .before .before .before .before .fits .number .fits)))
 
 pub refusal-line-spec : {M : Type 1} → statement M
 refusal-line-spec =

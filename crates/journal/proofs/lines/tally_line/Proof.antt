@@ -1,3 +1,5 @@
+use Rattle.journal.proofs.LineText.{lined-two}
+use Rattle.rules.specs.Text.{decimal}
 -- The head, one more field, and the newline. Assumes nothing.
 use native.Mathlib.Omega.{arith}
 use borrow.Author.Needs.{needs}
@@ -27,7 +29,7 @@ same-length c = search needs
 
 returns : tie.Need-returns
 unfolding tallyLine ascii
-returns c = retold (line-two (ascii "H") _ _) (wrote-then (search needs) (wrote-then (search needs) (c .before .before .before .before .before .before .before .before .before .before .put-head .ensures) (c .before .before .before .before .before .before .put-field .ensures)) (c .before .before .put-byte .ensures))
+returns c = lined-two (ascii "H") (decimal (c .before .before .before .before .before .before .before .before .before .before .before .before .before .before .args .held)) (decimal (c .before .before .before .before .before .before .before .before .before .before .before .before .before .before .args .fired)) (retold (line-two (ascii "H") _ _) (wrote-then (search needs) (wrote-then (search needs) (c .before .before .before .before .before .before .before .before .before .before .put-head .ensures) (c .before .before .before .before .before .before .put-field .ensures)) (c .before .before .put-byte .ensures))) (omega (arith, digits-long (c .before .before .before .before .before .before .before .before .before .before .before .before .before .before .args .held) (c .before .before .before .before .before .before .before .before .before .before .before .before .before .before .fits .held .fits), digits-long (c .before .before .before .before .before .before .before .before .before .before .before .before .before .before .args .fired) (c .before .before .before .before .before .before .before .before .before .before .before .before .before .before .fits .fired .fits)))
 
 pub tally-line-spec : {M : Type 1} → statement M
 tally-line-spec =

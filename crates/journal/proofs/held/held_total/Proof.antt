@@ -1,0 +1,57 @@
+use Rattle.journal.proofs.Ready.{summed, same-count}
+-- The sum after t tracks is the definition's at t; a count is a 16-bit number, so the sum fits. Assumes nothing.
+use borrow.Author.Needs.{needs}
+use mathlib.Core.Path.{_≡_, refl}
+use Prim.Native.Nat.{_≤_, _-_, _*_}
+use native.Mathlib.Omega.{arith}
+use lib.ListN.{length}
+use Rattle.rules.specs.Fold.{sumBelow}
+use Rattle.steps.specs.Going.{ledgerOf}
+use Rattle.journal.proofs.held.held_total.Statement.{statement}
+use Rattle.journal.proofs.held.held_total.Tie as tie
+
+abbrev Inv-loop : tie.InvT-loop
+Inv-loop c ledger tracks sum₀ t₀ sum t = (t ≤ c .tracks) × (sum ≤ 65535 * t) × (sum ≡ sumBelow t (λ u. length (ledgerOf c ledger u .held)))
+
+abbrev μ-loop : tie.MeasureT-loop
+μ-loop c ledger tracks sum₀ t₀ sum t = c .tracks - t
+
+loop-holds : tie.Need-loop-holds Inv-loop μ-loop
+unfolding sumBelow
+loop-holds c = (search needs, search needs, refl)
+
+track-requires : tie.Need-track-requires Inv-loop μ-loop
+track-requires c κs = search needs
+
+cast-sum : tie.Need-cast-sum Inv-loop μ-loop
+cast-sum c = search needs
+
+add-sum : tie.Need-add-sum Inv-loop μ-loop
+add-sum c = search needs
+
+add-t : tie.Need-add-t Inv-loop μ-loop
+add-t c = search needs
+
+loop-less : tie.Need-loop-less Inv-loop μ-loop
+loop-less c = search needs
+
+loop-again : tie.Need-loop-again Inv-loop μ-loop
+loop-again c = (search needs, search needs, summed (λ u. length (ledgerOf (c .before .before .before .before .before .args .c) (c .before .before .before .before .before .args .ledger .now) u .held)) _ _ _ (c .before .before .before .loop .inv .2) (same-count _ _ (c .before .track .ensures)))
+
+returns : tie.Need-returns Inv-loop μ-loop
+returns c = let e : c .before .loop .t ≡ c .before .before .before .args .c .tracks = omega arith in rw e at (c .before .loop .inv .2)
+
+pub held-total-spec : {M : Type 1} → statement M
+held-total-spec =
+    tie.close
+    (tie.spec
+    Inv-loop
+    μ-loop
+    loop-holds
+    track-requires
+    cast-sum
+    add-sum
+    add-t
+    loop-less
+    loop-again
+    returns)
