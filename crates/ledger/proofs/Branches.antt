@@ -16,3 +16,10 @@ module _ {q a : Bool} (e : q ≡ a) where
 
   pub or-goes : {r b : Bool} → not q ≡ false → r ≡ b → r ≡ (not a || b)
   or-goes h f = f ∙ rw (sym e ∙ not-false q h)
+
+  -- what was asked holds, or fails
+  pub holds : not q ≡ false → a ≡ true
+  holds h = sym e ∙ not-false q h
+
+  pub fails : not q ≡ true → a ≡ false
+  fails h = sym e ∙ not-true q h

@@ -1,0 +1,31 @@
+-- The words, then over, then the clauses. Assumes nothing.
+use Rattle.rules.specs.Layout.{entryLimit}
+use Rattle.plan.proofs.FieldLaws.{track-count}
+use Rattle.ledger.proofs.Branches.{holds}
+use Rattle.ledger.proofs.SoundLaws.{untidy, sound-over, sound-live}
+use borrow.Author.Needs.{needs}
+use Rattle.ledger.proofs.sound.is_sound.Statement.{statement}
+use Rattle.ledger.proofs.sound.is_sound.Tie as tie
+
+are-tidy-requires : tie.Need-are-tidy-requires
+are-tidy-requires c κs = search needs
+
+returns : tie.Need-returns
+returns c = untidy entryLimit _ _ _ (track-count _ _) (c .before .are-tidy .ensures) (c .if1 .taken)
+
+is-over-requires : tie.Need-is-over-requires
+is-over-requires c κs = search needs
+
+returns-2 : tie.Need-returns-2
+returns-2 c = sound-over entryLimit _ _ _ (track-count _ _) (c .before .before .before .are-tidy .ensures) (c .before .before .if1 .left) (c .before .is-over .ensures) (c .if2 .taken)
+
+is-live-requires : tie.Need-is-live-requires
+is-live-requires c κs = (c .before .before .before .before .before .before .pre, holds (c .before .before .before .are-tidy .ensures) (c .before .before .if1 .left))
+
+returns-3 : tie.Need-returns-3
+returns-3 c = sound-live entryLimit _ _ _ (track-count _ _) (c .before .before .before .before .are-tidy .ensures) (c .before .before .before .if1 .left) (c .before .before .is-over .ensures) (c .before .if2 .left) (c .is-live .ensures)
+
+pub is-sound-spec : {M : Type 1} → statement M
+is-sound-spec =
+    tie.close
+    (tie.spec are-tidy-requires returns is-over-requires returns-2 is-live-requires returns-3)
