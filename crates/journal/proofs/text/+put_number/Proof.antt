@@ -63,7 +63,7 @@ put-number-returns : (t : ℕ) → put-number-lts.Need-returns (
   put-number-below t,
   put-number.Post,
 ) (put-number-at t) put-number.Post
-put-number-returns t c = wrote-digit _ _ _ _ _ _ (c .before .before .before .before .before .if1 .taken) (c .before .before .before .digit .ensures) (c .before .before .put-byte .ensures)
+put-number-returns t c = wrote-digit _ _ (c .before .before .before .before .before .before .before .args .n) _ _ _ (search needs) (c .before .before .before .digit .ensures) (c .before .before .put-byte .ensures)
 
 put-number-put-number-requires : (t : ℕ) → put-number-lts.Need-put-number-requires (
   digit-reads.Asked,
@@ -73,7 +73,7 @@ put-number-put-number-requires : (t : ℕ) → put-number-lts.Need-put-number-re
   put-number-below t,
   put-number.Post,
 ) (put-number-at t) put-number.Post
-put-number-put-number-requires t c κs = (search needs, omega (arith, digits-tenth (c .before .before .before .args .n) (c .before .if1 .left)))
+put-number-put-number-requires t c κs = (search needs, omega (arith, digits-tenth (c .before .before .before .args .n) (search needs)))
 
 put-number-digit-requires-2 : (t : ℕ) → put-number-lts.Need-digit-requires-2 (
   digit-reads.Asked,
@@ -93,7 +93,7 @@ put-number-put-byte-requires-2 : (t : ℕ) → put-number-lts.Need-put-byte-requ
   put-number-below t,
   put-number.Post,
 ) (put-number-at t) put-number.Post
-put-number-put-byte-requires-2 t c κs = omega (arith, digits-tenth (c .before .before .before .before .before .before .before .before .args .n) (c .before .before .before .before .before .before .if1 .left), c .before .before .before .before .put-number .ensures .place, c .before .before .before .before .put-number .kept .0)
+put-number-put-byte-requires-2 t c κs = omega (arith, digits-tenth (c .before .before .before .before .before .before .before .before .args .n) (search needs), c .before .before .before .before .put-number .ensures .place, c .before .before .before .before .put-number .kept .0)
 
 put-number-same-length-2 : (t : ℕ) → put-number-lts.Need-same-length-2 (
   digit-reads.Asked,
@@ -113,7 +113,7 @@ put-number-returns-2 : (t : ℕ) → put-number-lts.Need-returns-2 (
   put-number-below t,
   put-number.Post,
 ) (put-number-at t) put-number.Post
-put-number-returns-2 t c = wrote-tenth _ _ _ _ _ _ _ _ (c .before .before .before .before .before .before .before .before .before .if1 .left) (search needs) (c .before .before .before .before .before .before .before .put-number .ensures) (c .before .before .before .digit2 .ensures) (c .before .before .put-byte2 .ensures)
+put-number-returns-2 t c = wrote-tenth _ _ (c .before .before .before .before .before .before .before .before .before .before .before .args .n) _ _ _ _ _ (search needs) (search needs) (c .before .before .before .before .before .before .before .put-number .ensures) (c .before .before .before .digit2 .ensures) (c .before .before .put-byte2 .ensures)
 
 pub +put-number-spec : {M : Type 1} → statement M
 +put-number-spec = close μ-put-number λ t. put-number-lts.spec (
