@@ -1,7 +1,7 @@
 -- The count read is that of the entries held, which tidy words keep within the limit. Assumes nothing.
 use mathlib.Core.Path.{_∙_}
 use Rattle.rules.specs.Layout.{entryLimit}
-use Rattle.ledger.proofs.Words.{within}
+use Rattle.ledger.proofs.Words.{room-within}
 use Rattle.ledger.proofs.ScopeLaws.{count-as}
 use Rattle.ledger.proofs.SoundLaws.{count-within, held-asked}
 use borrow.Author.Needs.{needs}
@@ -15,7 +15,7 @@ wide-requires : tie.Need-wide-requires
 wide-requires c κs = search needs
 
 real-codes-requires : tie.Need-real-codes-requires
-real-codes-requires c κs = (within _ _ _ (c .before .before .before .before .pre .0 .room) (c .before .before .before .before .pre .1), count-within entryLimit _ _ _ _ (c .before .before .before .before .pre .2) (c .wide .ensures .0 ∙ count-as _ (c .before .track-in .ensures)))
+real-codes-requires c κs = (room-within _ _ _ (c .before .before .before .before .pre .0 .room) (c .before .before .before .before .pre .1), count-within entryLimit _ _ _ _ (c .before .before .before .before .pre .2) (c .wide .ensures .0 ∙ count-as _ (c .before .track-in .ensures)))
 
 returns : tie.Need-returns
 returns c = c .real-codes .ensures ∙ held-asked entryLimit _ _ _ _ _ (c .before .before .before .before .before .pre .1) (c .before .wide .ensures .0 ∙ count-as _ (c .before .before .track-in .ensures))

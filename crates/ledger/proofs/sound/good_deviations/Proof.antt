@@ -3,7 +3,7 @@ use mathlib.Core.Path.{_∙_, _≡_, refl, ap}
 use Rattle.rules.specs.Ledger.{entryAt, ledgerAt}
 use Rattle.rules.specs.Soundness.{goodDeviation}
 use Rattle.ledger.specs.Words.{entryPlace}
-use Rattle.ledger.proofs.Words.{within}
+use Rattle.ledger.proofs.Words.{room-within}
 use Rattle.ledger.proofs.SoundLaws.{held-below}
 use borrow.Author.Needs.{needs}
 use borrow.Author.Tests.{not-true, not-false}
@@ -27,7 +27,7 @@ unfolding everyBelow
 loop-holds c = (search needs, refl)
 
 entry-deviation-requires : tie.Need-entry-deviation-requires Inv-loop μ-loop
-entry-deviation-requires c κs = (within _ _ _ (c .before .before .before .before .pre .0 .room) (c .before .before .before .before .pre .1), search needs)
+entry-deviation-requires c κs = (room-within _ _ _ (c .before .before .before .before .pre .0 .room) (c .before .before .before .before .pre .1), search needs)
 
 good-deviation-requires : tie.Need-good-deviation-requires Inv-loop μ-loop
 good-deviation-requires c κs = search needs
