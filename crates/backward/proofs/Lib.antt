@@ -1,0 +1,7 @@
+-- Laws of the backward steps.
+pub mod Climbing
+pub mod Turning
+pub mod Standing
+pub mod Storing
+pub mod Tracks
+pub mod Outcomes

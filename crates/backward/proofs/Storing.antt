@@ -1,0 +1,74 @@
+-- The ledgers of a backward step can be stored: no track holds more than before, and what is asleep holds nothing. Assumes nothing.
+use mathlib.Core.Path.{_≡_, refl, sym, ap, _∙_, subst}
+use mathlib.Core.Logic.{inl, inr}
+use mathlib.Core.Bool.{Bool, true, false, cond}
+use mathlib.Core.List.{List, [], _∷_}
+use mathlib.Core.Option.{Option, none, some}
+use Prim.Native.Nat.{ℕ, _<_, _≤_}
+use native.Mathlib.Omega.{arith}
+use lib.Dec.{eqb}
+use lib.ListN.{length}
+use borrow.Author.Tests.{eqb-true, eqb-false, ne-eqb}
+use Rattle.rules.specs.Plan.{Plan, trackCount, host, owner, isIn}
+use Rattle.rules.specs.Ledger.{Entry, Configuration, Ledger, isAwake, sleeping}
+use Rattle.rules.specs.Opening.{fresh, wakes, entered}
+use Rattle.rules.specs.Signal.{turnedTrack, turned}
+use Rattle.rules.specs.Fire.{older, removed, deviatesTo, fired}
+use Rattle.rules.proofs.Tests.{look, look-option, clash, none-some}
+use Rattle.rules.proofs.Acceptance.{Accepted}
+use Rattle.rules.proofs.Opening.{wakes-root, enter-to, enter-woken, enter-kept}
+use Rattle.rules.proofs.Scopes.{in-host}
+use Rattle.rules.proofs.Stored.{Storable}
+use Rattle.backward.specs.Leaving.{withoutScope, leaveFrom}
+use Rattle.backward.proofs.Climbing.{out-asleep, out-kept, by-climbing}
+use Rattle.backward.proofs.Turning.{turned-awake, turned-held, turned-sleeping}
+
+-- one configuration in place of another: it holds no more, and asleep it holds nothing
+pub record Stores (limit : ℕ) (x : Configuration) : Type 0 where
+  pub fits : length (x .held) ≤ limit
+  pub blank : isAwake (x .mode) ≡ false → x ≡ sleeping
+
+pub stores-sleeping : (limit : ℕ) → Stores limit sleeping
+unfolding sleeping
+stores-sleeping limit = record { fits = omega arith; blank = λ a. refl }
+
+module _ (limit n : ℕ) where
+  pub stores-at : (l : Ledger) → Storable limit n l → (t : ℕ) → Stores limit (l t)
+  stores-at l s t = record { fits = s .fits t; blank = s .blank t }
+
+  pub storable-of : (l : Ledger) → ((t : ℕ) → Stores limit (l t)) → ((t : ℕ) → n ≤ t → l t ≡ sleeping) → Storable limit n l
+  storable-of l s b = record { fits = λ t. s t .fits; beyond = b; blank = λ t. s t .blank }
+
+  -- turning
+  pub stores-turned : (x : Configuration) → Stores limit x → Stores limit (turnedTrack x)
+  stores-turned x s =
+      record {
+        fits = rw (turned-held x) (s .fits);
+        blank = λ a. ap turnedTrack (s .blank (sym (turned-awake x) ∙ a)) ∙ turned-sleeping;
+      }
+
+  pub storable-turned : (l : Ledger) → Storable limit n l → Storable limit n (turned l)
+  unfolding turned
+  storable-turned l s =
+      storable-of (turned l) (λ t. stores-turned (l t) (stores-at l s t)) (λ t b. ap turnedTrack (s .beyond t b) ∙ turned-sleeping)
+
+  module _ (p : Plan) (ok : Accepted p) (low : trackCount p ≤ n) where
+    -- a scope that goes to sleep
+    pub stores-out : (l : Ledger) → Storable limit n l → (s t : ℕ) → Stores limit (withoutScope p l s t)
+    stores-out l w s t =
+        elim (look (isIn p s t)) [
+          | inl i ↦ subst (Stores limit) (sym (out-asleep p l s t i)) (stores-sleeping limit)
+          | inr i ↦ subst (Stores limit) (sym (out-kept p l s t i)) (stores-at l w t)
+        ]
+
+    pub storable-out : (l : Ledger) (s : ℕ) → Storable limit n l → Storable limit n (withoutScope p l s)
+    storable-out l s w =
+        storable-of (withoutScope p l s) (stores-out l w s)
+        (λ t b.
+        elim (look (isIn p s t)) [ inl i ↦ out-asleep p l s t i | inr i ↦ out-kept p l s t i ∙ w .beyond t b ])
+
+    -- climbing
+    pub storable-left : (t : ℕ) (l : Ledger) → Storable limit n l → Storable limit n (leaveFrom p l t)
+    storable-left =
+        by-climbing p ok (λ l t m. Storable limit n l → Storable limit n m) (λ l t e w. w) (λ l t h e d w. w)
+        (λ l m t h e d ih w. ih (storable-out l h w))

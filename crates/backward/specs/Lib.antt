@@ -1,0 +1,3 @@
+-- What the backward steps' contracts speak of beside the rules.
+pub mod Orderly
+pub mod Leaving
