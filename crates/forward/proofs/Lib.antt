@@ -2,3 +2,4 @@
 pub mod Moves
 pub mod Settling
 pub mod Passes
+pub mod Turns

@@ -24,7 +24,7 @@ use Rattle.rules.proofs.Soundness.{Live}
 use Rattle.steps.specs.Marks.{slots, Marks, setHost}
 use Rattle.steps.proofs.Marks.{length-setHost, set-host, by-eqb, by-none}
 use Rattle.forward.specs.Next.{nextOf, nextState, allFinalNext, closesNext}
-use Rattle.forward.specs.Marks.{wordOf, isTaken, takeMark, takeMarks, stateAfter, forwardMarks, closeMark, closeMarks}
+use Rattle.forward.specs.Marks.{wordOf, isTaken, takeMark, takeMarks, stateAfter, isForwardOpen, forwardMarks, closeMark, closeMarks}
 use Rattle.forward.proofs.Moves.{forward-awake}
 
 -- a test that fails at n leaves the search below n as it was
@@ -200,29 +200,29 @@ module _ (p : Plan) (ok : Accepted p) (few : trackCount p ≤ slots) (l : Ledger
             let w : getD ts t 0 ≡ x = took t b ∙ ap wordOf e in
             rw (w, move-word t x e, e, nextOf)
 
-    length-forward : (ms : List Bool) (n : ℕ) → length (forwardMarks p l ms n) ≡ length ms
-    unfolding forwardMarks
+    length-forward : (ms : List Bool) (n : ℕ) → length (forwardMarks l ms n) ≡ length ms
+    unfolding forwardMarks isForwardOpen
     length-forward ms zero = refl
-    length-forward ms (suc n) = length-set (forwardMarks p l ms n) n _ ∙ length-forward ms n
+    length-forward ms (suc n) = length-set (forwardMarks l ms n) n _ ∙ length-forward ms n
 
-    forward-later : (ms : List Bool) (n u : ℕ) → n ≤ u → getD (forwardMarks p l ms n) u false ≡ getD ms u false
-    unfolding forwardMarks
+    forward-later : (ms : List Bool) (n u : ℕ) → n ≤ u → getD (forwardMarks l ms n) u false ≡ getD ms u false
+    unfolding forwardMarks isForwardOpen
     forward-later ms zero u b = refl
     forward-later ms (suc n) u b =
-        getD-set-other (forwardMarks p l ms n) n u _ false (λ z. absurd (omega arith)) ∙ forward-later ms n u (omega arith)
+        getD-set-other (forwardMarks l ms n) n u _ false (λ z. absurd (omega arith)) ∙ forward-later ms n u (omega arith)
 
     forward-marks : (ms : List Bool) → length ms ≡ slots → (n u : ℕ) → n ≤ slots → u < n
-        → getD (forwardMarks p l ms n) u false ≡ (isForward (l u .mode) && getD ms u false)
-    unfolding forwardMarks
+        → getD (forwardMarks l ms n) u false ≡ (isForward (l u .mode) && getD ms u false)
+    unfolding forwardMarks isForwardOpen
     forward-marks ms len zero u b c = absurd (not-suc-le-zero c)
     forward-marks ms len (suc n) u b c =
         elim (look (eqb u n)) [
           | inl e ↦
               let q = eqb-true u n e in
-              rw q (getD-set-same (forwardMarks p l ms n) n _ false (omega (arith, length-forward ms n, len)))
+              rw q (getD-set-same (forwardMarks l ms n) n _ false (omega (arith, length-forward ms n, len)))
           | inr e ↦
               let q = eqb-false u n e in
-              getD-set-other (forwardMarks p l ms n) n u _ false q ∙ forward-marks ms len n u (omega arith) (let r : u ≡ n → ⊥ = q in omega arith)
+              getD-set-other (forwardMarks l ms n) n u _ false q ∙ forward-marks ms len n u (omega arith) (let r : u ≡ n → ⊥ = q in omega arith)
         ]
 
     length-close : (ms : List Bool) (n : ℕ) → length (closeMarks p l ts ms n) ≡ length ms
@@ -294,9 +294,9 @@ module _ (p : Plan) (ok : Accepted p) (few : trackCount p ≤ slots) (l : Ledger
 
     -- whose scope closes, by the passes
     pub close-scopes : (opens : List Bool) → length opens ≡ slots → Marks false opens (trackCount p) (hasOpenScope p l)
-        → Marks false (closeMarks p l ts (forwardMarks p l opens (trackCount p)) (trackCount p)) (trackCount p) (closesNext p l event)
+        → Marks false (closeMarks p l ts (forwardMarks l opens (trackCount p)) (trackCount p)) (trackCount p) (closesNext p l event)
     unfolding closesNext allFinalNext
     close-scopes opens len marked t b =
-        close-marks (forwardMarks p l opens (trackCount p)) (length-forward opens (trackCount p) ∙ len) (trackCount p) t (omega arith)
+        close-marks (forwardMarks l opens (trackCount p)) (length-forward opens (trackCount p) ∙ len) (trackCount p) t (omega arith)
         ∙ ap (λ z. z && everyBelow (trackCount p) (λ u. not (isHostedBy p t u && isAwake (l u .mode)) || isFinal p (nextState p l event u)))
         (forward-marks opens len (trackCount p) t few b ∙ ap (λ z. isForward (l t .mode) && z) (marked t b))

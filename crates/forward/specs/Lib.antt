@@ -1,3 +1,4 @@
 -- What an event will do, worked out on the ledger before the call.
 pub mod Next
 pub mod Marks
+pub mod Settled
