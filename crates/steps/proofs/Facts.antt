@@ -42,7 +42,7 @@ beyond bs c ws t h = read-beyond entryLimit (c .tracks) ws t (rw (track-count bs
 
 -- a track's words
 pub in-room : (c : Counts) (ws : List ℕ) (t : ℕ) → Roomy c ws → t < c .tracks → Within ws t
-in-room c ws t r b = within ws (c .tracks) t (record { few = r .few; words = r .room }) b
+in-room c ws t r b = within ws (c .tracks) t (r .few) (r .room) b
 
 pub track-read : (c : Counts) (ws : List ℕ) (t : ℕ) → t < c .tracks → trackAt ws t ≡ trackOf (ledgerOf c ws t)
 unfolding trackAt ledgerOf
