@@ -29,7 +29,6 @@ pub mod InvariantClosing
 pub mod InvariantRetraction
 pub mod InvariantCalls
 pub mod Restoration
-pub mod Property3
 -- Runs of a scope; books for the sample plan; what would be false.
 pub mod ScopeRuns
 pub mod LiteralRuns

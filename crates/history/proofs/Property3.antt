@@ -3,13 +3,17 @@
 use mathlib.Core.Path.{_≡_, refl, sym, ap, ap₂, _∙_}
 use mathlib.Core.List.{List, [], _∷_}
 use Prim.Native.Nat.{ℕ}
+use native.Mathlib.Omega.{arith}
 use Rattle.rules.specs.declared.Counts.{Counts}
+use Rattle.rules.specs.declared.BeginAnswer.the-variants.{Begun}
 use Rattle.rules.specs.Plan.{planOf}
-use Rattle.rules.specs.Acceptance.{accepted, readPlan}
-use Rattle.rules.specs.Call.{Answer, done, Call, event, signal, fire, callOutcome, eventOutcome, signalOutcome, fireOutcome, beginOutcome, Meets}
+use Rattle.rules.specs.Acceptance.{Reading, turnedBack, accepted, readPlan}
+use Rattle.rules.specs.Layout.{entryLimit}
+use Rattle.rules.specs.Answers.{beginTold}
+use Rattle.rules.specs.Call.{Answer, done, Call, event, signal, fire, callOutcome, eventOutcome, signalOutcome, fireOutcome, underPlan, beginOutcome, Meets}
 use Rattle.rules.specs.ReferenceRun.{wordsFrom, wordsAfter, answersFrom, answersAfter}
 use Rattle.rules.specs.History.{History, none, event-made, signal-made, fire-made, Property3}
 use Rattle.restoration.proofs.Restoration.{restored, goes-on}
 
 module _ (limit : ℕ) (bs : List ℕ) where
   -- what a list of calls left and answered, if it did with its first call and with the others as it should
@@ -31,13 +35,24 @@ module _ (limit : ℕ) (bs : List ℕ) where
   follows (signal-made {ws = ws} {ws′ = ws′} {end = end} {cs = cs} {rs = rs} a r m h) = more ws ws′ end (signal a) cs _ rs m (follows h)
   follows (fire-made {ws = ws} {ws′ = ws′} {end = end} {cs = cs} {rs = rs} a r m h) = more ws ws′ end (fire a) cs _ rs m (follows h)
 
-  -- a begin that was accepted, as its contract promises, and the calls after it, as theirs do
-  pub property3 : (c : Counts) → readPlan bs ≡ accepted c → (lent ws : List ℕ) (told : Answer)
+  -- a begin that was accepted has read the plan
+  begin-reads : (lent : List ℕ) → beginOutcome limit bs lent .answer ≡ done [] → (c : Counts) × (readPlan bs ≡ accepted c)
+  unfolding beginOutcome underPlan
+  begin-reads lent h = go (readPlan bs) refl
+    where
+      go : (r : Reading) → readPlan bs ≡ r → (c : Counts) × (readPlan bs ≡ accepted c)
+      go (accepted c) e = (c, e)
+      go (turnedBack r) e =
+          let q : Answer.refusal r ≡ done [] = rw (e, underPlan) at h in
+          let z : _≡_ {A = ℕ} 0 1 = cc in absurd (omega arith)
+
+  -- after a begin that was accepted
+  from-begin : (c : Counts) → readPlan bs ≡ accepted c → (lent ws : List ℕ) (told : Answer)
       → Meets (beginOutcome limit bs lent) told ws → told ≡ done []
       → {cs : List Call} {rs : List Answer} {end : List ℕ} → History limit bs ws cs rs end
       → Property3 limit bs (planOf bs c) lent cs rs end
   unfolding Follows wordsAfter answersAfter
-  property3 c read lent ws told m d {cs} {rs} {end} h =
+  from-begin c read lent ws told m d {cs} {rs} {end} h =
       let f = follows h in
       let begun : beginOutcome limit bs lent .answer ≡ done [] = sym (m .answered) ∙ d in
       record {
@@ -46,3 +61,13 @@ module _ (limit : ℕ) (bs : List ℕ) where
         restored = λ k b w. restored limit bs c read k lent cs begun b w;
         progress = λ t b u e. goes-on limit bs c read lent cs begun t u e;
       }
+
+-- For every plan and every lent ledger that a begin took, and every list of events, signals and firings after it, each answered and each
+-- leaving the words as its contract promises: the four parts of property 3.
+pub property3 : (bs lent ws : List ℕ) → Meets (beginOutcome entryLimit bs lent) (beginTold Begun) ws
+    → {cs : List Call} {rs : List Answer} {end : List ℕ} → History entryLimit bs ws cs rs end
+    → (c : Counts) × (readPlan bs ≡ accepted c) × Property3 entryLimit bs (planOf bs c) lent cs rs end
+unfolding beginTold
+property3 bs lent ws m h =
+    let (c, read) = begin-reads entryLimit bs lent (sym (m .answered)) in
+    (c, read, from-begin entryLimit bs c read lent ws (done []) m refl h)

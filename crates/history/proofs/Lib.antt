@@ -1,0 +1,2 @@
+-- Property 3, about lists of the public calls.
+pub mod Property3
