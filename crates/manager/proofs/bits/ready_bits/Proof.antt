@@ -1,0 +1,65 @@
+-- The invariant: the bit is that of the track, and the bits are those of the tracks passed that may be fired. The measure is the tracks left. Assumes nothing.
+use borrow.Author.Needs.{needs}
+use mathlib.Core.Path.{_≡_, refl, _∙_}
+use mathlib.Core.Logic.{⊎-elim}
+use Prim.Native.Nat.{_-_, _^_, _≤_}
+use native.Mathlib.Omega.{arith}
+use Rattle.rules.specs.Plan.{planOf}
+use Rattle.rules.specs.Fire.{mayFire}
+use Rattle.steps.specs.Going.{ledgerOf}
+use Rattle.manager.proofs.BitLaws.{bitsBelow, bits-none, twice, bit-small, bits-fit, bits-yes, bits-no, fire-read, bits-ready}
+use Rattle.manager.proofs.bits.ready_bits.Statement.{statement}
+use Rattle.manager.proofs.bits.ready_bits.Tie as tie
+
+abbrev Inv-loop : tie.InvT-loop
+Inv-loop plan c ledger «open» tracks bits₀ bit₀ t₀ bits bit t = (t ≤ tracks) × (bit ≡ 2 ^ t) × (bits ≡ bitsBelow t (mayFire (planOf plan c) (ledgerOf c ledger)))
+
+abbrev μ-loop : tie.MeasureT-loop
+μ-loop plan c ledger «open» tracks bits₀ bit₀ t₀ bits bit t = tracks - t
+
+open-scopes-requires : tie.Need-open-scopes-requires Inv-loop μ-loop
+open-scopes-requires c κs = search needs
+
+loop-holds : tie.Need-loop-holds Inv-loop μ-loop
+loop-holds c = (search needs, refl, bits-none _)
+
+may-fire-requires : tie.Need-may-fire-requires Inv-loop μ-loop
+may-fire-requires c κs = search needs
+
+add-bits : tie.Need-add-bits Inv-loop μ-loop
+add-bits c = let h : c .before .before .before .loop .t ≤ 32 = omega (arith, c .before .before .before .before .before .before .before .pre .1 .few) in omega (arith, bit-small _ _ (c .before .before .before .loop .inv .1) h, bits-fit _ _ _ (c .before .before .before .loop .inv .2) h)
+
+mul-bit : tie.Need-mul-bit Inv-loop μ-loop
+mul-bit c = let h : c .before .before .before .loop .t ≤ 32 = omega (arith, c .before .before .before .before .before .before .before .pre .1 .few) in omega (arith, bit-small _ _ (c .before .before .before .loop .inv .1) h)
+
+add-t : tie.Need-add-t Inv-loop μ-loop
+add-t c = search needs
+
+loop-less : tie.Need-loop-less Inv-loop μ-loop
+loop-less c = search needs
+
+loop-again : tie.Need-loop-again Inv-loop μ-loop
+loop-again c = (search needs, twice _ _ (c .before .before .before .loop .inv .1), ⊎-elim (λ w. w .1 ∙ bits-yes _ _ _ _ (c .before .before .before .loop .inv .2) (c .before .before .before .loop .inv .1) (fire-read _ _ _ _ _ (c .before .before .before .before .before .before .before .pre .0) (c .before .before .before .before .open-scopes .ensures) (search needs) (c .before .may-fire .ensures)) (w .0 .taken)) (λ w. w .1 ∙ bits-no _ _ _ (c .before .before .before .loop .inv .2) (fire-read _ _ _ _ _ (c .before .before .before .before .before .before .before .pre .0) (c .before .before .before .before .open-scopes .ensures) (search needs) (c .before .may-fire .ensures)) (w .0 .left)) (c .if1 .came))
+
+cast-result : tie.Need-cast-result Inv-loop μ-loop
+cast-result c = let h : c .before .loop .t ≤ 32 = omega (arith, c .before .before .before .before .before .pre .1 .few) in omega (arith, bits-fit _ _ _ (c .before .loop .inv .2) h)
+
+returns : tie.Need-returns Inv-loop μ-loop
+returns c = bits-ready _ _ _ _ _ (c .before .loop .inv .2) (search needs) (search needs)
+
+pub ready-bits-spec : {M : Type 1} → statement M
+ready-bits-spec =
+    tie.close
+    (tie.spec
+    Inv-loop
+    μ-loop
+    open-scopes-requires
+    loop-holds
+    may-fire-requires
+    add-bits
+    mul-bit
+    add-t
+    loop-less
+    loop-again
+    cast-result
+    returns)

@@ -1,0 +1,71 @@
+-- The part is empty where a check refuses or the track does not exist; else it starts at the track's entries and ends behind those held. Assumes nothing.
+use mathlib.Core.Path.{sym, ap, _∙_}
+use native.Mathlib.Omega.{arith}
+use Rattle.rules.specs.Layout.{entryLimit, entryWidth, headWords, trackWidth, leadingWords, trackPlace, entriesPlace}
+use Rattle.rules.specs.Answers.{planTold}
+use Rattle.ledger.proofs.Words.{room-within}
+use Rattle.ledger.proofs.ScopeLaws.{count-as}
+use Rattle.steps.proofs.Facts.{track-read}
+use Rattle.manager.proofs.Checks.{lent-room, checked-facts, span-at, span-refused, span-absent, span-held}
+use borrow.Author.Needs.{needs}
+use Rattle.manager.proofs.part_of.Statement.{statement}
+use Rattle.manager.proofs.part_of.Tie as tie
+
+verify-requires : tie.Need-verify-requires
+verify-requires c κs = search needs
+
+enum-told : tie.Need-enum-told
+enum-told c = search needs
+
+enum-known-answer : tie.Need-enum-known-answer
+enum-known-answer c = search needs
+
+wide-requires : tie.Need-wide-requires
+wide-requires c κs = search needs
+
+returns : tie.Need-returns
+unfolding planTold
+returns c = span-at _ _ _ _ _ _ (c .before .before .wide .ensures .0) (span-absent _ _ _ _ (sym (ap planTold (c .before .before .before .before .answer .given .1)) ∙ c .before .before .before .before .before .before .verify .ensures) (c .if1 .taken))
+
+track-at-requires : tie.Need-track-at-requires
+unfolding planTold
+track-at-requires c κs = room-within _ _ _ (lent-room _ _ _ (checked-facts _ _ _ (sym (ap planTold (c .before .before .before .before .answer .given .1)) ∙ c .before .before .before .before .before .before .verify .ensures) .0)) (c .if1 .left)
+
+entry-place-requires : tie.Need-entry-place-requires
+unfolding planTold entryLimit
+entry-place-requires c κs = (omega (arith, lent-room _ _ _ (checked-facts _ _ _ (sym (ap planTold (c .before .before .before .before .before .answer .given .1)) ∙ c .before .before .before .before .before .before .before .verify .ensures) .0) .few, c .before .if1 .left), omega arith)
+
+wide-requires-2 : tie.Need-wide-requires-2
+wide-requires-2 c κs = search needs
+
+mul-t12 : tie.Need-mul-t12
+mul-t12 c = search needs
+
+add-t13 : tie.Need-add-t13
+unfolding planTold entriesPlace trackPlace trackWidth headWords entryWidth entryLimit leadingWords
+add-t13 c = omega (arith, c .before .entry-place .ensures, c .wide2 .ensures .1, lent-room _ _ _ (checked-facts _ _ _ (sym (ap planTold (c .before .before .before .before .before .before .before .answer .given .1)) ∙ c .before .before .before .before .before .before .before .before .before .verify .ensures) .0) .few, c .before .before .before .if1 .left)
+
+returns-2 : tie.Need-returns-2
+unfolding planTold
+returns-2 c = span-refused _ _ _ _ (sym (ap planTold (c .enum-told .given .1)) ∙ c .before .before .verify .ensures)
+
+returns-3 : tie.Need-returns-3
+unfolding planTold entryWidth
+returns-3 c = span-at _ _ _ _ _ _ (c .before .before .before .before .before .wide .ensures .0) (span-held _ _ _ _ _ _ (sym (ap planTold (c .before .before .before .before .before .before .before .answer .given .1)) ∙ c .before .before .before .before .before .before .before .before .before .verify .ensures) (c .before .before .before .if1 .left) (c .before .entry-place .ensures) (c .wide2 .ensures .0 ∙ count-as _ (c .before .before .track-at .ensures ∙ track-read _ _ _ (c .before .before .before .if1 .left))))
+
+pub part-of-spec : {M : Type 1} → statement M
+part-of-spec =
+    tie.close
+    (tie.spec
+    verify-requires
+    enum-told
+    enum-known-answer
+    wide-requires
+    returns
+    track-at-requires
+    entry-place-requires
+    wide-requires-2
+    mul-t12
+    add-t13
+    returns-2
+    returns-3)

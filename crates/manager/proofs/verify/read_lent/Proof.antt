@@ -1,0 +1,45 @@
+-- The reading of the plan, and 17 where it is accepted. Assumes nothing.
+use mathlib.Core.Path.{sym, ap, _∙_}
+use Rattle.rules.specs.Answers.{planTold}
+use Rattle.plan.proofs.Reader.{accepted-holds}
+use Rattle.manager.proofs.Checks.{short, roomy, lent-refused, lent-short, lent-accepted}
+use borrow.Author.Needs.{needs}
+use Rattle.manager.proofs.verify.read_lent.Statement.{statement}
+use Rattle.manager.proofs.verify.read_lent.Tie as tie
+
+read-plan-requires : tie.Need-read-plan-requires
+read-plan-requires c κs = search needs
+
+enum-known-answer : tie.Need-enum-known-answer
+enum-known-answer c = search needs
+
+enum-known-answer-2 : tie.Need-enum-known-answer-2
+enum-known-answer-2 c = search needs
+
+has-room-requires : tie.Need-has-room-requires
+unfolding planTold
+has-room-requires c κs = accepted-holds _ _ (sym (c .before .before .before .read-plan .ensures) ∙ ap planTold (c .before .answer2 .given .1)) .tracks
+
+returns : tie.Need-returns
+unfolding planTold
+returns c = lent-short _ _ _ (sym (ap planTold (c .before .before .before .answer2 .given .1)) ∙ c .before .before .before .before .before .read-plan .ensures) (short _ _ _ (c .before .has-room .ensures) (c .if1 .taken))
+
+returns-2 : tie.Need-returns-2
+unfolding planTold
+returns-2 c = lent-refused _ _ _ (sym (ap planTold (c .before .answer .given .1)) ∙ c .before .before .before .read-plan .ensures)
+
+returns-3 : tie.Need-returns-3
+unfolding planTold
+returns-3 c = lent-accepted _ _ _ (sym (ap planTold (c .before .before .before .answer2 .given .1)) ∙ c .before .before .before .before .before .read-plan .ensures) (roomy _ _ _ (c .before .has-room .ensures) (c .if1 .left))
+
+pub read-lent-spec : {M : Type 1} → statement M
+read-lent-spec =
+    tie.close
+    (tie.spec
+    read-plan-requires
+    enum-known-answer
+    enum-known-answer-2
+    has-room-requires
+    returns
+    returns-2
+    returns-3)

@@ -1,0 +1,44 @@
+-- The checks 2 to 17, and 18 where they pass. Assumes nothing.
+use mathlib.Core.Path.{sym, ap, _∙_}
+use Rattle.rules.specs.Answers.{planTold}
+use Rattle.manager.proofs.Checks.{lent-given, checked-refused, checked-unsound, checked-accepted}
+use borrow.Author.Needs.{needs}
+use Rattle.manager.proofs.verify.verify.Statement.{statement}
+use Rattle.manager.proofs.verify.verify.Tie as tie
+
+read-lent-requires : tie.Need-read-lent-requires
+read-lent-requires c κs = search needs
+
+enum-known-answer : tie.Need-enum-known-answer
+enum-known-answer c = search needs
+
+enum-known-answer-2 : tie.Need-enum-known-answer-2
+enum-known-answer-2 c = search needs
+
+is-sound-requires : tie.Need-is-sound-requires
+unfolding planTold
+is-sound-requires c κs = lent-given _ _ _ (sym (ap planTold (c .before .answer2 .given .1)) ∙ c .before .before .before .read-lent .ensures)
+
+returns : tie.Need-returns
+unfolding planTold
+returns c = checked-unsound _ _ _ (sym (ap planTold (c .before .before .before .answer2 .given .1)) ∙ c .before .before .before .before .before .read-lent .ensures) (c .before .is-sound .ensures) (c .if1 .taken)
+
+returns-2 : tie.Need-returns-2
+unfolding planTold
+returns-2 c = checked-refused _ _ _ (sym (ap planTold (c .before .answer .given .1)) ∙ c .before .before .before .read-lent .ensures)
+
+returns-3 : tie.Need-returns-3
+unfolding planTold
+returns-3 c = checked-accepted _ _ _ (sym (ap planTold (c .before .before .before .answer2 .given .1)) ∙ c .before .before .before .before .before .read-lent .ensures) (c .before .is-sound .ensures) (c .if1 .left)
+
+pub verify-spec : {M : Type 1} → statement M
+verify-spec =
+    tie.close
+    (tie.spec
+    read-lent-requires
+    enum-known-answer
+    enum-known-answer-2
+    is-sound-requires
+    returns
+    returns-2
+    returns-3)

@@ -1,0 +1,70 @@
+// The manager's calls. Each is given the plan's bytes and the lent ledger; none has a `requires`. An answer is the result with its figures
+// or a refusal with its number, and a refused call changes no word.
+pub mod bits;
+pub mod verify;
+
+use ledger::layout;
+use ledger::layout::ENTRY_WIDTH;
+use ledger::track;
+use rules::Counts;
+use rules::PlanAnswer;
+use rules::ReadyAnswer;
+ghost use mathlib.Core.Path.{_≡_};
+ghost use Prim.Native.Nat.{_<_};
+ghost use Rattle.rules.specs.Layout.{entryLimit};
+ghost use Rattle.rules.specs.Call.{readyOutcome, entriesPart, Meets};
+ghost use Rattle.rules.specs.Answers.{readyTold};
+ghost use Rattle.manager.specs.Checked.{Span};
+ghost use Rattle.steps.specs.Going.{Accepts, Roomy};
+
+// A number with bit n set exactly if track n may be fired.
+pub fn ready(plan: &[u8], ledger: &mut [u16]) -> ReadyAnswer
+    ensures { λ r. ⌜ Meets (readyOutcome entryLimit (now (plan .entry)) (now (ledger .entry))) (readyTold r) (now (ledger .exit)) ⌝ }
+{
+    let answer = verify::verify(plan, &ledger[..]);
+    match answer {
+        PlanAnswer::Refused(n) => ReadyAnswer::Refused(n),
+        PlanAnswer::Accepted(c) => {
+            let bits = bits::ready_bits(plan, c, &ledger[..]);
+            ReadyAnswer::Ready(bits)
+        }
+    }
+}
+
+// A part of the ledger, as numbers.
+struct Part {
+    from: usize,
+    to: usize,
+}
+
+// The part that holds a track's entries.
+fn part_of(plan: &[u8], ledger: &[u16], track: u16) -> Part
+    ensures { λ r. ⌜ Span (now (plan .entry)) (now (ledger .entry)) track (r .from) (r .to) ⌝ }
+{
+    let answer = verify::verify(plan, ledger);
+    match answer {
+        PlanAnswer::Refused(_) => Part { from: 0, to: 0 },
+        PlanAnswer::Accepted(c) => {
+            let t = layout::wide(track);
+            if c.tracks <= t {
+                return Part { from: 0, to: 0 };
+            }
+            let k = track::track_at(ledger, t);
+            let from = layout::entry_place(t, 0);
+            Part {
+                from: from,
+                to: from + ENTRY_WIDTH * layout::wide(k.count),
+            }
+        }
+    }
+}
+
+// The part of the ledger that holds a track's entries: those held, and no unused pairs.
+pub fn entries<'a>(plan: &[u8], ledger: &'a [u16], track: u16) -> &'a [u16]
+    ensures { λ r. ⌜ now r ≡ entriesPart entryLimit (now (plan .entry)) (now (ledger .entry)) track ⌝ }
+{
+    let part = part_of(plan, ledger, track);
+    let from = part.from;
+    let to = part.to;
+    &ledger[from..to]
+}
