@@ -5,3 +5,4 @@ pub mod LineText
 pub mod Entering
 pub mod Replaying
 pub mod Ready
+pub mod Running

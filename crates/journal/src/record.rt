@@ -16,10 +16,13 @@ const FIRE: u16 = 18;
 
 const FIRE_LOWEST: u16 = 19;
 
-// The length of a record without a field and of one with a field.
-const BARE: u16 = 4;
+// The length of a record without a field, which is where a field starts, and of one with a field.
+const BARE: usize = 4;
 
-const WITH_FIELD: u16 = 6;
+const WITH_FIELD: usize = 6;
+
+// Where the kind starts.
+const KIND_PLACE: usize = 2;
 
 // What stands at a place of the journal: its end, a broken record, or what is asked for, with its field.
 pub enum Record {
@@ -38,7 +41,7 @@ fn wide(x: u16) -> usize
 }
 
 // The length of a kind's records, 0 where there is no such kind.
-fn length_of(kind: u16) -> u16
+fn length_of(kind: u16) -> usize
     ensures { λ r. ⌜ r ≡ journalLength kind ⌝ }
 {
     if kind == EVENT {
@@ -62,13 +65,13 @@ fn whole_at(journal: &[u8], at: usize, kind: u16) -> Record
     ensures { λ r. ⌜ entered r ≡ recordOf kind (word (now (journal .entry)) (at + 4)) ⌝ }
 {
     if kind == EVENT {
-        return Record::Event(word_at(journal, at + 4));
+        return Record::Event(word_at(journal, at + BARE));
     }
     if kind == SIGNAL {
         return Record::Signal;
     }
     if kind == FIRE {
-        return Record::Fire(word_at(journal, at + 4));
+        return Record::Fire(word_at(journal, at + BARE));
     }
     Record::FireLowest
 }
@@ -81,18 +84,19 @@ pub fn record_at(journal: &[u8], at: usize) -> Record
         return Record::Ended;
     }
     let left = journal.len() - at;
-    if left < 4 {
+    if left < BARE {
         return Record::Broken;
     }
-    let kind = word_at(journal, at + 2);
+    let kind = word_at(journal, at + KIND_PLACE);
     let length = length_of(kind);
     if length == 0 {
         return Record::Broken;
     }
-    if word_at(journal, at) != length {
+    let size = wide(word_at(journal, at));
+    if size != length {
         return Record::Broken;
     }
-    if left < wide(length) {
+    if left < length {
         return Record::Broken;
     }
     whole_at(journal, at, kind)
@@ -105,9 +109,9 @@ pub fn size_of(found: Record) -> usize
     match found {
         Record::Ended => 0,
         Record::Broken => 0,
-        Record::Event(_) => 6,
-        Record::Signal => 4,
-        Record::Fire(_) => 6,
-        Record::FireLowest => 4,
+        Record::Event(_) => WITH_FIELD,
+        Record::Signal => BARE,
+        Record::Fire(_) => WITH_FIELD,
+        Record::FireLowest => BARE,
     }
 }

@@ -35,22 +35,22 @@ returns-3 c = sym (unknown _ _ _ _ _ (c .before .before .word-at .ensures) (c .b
 word-at-requires-2 : tie.Need-word-at-requires-2
 word-at-requires-2 c κs = search needs
 
-returns-4 : tie.Need-returns-4
-unfolding entered
-returns-4 c = sym (wrong _ _ _ _ _ (c .before .before .before .before .word-at .ensures) (c .before .before .before .length-of .ensures) (c .before .word-at2 .ensures) (c .before .before .before .before .before .before .if1 .left) (c .if4 .taken))
-
 wide-requires : tie.Need-wide-requires
 wide-requires c κs = search needs
 
+returns-4 : tie.Need-returns-4
+unfolding entered
+returns-4 c = sym (wrong _ _ _ _ _ (c .before .before .before .before .before .word-at .ensures) (c .before .before .before .before .length-of .ensures) (c .before .wide .ensures ∙ c .before .before .word-at2 .ensures) (c .before .before .before .before .before .before .before .if1 .left) (c .if4 .taken))
+
 returns-5 : tie.Need-returns-5
 unfolding entered
-returns-5 c = sym (cut _ _ _ _ _ (c .before .before .before .before .before .before .word-at .ensures) (c .before .before .before .before .before .length-of .ensures) (c .before .before .before .word-at2 .ensures) (c .before .before .before .before .before .before .before .before .if1 .left) (c .before .before .if4 .left) (omega (arith, c .before .wide .ensures)))
+returns-5 c = sym (cut _ _ _ _ _ (c .before .before .before .before .before .before .word-at .ensures) (c .before .before .before .before .before .length-of .ensures) (c .before .before .wide .ensures ∙ c .before .before .before .word-at2 .ensures) (c .before .before .before .before .before .before .before .before .if1 .left) (c .before .if4 .left) (c .if5 .taken))
 
 whole-at-requires : tie.Need-whole-at-requires
 whole-at-requires c κs = search needs
 
 returns-6 : tie.Need-returns-6
-returns-6 c = c .whole-at .ensures ∙ sym (whole _ _ _ _ _ (c .before .before .before .before .before .before .before .word-at .ensures) (c .before .before .before .before .before .before .length-of .ensures) (c .before .before .before .before .word-at2 .ensures) (c .before .before .before .before .before .before .before .before .if2 .left) (c .before .before .before .before .before .if3 .left) (c .before .before .before .if4 .left) (omega (arith, c .before .before .wide .ensures)))
+returns-6 c = c .whole-at .ensures ∙ sym (whole _ _ _ _ _ (c .before .before .before .before .before .before .before .word-at .ensures) (c .before .before .before .before .before .before .length-of .ensures) (c .before .before .before .wide .ensures ∙ c .before .before .before .before .word-at2 .ensures) (c .before .before .before .before .before .before .before .before .if2 .left) (c .before .before .before .before .before .if3 .left) (c .before .before .if4 .left) (c .before .if5 .left))
 
 pub record-at-spec : {M : Type 1} → statement M
 record-at-spec =
@@ -64,8 +64,8 @@ record-at-spec =
     length-of-requires
     returns-3
     word-at-requires-2
-    returns-4
     wide-requires
+    returns-4
     returns-5
     whole-at-requires
     returns-6)
