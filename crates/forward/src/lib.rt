@@ -2,3 +2,4 @@
 mod closing;
 mod judging;
 mod moving;
+mod settling;
