@@ -216,8 +216,8 @@ module _ (bs : List ℕ) (c : Counts) (ws : List ℕ) (h : Checked bs c ws) (e :
             roomy = h .roomy;
             tidy = rw (track-count bs c) at a;
             live = ⊎-elim (λ y. clash y (sym over-is ∙ sym q ∙ z))
-            (λ y. ap (λ (i : ℕ). isLive (planOf bs c) (ledgerAt entryLimit ws i)) (sym (track-count bs c)) ∙ y)
-            (or-true (isOver (planOf bs c) (ledgerAt entryLimit ws (trackCount (planOf bs c)))) (isLive (planOf bs c) (ledgerAt entryLimit ws (trackCount (planOf bs c)))) b);
+                (λ y. ap (λ (i : ℕ). isLive (planOf bs c) (ledgerAt entryLimit ws i)) (sym (track-count bs c)) ∙ y)
+                (or-true (isOver (planOf bs c) (ledgerAt entryLimit ws (trackCount (planOf bs c)))) (isLive (planOf bs c) (ledgerAt entryLimit ws (trackCount (planOf bs c)))) b);
           }
 
       pub event-going : (a : Answer) (v : List ℕ) → Meets (goingOutcome (planOf bs c) ws e) a v

@@ -181,7 +181,18 @@ pub fn settle(
     let tracks = c.tracks;
     let mut t: usize = 0;
     while t < tracks {
-        settle_track(plan, c, &mut ledger[..], finishing, taken, closing, codes, to, woken, t);
+        settle_track(
+            plan,
+            c,
+            &mut ledger[..],
+            finishing,
+            taken,
+            closing,
+            codes,
+            to,
+            woken,
+            t,
+        );
         t += 1;
     }
 }
