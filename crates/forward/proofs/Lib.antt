@@ -1,5 +1,9 @@
 -- Laws of an event on the ledger before the call.
 pub mod Moves
-pub mod Settling
+pub mod Settlings
 pub mod Passes
 pub mod Turns
+pub mod Writing
+pub mod Writes
+pub mod Leaving
+pub mod Answering

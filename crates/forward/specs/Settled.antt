@@ -1,6 +1,6 @@
 -- The writing pass of an event, track by track: what each turn writes, and the ledger that the turns leave. Assumes nothing.
 use mathlib.Core.Path.{_≡_}
-use mathlib.Core.Bool.{Bool, true, false, cond, _&&_, _||_}
+use mathlib.Core.Bool.{Bool, true, false, cond, not, _&&_, _||_}
 use mathlib.Core.List.{List, [], _∷_}
 use mathlib.Core.Option.{Option, none, some}
 use Prim.Native.Nat.{ℕ, _<_}
@@ -69,6 +69,10 @@ module _ (p : Plan) where
 -- each track that is given a code has room for it
 pub record Spare (n : ℕ) (l : Ledger) (codes : List ℕ) : Type 0 where
   pub room : (t : ℕ) → t < n → (getD codes t 0 ≡ 0 → ⊥) → length (l t .held) < entryLimit
+
+-- a track is asleep
+unfoldable pub isAsleepAt : Ledger → ℕ → Bool
+isAsleepAt l t = not (isAwake (l t .mode))
 
 -- An event other than 0 on a ledger that is not over: 21, or the step.
 unfoldable pub goingOutcome : Plan → List ℕ → ℕ → Outcome

@@ -1,0 +1,78 @@
+// An event: its refusals, judged before a word is written, then its step and its figures.
+use crate::closing;
+use crate::judging;
+use crate::moving;
+use crate::settling;
+use ledger::track;
+use rules::Counts;
+use rules::EventAnswer;
+use steps::opens;
+use steps::reading;
+ghost use mathlib.Core.Path.{_≡_};
+ghost use Prim.Native.Nat.{_<_};
+ghost use Rattle.rules.specs.Layout.{entryLimit};
+ghost use Rattle.rules.specs.Fold.{everyBelow};
+ghost use Rattle.rules.specs.Plan.{planOf};
+ghost use Rattle.rules.specs.Call.{EventArguments, Meets, eventOutcome};
+ghost use Rattle.rules.specs.Answers.{eventTold};
+ghost use Rattle.steps.specs.Going.{Roomy, Checked, Going, ledgerOf};
+ghost use Rattle.forward.specs.Settled.{isAsleepAt, goingOutcome};
+
+// Whether a track is asleep.
+fn is_asleep(c: Counts, ledger: &[u16], t: usize) -> bool
+    requires { ⌜ Roomy c (now ledger) × (t < c .tracks) ⌝ }
+    ensures { λ r. ⌜ r ≡ isAsleepAt (ledgerOf c (now (ledger .entry))) t ⌝ }
+{
+    let k = reading::track(c, ledger, t);
+    let m = k.mode;
+    !track::is_awake(m)
+}
+
+// Whether the ledger is over: every track is asleep.
+fn is_over(c: Counts, ledger: &[u16]) -> bool
+    requires { ⌜ Roomy c (now ledger) ⌝ }
+    ensures { λ r. ⌜ r ≡ everyBelow (c .tracks) (isAsleepAt (ledgerOf c (now (ledger .entry)))) ⌝ }
+{
+    let tracks = c.tracks;
+    let mut t: usize = 0;
+    while t < tracks {
+        if !is_asleep(c, ledger, t) {
+            return false;
+        }
+        t += 1;
+    }
+    true
+}
+
+// An event other than 0 on a ledger that is not over.
+fn go_on(plan: &[u8], c: Counts, ledger: &mut [u16], event: u16) -> EventAnswer
+    requires { ⌜ Going (now plan) c (now ledger) ⌝ }
+    ensures { λ r. ⌜ Meets (goingOutcome (planOf (now (plan .entry)) c) (now (ledger .entry)) event) (eventTold r) (now (ledger .exit)) ⌝ }
+{
+    let scopes = opens::open_scopes(plan, c, &ledger[..]);
+    let taken = moving::choose(plan, c, &ledger[..], event, scopes);
+    let closing = closing::closing_scopes(plan, c, &ledger[..], scopes, taken);
+    let codes = judging::codes_given(plan, c, &ledger[..], taken, closing);
+    if judging::is_full(c, &ledger[..], codes) {
+        return EventAnswer::Refused(21);
+    }
+    let finishing = judging::finishes(plan, c, &ledger[..], taken);
+    let moved = judging::moves(c, taken);
+    let closed = judging::closings(c, closing);
+    settling::settle(plan, c, &mut ledger[..], finishing, taken, closing, codes);
+    EventAnswer::Moved(moved, closed)
+}
+
+// An event under an accepted plan, on a sound ledger.
+pub fn event(plan: &[u8], c: Counts, ledger: &mut [u16], event: u16) -> EventAnswer
+    requires { ⌜ Checked (now plan) c (now ledger) ⌝ }
+    ensures { λ r. ⌜ Meets (eventOutcome entryLimit (now (plan .entry)) (now (ledger .entry)) (record { event = event })) (eventTold r) (now (ledger .exit)) ⌝ }
+{
+    if event == 0 {
+        return EventAnswer::Refused(19);
+    }
+    if is_over(c, &ledger[..]) {
+        return EventAnswer::Refused(20);
+    }
+    go_on(plan, c, &mut ledger[..], event)
+}
