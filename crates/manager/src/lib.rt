@@ -9,13 +9,25 @@ use ledger::track;
 use rules::Counts;
 use rules::PlanAnswer;
 use rules::ReadyAnswer;
+use rules::SignalAnswer;
 ghost use mathlib.Core.Path.{_≡_};
 ghost use Prim.Native.Nat.{_<_};
 ghost use Rattle.rules.specs.Layout.{entryLimit};
-ghost use Rattle.rules.specs.Call.{readyOutcome, entriesPart, Meets};
-ghost use Rattle.rules.specs.Answers.{readyTold};
+ghost use Rattle.rules.specs.Call.{nothing, signalOutcome, readyOutcome, entriesPart, Meets};
+ghost use Rattle.rules.specs.Answers.{signalTold, readyTold};
 ghost use Rattle.manager.specs.Checked.{Span};
 ghost use Rattle.steps.specs.Going.{Accepts, Roomy};
+
+// Turns every forward track to undoing, and puts to sleep the scopes that then have nothing to take back. Answers how many turned.
+pub fn signal(plan: &[u8], ledger: &mut [u16]) -> SignalAnswer
+    ensures { λ r. ⌜ Meets (signalOutcome entryLimit (now (plan .entry)) (now (ledger .entry)) nothing) (signalTold r) (now (ledger .exit)) ⌝ }
+{
+    let answer = verify::verify(plan, &ledger[..]);
+    match answer {
+        PlanAnswer::Refused(n) => SignalAnswer::Refused(n),
+        PlanAnswer::Accepted(c) => backward::signal::signal(plan, c, &mut ledger[..]),
+    }
+}
 
 // A number with bit n set exactly if track n may be fired.
 pub fn ready(plan: &[u8], ledger: &mut [u16]) -> ReadyAnswer
