@@ -1,33 +1,32 @@
 -- From the passes to the call's outcome: 21 or the step where the ledger is going, and before that 19 and 20. Assumes nothing.
-use mathlib.Core.Path.{_≡_, refl, sym, ap, ap₂, _∙_, subst}
-use mathlib.Core.Logic.{inl, inr, ⊎-elim}
-use mathlib.Core.Bool.{Bool, true, false, cond, not, _&&_, _||_}
-use mathlib.Core.List.{List, [], _∷_, _++_}
+use mathlib.Core.Path.{_≡_, refl, sym, ap, _∙_, subst}
+use mathlib.Core.Logic.{⊎-elim}
+use mathlib.Core.Bool.{Bool, true, false, cond, not, _||_}
+use mathlib.Core.List.{List, [], _∷_}
 use Prim.Native.Nat.{ℕ, _<_, _≤_}
 use native.Mathlib.Omega.{arith}
 use lib.Dec.{eqb, leb, ltb}
 use lib.ListN.{length, getD}
-use borrow.Author.Tests.{eq-eqb, ne-eqb, le-ltb, leb-false, not-true}
+use borrow.Author.Tests.{eq-eqb, ne-eqb, le-ltb, leb-false}
 use Rattle.rules.specs.declared.Counts.{Counts}
 use Rattle.rules.specs.declared.Track.{Track}
 use Rattle.rules.specs.declared.EventAnswer.the-variants.{Moved, Refused}
 use Rattle.rules.specs.Fold.{someBelow, everyBelow, countBelow, firstRefusal}
 use Rattle.rules.specs.Layout.{entryLimit, wordCount}
 use Rattle.rules.specs.Plan.{Plan, planOf, trackCount, stateCount, transitionCount}
-use Rattle.rules.specs.Acceptance.{accepted}
 use Rattle.rules.specs.Ledger.{Ledger, isAwake, ledgerAt, written}
 use Rattle.rules.specs.Scope.{isOver, hasOpenScope}
 use Rattle.rules.specs.Soundness.{areTidy, isLive, isSound}
 use Rattle.rules.specs.Event.{move, moves, moved, closings, isFull, afterEvent}
-use Rattle.rules.specs.Call.{Answer, refusal, done, Outcome, EventArguments, event, Meets, refusedOr, underPlan, tooShort, ledgerRefusals, callRefusals, figures, after, callOutcome, eventOutcome}
+use Rattle.rules.specs.Call.{Answer, done, Outcome, event, Meets, refusedOr, underPlan, tooShort, ledgerRefusals, callRefusals, figures, after, callOutcome, eventOutcome}
 use Rattle.rules.specs.Answers.{eventTold}
-use Rattle.rules.proofs.Tests.{look, clash, and-true, and-both, or-true}
+use Rattle.rules.proofs.Tests.{clash, and-true, or-true}
 use Rattle.rules.proofs.Folds.{some-not}
 use Rattle.rules.proofs.Stored.{written-same}
 use Rattle.plan.proofs.FieldLaws.{track-count, state-count, transition-count}
 use Rattle.ledger.specs.Words.{trackOf}
-use Rattle.steps.specs.Going.{Accepts, Checked, Going, ledgerOf}
-use Rattle.steps.specs.Marks.{slots, Marks, openMarks}
+use Rattle.steps.specs.Going.{Checked, Going, ledgerOf}
+use Rattle.steps.specs.Marks.{Marks, openMarks}
 use Rattle.steps.proofs.Marks.{length-open, open-scopes}
 use Rattle.steps.proofs.Facts.{plan-facts, few-tracks, live-of-going, storable, beyond}
 use Rattle.forward.specs.Next.{closesNext, finishesNext}

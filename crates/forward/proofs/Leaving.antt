@@ -1,15 +1,15 @@
 -- What the passes leave is what the event's definition says: each track's word is its move, and the settled ledger is the next one, track
 -- by track. Assumes nothing.
-use mathlib.Core.Path.{_≡_, refl, sym, ap, _∙_, subst}
-use mathlib.Core.Logic.{_⊎_, inl, inr}
+use mathlib.Core.Path.{_≡_, refl, sym, ap, _∙_}
+use mathlib.Core.Logic.{inl, inr}
 use mathlib.Core.Bool.{Bool, true, false, cond, not, _&&_, _||_}
 use mathlib.Core.List.{List, []}
-use mathlib.Core.Option.{Option, none, some}
+use mathlib.Core.Option.{none, some}
 use Prim.Native.Nat.{ℕ, zero, suc, _<_, _≤_}
 use native.Mathlib.Nat.{not-suc-le-zero}
 use native.Mathlib.Omega.{arith}
 use lib.Dec.{eqb, leb, ltb}
-use lib.ListN.{length, getD, set, replicate, length-set, length-replicate}
+use lib.ListN.{length, getD, length-set, length-replicate}
 use lib.Seq.{getD-set-same, getD-set-other}
 use borrow.Author.Tests.{eqb-true, eqb-false, eq-eqb, ne-eqb, ltb-true}
 use Rattle.rules.specs.declared.Mode.the-variants.{Forward}
@@ -18,8 +18,8 @@ use Rattle.rules.specs.Layout.{entryLimit}
 use Rattle.rules.specs.Plan.{Plan, trackCount, stateCount, transitionCount, noState, optional, host, owner, transition, replacement, isRoot, isFinal, isStateOf, firstState}
 use Rattle.rules.specs.Ledger.{Entry, Configuration, Ledger, isAwake, isForward, sleeping}
 use Rattle.rules.specs.Opening.{fresh, wakes}
-use Rattle.rules.specs.Event.{install, installed, destinationOf, hasCode, isMove, move, moves, moved, closings, isFull, afterEvent}
-use Rattle.rules.proofs.Tests.{look, look-option, clash, none-some, refuted, and-true}
+use Rattle.rules.specs.Event.{installed, destinationOf, hasCode, isMove, move, moves, moved, closings, isFull, afterEvent}
+use Rattle.rules.proofs.Tests.{look, look-option, clash, refuted, and-true}
 use Rattle.rules.proofs.Folds.{every-same, some-same, count-same}
 use Rattle.rules.proofs.Acceptance.{Accepted, transition-for}
 use Rattle.rules.proofs.Opening.{wakes-same}
@@ -28,9 +28,9 @@ use Rattle.steps.specs.Marks.{slots, Marks, wakeMarks}
 use Rattle.steps.proofs.Marks.{wake-marks}
 use Rattle.forward.specs.Next.{nextState, closesNext, closedNext, finishesNext, givenNext, nextBy, nextLedger}
 use Rattle.forward.specs.Marks.{wordOf, table, takes, codeGiven, endsAt, isFullAt, stateAfter}
-use Rattle.forward.specs.Settled.{enteredBy, turned, destinationWord, deviationWord, entersAt, closedAt, sleepsAt, destinationsOf, settledLedger}
-use Rattle.forward.proofs.Moves.{forward-awake, Moves, mover-facts, woken-asleep}
-use Rattle.forward.proofs.Settlings.{closes-parts, mover-open, finishes-before, full-before, after-before, closings-before}
+use Rattle.forward.specs.Settled.{enteredBy, turned, destinationWord, deviationWord, entersAt, closedAt, sleepsAt, settledLedger}
+use Rattle.forward.proofs.Moves.{forward-awake, mover-facts, woken-asleep}
+use Rattle.forward.proofs.Settlings.{closes-parts, mover-open, full-before, after-before, closings-before}
 use Rattle.forward.proofs.Passes.{move-word, state-after}
 use Rattle.forward.proofs.Writing.{installed-none}
 

@@ -1,29 +1,28 @@
 -- One turn of an event's passes, as the code takes it: each branch is a case of the turn's definition. Assumes nothing.
 use mathlib.Core.Path.{_≡_, refl, sym, ap, _∙_, subst}
 use mathlib.Core.Logic.{inl, inr}
-use mathlib.Core.Bool.{Bool, true, false, cond, not, _&&_, _||_}
+use mathlib.Core.Bool.{Bool, true, false, cond, not, _&&_}
 use mathlib.Core.List.{List}
-use mathlib.Core.Option.{Option, none, some}
-use Prim.Native.Nat.{ℕ, suc, _+_, _<_, _≤_}
+use Prim.Native.Nat.{ℕ, _+_, _<_, _≤_}
 use native.Mathlib.Numerals.{add-one}
 use native.Mathlib.Omega.{arith}
 use lib.Dec.{eqb, leb, ltb}
 use lib.ListN.{length, getD, set}
-use borrow.Author.Tests.{eq-eqb, ne-eqb, eqb-true, eqb-false, not-true, not-false, ltb-true}
+use borrow.Author.Tests.{eq-eqb, ne-eqb, eqb-false, not-true, not-false, ltb-true}
 use Rattle.rules.specs.declared.Counts.{Counts}
 use Rattle.rules.specs.declared.Track.{Track}
 use Rattle.rules.specs.Fold.{everyBelow, countBelow}
 use Rattle.rules.specs.Layout.{entryLimit}
-use Rattle.rules.specs.Plan.{Plan, planOf, trackCount, stateCount, transitionCount, noState, host, owner, transition, mover, replacement, isRoot, isFinal, isStateOf, firstState}
+use Rattle.rules.specs.Plan.{Plan, planOf, trackCount, stateCount, noState, owner, transition, mover, replacement, isRoot, isFinal, isStateOf, firstState}
 use Rattle.rules.specs.Ledger.{Configuration, Ledger, isAwake, isForward, sleeping}
 use Rattle.rules.proofs.Tests.{look, clash, refuted, and-true}
-use Rattle.rules.proofs.Folds.{every-at, every-more, count-more, count-most}
+use Rattle.rules.proofs.Folds.{every-at, every-more, count-more}
 use Rattle.plan.proofs.FieldLaws.{track-count, state-count, transition-count}
 use Rattle.ledger.specs.Words.{trackOf}
 use Rattle.steps.specs.Going.{Accepts, Going, ledgerOf, hostTrack}
 use Rattle.steps.specs.Marks.{setHost}
 use Rattle.steps.proofs.Facts.{plan-facts, live-of-going, storable, no-host-track, host-of-track}
-use Rattle.forward.specs.Marks.{InRange, table, takes, isTaken, takeMark, takeMarks, stateAfter, codeGiven, endsAt, isFullAt, isForwardOpen, forwardMarks, closeMark, closeMarks}
+use Rattle.forward.specs.Marks.{InRange, table, isTaken, takeMark, takeMarks, stateAfter, codeGiven, endsAt, isFullAt, isForwardOpen, forwardMarks, closeMark, closeMarks}
 
 -- what is read of a track
 pub forward-of : (l : Ledger) (t : ℕ) (k : Track) (f : Bool) → k ≡ trackOf (l t) → f ≡ isForward (k .mode) → isForward (l t .mode) ≡ f

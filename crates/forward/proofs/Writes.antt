@@ -1,17 +1,15 @@
 -- One turn of the writing pass, as the code takes it: each branch is a case of the turn's definition. Assumes nothing.
 use mathlib.Core.Path.{_≡_, sym, ap, _∙_}
-use mathlib.Core.Bool.{Bool, true, false, not, _&&_, _||_}
+use mathlib.Core.Bool.{Bool, true, false, not}
 use mathlib.Core.List.{List}
-use mathlib.Core.Option.{none, some}
 use Prim.Native.Nat.{ℕ}
-use lib.Dec.{eqb}
 use lib.ListN.{getD}
 use borrow.Author.Tests.{eq-eqb, ne-eqb, not-true, not-false}
 use Rattle.rules.specs.declared.Counts.{Counts}
 use Rattle.rules.specs.declared.Mode.{Mode}
 use Rattle.rules.specs.declared.Mode.the-variants.{Forward}
 use Rattle.rules.specs.declared.Track.{Track}
-use Rattle.rules.specs.Plan.{Plan, planOf, noState, host, owner, transition, firstState}
+use Rattle.rules.specs.Plan.{Plan, planOf, noState, transition, firstState}
 use Rattle.rules.specs.Ledger.{isAwake}
 use Rattle.ledger.specs.Words.{trackAt, withTrack, withInstalled, withAsleep}
 use Rattle.steps.specs.Going.{Accepts, hostTrack}

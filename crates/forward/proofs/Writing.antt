@@ -1,10 +1,10 @@
 -- What a turn of the writing pass does to the ledger that the words hold: the track is replaced, and the turns together leave the settled
 -- ledger. Assumes nothing.
-use mathlib.Core.Path.{_≡_, refl, sym, ap, _∙_, subst, fun-ext}
+use mathlib.Core.Path.{_≡_, sym, ap, _∙_, subst, fun-ext}
 use mathlib.Core.Logic.{inl, inr}
-use mathlib.Core.Bool.{Bool, true, false, cond}
-use mathlib.Core.List.{List, [], _∷_}
-use Prim.Native.Nat.{ℕ, suc, _+_, _<_, _≤_}
+use mathlib.Core.Bool.{Bool, true, false}
+use mathlib.Core.List.{List, _∷_}
+use Prim.Native.Nat.{ℕ, _+_, _<_, _≤_}
 use native.Mathlib.Omega.{arith}
 use lib.Dec.{eqb, ltb}
 use lib.ListN.{length, getD}
@@ -15,14 +15,14 @@ use Rattle.rules.specs.declared.Counts.{Counts}
 use Rattle.rules.specs.declared.Track.{Track}
 use Rattle.rules.specs.Layout.{entryLimit, wordCount}
 use Rattle.rules.specs.Plan.{Plan, planOf, trackCount, noState}
-use Rattle.rules.specs.Ledger.{Entry, Configuration, Ledger, sleeping, written}
+use Rattle.rules.specs.Ledger.{Configuration, Ledger, sleeping, written}
 use Rattle.rules.specs.Event.{install, installed}
 use Rattle.rules.proofs.Tests.{look}
 use Rattle.rules.proofs.Stored.{Fits, length-written, written-read}
 use Rattle.rules.proofs.Replaced.{updated, updated-here, updated-other, updated-same, updated-fits}
 use Rattle.rules.proofs.Passes.{upTo, up-new, up-old, up-none, up-more, up-all}
 use Rattle.plan.proofs.FieldLaws.{track-count}
-use Rattle.ledger.specs.Words.{trackOf, trackAt, withTrack}
+use Rattle.ledger.specs.Words.{trackOf, trackAt}
 use Rattle.ledger.proofs.Words.{track-written, put-written, installed-written, asleep-written}
 use Rattle.steps.specs.Going.{Roomy, Going, ledgerOf}
 use Rattle.steps.specs.Marks.{wakeMarks}

@@ -1,20 +1,19 @@
 -- The writing pass of an event, track by track: what each turn writes, and the ledger that the turns leave. Assumes nothing.
 use mathlib.Core.Path.{_≡_}
-use mathlib.Core.Bool.{Bool, true, false, cond, not, _&&_, _||_}
+use mathlib.Core.Bool.{Bool, false, cond, not, _&&_, _||_}
 use mathlib.Core.List.{List, [], _∷_}
-use mathlib.Core.Option.{Option, none, some}
+use mathlib.Core.Option.{none, some}
 use Prim.Native.Nat.{ℕ, _<_}
 use lib.ListN.{length, getD}
 use lib.Dec.{eqb}
 use Rattle.rules.specs.Fold.{firstRefusal}
 use Rattle.rules.specs.declared.Mode.{Mode}
 use Rattle.rules.specs.declared.Mode.the-variants.{Forward}
-use Rattle.rules.specs.declared.Track.{Track}
 use Rattle.rules.specs.Layout.{entryLimit}
 use Rattle.rules.specs.Plan.{Plan, trackCount, noState, host, owner, transition, firstState}
 use Rattle.rules.specs.Ledger.{Configuration, Ledger, isAwake, sleeping, ledgerAt, written}
 use Rattle.rules.specs.Event.{installed, isFull, afterEvent}
-use Rattle.rules.specs.Call.{Outcome, EventArguments, event, done, figures, refusedOr}
+use Rattle.rules.specs.Call.{Outcome, event, done, figures, refusedOr}
 use Rattle.ledger.specs.Words.{trackAt, withTrack, withInstalled, withAsleep}
 use Rattle.steps.specs.Marks.{wakeMarks}
 use Rattle.forward.specs.Marks.{table}

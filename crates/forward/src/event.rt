@@ -13,7 +13,7 @@ ghost use Prim.Native.Nat.{_<_};
 ghost use Rattle.rules.specs.Layout.{entryLimit};
 ghost use Rattle.rules.specs.Fold.{everyBelow};
 ghost use Rattle.rules.specs.Plan.{planOf};
-ghost use Rattle.rules.specs.Call.{EventArguments, Meets, eventOutcome};
+ghost use Rattle.rules.specs.Call.{Meets, eventOutcome};
 ghost use Rattle.rules.specs.Answers.{eventTold};
 ghost use Rattle.steps.specs.Going.{Roomy, Checked, Going, ledgerOf};
 ghost use Rattle.forward.specs.Settled.{isAsleepAt, goingOutcome};
