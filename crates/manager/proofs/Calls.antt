@@ -19,9 +19,9 @@ module _ (bs ws : List ℕ) where
   call-refused d r e =
       refused-outcome bs ws _
       (λ p.
-      record
-      { answer = done (figures entryLimit p (ledgerAt entryLimit ws (trackCount p)) d)
-      ; words = written entryLimit (trackCount p) (after entryLimit p (ledgerAt entryLimit ws (trackCount p)) d) ws
+      record {
+        answer = done (figures entryLimit p (ledgerAt entryLimit ws (trackCount p)) d);
+        words = written entryLimit (trackCount p) (after entryLimit p (ledgerAt entryLimit ws (trackCount p)) d) ws;
       })
       (λ p. callRefusals entryLimit p (ledgerAt entryLimit ws (trackCount p)) d) (λ p. refl) r e
 

@@ -7,16 +7,29 @@ use ledger::layout;
 use ledger::layout::ENTRY_WIDTH;
 use ledger::track;
 use rules::Counts;
+use rules::EventAnswer;
 use rules::PlanAnswer;
 use rules::ReadyAnswer;
 use rules::SignalAnswer;
 ghost use mathlib.Core.Path.{_≡_};
 ghost use Prim.Native.Nat.{_<_};
 ghost use Rattle.rules.specs.Layout.{entryLimit};
-ghost use Rattle.rules.specs.Call.{nothing, signalOutcome, readyOutcome, entriesPart, Meets};
-ghost use Rattle.rules.specs.Answers.{signalTold, readyTold};
+ghost use Rattle.rules.specs.Call.{nothing, eventOutcome, signalOutcome, readyOutcome, entriesPart, Meets};
+ghost use Rattle.rules.specs.Answers.{eventTold, signalTold, readyTold};
 ghost use Rattle.manager.specs.Checked.{Span};
 ghost use Rattle.steps.specs.Going.{Accepts, Roomy};
+
+// Moves each forward track without an open scope that has a transition for the event, then closes, replaces and finishes. Answers how many
+// tracks moved and how many scopes closed.
+pub fn event(plan: &[u8], ledger: &mut [u16], event: u16) -> EventAnswer
+    ensures { λ r. ⌜ Meets (eventOutcome entryLimit (now (plan .entry)) (now (ledger .entry)) (record { event = event })) (eventTold r) (now (ledger .exit)) ⌝ }
+{
+    let answer = verify::verify(plan, &ledger[..]);
+    match answer {
+        PlanAnswer::Refused(n) => EventAnswer::Refused(n),
+        PlanAnswer::Accepted(c) => forward::event::event(plan, c, &mut ledger[..], event),
+    }
+}
 
 // Turns every forward track to undoing, and puts to sleep the scopes that then have nothing to take back. Answers how many turned.
 pub fn signal(plan: &[u8], ledger: &mut [u16]) -> SignalAnswer
