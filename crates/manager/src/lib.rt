@@ -1,21 +1,37 @@
 // The manager's calls. Each is given the plan's bytes and the lent ledger; none has a `requires`. An answer is the result with its figures
 // or a refusal with its number, and a refused call changes no word.
 pub mod bits;
+pub mod opening;
 pub mod verify;
 
 use ledger::layout;
 use ledger::layout::ENTRY_WIDTH;
 use ledger::track;
+use rules::BeginAnswer;
 use rules::Counts;
 use rules::PlanAnswer;
 use rules::ReadyAnswer;
 ghost use mathlib.Core.Path.{_≡_};
 ghost use Prim.Native.Nat.{_<_};
 ghost use Rattle.rules.specs.Layout.{entryLimit};
-ghost use Rattle.rules.specs.Call.{readyOutcome, entriesPart, Meets};
-ghost use Rattle.rules.specs.Answers.{readyTold};
+ghost use Rattle.rules.specs.Call.{beginOutcome, readyOutcome, entriesPart, Meets};
+ghost use Rattle.rules.specs.Answers.{beginTold, readyTold};
 ghost use Rattle.manager.specs.Checked.{Span};
 ghost use Rattle.steps.specs.Going.{Accepts, Roomy};
+
+// Overwrites the ledger: roots forward in their first states and holding nothing, others asleep.
+pub fn begin(plan: &[u8], ledger: &mut [u16]) -> BeginAnswer
+    ensures { λ r. ⌜ Meets (beginOutcome entryLimit (now (plan .entry)) (now (ledger .entry))) (beginTold r) (now (ledger .exit)) ⌝ }
+{
+    let answer = verify::read_lent(plan, &ledger[..]);
+    match answer {
+        PlanAnswer::Refused(n) => BeginAnswer::Refused(n),
+        PlanAnswer::Accepted(c) => {
+            opening::begin_all(plan, c, &mut ledger[..]);
+            BeginAnswer::Begun
+        }
+    }
+}
 
 // A number with bit n set exactly if track n may be fired.
 pub fn ready(plan: &[u8], ledger: &mut [u16]) -> ReadyAnswer
