@@ -13,10 +13,11 @@ use Rattle.rules.specs.Fold.{firstRefusal}
 use Rattle.rules.specs.Layout.{entryLimit, entryWidth, trackWidth, headWords, trackPlace, entriesPlace, wordCount}
 use Rattle.rules.specs.Plan.{Plan, planOf, trackCount}
 use Rattle.rules.specs.Acceptance.{Reading, turnedBack, accepted, readPlan}
-use Rattle.rules.specs.Ledger.{ledgerAt}
+use Rattle.rules.specs.Ledger.{ledgerAt, written}
+use Rattle.rules.specs.Opening.{begun}
 use Rattle.rules.specs.Fire.{ready}
 use Rattle.rules.specs.Soundness.{areTidy, isSound}
-use Rattle.rules.specs.Call.{Answer, refusal, done, Outcome, refusedOr, underPlan, tooShort, ledgerRefusals, readyOutcome, heldPart, entriesPart, Meets}
+use Rattle.rules.specs.Call.{Answer, refusal, done, Outcome, refusedOr, underPlan, tooShort, ledgerRefusals, beginOutcome, readyOutcome, heldPart, entriesPart, Meets}
 use Rattle.plan.proofs.FieldLaws.{track-count}
 use Rattle.plan.proofs.Reader.{accepted-holds}
 use Rattle.rules.proofs.Tests.{and-true}
@@ -165,6 +166,34 @@ module _ (bs ws : List ℕ) where
   ready-done c n e h =
       let i : n ≡ ready (planOf bs c) (ledgerAt entryLimit ws (trackCount (planOf bs c))) = h ∙ rw track-count in
       rw i (accepted-outcome _ (λ p. record { answer = done (ready p (ledgerAt entryLimit ws (trackCount p)) ∷ []); words = ws }) (λ p. []) (λ p. refl) c e)
+
+  -- Begin, which skips 18.
+  pub begin-refused : (r : ℕ) → turnedBack r ≡ lent bs ws → record { answer = refusal r; words = ws } ≡ beginOutcome entryLimit bs ws
+  unfolding beginOutcome underPlan firstRefusal refusedOr lent
+  begin-refused r e = go (readPlan bs) refl
+    where
+      shorts : (c : Counts) (b : Bool) → readPlan bs ≡ accepted c → tooShort entryLimit (planOf bs c) ws ≡ b
+          → record { answer = refusal r; words = ws } ≡ beginOutcome entryLimit bs ws
+      shorts c true a s =
+          let h : turnedBack r ≡ turnedBack 17 = rw (a, lent, s) at e in
+          let w : r ≡ 17 = cc in
+          rw (w, a, underPlan, s)
+      shorts c false a s =
+          let h : turnedBack r ≡ accepted c = rw (a, lent, s) at e in let z : _≡_ {A = ℕ} 0 1 = cc in absurd (omega arith)
+
+      go : (x : Reading) → readPlan bs ≡ x → record { answer = refusal r; words = ws } ≡ beginOutcome entryLimit bs ws
+      go (turnedBack n) a =
+          let h : turnedBack r ≡ turnedBack n = rw (a, lent) at e in
+          let w : r ≡ n = cc in
+          rw (a, underPlan, w)
+      go (accepted c) a = shorts c (tooShort entryLimit (planOf bs c) ws) a refl
+
+  pub begin-done : (c : Counts) → accepted c ≡ lent bs ws
+      → record { answer = done []; words = written entryLimit (c .tracks) (begun (planOf bs c)) ws } ≡ beginOutcome entryLimit bs ws
+  unfolding beginOutcome underPlan firstRefusal refusedOr
+  begin-done c e =
+      let (a, b) = lent-facts c e in
+      rw (a, underPlan, b, track-count bs c)
 
   -- Entries.
   pub span-at : (t u a b : ℕ) → u ≡ t → Span bs ws u a b → Span bs ws t a b

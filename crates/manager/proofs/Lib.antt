@@ -1,4 +1,5 @@
 -- Laws of the calls.
 pub mod Checks
 pub mod BitLaws
+pub mod Begins
 pub mod Calls

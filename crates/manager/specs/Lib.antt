@@ -1,2 +1,3 @@
 -- What the manager's contracts speak of beside the rules.
 pub mod Checked
+pub mod Roots

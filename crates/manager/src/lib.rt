@@ -1,23 +1,40 @@
 // The manager's calls. Each is given the plan's bytes and the lent ledger; none has a `requires`. An answer is the result with its figures
 // or a refusal with its number, and a refused call changes no word.
 pub mod bits;
+pub mod opening;
 pub mod verify;
 
 use ledger::layout;
 use ledger::layout::ENTRY_WIDTH;
 use ledger::track;
+use rules::BeginAnswer;
 use rules::Counts;
 use rules::EventAnswer;
+use rules::FireAnswer;
 use rules::PlanAnswer;
 use rules::ReadyAnswer;
 use rules::SignalAnswer;
 ghost use mathlib.Core.Path.{_≡_};
 ghost use Prim.Native.Nat.{_<_};
 ghost use Rattle.rules.specs.Layout.{entryLimit};
-ghost use Rattle.rules.specs.Call.{nothing, eventOutcome, signalOutcome, readyOutcome, entriesPart, Meets};
-ghost use Rattle.rules.specs.Answers.{eventTold, signalTold, readyTold};
+ghost use Rattle.rules.specs.Call.{nothing, beginOutcome, eventOutcome, signalOutcome, fireOutcome, readyOutcome, entriesPart, Meets};
+ghost use Rattle.rules.specs.Answers.{beginTold, eventTold, signalTold, fireTold, readyTold};
 ghost use Rattle.manager.specs.Checked.{Span};
 ghost use Rattle.steps.specs.Going.{Accepts, Roomy};
+
+// Overwrites the ledger: roots forward in their first states and holding nothing, others asleep.
+pub fn begin(plan: &[u8], ledger: &mut [u16]) -> BeginAnswer
+    ensures { λ r. ⌜ Meets (beginOutcome entryLimit (now (plan .entry)) (now (ledger .entry))) (beginTold r) (now (ledger .exit)) ⌝ }
+{
+    let answer = verify::read_lent(plan, &ledger[..]);
+    match answer {
+        PlanAnswer::Refused(n) => BeginAnswer::Refused(n),
+        PlanAnswer::Accepted(c) => {
+            opening::begin_all(plan, c, &mut ledger[..]);
+            BeginAnswer::Begun
+        }
+    }
+}
 
 // Moves each forward track without an open scope that has a transition for the event, then closes, replaces and finishes. Answers how many
 // tracks moved and how many scopes closed.
@@ -39,6 +56,18 @@ pub fn signal(plan: &[u8], ledger: &mut [u16]) -> SignalAnswer
     match answer {
         PlanAnswer::Refused(n) => SignalAnswer::Refused(n),
         PlanAnswer::Accepted(c) => backward::signal::signal(plan, c, &mut ledger[..]),
+    }
+}
+
+// Fires a named track: its newest entry is removed, a deviation is entered, and scopes with nothing left are put to sleep. Answers the code
+// and the deviation.
+pub fn fire(plan: &[u8], ledger: &mut [u16], track: u16) -> FireAnswer
+    ensures { λ r. ⌜ Meets (fireOutcome entryLimit (now (plan .entry)) (now (ledger .entry)) (record { track = track })) (fireTold r) (now (ledger .exit)) ⌝ }
+{
+    let answer = verify::verify(plan, &ledger[..]);
+    match answer {
+        PlanAnswer::Refused(n) => FireAnswer::Refused(n),
+        PlanAnswer::Accepted(c) => backward::fire::fire(plan, c, &mut ledger[..], track),
     }
 }
 

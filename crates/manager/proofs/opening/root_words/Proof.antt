@@ -1,0 +1,56 @@
+-- The words after t turns are the definition's at t. The measure is the tracks left. Assumes nothing.
+use mathlib.Core.Path.{_≡_, refl}
+use Prim.Native.Nat.{_≤_, _-_}
+use native.Mathlib.Omega.{arith}
+use borrow.Author.Needs.{needs}
+use Rattle.rules.specs.Plan.{planOf, noState}
+use Rattle.manager.specs.Roots.{rootWords}
+use Rattle.manager.proofs.Begins.{roots-more}
+use Rattle.manager.proofs.opening.root_words.Statement.{statement}
+use Rattle.manager.proofs.opening.root_words.Tie as tie
+
+abbrev Inv-loop : tie.InvT-loop
+Inv-loop plan c to₀ tracks t₀ to t = (t ≤ c .tracks) × (to ≡ rootWords (planOf plan c) t)
+
+abbrev μ-loop : tie.MeasureT-loop
+μ-loop plan c to₀ tracks t₀ to t = c .tracks - t
+
+loop-holds : tie.Need-loop-holds Inv-loop μ-loop
+unfolding rootWords noState
+loop-holds c = (omega arith, refl)
+
+root-word-requires : tie.Need-root-word-requires Inv-loop μ-loop
+root-word-requires c κs = search needs
+
+mul-to : tie.Need-mul-to Inv-loop μ-loop
+mul-to c = search needs
+
+array-write-to : tie.Need-array-write-to Inv-loop μ-loop
+array-write-to c = let n = c .before .before .before .before .pre .holds .tracks in omega arith
+
+add-t : tie.Need-add-t Inv-loop μ-loop
+add-t c = search needs
+
+loop-less : tie.Need-loop-less Inv-loop μ-loop
+loop-less c = search needs
+
+loop-again : tie.Need-loop-again Inv-loop μ-loop
+loop-again c = (omega arith, roots-more _ _ _ _ (c .before .before .loop .inv .1) (c .root-word .ensures))
+
+returns : tie.Need-returns Inv-loop μ-loop
+returns c = let e : c .before .loop .t ≡ c .before .before .before .args .c .tracks = omega arith in rw e at (c .before .loop .inv .1)
+
+pub root-words-spec : {M : Type 1} → statement M
+root-words-spec =
+    tie.close
+    (tie.spec
+    Inv-loop
+    μ-loop
+    loop-holds
+    root-word-requires
+    mul-to
+    array-write-to
+    add-t
+    loop-less
+    loop-again
+    returns)
