@@ -1,7 +1,10 @@
 -- Laws of the backward steps.
 pub mod Climbing
 pub mod Turning
+pub mod Firing
 pub mod Standing
 pub mod Storing
 pub mod Tracks
 pub mod Outcomes
+pub mod Entering
+pub mod Fired

@@ -1,28 +1,24 @@
 -- What a call answers once checks 2 to 18 are passed: the first of its own refusals, or its figures and the ledger after it.
 -- Assumes nothing.
-use mathlib.Core.Path.{_≡_, refl, sym, ap, _∙_, subst}
+use mathlib.Core.Path.{_≡_, sym, ap, _∙_}
 use mathlib.Core.Logic.{inl, inr}
-use mathlib.Core.Bool.{Bool, true, false, cond, not, _&&_, _||_}
+use mathlib.Core.Bool.{Bool, true, false, not, _||_}
 use mathlib.Core.List.{List, [], _∷_, _++_}
-use Prim.Native.Nat.{ℕ, suc, _<_, _≤_}
-use native.Mathlib.Omega.{arith}
-use lib.Dec.{eqb, ltb}
+use Prim.Native.Nat.{ℕ, suc}
 use lib.ListN.{length}
 use borrow.Author.Tests.{le-ltb}
 use Rattle.rules.specs.declared.Counts.{Counts}
 use Rattle.rules.specs.Fold.{everyBelow, countBelow, firstRefusal}
 use Rattle.rules.specs.Plan.{Plan, trackCount, planOf}
-use Rattle.rules.specs.Acceptance.{accepted, readPlan}
 use Rattle.rules.specs.Layout.{entryLimit, wordCount}
 use Rattle.rules.specs.Ledger.{Ledger, isAwake, isForward, ledgerAt, written}
 use Rattle.rules.specs.Scope.{isOver}
-use Rattle.rules.specs.Signal.{turned, turnings, afterSignal}
+use Rattle.rules.specs.Signal.{turned, turnings}
 use Rattle.rules.specs.Soundness.{isSound, isLive, areTidy}
-use Rattle.rules.specs.Call.{Answer, refusal, done, Outcome, SignalArguments, nothing, Call, signal, refusedOr, underPlan, tooShort, ledgerRefusals, callRefusals, callRefusal, figures, after, callOutcome, signalOutcome, Meets}
-use Rattle.rules.proofs.Tests.{look, clash, and-true, or-true}
-use Rattle.rules.proofs.Folds.{every-same}
+use Rattle.rules.specs.Call.{refusal, done, Outcome, nothing, Call, signal, refusedOr, underPlan, tooShort, ledgerRefusals, callRefusals, callRefusal, figures, after, callOutcome, signalOutcome, Meets}
+use Rattle.rules.proofs.Tests.{clash, and-true, or-true}
 use Rattle.plan.proofs.FieldLaws.{track-count}
-use Rattle.steps.specs.Going.{Accepts, Roomy, Checked, Going, ledgerOf}
+use Rattle.steps.specs.Going.{Checked, Going, ledgerOf}
 use Rattle.steps.proofs.Facts.{plan-facts, live-of-going}
 use Rattle.backward.specs.Orderly.{Orderly}
 use Rattle.backward.specs.Leaving.{leaveDown}

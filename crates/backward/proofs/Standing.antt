@@ -1,17 +1,17 @@
 -- Words in order hold a ledger. Words that a storable ledger was written over hold that ledger, and are in order; and a pass that replaces
 -- each track in turn by what follows from the track itself writes the whole ledger. Assumes nothing.
-use mathlib.Core.Path.{_≡_, refl, sym, ap, _∙_, subst}
+use mathlib.Core.Path.{_≡_, sym, ap, _∙_}
 use mathlib.Core.Logic.{inl, inr}
-use mathlib.Core.Bool.{Bool, true, false, cond}
+use mathlib.Core.Bool.{false}
 use mathlib.Core.List.{List, _∷_}
 use Prim.Native.Nat.{ℕ, _+_, _<_, _≤_}
 use native.Mathlib.Omega.{arith}
-use lib.Dec.{eqb, ltb}
+use lib.Dec.{ltb}
 use lib.ListN.{length}
 use borrow.Author.Tests.{ltb-true, ltb-false}
 use Rattle.rules.specs.declared.Counts.{Counts}
 use Rattle.rules.specs.declared.Track.{Track}
-use Rattle.rules.specs.Layout.{entryLimit, wordCount}
+use Rattle.rules.specs.Layout.{entryLimit}
 use Rattle.rules.specs.Ledger.{Entry, Configuration, Ledger, isAwake, sleeping, ledgerAt, written}
 use Rattle.rules.proofs.Tests.{look}
 use Rattle.rules.proofs.Stored.{Storable, length-written, read-written, tidy-written, written-twice, written-read, storable-read}
@@ -19,7 +19,7 @@ use Rattle.rules.proofs.Replaced.{updated, updated-same}
 use Rattle.rules.proofs.Passes.{upTo, up-new, up-old, up-none, up-more, up-all}
 use Rattle.ledger.specs.Words.{withTrack, withAsleep, withRemoved}
 use Rattle.ledger.proofs.Words.{put-written, asleep-written, removed-written}
-use Rattle.steps.specs.Going.{Roomy, ledgerOf}
+use Rattle.steps.specs.Going.{ledgerOf}
 use Rattle.backward.specs.Orderly.{Orderly, withConfiguration}
 
 module _ (c : Counts) (ws : List ℕ) (o : Orderly c ws) where

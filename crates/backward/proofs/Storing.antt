@@ -1,23 +1,15 @@
 -- The ledgers of a backward step can be stored: no track holds more than before, and what is asleep holds nothing. Assumes nothing.
 use mathlib.Core.Path.{_≡_, refl, sym, ap, _∙_, subst}
 use mathlib.Core.Logic.{inl, inr}
-use mathlib.Core.Bool.{Bool, true, false, cond}
-use mathlib.Core.List.{List, [], _∷_}
-use mathlib.Core.Option.{Option, none, some}
-use Prim.Native.Nat.{ℕ, _<_, _≤_}
+use mathlib.Core.Bool.{false}
+use Prim.Native.Nat.{ℕ, _≤_}
 use native.Mathlib.Omega.{arith}
-use lib.Dec.{eqb}
 use lib.ListN.{length}
-use borrow.Author.Tests.{eqb-true, eqb-false, ne-eqb}
-use Rattle.rules.specs.Plan.{Plan, trackCount, host, owner, isIn}
-use Rattle.rules.specs.Ledger.{Entry, Configuration, Ledger, isAwake, sleeping}
-use Rattle.rules.specs.Opening.{fresh, wakes, entered}
+use Rattle.rules.specs.Plan.{Plan, trackCount, isIn}
+use Rattle.rules.specs.Ledger.{Configuration, Ledger, isAwake, sleeping}
 use Rattle.rules.specs.Signal.{turnedTrack, turned}
-use Rattle.rules.specs.Fire.{older, removed, deviatesTo, fired}
-use Rattle.rules.proofs.Tests.{look, look-option, clash, none-some}
+use Rattle.rules.proofs.Tests.{look}
 use Rattle.rules.proofs.Acceptance.{Accepted}
-use Rattle.rules.proofs.Opening.{wakes-root, enter-to, enter-woken, enter-kept}
-use Rattle.rules.proofs.Scopes.{in-host}
 use Rattle.rules.proofs.Stored.{Storable}
 use Rattle.backward.specs.Leaving.{withoutScope, leaveFrom}
 use Rattle.backward.proofs.Climbing.{out-asleep, out-kept, by-climbing}

@@ -1,34 +1,33 @@
 -- One track's turn of a pass, as the code takes it: each branch is a case of the turn's definition. Assumes nothing.
-use mathlib.Core.Path.{_≡_, refl, sym, ap, _∙_, subst}
+use mathlib.Core.Path.{_≡_, refl, sym, ap, _∙_}
 use mathlib.Core.Bool.{Bool, true, false, cond, not}
-use mathlib.Core.List.{List, [], _∷_}
-use mathlib.Core.Option.{Option, none, some}
+use mathlib.Core.List.{List}
+use mathlib.Core.Option.{none, some}
 use Prim.Native.Nat.{ℕ, _+_, _<_, _≤_}
+use native.Mathlib.Numerals.{add-one}
 use native.Mathlib.Omega.{arith}
-use lib.Dec.{eqb}
-use lib.ListN.{length, getD}
+use lib.ListN.{length}
 use borrow.Author.Tests.{not-true, not-false}
 use Rattle.rules.specs.declared.Counts.{Counts}
 use Rattle.rules.specs.declared.Mode.{Mode}
-use Rattle.rules.specs.declared.Mode.the-variants.{Asleep, Forward, Undoing}
+use Rattle.rules.specs.declared.Mode.the-variants.{Undoing}
 use Rattle.rules.specs.declared.Track.{Track}
 use Rattle.rules.specs.Fold.{countBelow}
-use Rattle.rules.specs.Plan.{Plan, planOf, trackCount, isIn}
+use Rattle.rules.specs.Plan.{Plan, planOf, trackCount, host, owner, isIn}
 use Rattle.rules.specs.Layout.{entryLimit}
-use Rattle.rules.specs.Ledger.{Configuration, Ledger, isAwake, isForward, sleeping, written}
-use Rattle.rules.specs.Signal.{turnedTrack, turned}
+use Rattle.rules.specs.Ledger.{Configuration, Ledger, isForward, sleeping, written}
+use Rattle.rules.specs.Signal.{turnedTrack, turned, isAbandoning}
 use Rattle.rules.proofs.Folds.{count-more}
-use Rattle.rules.proofs.Acceptance.{Accepted}
 use Rattle.rules.proofs.Stored.{Storable}
 use Rattle.rules.proofs.Passes.{upTo}
 use Rattle.plan.proofs.FieldLaws.{track-count}
 use Rattle.ledger.specs.Words.{trackOf, withTrack, withAsleep}
-use Rattle.steps.specs.Going.{Accepts, Roomy, ledgerOf}
+use Rattle.steps.specs.Going.{Accepts, ledgerOf}
 use Rattle.steps.proofs.Facts.{plan-facts}
 use Rattle.backward.specs.Orderly.{Orderly, withConfiguration, withMode}
 use Rattle.backward.specs.Leaving.{withoutScope, leaveFrom, leaveDown}
 use Rattle.backward.proofs.Climbing.{out-asleep, out-kept, leave-root, leave-not, leave-host}
-use Rattle.backward.proofs.Standing.{holds, as-held, kept-track, put-mode, put-asleep, read-back, orderly-after, length-after, twice, then, Fitting, pass-start, pass-orderly, pass-length, pass-old, pass-more, pass-end}
+use Rattle.backward.proofs.Standing.{holds, as-held, kept-track, put-mode, put-asleep, orderly-after, length-after, then, Fitting, pass-start, pass-orderly, pass-length, pass-old, pass-more, pass-end}
 use Rattle.backward.proofs.Storing.{Stores, stores-at, stores-turned, stores-out, storable-out, storable-left}
 
 module _ (c : Counts) (ws : List ℕ) (o : Orderly c ws) (t : ℕ) where
@@ -150,12 +149,12 @@ module _ (bs : List ℕ) (c : Counts) (acc : Accepts bs c) (ws : List ℕ) (o : 
       leaving-end h = pass-end c ws o (λ t x. cond (isIn p s t) sleeping x) (leaving-fits s) i b e h
 
   -- climbing, case by case
-  pub climb-root : (t : ℕ) → Rattle.rules.specs.Plan.host p t ≡ none → ws ≡ written entryLimit (c .tracks) (leaveFrom p (ledgerOf c ws) t) ws
+  pub climb-root : (t : ℕ) → host p t ≡ none → ws ≡ written entryLimit (c .tracks) (leaveFrom p (ledgerOf c ws) t) ws
   climb-root t e =
       as-held c ws o ∙ ap (λ (m : Ledger). written entryLimit (c .tracks) m ws) (sym (leave-root p (plan-facts bs c acc) (ledgerOf c ws) t e))
 
-  module _ (t h : ℕ) (e : Rattle.rules.specs.Plan.host p t ≡ some h) {r : Bool}
-      (f : r ≡ Rattle.rules.specs.Signal.isAbandoning p (ledgerOf c ws) h) where
+  module _ (t h : ℕ) (e : host p t ≡ some h) {r : Bool}
+      (f : r ≡ isAbandoning p (ledgerOf c ws) h) where
     pub climb-not : not r ≡ true → ws ≡ written entryLimit (c .tracks) (leaveFrom p (ledgerOf c ws) t) ws
     climb-not n =
         as-held c ws o
@@ -168,7 +167,7 @@ module _ (bs : List ℕ) (c : Counts) (acc : Accepts bs c) (ws : List ℕ) (o : 
         (storable-out entryLimit (c .tracks) p (plan-facts bs c acc) few (ledgerOf c ws) h (holds c ws o)) d
 
     pub climb-on : not r ≡ false → {vs us : List ℕ} {u : ℕ} → vs ≡ written entryLimit (c .tracks) (withoutScope p (ledgerOf c ws) h) ws
-        → u ≡ Rattle.rules.specs.Plan.owner p h → us ≡ written entryLimit (c .tracks) (leaveFrom p (ledgerOf c vs) u) vs
+        → u ≡ owner p h → us ≡ written entryLimit (c .tracks) (leaveFrom p (ledgerOf c vs) u) vs
         → us ≡ written entryLimit (c .tracks) (leaveFrom p (ledgerOf c ws) t) ws
     climb-on n {vs} {us} {u} d g k =
         then c ws o (withoutScope p (ledgerOf c ws) h)
@@ -194,7 +193,7 @@ module _ (bs : List ℕ) (c : Counts) (acc : Accepts bs c) (ws : List ℕ) (o : 
     unfolding leaveDown
     left-down =
         then c ws o (leaveFrom p (ledgerOf c ws) t) left d (λ (m : Ledger). leaveDown p t m) refl
-        ∙ (rw native.Mathlib.Numerals.add-one)
+        ∙ (rw add-one)
 
   -- nothing is left to climb from
   pub left-none : (t : ℕ) → t ≡ 0 → {ys : List ℕ} → written entryLimit (c .tracks) (leaveDown p t (ledgerOf c ws)) ws ≡ ys → ws ≡ ys

@@ -1,13 +1,11 @@
 -- Turning keeps every track awake or asleep as it was, so scopes stay whole, and climbing ends in the closed form. Assumes nothing.
-use mathlib.Core.Path.{_≡_, refl, sym, ap, _∙_}
-use mathlib.Core.Bool.{Bool, true, false, cond}
-use Prim.Native.Nat.{ℕ}
+use mathlib.Core.Path.{_≡_, refl, sym, _∙_}
+use mathlib.Core.Bool.{Bool, true, false}
 use Rattle.rules.specs.declared.Mode.{Mode}
 use Rattle.rules.specs.declared.Mode.the-variants.{Asleep, Forward, Undoing}
 use Rattle.rules.specs.Plan.{Plan, trackCount}
 use Rattle.rules.specs.Ledger.{Configuration, Ledger, isAwake, isForward, sleeping}
-use Rattle.rules.specs.Signal.{turnedTrack, turned, abandoned, afterSignal}
-use Rattle.rules.proofs.Tests.{look}
+use Rattle.rules.specs.Signal.{turnedTrack, turned, afterSignal}
 use Rattle.rules.proofs.Acceptance.{Accepted}
 use Rattle.rules.proofs.Abandoning.{Whole}
 use Rattle.rules.proofs.Soundness.{Live}

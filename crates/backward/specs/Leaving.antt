@@ -1,9 +1,9 @@
 -- Abandoning as it is done: "climbs from scope to host until nothing changes". Assumes nothing.
-use mathlib.Core.Bool.{true, false, cond}
-use mathlib.Core.Option.{Option, none, some}
+use mathlib.Core.Bool.{cond}
+use mathlib.Core.Option.{none, some}
 use Prim.Native.Nat.{ℕ, zero, suc}
 use Rattle.rules.specs.Plan.{Plan, host, owner, isIn}
-use Rattle.rules.specs.Ledger.{Configuration, Ledger, sleeping}
+use Rattle.rules.specs.Ledger.{Ledger, sleeping}
 use Rattle.rules.specs.Signal.{isAbandoning}
 
 module _ (p : Plan) where

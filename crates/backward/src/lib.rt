@@ -1,4 +1,5 @@
-// The backward steps: a signal on an accepted plan and a sound ledger, with abandoning.
+// The backward steps: a signal and a firing on an accepted plan and a sound ledger, with abandoning.
 pub mod abandoning;
+pub mod fire;
 pub mod signal;
 mod writing;

@@ -1,6 +1,4 @@
 -- The invariant: the tracks passed are as they are without the scope, the others as they were. Assumes nothing.
-use Rattle.backward.proofs.Tracks.{leaving-start, leaving-orderly, leaving-length, leaving-more, leaving-end}
--- The invariant: the tracks passed are as they are without the scope, the others as they were. Assumes nothing.
 use mathlib.Core.Path.{_≡_}
 use Prim.Native.Nat.{_≤_, _-_}
 use native.Mathlib.Omega.{arith}
@@ -11,6 +9,7 @@ use Rattle.rules.specs.Ledger.{written}
 use Rattle.rules.proofs.Passes.{upTo}
 use Rattle.steps.specs.Going.{ledgerOf}
 use Rattle.backward.specs.Leaving.{withoutScope}
+use Rattle.backward.proofs.Tracks.{leaving-start, leaving-orderly, leaving-length, leaving-more, leaving-end}
 use Rattle.backward.proofs.abandoning.leave_scope.Statement.{statement}
 use Rattle.backward.proofs.abandoning.leave_scope.Tie as tie
 

@@ -1,6 +1,4 @@
 -- The invariant: the tracks passed have turned, and the count is theirs. Assumes nothing.
-use Rattle.backward.proofs.Tracks.{one-most, turn-count, turning-start, turning-orderly, turning-length, turning-old, turning-more, turning-end}
--- The invariant: the tracks passed have turned, and the count is theirs. Assumes nothing.
 use mathlib.Core.Path.{_≡_, refl}
 use Prim.Native.Nat.{_≤_, _-_}
 use native.Mathlib.Omega.{arith}
@@ -12,6 +10,7 @@ use Rattle.rules.specs.Signal.{turned}
 use Rattle.rules.proofs.Passes.{upTo}
 use Rattle.rules.proofs.Folds.{count-most}
 use Rattle.steps.specs.Going.{ledgerOf}
+use Rattle.backward.proofs.Tracks.{one-most, turn-count, turning-start, turning-orderly, turning-length, turning-old, turning-more, turning-end}
 use Rattle.backward.proofs.signal.turn_all.Statement.{statement}
 use Rattle.backward.proofs.signal.turn_all.Tie as tie
 

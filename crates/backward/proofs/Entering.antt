@@ -1,0 +1,130 @@
+-- Entering states by one pass: a track enters, wakes or is left, and the marks say which. Assumes nothing.
+use mathlib.Core.Path.{_≡_, refl, sym, ap, ap₂, _∙_}
+use mathlib.Core.Logic.{inl, inr}
+use mathlib.Core.Bool.{Bool, true, false}
+use mathlib.Core.List.{List}
+use mathlib.Core.Option.{Option, none, some}
+use Prim.Native.Nat.{ℕ, _+_, _<_, _≤_}
+use native.Mathlib.Omega.{arith}
+use lib.Dec.{eqb}
+use lib.ListN.{length, getD, set, replicate, length-replicate, getD-replicate}
+use lib.Seq.{getD-set-same, getD-set-other}
+use borrow.Author.Tests.{eqb-true, eqb-false, eq-eqb, ne-eqb}
+use Rattle.rules.specs.declared.Counts.{Counts}
+use Rattle.rules.specs.declared.Mode.the-variants.{Forward}
+use Rattle.rules.specs.Layout.{entryLimit}
+use Rattle.rules.specs.Plan.{Plan, planOf, noState, optional, firstState}
+use Rattle.rules.specs.Ledger.{Configuration, Ledger, isAwake, sleeping, written}
+use Rattle.rules.specs.Opening.{fresh, wakes, entered, enter}
+use Rattle.rules.proofs.Tests.{look, clash}
+use Rattle.rules.proofs.Opening.{wakes-same}
+use Rattle.rules.proofs.Stored.{written-same}
+use Rattle.rules.proofs.Passes.{upTo}
+use Rattle.plan.proofs.FieldLaws.{track-count}
+use Rattle.steps.specs.Going.{Accepts, ledgerOf}
+use Rattle.steps.specs.Marks.{slots, wakeMarks}
+use Rattle.steps.proofs.Facts.{plan-facts, few-tracks}
+use Rattle.steps.proofs.Marks.{wake-marks}
+use Rattle.backward.specs.Orderly.{Orderly, withConfiguration, withMode}
+use Rattle.backward.specs.Entering.{deviating, enteredBy, Sleepers}
+use Rattle.backward.proofs.Standing.{holds, kept-track, Fitting, pass-start, pass-orderly, pass-length, pass-old, pass-more, pass-end}
+use Rattle.backward.proofs.Storing.{Stores, stores-at}
+
+-- one track, as the code takes it: it enters, is left, or wakes
+module _ (c : Counts) (ws : List ℕ) (o : Orderly c ws) (t : ℕ) (p : Plan) (to : List ℕ) (woken : List Bool) where
+  pub enter-state : (getD to t 0 ≡ noState → ⊥) → {vs : List ℕ} → vs ≡ withConfiguration c ws t (withMode Forward (getD to t 0) (ledgerOf c ws t))
+      → vs ≡ withConfiguration c ws t (enteredBy p to woken t (ledgerOf c ws t))
+  unfolding enteredBy entered optional withMode
+  enter-state n d = d ∙ ap (withConfiguration c ws t) (sym (rw (ne-eqb (getD to t 0) noState n, entered)))
+
+  pub enter-not : getD to t 0 ≡ noState → getD woken t false ≡ false → ws ≡ withConfiguration c ws t (enteredBy p to woken t (ledgerOf c ws t))
+  unfolding enteredBy entered optional
+  enter-not n w = kept-track c ws o t _ (rw (eq-eqb (getD to t 0) noState n, entered, w))
+
+  pub enter-first : getD to t 0 ≡ noState → getD woken t false ≡ true → ledgerOf c ws t ≡ sleeping → {f : ℕ} → f ≡ firstState p t
+      → {vs : List ℕ} → vs ≡ withConfiguration c ws t (withMode Forward f (ledgerOf c ws t))
+      → vs ≡ withConfiguration c ws t (enteredBy p to woken t (ledgerOf c ws t))
+  unfolding enteredBy entered optional withMode fresh sleeping
+  enter-first n w a {f} e d =
+      let x : withMode Forward f (ledgerOf c ws t) ≡ fresh p t = rw (a, e) in
+      let y : enteredBy p to woken t (ledgerOf c ws t) ≡ fresh p t = rw (eq-eqb (getD to t 0) noState n, entered, w) in
+      d ∙ ap (withConfiguration c ws t) (x ∙ sym y)
+
+-- what is entered or woken holds no more than before
+pub entered-stores : (limit : ℕ) (p : Plan) (x : Configuration) (t : ℕ) (o : Option ℕ) (w : Bool) → Stores limit x → Stores limit (entered p x (fresh p t) o w)
+unfolding entered fresh isAwake
+entered-stores limit p x t none true s = record { fits = omega arith; blank = λ a. clash refl a }
+entered-stores limit p x t none false s = s
+entered-stores limit p x t (some d) w s = record { fits = s .fits; blank = λ a. clash refl a }
+
+pub entering-fits : (c : Counts) (ws : List ℕ) (o : Orderly c ws) (p : Plan) (to : List ℕ) (woken : List Bool) → Fitting c ws o (enteredBy p to woken)
+unfolding enteredBy
+entering-fits c ws o p to woken =
+    let s : (t : ℕ) → Stores entryLimit (entered p (ledgerOf c ws t) (fresh p t) (optional (getD to t 0)) (getD woken t false)) = λ t. entered-stores entryLimit p (ledgerOf c ws t) t (optional (getD to t 0)) (getD woken t false) (stores-at entryLimit (c .tracks) (ledgerOf c ws) (holds c ws o) t) in
+    record { fits = λ t b. s t .fits; blank = λ t b. s t .blank }
+
+-- Of all tracks, t alone enters a state.
+module _ (bs : List ℕ) (c : Counts) (acc : Accepts bs c) (t : ℕ) (b : t < c .tracks) (s : ℕ) where
+  abbrev p : Plan
+  p = planOf bs c
+
+  abbrev to : List ℕ
+  to = set (replicate slots noState) t s
+
+  alone : (u : ℕ) → u < c .tracks → optional (getD to u 0) ≡ deviating t s u
+  unfolding deviating optional
+  alone u h =
+      let n = acc .holds .tracks in
+      elim (look (eqb u t)) [
+        | inl e ↦
+            let q : getD to u 0 ≡ s =
+            ap (λ (v : ℕ). getD to v 0) (eqb-true u t e) ∙ getD-set-same (replicate slots noState) t s 0 (omega (arith, length-replicate slots noState)) in
+            rw (e, q)
+        | inr e ↦
+            let q : getD to u 0 ≡ noState =
+            getD-set-other (replicate slots noState) t u s 0 (eqb-false u t e) ∙ getD-replicate slots u noState 0 (omega arith) in
+            rw (e, q, eq-eqb noState noState refl)
+      ]
+
+  pub woken-marks : (u : ℕ) → u < c .tracks → getD (wakeMarks p to (c .tracks)) u false ≡ wakes p (deviating t s) u
+  woken-marks u h =
+      let n = track-count bs c in
+      wake-marks p (plan-facts bs c acc) (few-tracks bs c acc) to (c .tracks) (omega arith) u h
+      ∙ wakes-same p (plan-facts bs c acc) (λ v. optional (getD to v 0)) (deviating t s) (λ v k. alone v (omega arith)) u
+
+  pub deviates : (ws : List ℕ) → written entryLimit (c .tracks) (λ u. enteredBy p to (wakeMarks p to (c .tracks)) u (ledgerOf c ws u)) ws
+      ≡ written entryLimit (c .tracks) (enter p (deviating t s) (ledgerOf c ws)) ws
+  unfolding enteredBy enter
+  deviates ws =
+      written-same entryLimit (c .tracks) _ _ ws
+      (λ u h. ap₂ (entered p (ledgerOf c ws u) (fresh p u)) (alone u h) (woken-marks u h))
+
+  -- the pass, with the marks that the code has
+  module _ (ws : List ℕ) (o : Orderly c ws) {woken : List Bool} (m : woken ≡ wakeMarks p to (c .tracks)) where
+    abbrev through : ℕ → Ledger
+    through i = upTo (λ u. enteredBy p to woken u (ledgerOf c ws u)) (ledgerOf c ws) i
+
+    pub entering-start : ws ≡ written entryLimit (c .tracks) (through 0) ws
+    entering-start = pass-start c ws o (enteredBy p to woken)
+
+    module _ (i : ℕ) (h : i ≤ c .tracks) {vs : List ℕ} (e : vs ≡ written entryLimit (c .tracks) (through i) ws) where
+      pub entering-orderly : Orderly c vs
+      entering-orderly = pass-orderly c ws o (enteredBy p to woken) (entering-fits c ws o p to woken) i h e
+
+      pub entering-length : length vs ≡ length ws
+      entering-length = pass-length c ws o (enteredBy p to woken) (entering-fits c ws o p to woken) i h e
+
+      pub entering-asleep : i < c .tracks → Sleepers p (deviating t s) (ledgerOf c ws) → getD woken i false ≡ true → ledgerOf c vs i ≡ sleeping
+      entering-asleep k a w =
+          pass-old c ws o (enteredBy p to woken) (entering-fits c ws o p to woken) i h e i (omega arith)
+          ∙ a i (sym (ap (λ (ms : List Bool). getD ms i false) m ∙ woken-marks i k) ∙ w)
+
+      pub entering-more : {us : List ℕ} → us ≡ withConfiguration c vs i (enteredBy p to woken i (ledgerOf c vs i))
+          → us ≡ written entryLimit (c .tracks) (through (i + 1)) ws
+      entering-more d = pass-more c ws o (enteredBy p to woken) (entering-fits c ws o p to woken) i h e d
+
+      pub entering-end : c .tracks ≤ i → vs ≡ written entryLimit (c .tracks) (enter p (deviating t s) (ledgerOf c ws)) ws
+      entering-end k =
+          pass-end c ws o (enteredBy p to woken) (entering-fits c ws o p to woken) i h e k
+          ∙ ap (λ (ms : List Bool). written entryLimit (c .tracks) (λ u. enteredBy p to ms u (ledgerOf c ws u)) ws) m
+          ∙ deviates ws
