@@ -9,13 +9,22 @@ entryLimit = 32
 unfoldable pub leadingWords : ℕ
 leadingWords = 0
 
--- "mode, state, count of entries held"
+-- "mode, state, count of entries held": where a track's state and count stand, from where its words start
 unfoldable pub headWords : ℕ
 headWords = 3
 
--- "pairs of retraction code and deviation state"
+abbrev pub stateAfter : ℕ → ℕ
+stateAfter at = at + 1
+
+abbrev pub countAfter : ℕ → ℕ
+countAfter at = at + 2
+
+-- "pairs of retraction code and deviation state": where an entry's deviation stands, from where the entry starts
 unfoldable pub entryWidth : ℕ
 entryWidth = 2
+
+abbrev pub deviationAfter : ℕ → ℕ
+deviationAfter at = at + 1
 
 module _ (limit : ℕ) where
   -- "67 for each track"
