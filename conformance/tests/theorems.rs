@@ -2,13 +2,12 @@
 
 use std::fs;
 use std::io::Write;
-use std::path::PathBuf;
 use std::process::{Command, Stdio};
 
 /// What the first file holds below its imports, of cases given as lines;
 /// nothing where a line is no case.
 fn theorems(name: &str, lines: &str) -> Option<String> {
-    let folder = PathBuf::from(env!("CARGO_TARGET_TMPDIR")).join(name);
+    let folder = std::env::temp_dir().join(format!("theorems-{name}-{}", std::process::id()));
     fs::create_dir_all(&folder).expect("directory");
     let mut child = Command::new(env!("CARGO_BIN_EXE_theorems"))
         .arg(&folder)
@@ -21,8 +20,11 @@ fn theorems(name: &str, lines: &str) -> Option<String> {
     let mut stdin = child.stdin.take().expect("standard input");
     stdin.write_all(lines.as_bytes()).expect("lines");
     drop(stdin);
-    child.wait().expect("theorems ends").success().then(|| {
-        let text = fs::read_to_string(folder.join("Cases0.antt")).expect("cases");
+    let done = child.wait().expect("theorems ends").success();
+    let text = fs::read_to_string(folder.join("Cases0.antt"));
+    fs::remove_dir_all(&folder).expect("directory");
+    done.then(|| {
+        let text = text.expect("cases");
         text.split_once("\n\n").expect("imports").1.to_string()
     })
 }
