@@ -4,7 +4,7 @@ use Prim.Native.Nat.{ℕ, suc, pred, _+_, _*_, _<_, _≤_}
 use lib.ListN.{length, getD, set, take, drop, replicate}
 use Rattle.rules.specs.declared.Mode.{Mode}
 use Rattle.rules.specs.declared.Track.{Track}
-use Rattle.rules.specs.Layout.{entryLimit, entryWidth, trackWidth, trackPlace, entriesPlace, wordCount}
+use Rattle.rules.specs.Layout.{entryLimit, statePlace, countPlace, entryWidth, deviationPlace, trackWidth, trackPlace, entriesPlace, wordCount}
 use Rattle.rules.specs.Ledger.{Configuration, modeWord, configurationAt}
 
 -- the ledger has room for the words of the track
@@ -28,23 +28,23 @@ trackAt ws t = trackOf (configurationAt ws (trackPlace entryLimit t))
 -- the words with a track's first three replaced
 unfoldable pub withTrack : List ℕ → ℕ → Track → List ℕ
 withTrack ws t k =
-    set (set (set ws (trackPlace entryLimit t) (modeWord (k .mode))) (trackPlace entryLimit t + 1) (k .state)) (trackPlace entryLimit t + 2) (k .count)
+    set (set (set ws (trackPlace entryLimit t) (modeWord (k .mode))) (statePlace (trackPlace entryLimit t)) (k .state)) (countPlace (trackPlace entryLimit t)) (k .count)
 
 -- the words with a track's entry replaced, counted from its oldest
 unfoldable pub entryPlace : ℕ → ℕ → ℕ
 entryPlace t k = entriesPlace entryLimit t + entryWidth * k
 
 unfoldable pub withEntry : List ℕ → ℕ → ℕ → ℕ → ℕ → List ℕ
-withEntry ws t k code deviation = set (set ws (entryPlace t k) code) (entryPlace t k + 1) deviation
+withEntry ws t k code deviation = set (set ws (entryPlace t k) code) (deviationPlace (entryPlace t k)) deviation
 
 -- the words with one more entry, and with one less
 unfoldable pub withInstalled : List ℕ → ℕ → ℕ → ℕ → List ℕ
 withInstalled ws t code deviation =
-    set (withEntry ws t (trackAt ws t .count) code deviation) (trackPlace entryLimit t + 2) (suc (trackAt ws t .count))
+    set (withEntry ws t (trackAt ws t .count) code deviation) (countPlace (trackPlace entryLimit t)) (suc (trackAt ws t .count))
 
 unfoldable pub withRemoved : List ℕ → ℕ → List ℕ
 withRemoved ws t =
-    set (withEntry ws t (pred (trackAt ws t .count)) 0 0) (trackPlace entryLimit t + 2) (pred (trackAt ws t .count))
+    set (withEntry ws t (pred (trackAt ws t .count)) 0 0) (countPlace (trackPlace entryLimit t)) (pred (trackAt ws t .count))
 
 -- the words with a track's all zero
 unfoldable pub withAsleep : List ℕ → ℕ → List ℕ

@@ -13,18 +13,18 @@ leadingWords = 0
 unfoldable pub headWords : ℕ
 headWords = 3
 
-abbrev pub stateAfter : ℕ → ℕ
-stateAfter at = at + 1
+abbrev pub statePlace : ℕ → ℕ
+statePlace at = at + 1
 
-abbrev pub countAfter : ℕ → ℕ
-countAfter at = at + 2
+abbrev pub countPlace : ℕ → ℕ
+countPlace at = at + 2
 
 -- "pairs of retraction code and deviation state": where an entry's deviation stands, from where the entry starts
 unfoldable pub entryWidth : ℕ
 entryWidth = 2
 
-abbrev pub deviationAfter : ℕ → ℕ
-deviationAfter at = at + 1
+abbrev pub deviationPlace : ℕ → ℕ
+deviationPlace at = at + 1
 
 module _ (limit : ℕ) where
   -- "67 for each track"

@@ -6,7 +6,7 @@ use lib.ListN.{length, getD, drop, replicate}
 use lib.Dec.{ltb}
 use Rattle.rules.specs.declared.Mode.{Mode}
 use Rattle.rules.specs.declared.Mode.the-variants.{Asleep, Forward, Undoing}
-use Rattle.rules.specs.Layout.{headWords, stateAfter, countAfter, entryWidth, deviationAfter, trackPlace, wordCount}
+use Rattle.rules.specs.Layout.{headWords, statePlace, countPlace, entryWidth, deviationPlace, trackPlace, wordCount}
 
 -- an entry: a retraction (the report's compensation) that is installed, and the state to deviate to, 65535 for none
 pub record Entry : Type 0 where
@@ -64,7 +64,7 @@ modeOf (suc zero) = Forward
 modeOf (suc (suc n)) = Undoing
 
 unfoldable pub entryAt : List ℕ → ℕ → Entry
-entryAt ws at = record { code = getD ws at 0; deviation = getD ws (deviationAfter at) 0 }
+entryAt ws at = record { code = getD ws at 0; deviation = getD ws (deviationPlace at) 0 }
 
 -- the entries that stand from a place on, so many of them
 unfoldable pub heldAt : List ℕ → ℕ → ℕ → List Entry
@@ -75,8 +75,8 @@ unfoldable pub configurationAt : List ℕ → ℕ → Configuration
 configurationAt ws at =
     record {
       mode = modeOf (getD ws at 0);
-      state = getD ws (at + 1) 0;
-      held = heldAt ws (at + headWords) (getD ws (countAfter at) 0);
+      state = getD ws (statePlace at) 0;
+      held = heldAt ws (at + headWords) (getD ws (countPlace at) 0);
     }
 
 -- `limit` is the most entries that a track holds

@@ -8,7 +8,7 @@ use lib.Dec.{leb, ltb, eqb}
 use Rattle.rules.specs.declared.Mode.{Mode}
 use Rattle.rules.specs.declared.Mode.the-variants.{Asleep, Forward, Undoing}
 use Rattle.rules.specs.Fold.{someBelow, everyBelow}
-use Rattle.rules.specs.Layout.{headWords, countAfter, entryWidth, trackWidth, trackPlace}
+use Rattle.rules.specs.Layout.{headWords, countPlace, entryWidth, trackWidth, trackPlace}
 use Rattle.rules.specs.Plan.{Plan, trackCount, stateCount, noState, host, owner, isRoot, isStateOf, isFinal, everyIn}
 use Rattle.rules.specs.Ledger.{Entry, Ledger, isAwake, isForward, isUndoing, ledgerAt}
 use Rattle.rules.specs.Scope.{isOver}
@@ -23,13 +23,13 @@ module _ (limit : ℕ) (ws : List ℕ) (at : ℕ) where
 
   -- "count of entries held (0 to 32)"
   unfoldable pub goodCount : Bool
-  goodCount = leb (getD ws (countAfter at) 0) limit
+  goodCount = leb (getD ws (countPlace at) 0) limit
 
   -- "unused pairs zero"
   unfoldable pub unusedZero : Bool
   unusedZero =
       everyBelow (entryWidth * limit)
-      (λ j. ltb j (entryWidth * getD ws (countAfter at) 0) || eqb (getD ws (at + headWords + j) 0) 0)
+      (λ j. ltb j (entryWidth * getD ws (countPlace at) 0) || eqb (getD ws (at + headWords + j) 0) 0)
 
   -- "An asleep track is all zeros."
   unfoldable pub asleepZero : Bool
