@@ -30,10 +30,11 @@ use Rattle.steps.specs.Marks.{Marks, openMarks}
 use Rattle.steps.proofs.Marks.{length-open, open-scopes}
 use Rattle.steps.proofs.Facts.{plan-facts, few-tracks, live-of-going, storable, beyond}
 use Rattle.forward.specs.Next.{closesNext, finishesNext}
-use Rattle.forward.specs.Marks.{wordOf, InRange, table, takes, codeGiven, endsAt, isFullAt, takeMarks, forwardMarks, closeMarks}
-use Rattle.forward.specs.Settled.{Spare, settledLedger, isAsleepAt, goingOutcome}
+use Rattle.choice.specs.Marks.{wordOf, InRange, table, takes, codeGiven, endsAt, isFullAt, takeMarks, forwardMarks, closeMarks}
+use Rattle.settling.specs.Settled.{Spare, settledLedger}
+use Rattle.forward.specs.Outcome.{isAsleepAt, goingOutcome}
 use Rattle.forward.proofs.Passes.{take-moves, close-scopes}
-use Rattle.forward.proofs.Turns.{awake-of}
+use Rattle.choice.proofs.Turns.{awake-of}
 use Rattle.forward.proofs.Leaving.{table-at, word-low, full-is, finish-is, moves-are, closings-are, settled-is}
 
 met : {o : Outcome} {a : Answer} {w : List ℕ} → o ≡ record { answer = a; words = w } → Meets o a w

@@ -27,12 +27,12 @@ use Rattle.rules.proofs.Soundness.{Live}
 use Rattle.steps.specs.Marks.{slots, Marks, wakeMarks}
 use Rattle.steps.proofs.Marks.{wake-marks}
 use Rattle.forward.specs.Next.{nextState, closesNext, closedNext, finishesNext, givenNext, nextBy, nextLedger}
-use Rattle.forward.specs.Marks.{wordOf, table, takes, codeGiven, endsAt, isFullAt, stateAfter}
-use Rattle.forward.specs.Settled.{enteredBy, turned, destinationWord, deviationWord, entersAt, closedAt, sleepsAt, settledLedger}
+use Rattle.choice.specs.Marks.{wordOf, table, takes, codeGiven, endsAt, isFullAt, stateAfter}
+use Rattle.settling.specs.Settled.{enteredBy, turned, destinationWord, deviationWord, entersAt, closedAt, sleepsAt, settledLedger}
 use Rattle.forward.proofs.Moves.{forward-awake, mover-facts, woken-asleep}
 use Rattle.forward.proofs.Settlings.{closes-parts, mover-open, full-before, after-before, closings-before}
 use Rattle.forward.proofs.Passes.{move-word, state-after}
-use Rattle.forward.proofs.Writing.{installed-none}
+use Rattle.settling.proofs.Writing.{installed-none}
 
 -- a table's figures
 length-table : (d : ℕ) (f : ℕ → ℕ) (n : ℕ) → length (table d f n) ≡ slots

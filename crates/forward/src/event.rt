@@ -1,8 +1,7 @@
 // An event: its refusals, judged before a word is written, then its step and its figures.
-use crate::closing;
-use crate::judging;
-use crate::moving;
-use crate::settling;
+use choice::closing;
+use choice::judging;
+use choice::moving;
 use ledger::track;
 use rules::Counts;
 use rules::EventAnswer;
@@ -16,7 +15,7 @@ ghost use Rattle.rules.specs.Plan.{planOf};
 ghost use Rattle.rules.specs.Call.{Meets, eventOutcome};
 ghost use Rattle.rules.specs.Answers.{eventTold};
 ghost use Rattle.steps.specs.Going.{Roomy, Checked, Going, ledgerOf};
-ghost use Rattle.forward.specs.Settled.{isAsleepAt, goingOutcome};
+ghost use Rattle.forward.specs.Outcome.{isAsleepAt, goingOutcome};
 
 // Whether a track is asleep.
 fn is_asleep(c: Counts, ledger: &[u16], t: usize) -> bool

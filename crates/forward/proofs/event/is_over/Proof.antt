@@ -5,8 +5,8 @@ use Prim.Native.Nat.{_≤_, _-_}
 use borrow.Author.Tests.{not-true, not-false}
 use Rattle.rules.specs.Fold.{everyBelow}
 use Rattle.steps.specs.Going.{ledgerOf}
-use Rattle.forward.specs.Settled.{isAsleepAt}
-use Rattle.forward.proofs.Turns.{every-fails, all-more, all-through}
+use Rattle.forward.specs.Outcome.{isAsleepAt}
+use Rattle.choice.proofs.Turns.{every-fails, all-more, all-through}
 use borrow.Author.Needs.{needs}
 use Rattle.forward.proofs.event.is_over.Statement.{statement}
 use Rattle.forward.proofs.event.is_over.Tie as tie
