@@ -15,7 +15,7 @@ use Rattle.rules.specs.Ledger.{Ledger, isAwake}
 use Rattle.rules.specs.Opening.{wakesIn}
 use Rattle.ledger.specs.Words.{trackOf}
 use Rattle.steps.specs.Going.{Accepts, hostTrack}
-use Rattle.steps.specs.Marks.{setHost, openMark, openMarks, wakesAt, wakeMarks}
+use Rattle.steps.specs.Marks.{setAt, markTurn, marksSet, scopeMark, scopeMarks, setHost, openMark, openMarks, wakesAt, wakeMarks}
 use Rattle.steps.proofs.Facts.{no-host-track, host-of-track, host-is}
 
 mode-read : (l : Ledger) (t : ℕ) (k : Track) → k ≡ trackOf (l t) → k .mode ≡ l t .mode
@@ -43,6 +43,21 @@ module _ (bs : List ℕ) (c : Counts) (acc : Accepts bs c) (l : Ledger) (t : ℕ
   mark-host z =
       let (s, q, o) = host-of-track (planOf bs c) t (λ y. z (g ∙ y)) in
       rw (awake, q, setHost) (ap (λ v. set ms v true) (g ∙ sym o))
+
+-- a scope's mark
+module _ (p : Plan) (ms ss : List Bool) (t : ℕ) where
+  pub scope-unmarked : not (getD ms t false) ≡ true → ss ≡ scopeMark p ms t ss
+  unfolding scopeMark markTurn
+  scope-unmarked h = rw (not-true (getD ms t false) h)
+
+  module _ (h : ℕ) (m : not (getD ms t false) ≡ false) (e : h ≡ hostWord p t) where
+    pub scope-root : h ≡ noState → ss ≡ scopeMark p ms t ss
+    unfolding scopeMark markTurn setAt
+    scope-root z = rw (not-false (getD ms t false) m, Rattle.plan.proofs.Hosting.host-none p t (sym e ∙ z), setAt)
+
+    pub scope-hosted : (h ≡ noState → ⊥) → set ss h true ≡ scopeMark p ms t ss
+    unfolding scopeMark markTurn setAt
+    scope-hosted n = rw (not-false (getD ms t false) m, host-is p t h e n, setAt)
 
 -- whether a track wakes
 pub wakes-root : (p : Plan) (to : List ℕ) (ms : List Bool) (t h : ℕ) → h ≡ hostWord p t → h ≡ noState → false ≡ wakesAt p to ms (host p t)
@@ -80,3 +95,7 @@ wake-more p to ms t r e f = rw (add-one, ← e, f)
 pub open-more : (p : Plan) (l : Ledger) (ms r : List Bool) (t : ℕ) → ms ≡ openMarks p l t → r ≡ openMark p l t ms → r ≡ openMarks p l (t + 1)
 unfolding openMarks
 open-more p l ms r t e f = rw (add-one, ← e) f
+
+pub scope-more : (p : Plan) (ms ss r : List Bool) (t : ℕ) → ss ≡ scopeMarks p ms t → r ≡ scopeMark p ms t ss → r ≡ scopeMarks p ms (t + 1)
+unfolding scopeMark scopeMarks marksSet
+scope-more p ms ss r t e f = rw (add-one, ← e) f

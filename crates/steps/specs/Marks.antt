@@ -1,5 +1,5 @@
--- Figures kept for each track while a step is worked out, each by one pass up the tracks: who wakes, and who has an open scope.
--- Assumes nothing.
+-- Figures kept for each track or state while a step is worked out, each by one pass up the tracks: who wakes, who has an open scope,
+-- and which scopes have a marked track. Assumes nothing.
 use mathlib.Core.Path.{_≡_}
 use mathlib.Core.Bool.{Bool, true, false, cond}
 use mathlib.Core.List.{List}
@@ -14,11 +14,37 @@ use Rattle.rules.specs.Opening.{wakesIn}
 abbrev pub slots : ℕ
 slots = 32
 
+-- a figure for each of the 128 states that there can be
+abbrev pub stateSlots : ℕ
+stateSlots = 128
+
 -- figures below n are as f says
 abbrev pub Marks : {A : Type 0} → A → List A → ℕ → (ℕ → A) → Type 0
 Marks d ms n f = (t : ℕ) → t < n → getD ms t d ≡ f t
 
+-- a mark set at a place, if there is one
+unfoldable pub setAt : Option ℕ → List Bool → List Bool
+setAt none ms = ms
+setAt (some i) ms = set ms i true
+
+-- so many marks, and the place of each track below n that passes the test set
+module _ (size : ℕ) (place : ℕ → Option ℕ) (test : ℕ → Bool) where
+  unfoldable pub markTurn : ℕ → List Bool → List Bool
+  markTurn t ms = cond (test t) (setAt (place t) ms) ms
+
+  unfoldable pub marksSet : ℕ → List Bool
+  marksSet zero = replicate size false
+  marksSet (suc t) = markTurn t (marksSet t)
+
 module _ (p : Plan) where
+  -- the scopes that have a marked track: a track's place is the state that hosts it
+  module _ (ms : List Bool) where
+    unfoldable pub scopeMark : ℕ → List Bool → List Bool
+    scopeMark = markTurn stateSlots (host p) (λ t. getD ms t false)
+
+    unfoldable pub scopeMarks : ℕ → List Bool
+    scopeMarks = marksSet stateSlots (host p) (λ t. getD ms t false)
+
   -- the mark of the host's track set, if there is one
   unfoldable pub setHost : Option ℕ → Bool → List Bool → List Bool
   setHost none b ms = ms
