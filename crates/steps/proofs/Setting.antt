@@ -16,7 +16,7 @@ use Rattle.rules.specs.Plan.{Plan, trackCount, stateCount, host, isIn, someIn}
 use Rattle.rules.proofs.Tests.{look, look-option, or-right}
 use Rattle.rules.proofs.Folds.{some-same}
 use Rattle.rules.proofs.Acceptance.{Accepted}
-use Rattle.steps.specs.Marks.{stateSlots, Marks, setAt, markTurn, marksSet, scopeMarks}
+use Rattle.steps.specs.Marks.{stateSlots, setAt, markTurn, marksFrom, scopeMarks}
 
 -- the track's place is i
 unfoldable pub isPlace : Option ℕ → ℕ → Bool
@@ -57,46 +57,53 @@ set-one (some j) ms i low =
       | inr q ↦ rw q (getD-set-other ms j i true false (λ z. eqb-false j i q (sym z)) ∙ sym (no-or (getD ms i false)))
     ]
 
-module _ (size : ℕ) (place : ℕ → Option ℕ) (test : ℕ → Bool) (low : (t i : ℕ) → place t ≡ some i → i < size) where
-  pub length-marks : (n : ℕ) → length (marksSet size place test n) ≡ size
-  unfolding marksSet markTurn
-  length-marks zero = length-replicate size false
+module _ (ms : List Bool) (place : ℕ → Option ℕ) (test : ℕ → Bool) where
+  pub length-marks : (n : ℕ) → length (marksFrom ms place test n) ≡ length ms
+  unfolding marksFrom markTurn
+  length-marks zero = refl
   length-marks (suc n) =
       elim (look (test n))
-      [ inl a ↦ rw a (length-setAt (place n) (marksSet size place test n) ∙ length-marks n) | inr a ↦ rw a (length-marks n) ]
+      [ inl a ↦ rw a (length-setAt (place n) (marksFrom ms place test n) ∙ length-marks n) | inr a ↦ rw a (length-marks n) ]
 
-  pub marks-set : (n i : ℕ) → getD (marksSet size place test n) i false ≡ someBelow n (λ t. isPlace (place t) i && test t)
-  unfolding marksSet markTurn someBelow
-  marks-set zero i = none-set size i
-  marks-set (suc n) i =
-      elim (look (test n)) [
-        | inr a ↦ rw a (marks-set n i ∙ sym (none-more (isPlace (place n) i) (someBelow n (λ t. isPlace (place t) i && test t))))
-        | inl a ↦
-            rw a
-            (set-one (place n) (marksSet size place test n) i (λ j e. let b = low n j e in omega (arith, length-marks n))
-            ∙ one-more (isPlace (place n) i) (marks-set n i))
-      ]
-    where
-      none-more : (a b : Bool) → (b || (a && false)) ≡ b
-      none-more a b = ap (λ z. b || z) (no-and a) ∙ no-or b
+  module _ (low : (t i : ℕ) → place t ≡ some i → i < length ms) where
+    pub marks-set : (n i : ℕ) → getD (marksFrom ms place test n) i false ≡ (getD ms i false || someBelow n (λ t. isPlace (place t) i && test t))
+    unfolding marksFrom markTurn someBelow
+    marks-set zero i = sym (no-or (getD ms i false))
+    marks-set (suc n) i =
+        elim (look (test n)) [
+          | inr a ↦ rw a (marks-set n i ∙ ap (λ z. getD ms i false || z) (sym (none-more (isPlace (place n) i) (someBelow n (λ t. isPlace (place t) i && test t)))))
+          | inl a ↦
+              rw a
+              (set-one (place n) (marksFrom ms place test n) i (λ j e. let b = low n j e in omega (arith, length-marks n))
+              ∙ ap (λ z. z || isPlace (place n) i) (marks-set n i)
+              ∙ one-more (getD ms i false) (someBelow n (λ t. isPlace (place t) i && test t)) (isPlace (place n) i))
+        ]
+      where
+        none-more : (a b : Bool) → (b || (a && false)) ≡ b
+        none-more a b = ap (λ z. b || z) (no-and a) ∙ no-or b
 
-      one-more : (a : Bool) {x y : Bool} → x ≡ y → (x || a) ≡ (y || (a && true))
-      one-more true e = ap (λ z. z || true) e
-      one-more false e = ap (λ z. z || false) e
+        one-more : (a b d : Bool) → ((a || b) || d) ≡ (a || (b || (d && true)))
+        one-more true b d = refl
+        one-more false b true = refl
+        one-more false b false = refl
 
--- a state's mark after the pass: some track in its scope is marked
-module _ (p : Plan) (ok : Accepted p) (small : stateCount p ≤ stateSlots) (ms : List Bool) where
-  pub length-scopes : (n : ℕ) → length (scopeMarks p ms n) ≡ stateSlots
-  unfolding scopeMarks
-  length-scopes n = length-marks stateSlots (host p) (λ t. getD ms t false) (λ t i e. let b = ok .host-state t i e in omega arith) n
+-- the same from no mark at all
+module _ (size : ℕ) (place : ℕ → Option ℕ) (test : ℕ → Bool) (low : (t i : ℕ) → place t ≡ some i → i < size) where
+  pub marks-fresh : (n i : ℕ) → getD (marksFrom (replicate size false) place test n) i false ≡ someBelow n (λ t. isPlace (place t) i && test t)
+  marks-fresh n i =
+      marks-set (replicate size false) place test (λ t j e. let b = low t j e in omega (arith, length-replicate size false)) n i
+      ∙ ap (λ z. z || someBelow n (λ t. isPlace (place t) i && test t)) (none-set size i)
 
+module _ (p : Plan) (ok : Accepted p) where
   in-scope : (s t : ℕ) → isPlace (host p t) s ≡ isIn p s t
   unfolding isIn isPlace
   in-scope s t = elim (look-option (host p t)) [ inl e ↦ rw (e, isIn, isPlace) | inr e ↦ rw (e .1, isIn, isPlace) ]
 
-  pub scope-marks : (s : ℕ) → getD (scopeMarks p ms (trackCount p)) s false ≡ someIn p s (λ t. getD ms t false)
+  -- a state's mark after the pass: some track in its scope is marked
+  pub scope-marks : stateCount p ≤ stateSlots → (ms : List Bool) (s : ℕ)
+      → getD (scopeMarks p ms (trackCount p)) s false ≡ someIn p s (λ t. getD ms t false)
   unfolding scopeMarks someIn
-  scope-marks s =
-      marks-set stateSlots (host p) (λ t. getD ms t false) (λ t i e. let b = ok .host-state t i e in omega arith) (trackCount p) s
+  scope-marks small ms s =
+      marks-fresh stateSlots (host p) (λ t. getD ms t false) (λ t i e. let b = ok .host-state t i e in omega arith) (trackCount p) s
       ∙ some-same (trackCount p) (λ t. isPlace (host p t) s && getD ms t false) (λ t. isIn p s t && getD ms t false)
       (λ t b. ap (λ z. z && getD ms t false) (in-scope s t))

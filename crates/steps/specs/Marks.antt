@@ -27,23 +27,27 @@ unfoldable pub setAt : Option ℕ → List Bool → List Bool
 setAt none ms = ms
 setAt (some i) ms = set ms i true
 
--- so many marks, and the place of each track below n that passes the test set
-module _ (size : ℕ) (place : ℕ → Option ℕ) (test : ℕ → Bool) where
-  unfoldable pub markTurn : ℕ → List Bool → List Bool
-  markTurn t ms = cond (test t) (setAt (place t) ms) ms
+-- a track's turn: if it passes the test, the mark at its place is set
+unfoldable pub markTurn : (ℕ → Option ℕ) → (ℕ → Bool) → ℕ → List Bool → List Bool
+markTurn place test t ms = cond (test t) (setAt (place t) ms) ms
 
-  unfoldable pub marksSet : ℕ → List Bool
-  marksSet zero = replicate size false
-  marksSet (suc t) = markTurn t (marksSet t)
+-- the turns of the tracks below n, from the marks at the start
+unfoldable pub marksFrom : List Bool → (ℕ → Option ℕ) → (ℕ → Bool) → ℕ → List Bool
+marksFrom ms place test zero = ms
+marksFrom ms place test (suc t) = markTurn place test t (marksFrom ms place test t)
 
 module _ (p : Plan) where
   -- the scopes that have a marked track: a track's place is the state that hosts it
   module _ (ms : List Bool) where
     unfoldable pub scopeMark : ℕ → List Bool → List Bool
-    scopeMark = markTurn stateSlots (host p) (λ t. getD ms t false)
+    scopeMark = markTurn (host p) (λ t. getD ms t false)
 
     unfoldable pub scopeMarks : ℕ → List Bool
-    scopeMarks = marksSet stateSlots (host p) (λ t. getD ms t false)
+    scopeMarks = marksFrom (replicate stateSlots false) (host p) (λ t. getD ms t false)
+
+  -- the track of a track's host, if it has one
+  unfoldable pub hostOwner : ℕ → Option ℕ
+  hostOwner t = elim (host p t) [ none ↦ none | some h ↦ some (owner p h) ]
 
   -- the mark of the host's track set, if there is one
   unfoldable pub setHost : Option ℕ → Bool → List Bool → List Bool
@@ -59,11 +63,10 @@ module _ (p : Plan) where
   wakeMarks to zero = replicate slots false
   wakeMarks to (suc t) = set (wakeMarks to t) t (wakesAt to (wakeMarks to t) (host p t))
 
+  -- an awake track is the open scope of its host's track
   module _ (l : Ledger) where
-    -- an awake track is the open scope of its host's track
     unfoldable pub openMark : ℕ → List Bool → List Bool
-    openMark t ms = cond (isAwake (l t .mode)) (setHost (host p t) true ms) ms
+    openMark = markTurn hostOwner (λ t. isAwake (l t .mode))
 
     unfoldable pub openMarks : ℕ → List Bool
-    openMarks zero = replicate slots false
-    openMarks (suc t) = openMark t (openMarks t)
+    openMarks = marksFrom (replicate slots false) hostOwner (λ t. isAwake (l t .mode))

@@ -4,7 +4,7 @@ use Prim.Native.Nat.{_≤_, _-_}
 use native.Mathlib.Omega.{arith}
 use borrow.Author.Needs.{needs}
 use Rattle.rules.specs.Plan.{planOf}
-use Rattle.steps.specs.Marks.{scopeMarks, marksSet}
+use Rattle.steps.specs.Marks.{scopeMarks, marksFrom}
 use Rattle.steps.proofs.Turns.{scope-more}
 use Rattle.steps.proofs.scopes.scopes_with.Statement.{statement}
 use Rattle.steps.proofs.scopes.scopes_with.Tie as tie
@@ -16,7 +16,7 @@ abbrev μ-loop : tie.MeasureT-loop
 μ-loop plan c test scopes₀ tracks t₀ scopes t = c .tracks - t
 
 loop-holds : tie.Need-loop-holds Inv-loop μ-loop
-unfolding scopeMarks marksSet
+unfolding scopeMarks marksFrom
 loop-holds c = (omega arith, refl)
 
 mark-scope-requires : tie.Need-mark-scope-requires Inv-loop μ-loop
