@@ -103,6 +103,6 @@ pub fn fire(plan: &[u8], c: Counts, ledger: &mut [u16], track: u16) -> FireAnswe
     let deviation = words::entry_deviation(&ledger[..], t, newest);
     words::remove_newest(&mut ledger[..], t);
     deviate(plan, c, &mut ledger[..], t, deviation);
-    abandoning::abandon(plan, c, &mut ledger[..], t);
+    abandoning::abandon(plan, c, &mut ledger[..]);
     FireAnswer::Fired(code, deviation)
 }

@@ -58,6 +58,6 @@ pub fn signal(plan: &[u8], c: Counts, ledger: &mut [u16]) -> SignalAnswer
         return SignalAnswer::Refused(20);
     }
     let count = turn_all(c, &mut ledger[..]);
-    abandoning::abandon_all(plan, c, &mut ledger[..]);
+    abandoning::abandon(plan, c, &mut ledger[..]);
     SignalAnswer::Turned(count)
 }

@@ -29,7 +29,7 @@ length-setAt none ms = refl
 length-setAt (some j) ms = length-set ms j true
 
 -- no mark is set at first
-none-set : (size i : ℕ) → getD (replicate size false) i false ≡ false
+pub none-set : (size i : ℕ) → getD (replicate size false) i false ≡ false
 none-set size i =
     ⊎-elim (λ b. getD-replicate size i false false (ltb-true i size b))
     (λ b. let r : length (replicate size false) ≤ i = let q = ltb-false i size b in omega (arith, length-replicate size false) in List·getD-eq-default (replicate size false) false r)
