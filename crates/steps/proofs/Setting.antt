@@ -65,33 +65,36 @@ module _ (ms : List Bool) (place : ℕ → Option ℕ) (test : ℕ → Bool) whe
       elim (look (test n))
       [ inl a ↦ rw a (length-setAt (place n) (marksFrom ms place test n) ∙ length-marks n) | inr a ↦ rw a (length-marks n) ]
 
-  module _ (low : (t i : ℕ) → place t ≡ some i → i < length ms) where
-    pub marks-set : (n i : ℕ) → getD (marksFrom ms place test n) i false ≡ (getD ms i false || someBelow n (λ t. isPlace (place t) i && test t))
-    unfolding marksFrom markTurn someBelow
-    marks-set zero i = sym (no-or (getD ms i false))
-    marks-set (suc n) i =
-        elim (look (test n)) [
-          | inr a ↦ rw a (marks-set n i ∙ ap (λ z. getD ms i false || z) (sym (none-more (isPlace (place n) i) (someBelow n (λ t. isPlace (place t) i && test t)))))
-          | inl a ↦
-              rw a
-              (set-one (place n) (marksFrom ms place test n) i (λ j e. let b = low n j e in omega (arith, length-marks n))
-              ∙ ap (λ z. z || isPlace (place n) i) (marks-set n i)
-              ∙ one-more (getD ms i false) (someBelow n (λ t. isPlace (place t) i && test t)) (isPlace (place n) i))
-        ]
-      where
-        none-more : (a b : Bool) → (b || (a && false)) ≡ b
-        none-more a b = ap (λ z. b || z) (no-and a) ∙ no-or b
+  pub marks-set : (n i : ℕ) → ((t j : ℕ) → t < n → place t ≡ some j → j < length ms)
+      → getD (marksFrom ms place test n) i false ≡ (getD ms i false || someBelow n (λ t. isPlace (place t) i && test t))
+  unfolding marksFrom markTurn someBelow
+  marks-set zero i low = sym (no-or (getD ms i false))
+  marks-set (suc n) i low =
+      elim (look (test n)) [
+        | inr a ↦
+            rw a
+            (marks-set n i (λ t j b. low t j (omega arith))
+            ∙ ap (λ z. getD ms i false || z) (sym (none-more (isPlace (place n) i) (someBelow n (λ t. isPlace (place t) i && test t)))))
+        | inl a ↦
+            rw a
+            (set-one (place n) (marksFrom ms place test n) i (λ j e. let b = low n j (omega arith) e in omega (arith, length-marks n))
+            ∙ ap (λ z. z || isPlace (place n) i) (marks-set n i (λ t j b. low t j (omega arith)))
+            ∙ one-more (getD ms i false) (someBelow n (λ t. isPlace (place t) i && test t)) (isPlace (place n) i))
+      ]
+    where
+      none-more : (a b : Bool) → (b || (a && false)) ≡ b
+      none-more a b = ap (λ z. b || z) (no-and a) ∙ no-or b
 
-        one-more : (a b d : Bool) → ((a || b) || d) ≡ (a || (b || (d && true)))
-        one-more true b d = refl
-        one-more false b true = refl
-        one-more false b false = refl
+      one-more : (a b d : Bool) → ((a || b) || d) ≡ (a || (b || (d && true)))
+      one-more true b d = refl
+      one-more false b true = refl
+      one-more false b false = refl
 
 -- the same from no mark at all
 module _ (size : ℕ) (place : ℕ → Option ℕ) (test : ℕ → Bool) (low : (t i : ℕ) → place t ≡ some i → i < size) where
   pub marks-fresh : (n i : ℕ) → getD (marksFrom (replicate size false) place test n) i false ≡ someBelow n (λ t. isPlace (place t) i && test t)
   marks-fresh n i =
-      marks-set (replicate size false) place test (λ t j e. let b = low t j e in omega (arith, length-replicate size false)) n i
+      marks-set (replicate size false) place test n i (λ t j k e. let b = low t j e in omega (arith, length-replicate size false))
       ∙ ap (λ z. z || someBelow n (λ t. isPlace (place t) i && test t)) (none-set size i)
 
 module _ (p : Plan) (ok : Accepted p) where
