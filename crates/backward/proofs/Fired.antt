@@ -29,7 +29,7 @@ use Rattle.rules.proofs.TrackWords.{length-heldAt}
 use Rattle.rules.proofs.Stored.{Storable, read-at, written-same}
 use Rattle.plan.proofs.FieldLaws.{track-count}
 use Rattle.ledger.specs.Words.{Within, trackOf, trackAt, entryPlace, withRemoved}
-use Rattle.ledger.proofs.ScopeLaws.{empty-count, mode-as, count-as, empty-as, held-as}
+use Rattle.ledger.proofs.ReadTracks.{empty-count, mode-as, count-as, empty-as, held-as}
 use Rattle.steps.specs.Going.{Checked, ledgerOf}
 use Rattle.steps.proofs.Facts.{plan-facts, live-of-going, in-room, track-read}
 use Rattle.backward.specs.Orderly.{Orderly, withConfiguration}
@@ -131,7 +131,7 @@ pub record Fireable (bs : List ℕ) (c : Counts) (ws : List ℕ) (t : ℕ) : Typ
 
 -- the two refusals, and what holds after them
 module _ {bs : List ℕ} {c : Counts} {ws : List ℕ} (g : Checked bs c ws) {r : Bool}
-    (e : r ≡ everyBelow (c .tracks) (λ t. not (isAwake (ledgerAt entryLimit ws (c .tracks) t .mode)))) where
+    (e : r ≡ everyBelow (c .tracks) (λ t. not (isAwake (ledgerOf c ws t .mode)))) where
   pub fire-over : (t : ℕ) → r ≡ true → Meets (fireOutcome entryLimit bs ws (record { track = t })) (refusal 20) ws
   unfolding fireOutcome callRefusal callRefusals firstRefusal
   fire-over t h =

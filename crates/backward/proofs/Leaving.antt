@@ -21,7 +21,7 @@ use Rattle.rules.proofs.Stored.{written-same}
 use Rattle.rules.proofs.Passes.{upTo}
 use Rattle.plan.proofs.FieldLaws.{track-count, state-count}
 use Rattle.ledger.specs.Words.{trackOf, withAsleep}
-use Rattle.ledger.proofs.ScopeLaws.{mode-as, empty-as, held-as}
+use Rattle.ledger.proofs.ReadTracks.{mode-as, empty-as, held-as}
 use Rattle.steps.specs.Going.{Accepts, ledgerOf, hostTrack}
 use Rattle.steps.specs.Marks.{stateSlots, scopeMarks}
 use Rattle.steps.proofs.Facts.{plan-facts, few-tracks, no-host-track, host-of-track}

@@ -68,9 +68,9 @@ module _ (bs : List ℕ) (c : Counts) (ws : List ℕ) (g : Checked bs c ws) wher
             ap (areTidy entryLimit ws) (sym (track-count bs c)) ∙ q;
       }
 
-  pub over-as : {r : Bool} → r ≡ everyBelow (c .tracks) (λ t. not (isAwake (ledgerAt entryLimit ws (c .tracks) t .mode))) → r ≡ isOver p (ledgerOf c ws)
-  unfolding isOver ledgerOf
-  over-as e = e ∙ ap (λ (n : ℕ). everyBelow n (λ t. not (isAwake (ledgerAt entryLimit ws (c .tracks) t .mode)))) (sym (track-count bs c))
+  pub over-as : {r : Bool} → r ≡ everyBelow (c .tracks) (λ t. not (isAwake (ledgerOf c ws t .mode))) → r ≡ isOver p (ledgerOf c ws)
+  unfolding isOver
+  over-as e = e ∙ ap (λ (n : ℕ). everyBelow n (λ t. not (isAwake (ledgerOf c ws t .mode)))) (sym (track-count bs c))
 
   pub going : isOver p (ledgerOf c ws) ≡ false → Going bs c ws
   unfolding isSound ledgerOf

@@ -69,10 +69,6 @@ module _ (p : Plan) where
 pub record Spare (n : ℕ) (l : Ledger) (codes : List ℕ) : Type 0 where
   pub room : (t : ℕ) → t < n → (getD codes t 0 ≡ 0 → ⊥) → length (l t .held) < entryLimit
 
--- a track is asleep
-unfoldable pub isAsleepAt : Ledger → ℕ → Bool
-isAsleepAt l t = not (isAwake (l t .mode))
-
 -- An event other than 0 on a ledger that is not over: 21, or the step.
 unfoldable pub goingOutcome : Plan → List ℕ → ℕ → Outcome
 goingOutcome p ws e =

@@ -4,7 +4,6 @@ use mathlib.Core.Path.{_≡_, refl, sym, ap, _∙_}
 use mathlib.Core.Bool.{Bool, true, false, not, _&&_, _||_}
 use mathlib.Core.List.{List}
 use Prim.Native.Nat.{ℕ, zero, suc, _+_, _*_, _<_, _≤_}
-use native.Mathlib.Omega.{arith}
 use lib.ListN.{length, getD, List·getD-eq-default}
 use lib.Dec.{eqb}
 use borrow.Author.Tests.{not-true, not-false, eq-eqb, ne-eqb}
@@ -17,12 +16,12 @@ use Rattle.rules.specs.Plan.{Plan, State, planOf, trackCount, stateCount, state
 use Rattle.rules.specs.Ledger.{Entry, Configuration, Ledger, isAwake, entryAt, heldAt, configurationAt, ledgerAt}
 use Rattle.rules.specs.Soundness.{everyHeld, sameMode, goodDeviation, isHostedWell}
 use Rattle.rules.proofs.TrackWords.{length-heldAt}
-use Rattle.rules.proofs.Stored.{read-at, storable-read}
+use Rattle.rules.proofs.Stored.{read-at}
 use Rattle.plan.proofs.FieldLaws.{track-count}
 use Rattle.plan.proofs.Hosting.{host-none}
 use Rattle.ledger.specs.Words.{trackOf}
 use Rattle.ledger.proofs.Branches.{and-stops, and-goes}
-use Rattle.ledger.proofs.ScopeLaws.{mode-as, state-as}
+use Rattle.ledger.proofs.ReadTracks.{mode-as, state-as, count-within}
 use Rattle.steps.specs.Going.{ledgerOf}
 use Rattle.steps.proofs.Facts.{host-is}
 use Rattle.soundness.specs.Asked.{Tidied}
@@ -65,7 +64,7 @@ held-asked c ws t k f h e =
 -- tidy words hold no more than the limit
 pub few-held : (bs : List ℕ) (c : Counts) (ws : List ℕ) (t k : ℕ) → Tidied bs c ws → k ≡ length (ledgerOf c ws t .held) → k ≤ entryLimit
 unfolding ledgerOf
-few-held bs c ws t k g e = omega (arith, storable-read entryLimit (c .tracks) ws (g .tidy) .fits t)
+few-held bs c ws t k g e = count-within entryLimit (c .tracks) ws t k (g .tidy) e
 
 -- A deviation, asked in this order.
 module _ (p : Plan) (l : Ledger) (t d : ℕ) where

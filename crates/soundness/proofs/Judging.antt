@@ -7,7 +7,7 @@ use borrow.Author.Tests.{not-true, not-false}
 use Rattle.rules.specs.declared.Counts.{Counts}
 use Rattle.rules.specs.Fold.{everyBelow}
 use Rattle.rules.specs.Layout.{entryLimit}
-use Rattle.rules.specs.Plan.{planOf, trackCount}
+use Rattle.rules.specs.Plan.{planOf}
 use Rattle.rules.specs.Ledger.{isAwake, ledgerAt}
 use Rattle.rules.specs.Scope.{isOver}
 use Rattle.rules.specs.Soundness.{areTidy, isLive, isSound}

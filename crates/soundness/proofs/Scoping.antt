@@ -1,6 +1,6 @@
 -- The clauses on scopes, by marks: what is asked of every open scope is asked at its awake tracks, since a scope is open where some
 -- track in it is awake; and every track in a scope passes a test where none in it is marked as failing. Assumes nothing.
-use mathlib.Core.Path.{_≡_, refl, sym, ap, _∙_, subst}
+use mathlib.Core.Path.{_≡_, refl, sym, ap, _∙_}
 use mathlib.Core.Logic.{inl, inr}
 use mathlib.Core.Bool.{Bool, true, false, cond, not, _&&_, _||_}
 use mathlib.Core.List.{List}
@@ -14,7 +14,7 @@ use borrow.Author.Tests.{eqb-true, eq-eqb, not-true, not-false}
 use Rattle.rules.specs.declared.Counts.{Counts}
 use Rattle.rules.specs.Fold.{someBelow, everyBelow}
 use Rattle.rules.specs.Plan.{Plan, planOf, trackCount, stateCount, noState, hostWord, host, isFinal, everyIn, someIn}
-use Rattle.rules.specs.Ledger.{Ledger, isAwake, isForward, isUndoing, isEmpty}
+use Rattle.rules.specs.Ledger.{Ledger, isAwake, isForward}
 use Rattle.rules.specs.Scope.{isOpen, hasOpenScope}
 use Rattle.rules.specs.Event.{isClosing}
 use Rattle.rules.specs.Signal.{isBare, isAbandoning}

@@ -15,7 +15,7 @@ ghost use Rattle.rules.specs.Ledger.{heldAt};
 ghost use Rattle.rules.specs.Soundness.{everyHeld, goodDeviation};
 ghost use Rattle.plan.specs.Holds.{Holds};
 ghost use Rattle.ledger.specs.Words.{Within};
-ghost use Rattle.steps.specs.Going.{Roomy, ledgerOf};
+ghost use Rattle.steps.specs.Going.{ledgerOf};
 ghost use Rattle.soundness.specs.Asked.{Tidied};
 
 // Whether a number is a final state, whatever the number.

@@ -8,14 +8,13 @@ use rules::Counts;
 use rules::Mode;
 use steps::reading;
 ghost use mathlib.Core.Path.{_≡_};
-ghost use mathlib.Core.Bool.{not, _&&_};
+ghost use mathlib.Core.Bool.{_&&_};
 ghost use Prim.Native.Nat.{_<_};
 ghost use lib.Dec.{eqb};
 ghost use Rattle.rules.specs.Fold.{everyBelow};
 ghost use Rattle.rules.specs.Plan.{planOf, owner};
 ghost use Rattle.rules.specs.Soundness.{sameMode};
 ghost use Rattle.steps.specs.Going.{ledgerOf};
-ghost use Rattle.steps.specs.Marks.{marksFrom};
 ghost use Rattle.soundness.specs.Asked.{Tidied, passes, failMark, failMarks};
 
 pub enum Test {

@@ -2,7 +2,7 @@
 -- scope: an awake track marks its host's. Assumes nothing.
 use mathlib.Core.Path.{_≡_, refl, sym, ap, _∙_, subst}
 use mathlib.Core.Logic.{inl, inr}
-use mathlib.Core.Bool.{Bool, true, false, cond, _&&_}
+use mathlib.Core.Bool.{Bool, false, cond, _&&_}
 use mathlib.Core.List.{List}
 use mathlib.Core.Option.{Option, none, some}
 use Prim.Native.Nat.{ℕ, zero, suc, _<_, _≤_}
@@ -12,7 +12,7 @@ use lib.Dec.{eqb}
 use lib.ListN.{length, getD, set, replicate, length-set, length-replicate}
 use lib.Seq.{getD-set-same, getD-set-other}
 use borrow.Author.Tests.{eqb-true, eqb-false}
-use Rattle.rules.specs.Plan.{Plan, trackCount, noState, optional, host, owner, isHostedBy, firstState}
+use Rattle.rules.specs.Plan.{Plan, trackCount, optional, host, owner, isHostedBy, firstState}
 use Rattle.rules.specs.Ledger.{Ledger, isAwake}
 use Rattle.rules.specs.Scope.{hasOpenScope}
 use Rattle.rules.specs.Opening.{wakes, wakesIn}

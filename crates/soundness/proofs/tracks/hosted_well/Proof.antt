@@ -4,7 +4,7 @@ use Rattle.steps.specs.Going.{ledgerOf}
 use mathlib.Core.Path.{ap, _∙_}
 use Rattle.rules.specs.Ledger.{isAwake}
 use Rattle.ledger.proofs.Branches.{or-stops, or-goes}
-use Rattle.ledger.proofs.ScopeLaws.{mode-as}
+use Rattle.ledger.proofs.ReadTracks.{mode-as}
 use Rattle.soundness.proofs.Asking.{root-well, host-well, host-read}
 use Rattle.steps.proofs.Facts.{host-low}
 use Rattle.soundness.specs.Asked.{passes}

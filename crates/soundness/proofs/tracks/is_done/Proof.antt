@@ -3,7 +3,7 @@ use mathlib.Core.Path.{ap, _∙_}
 use Rattle.rules.specs.Plan.{isFinal}
 use Rattle.rules.specs.Ledger.{isForward}
 use Rattle.ledger.proofs.Branches.{and-stops, and-goes}
-use Rattle.ledger.proofs.ScopeLaws.{mode-as, state-as}
+use Rattle.ledger.proofs.ReadTracks.{mode-as, state-as}
 use Rattle.soundness.specs.Asked.{passes}
 use borrow.Author.Needs.{needs}
 use Rattle.soundness.proofs.tracks.is_done.Statement.{statement}

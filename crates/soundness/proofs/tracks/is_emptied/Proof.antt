@@ -2,7 +2,7 @@
 use mathlib.Core.Path.{sym, ap, _∙_}
 use Rattle.rules.specs.Ledger.{isUndoing}
 use Rattle.ledger.proofs.Branches.{and-stops, and-goes}
-use Rattle.ledger.proofs.ScopeLaws.{mode-as, count-as, empty-count}
+use Rattle.ledger.proofs.ReadTracks.{mode-as, count-as, empty-count}
 use Rattle.soundness.specs.Asked.{passes}
 use borrow.Author.Needs.{needs}
 use lib.Dec.{eqb}

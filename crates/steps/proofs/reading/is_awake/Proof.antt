@@ -1,7 +1,7 @@
 -- The mode read is the ledger's. Assumes nothing.
 use mathlib.Core.Path.{ap, _∙_}
 use Rattle.rules.specs.Ledger.{isAwake}
-use Rattle.ledger.proofs.ScopeLaws.{mode-as}
+use Rattle.ledger.proofs.ReadTracks.{mode-as}
 use borrow.Author.Needs.{needs}
 use Rattle.steps.proofs.reading.is_awake.Statement.{statement}
 use Rattle.steps.proofs.reading.is_awake.Tie as tie
