@@ -1,13 +1,13 @@
 // A firing: the newest entry of a track that may be fired, its deviation entered, and then abandoning.
 use crate::abandoning;
 use crate::writing;
-use ledger::scope;
 use ledger::track as words;
 use plan::fields;
 use plan::fields::NO_STATE;
 use rules::Counts;
 use rules::FireAnswer;
 use rules::Mode;
+use steps::opens;
 use steps::reading;
 use steps::waking;
 ghost use mathlib.Core.Path.{_≡_};
@@ -41,7 +41,7 @@ fn may_fire(plan: &[u8], c: Counts, ledger: &[u16], t: usize) -> bool
     if k.count == 0 {
         return false;
     }
-    !scope::has_open_scope(plan, c, ledger, t)
+    !opens::has_open_scope(plan, c, ledger, t)
 }
 
 // A track enters its state in `to`, or wakes if it is marked, or is left as it is.
@@ -90,7 +90,7 @@ pub fn fire(plan: &[u8], c: Counts, ledger: &mut [u16], track: u16) -> FireAnswe
     requires { ⌜ Checked (now plan) c (now ledger) ⌝ }
     ensures { λ r. ⌜ Meets (fireOutcome entryLimit (now (plan .entry)) (now (ledger .entry)) (record { track = track })) (fireTold r) (now (ledger .exit)) ⌝ }
 {
-    if scope::is_over(&ledger[..], c.tracks) {
+    if reading::is_over(c, &ledger[..]) {
         return FireAnswer::Refused(20);
     }
     let t = track as usize;
@@ -103,6 +103,6 @@ pub fn fire(plan: &[u8], c: Counts, ledger: &mut [u16], track: u16) -> FireAnswe
     let deviation = words::entry_deviation(&ledger[..], t, newest);
     words::remove_newest(&mut ledger[..], t);
     deviate(plan, c, &mut ledger[..], t, deviation);
-    abandoning::abandon(plan, c, &mut ledger[..], t);
+    abandoning::abandon(plan, c, &mut ledger[..]);
     FireAnswer::Fired(code, deviation)
 }

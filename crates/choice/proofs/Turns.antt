@@ -3,7 +3,7 @@ use mathlib.Core.Path.{_≡_, refl, sym, ap, _∙_, subst}
 use mathlib.Core.Logic.{inl, inr}
 use mathlib.Core.Bool.{Bool, true, false, cond, not, _&&_}
 use mathlib.Core.List.{List}
-use Prim.Native.Nat.{ℕ, _+_, _<_, _≤_}
+use Prim.Native.Nat.{ℕ, _+_, _<_}
 use native.Mathlib.Numerals.{add-one}
 use native.Mathlib.Omega.{arith}
 use lib.Dec.{eqb, leb, ltb}
@@ -11,12 +11,12 @@ use lib.ListN.{length, getD, set}
 use borrow.Author.Tests.{eq-eqb, ne-eqb, eqb-false, not-true, not-false, ltb-true}
 use Rattle.rules.specs.declared.Counts.{Counts}
 use Rattle.rules.specs.declared.Track.{Track}
-use Rattle.rules.specs.Fold.{everyBelow, countBelow}
+use Rattle.rules.specs.Fold.{countBelow}
 use Rattle.rules.specs.Layout.{entryLimit}
 use Rattle.rules.specs.Plan.{Plan, planOf, trackCount, stateCount, noState, owner, transition, mover, replacement, isRoot, isFinal, isStateOf, firstState}
 use Rattle.rules.specs.Ledger.{Configuration, Ledger, isAwake, isForward, sleeping}
-use Rattle.rules.proofs.Tests.{look, clash, refuted, and-true}
-use Rattle.rules.proofs.Folds.{every-at, every-more, count-more}
+use Rattle.rules.proofs.Tests.{look, and-true}
+use Rattle.rules.proofs.Folds.{count-more}
 use Rattle.plan.proofs.FieldLaws.{track-count, state-count, transition-count}
 use Rattle.ledger.specs.Words.{trackOf}
 use Rattle.steps.specs.Going.{Accepts, Going, ledgerOf, hostTrack}
@@ -250,15 +250,6 @@ pub full-some : (l : Ledger) (codes : List ℕ) (t : ℕ) (k : Track) → k ≡ 
     → leb entryLimit (k .count) ≡ isFullAt l codes t
 unfolding isFullAt
 full-some l codes t k e z = rw (ne-eqb (getD codes t 0) 0 z) (ap (leb entryLimit) (count-of l t k e))
-
-pub every-fails : (n k : ℕ) (f : ℕ → Bool) → k < n → f k ≡ false → false ≡ everyBelow n f
-every-fails n k f b h = sym (refuted (everyBelow n f) (λ q. clash (every-at n f q k b) h))
-
-pub all-more : (f : ℕ → Bool) (i : ℕ) → everyBelow i f ≡ true → f i ≡ true → everyBelow (i + 1) f ≡ true
-all-more f i h k = every-more i f ∙ (rw (h, k))
-
-pub all-through : (f : ℕ → Bool) (i n : ℕ) → i ≤ n → n ≤ i → everyBelow i f ≡ true → true ≡ everyBelow n f
-all-through f i n a b h = let e : i ≡ n = omega arith in sym (rw e at h)
 
 pub one-more : (f : ℕ → Bool) (n t r : ℕ) → n ≡ countBelow t f → r ≡ cond (f t) 1 0 → n + r ≡ countBelow (t + 1) f
 one-more f n t r e g = rw (e, g) (sym (count-more t f))

@@ -1,17 +1,12 @@
 -- What an event answers and leaves once its number and the ledger are known to be fit. Assumes nothing.
-use mathlib.Core.Bool.{Bool, not}
 use mathlib.Core.List.{List, [], _∷_}
 use Prim.Native.Nat.{ℕ}
 use Rattle.rules.specs.Fold.{firstRefusal}
 use Rattle.rules.specs.Layout.{entryLimit}
 use Rattle.rules.specs.Plan.{Plan, trackCount}
-use Rattle.rules.specs.Ledger.{Ledger, isAwake, ledgerAt, written}
+use Rattle.rules.specs.Ledger.{ledgerAt, written}
 use Rattle.rules.specs.Event.{isFull, afterEvent}
 use Rattle.rules.specs.Call.{Outcome, event, done, figures, refusedOr}
-
--- a track is asleep
-unfoldable pub isAsleepAt : Ledger → ℕ → Bool
-isAsleepAt l t = not (isAwake (l t .mode))
 
 -- An event other than 0 on a ledger that is not over: 21, or the step.
 unfoldable pub goingOutcome : Plan → List ℕ → ℕ → Outcome

@@ -1,4 +1,5 @@
 -- Laws of the steps' figures.
 pub mod Marks
+pub mod Setting
 pub mod Facts
 pub mod Turns

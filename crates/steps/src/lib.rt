@@ -1,4 +1,5 @@
-// What the steps of accepted calls share: reading a track, who has an open scope, and who wakes.
+// What the steps of accepted calls share: reading a track, who has an open scope, which scopes have a marked track, and who wakes.
 pub mod opens;
 pub mod reading;
+pub mod scopes;
 pub mod waking;

@@ -1,13 +1,13 @@
 -- The invariant: each root looked at so far ends. The measure is the tracks left. Assumes nothing.
-use mathlib.Core.Path.{_≡_, refl, sym, _∙_}
+use mathlib.Core.Path.{_≡_, refl}
 use mathlib.Core.Bool.{true}
 use Prim.Native.Nat.{_≤_, _-_}
 use borrow.Author.Tests.{not-true, not-false}
 use Rattle.rules.specs.Fold.{everyBelow}
 use Rattle.rules.specs.Plan.{planOf}
 use Rattle.steps.specs.Going.{ledgerOf}
+use Rattle.ledger.proofs.Loops.{every-next, every-stops, every-ends}
 use Rattle.choice.specs.Marks.{endsAt}
-use Rattle.choice.proofs.Turns.{every-fails, all-more, all-through}
 use borrow.Author.Needs.{needs}
 use Rattle.choice.proofs.judging.finishes.Statement.{statement}
 use Rattle.choice.proofs.judging.finishes.Tie as tie
@@ -26,7 +26,7 @@ root-ends-requires : tie.Need-root-ends-requires Inv-loop μ-loop
 root-ends-requires c κs = search needs
 
 returns : tie.Need-returns Inv-loop μ-loop
-returns c = every-fails _ (c .before .before .before .loop .t) _ (search needs) (sym (c .before .root-ends .ensures) ∙ not-true _ (c .if1 .taken))
+returns c = every-stops _ _ _ (c .before .root-ends .ensures) (not-true _ (c .if1 .taken)) (search needs)
 
 add-t : tie.Need-add-t Inv-loop μ-loop
 add-t c = search needs
@@ -35,10 +35,10 @@ loop-less : tie.Need-loop-less Inv-loop μ-loop
 loop-less c = search needs
 
 loop-again : tie.Need-loop-again Inv-loop μ-loop
-loop-again c = (search needs, all-more _ _ (c .before .before .before .loop .inv .1) (sym (c .before .root-ends .ensures) ∙ not-false _ (c .if1 .left)))
+loop-again c = (search needs, every-next _ _ (c .before .before .before .loop .inv .1) (c .before .root-ends .ensures) (not-false _ (c .if1 .left)))
 
 returns-2 : tie.Need-returns-2 Inv-loop μ-loop
-returns-2 c = all-through _ _ _ (search needs) (search needs) (c .before .loop .inv .1)
+returns-2 c = every-ends _ _ _ (c .before .loop .inv .1) (search needs) (search needs)
 
 pub finishes-spec : {M : Type 1} → statement M
 finishes-spec =
