@@ -1,3 +1,4 @@
 -- Where a step starts, and the figures that it keeps for each track.
 pub mod Going
 pub mod Marks
+pub mod FirstStates
