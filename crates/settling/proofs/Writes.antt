@@ -14,7 +14,7 @@ use Rattle.rules.specs.Ledger.{isAwake}
 use Rattle.ledger.specs.Words.{trackAt, withTrack, withInstalled, withAsleep}
 use Rattle.steps.specs.Going.{Accepts, hostTrack}
 use Rattle.steps.proofs.Facts.{no-host-track, host-of-track}
-use Rattle.settling.specs.Settled.{withGiven, withEntered, withTurn, destinationWord, deviationWord, entersAt, closedAt, sleepsAt}
+use Rattle.settling.specs.Settled.{withGiven, withEntered, withTurn, destinationWord, deviationWord, entersFrom, entersAt, closedAt, sleepsAt}
 
 -- the words
 module _ (ws : List ℕ) (t : ℕ) where
@@ -64,18 +64,23 @@ module _ (p : Plan) (ts : List ℕ) (t : ℕ) where
   some-deviation d e z = rw (ne-eqb (getD ts t 0) noState z) e
 
 -- the state entered
-module _ (p : Plan) (to : List ℕ) (woken : List Bool) (t : ℕ) where
-  pub enters-to : (getD to t 0 ≡ noState → ⊥) → getD to t 0 ≡ entersAt p to woken t
-  unfolding entersAt
+module _ (start : ℕ) (to : List ℕ) (woken : List Bool) (t : ℕ) where
+  pub enters-to : (getD to t 0 ≡ noState → ⊥) → getD to t 0 ≡ entersFrom start to woken t
+  unfolding entersFrom
   enters-to z = rw (ne-eqb (getD to t 0) noState z)
 
-  pub enters-none : getD to t 0 ≡ noState → getD woken t false ≡ false → noState ≡ entersAt p to woken t
-  unfolding entersAt
+  pub enters-none : getD to t 0 ≡ noState → getD woken t false ≡ false → noState ≡ entersFrom start to woken t
+  unfolding entersFrom
   enters-none z w = rw (eq-eqb (getD to t 0) noState z, w)
 
-  pub enters-first : (s : ℕ) → s ≡ firstState p t → getD to t 0 ≡ noState → getD woken t false ≡ true → s ≡ entersAt p to woken t
-  unfolding entersAt
-  enters-first s e z w = rw (eq-eqb (getD to t 0) noState z, w) e
+  pub enters-first : getD to t 0 ≡ noState → getD woken t false ≡ true → start ≡ entersFrom start to woken t
+  unfolding entersFrom
+  enters-first z w = rw (eq-eqb (getD to t 0) noState z, w)
+
+pub enters-at : (p : Plan) (to : List ℕ) (woken : List Bool) (t : ℕ) {start s : ℕ} → start ≡ firstState p t → s ≡ entersFrom start to woken t
+    → s ≡ entersAt p to woken t
+unfolding entersAt
+enters-at p to woken t e d = d ∙ ap (λ (f : ℕ). entersFrom f to woken t) e
 
 -- a closed scope
 module _ (bs : List ℕ) (c : Counts) (ms : List Bool) (m : Mode) (t u : ℕ) (g : u ≡ hostTrack (planOf bs c) t) where

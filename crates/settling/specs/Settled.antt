@@ -34,6 +34,10 @@ enteredBy s x = cond (eqb s noState) x (record { mode = Forward; state = s; held
 unfoldable pub turned : Bool → ℕ → ℕ → ℕ → Configuration → Configuration
 turned asleep s code deviation x = cond asleep sleeping (enteredBy s (installed code deviation x))
 
+-- the state that a track enters, by its move or woken in its start
+unfoldable pub entersFrom : ℕ → List ℕ → List Bool → ℕ → ℕ
+entersFrom start to woken t = cond (eqb (getD to t 0) noState) (cond (getD woken t false) start noState) (getD to t 0)
+
 module _ (p : Plan) where
   -- the destination and the deviation of the transition taken
   unfoldable pub destinationWord : List ℕ → ℕ → ℕ
@@ -42,9 +46,9 @@ module _ (p : Plan) where
   unfoldable pub deviationWord : List ℕ → ℕ → ℕ
   deviationWord ts t = cond (eqb (getD ts t 0) noState) noState (transition p (getD ts t 0) .deviation)
 
-  -- the state that a track enters, by its move or woken
+  -- the same in its first state
   unfoldable pub entersAt : List ℕ → List Bool → ℕ → ℕ
-  entersAt to woken t = cond (eqb (getD to t 0) noState) (cond (getD woken t false) (firstState p t) noState) (getD to t 0)
+  entersAt to woken t = entersFrom (firstState p t) to woken t
 
   -- an awake track in a scope that closes
   unfoldable pub closedAt : List Bool → Mode → ℕ → Bool

@@ -5,6 +5,7 @@ use plan::fields::NO_STATE;
 use rules::Counts;
 use rules::Mode;
 use rules::Track;
+use steps::firsts;
 use steps::reading;
 use steps::waking;
 ghost use mathlib.Core.Path.{_≡_};
@@ -15,8 +16,9 @@ ghost use Rattle.rules.specs.Plan.{planOf, noState};
 ghost use Rattle.rules.specs.Ledger.{written};
 ghost use Rattle.ledger.specs.Words.{Within, trackAt};
 ghost use Rattle.steps.specs.Going.{Accepts, Roomy, Going, ledgerOf};
+ghost use Rattle.plan.specs.Passes.{firstMarks};
 ghost use Rattle.choice.specs.Marks.{InRange, table};
-ghost use Rattle.settling.specs.Settled.{Spare, withGiven, withEntered, withTurn, destinationWord, deviationWord, entersAt, closedAt, sleepsAt, settledLedger};
+ghost use Rattle.settling.specs.Settled.{Spare, withGiven, withEntered, withTurn, destinationWord, deviationWord, entersFrom, entersAt, closedAt, sleepsAt, settledLedger};
 
 // The destination of the transition that a track takes, 65535 for none.
 fn destination(plan: &[u8], c: Counts, taken: [u16; 32], t: usize) -> u16
@@ -58,9 +60,9 @@ fn deviation(plan: &[u8], c: Counts, taken: [u16; 32], t: usize) -> u16
 }
 
 // The state that a track enters, by its move or woken, 65535 for none.
-fn entered(plan: &[u8], c: Counts, to: [u16; 32], woken: [bool; 32], t: usize) -> u16
-    requires { ⌜ Accepts (now plan) c × (t < c .tracks) ⌝ }
-    ensures { λ r. ⌜ r ≡ entersAt (planOf (now (plan .entry)) c) to woken t ⌝ }
+fn entered(firsts: [u16; 32], to: [u16; 32], woken: [bool; 32], t: usize) -> u16
+    requires { ⌜ t < 32 ⌝ }
+    ensures { λ r. ⌜ r ≡ entersFrom (getD firsts t 0) to woken t ⌝ }
 {
     let s = to[t];
     if s != NO_STATE {
@@ -69,7 +71,7 @@ fn entered(plan: &[u8], c: Counts, to: [u16; 32], woken: [bool; 32], t: usize) -
     if !woken[t] {
         return NO_STATE;
     }
-    fields::first_state(plan, c, t)
+    firsts[t]
 }
 
 // Whether a track, in this mode before the call, is in a scope that closes.
@@ -148,17 +150,18 @@ fn settle_track(
     taken: [u16; 32],
     closing: [bool; 32],
     codes: [u16; 32],
+    firsts: [u16; 32],
     to: [u16; 32],
     woken: [bool; 32],
     t: usize,
 )
-    requires { ⌜ Accepts (now plan) c × Roomy c (now ledger) × InRange c taken × (t < c .tracks) × ((getD codes t 0 ≡ 0 → ⊥) → trackAt (now ledger) t .count < entryLimit) ⌝ }
+    requires { ⌜ Accepts (now plan) c × Roomy c (now ledger) × InRange c taken × (t < c .tracks) × ((getD codes t 0 ≡ 0 → ⊥) → trackAt (now ledger) t .count < entryLimit) × (firsts ≡ firstMarks (planOf (now plan) c) (c .states)) ⌝ }
     ensures { λ _. ⌜ now (ledger .exit) ≡ withTurn (now (ledger .entry)) t (sleepsAt (planOf (now (plan .entry)) c) finishing closing (trackAt (now (ledger .entry)) t .mode) t) (entersAt (planOf (now (plan .entry)) c) to woken t) (getD codes t 0) (deviationWord (planOf (now (plan .entry)) c) taken t) ⌝ }
 {
     let k = track::track_at(&ledger[..], t);
     let m = k.mode;
     let asleep = sleeps(plan, c, finishing, closing, m, t);
-    let s = entered(plan, c, to, woken, t);
+    let s = entered(firsts, to, woken, t);
     let d = deviation(plan, c, taken, t);
     turn(&mut ledger[..], t, asleep, s, codes[t], d);
 }
@@ -176,8 +179,9 @@ pub fn settle(
     requires { ⌜ Going (now plan) c (now ledger) × InRange c taken × Spare (c .tracks) (ledgerOf c (now ledger)) codes ⌝ }
     ensures { λ _. ⌜ now (ledger .exit) ≡ written entryLimit (c .tracks) (settledLedger (planOf (now (plan .entry)) c) (ledgerOf c (now (ledger .entry))) finishing taken closing codes) (now (ledger .entry)) ⌝ }
 {
+    let firsts = firsts::first_states(plan, c);
     let to = destinations(plan, c, taken);
-    let woken = waking::woken_by(plan, c, to);
+    let woken = waking::woken_by(plan, c, firsts, to);
     let tracks = c.tracks;
     let mut t: usize = 0;
     while t < tracks {
@@ -189,6 +193,7 @@ pub fn settle(
             taken,
             closing,
             codes,
+            firsts,
             to,
             woken,
             t,

@@ -2,4 +2,5 @@
 pub mod Marks
 pub mod Setting
 pub mod Facts
+pub mod FirstStates
 pub mod Turns

@@ -23,14 +23,17 @@ returns-2 : tie.Need-returns-2
 unfolding noState
 returns-2 c = enters-none _ _ _ _ (c .before .if1 .left) (not-true _ (c .if2 .taken))
 
-first-state-requires : tie.Need-first-state-requires
-first-state-requires c κs = search needs
+mul-result : tie.Need-mul-result
+mul-result c = search needs
+
+array-read-result : tie.Need-array-read-result
+array-read-result c = search needs
 
 returns-3 : tie.Need-returns-3
 unfolding noState
-returns-3 c = enters-first _ _ _ _ _ (c .first-state .ensures) (c .before .before .if1 .left) (not-false _ (c .before .if2 .left))
+returns-3 c = enters-first _ _ _ _ (c .before .if1 .left) (not-false _ (c .if2 .left))
 
 pub entered-spec : {M : Type 1} → statement M
 entered-spec =
     tie.close
-    (tie.spec mul-s array-read-s returns array-read-if2 returns-2 first-state-requires returns-3)
+    (tie.spec mul-s array-read-s returns array-read-if2 returns-2 mul-result array-read-result returns-3)

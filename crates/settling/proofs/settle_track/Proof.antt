@@ -1,6 +1,7 @@
 -- The turn's parts are worked out on the words before it. Assumes nothing.
 use Rattle.steps.proofs.Facts.{in-room}
-use Rattle.settling.proofs.Writes.{turn-is}
+use Rattle.steps.proofs.FirstStates.{first-at}
+use Rattle.settling.proofs.Writes.{enters-at, turn-is}
 use borrow.Author.Needs.{needs}
 use Rattle.settling.proofs.settle_track.Statement.{statement}
 use Rattle.settling.proofs.settle_track.Tie as tie
@@ -30,7 +31,7 @@ same-length : tie.Need-same-length
 same-length c = search needs
 
 returns : tie.Need-returns
-returns c = turn-is _ _ _ _ _ _ _ _ _ _ _ _ _ _ (c .before .before .before .before .before .before .before .track-at .ensures) (c .before .before .before .before .before .before .sleeps .ensures) (c .before .before .before .before .before .entered .ensures) (c .before .before .before .before .deviation .ensures) (c .before .before .turn .ensures)
+returns c = turn-is _ _ _ _ _ _ _ _ _ _ _ _ _ _ (c .before .before .before .before .before .before .before .track-at .ensures) (c .before .before .before .before .before .before .sleeps .ensures) (enters-at _ _ _ _ (first-at _ _ (c .before .before .before .before .before .before .before .before .before .before .before .pre .0) _ (c .before .before .before .before .before .before .before .before .before .before .before .pre .3) (c .before .before .before .before .before .before .before .before .before .before .before .pre .5)) (c .before .before .before .before .before .entered .ensures)) (c .before .before .before .before .deviation .ensures) (c .before .before .turn .ensures)
 
 pub settle-track-spec : {M : Type 1} → statement M
 settle-track-spec =
