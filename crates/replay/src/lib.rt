@@ -22,14 +22,20 @@ ghost use Rattle.replay.specs.Left.{wordsFrom};
 ghost use Rattle.replay.specs.Runs.{textRoom, runOutcome, Ran, RanFrom};
 
 // The most bytes of a plan or a journal.
-const MOST_BYTES: usize = 32768;
+pub const MOST_BYTES: usize = 32768;
 
 const MOST_TRACKS: usize = 32;
 
-// The room that a text asks for: no line is longer than 24 bytes, no record shorter than 4, and three lines stand for no record.
+// The words of a ledger that serves every plan.
+pub const LEDGER_WORDS: usize = layout::LEADING_WORDS + layout::TRACK_WIDTH * MOST_TRACKS;
+
+// No line is longer than 24 bytes and no record shorter than 4; three lines stand for no record.
 const ROOM_OF_BYTE: usize = 6;
 
 const ROOM_BESIDE: usize = 72;
+
+// The bytes of an output that serves every journal.
+pub const TEXT_BYTES: usize = ROOM_OF_BYTE * MOST_BYTES + ROOM_BESIDE;
 
 // How many bytes were written; or how many the output must have at least; or the ledger has not the words of 32 tracks.
 pub enum RunAnswer {

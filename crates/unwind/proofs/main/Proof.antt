@@ -1,86 +1,73 @@
+-- The text is no longer than the output. Assumes nothing.
 use mathlib.Core.Path.{sym}
 use native.Mathlib.Omega.{arith}
 use lib.Seq.{length-take-le}
 use borrow.Author.Needs.{needs}
 use Rattle.unwind.proofs.main.Statement.{statement}
 use Rattle.unwind.proofs.main.Tie as tie
-use Rattle.unwind.proofs.main.Reads as reads
-use Rattle.unwind.proofs.main.Lts as lts
-use Rattle.io.proofs.read_full.Reads as read-full-reads
-use Rattle.io.proofs.write_all.Reads as write-all-reads
-use Rattle.journal.proofs.run.run.Reads as run-reads
-use Rattle.unwind.proofs.load.Reads as load-reads
 
--- src/main.rt:23:18
 slice-aggregate-load : tie.Need-slice-aggregate-load
 slice-aggregate-load c = search needs
 
--- src/main.rt:23:31
 slice-aggregate-load-2 : tie.Need-slice-aggregate-load-2
 slice-aggregate-load-2 c = search needs
 
--- src/main.rt:23:9
 load-requires : tie.Need-load-requires
 load-requires c κs = search needs
 
--- src/main.rt:25:41
 slice-aggregate-read-full : tie.Need-slice-aggregate-read-full
 slice-aggregate-read-full c = search needs
 
--- src/main.rt:25:9
 read-full-requires : tie.Need-read-full-requires
 read-full-requires c κs = search needs
 
--- src/main.rt:27:36
 array-share-prefix-plan : tie.Need-array-share-prefix-plan
 array-share-prefix-plan c = search needs
 
--- src/main.rt:27:36
 slice-aggregate-run : tie.Need-slice-aggregate-run
 slice-aggregate-run c = search needs
 
--- src/main.rt:27:48
 array-share-prefix-journal : tie.Need-array-share-prefix-journal
 array-share-prefix-journal c = search needs
 
--- src/main.rt:27:48
 slice-aggregate-run-2 : tie.Need-slice-aggregate-run-2
 slice-aggregate-run-2 c = search needs
 
--- src/main.rt:27:63
 slice-aggregate-run-3 : tie.Need-slice-aggregate-run-3
 slice-aggregate-run-3 c = search needs
 
--- src/main.rt:27:9
+slice-aggregate-run-4 : tie.Need-slice-aggregate-run-4
+slice-aggregate-run-4 c = search needs
+
 run-requires : tie.Need-run-requires
 run-requires c κs = search needs
 
--- src/main.rt:29:28
 enum-known-answer : tie.Need-enum-known-answer
 enum-known-answer c = search needs
 
--- src/main.rt:30:42
 array-share-prefix-text : tie.Need-array-share-prefix-text
-array-share-prefix-text c = omega (arith, c .before .before .before .before .run .ensures .within _ (c .before .answer .given .1), c .before .before .before .before .run .kept .1 .1 .0)
+array-share-prefix-text c = omega (arith, c .before .before .before .before .before .run .ensures .within _ (c .before .answer .given .1))
 
--- src/main.rt:30:42
 slice-aggregate-write-all : tie.Need-slice-aggregate-write-all
-slice-aggregate-write-all c = sym (length-take-le _ _ (c .before .before .before .before .before .run .ensures .within _ (c .before .before .answer .given .1)))
+slice-aggregate-write-all c = sym (length-take-le _ _ (c .before .before .before .before .before .before .run .ensures .within _ (c .before .before .answer .given .1)))
 
--- src/main.rt:30:13
 write-all-requires : tie.Need-write-all-requires
 write-all-requires c κs = search needs
 
 enum-told : tie.Need-enum-told
 enum-told c = search needs
 
--- src/main.rt:21:1
+enum-told-2 : tie.Need-enum-told-2
+enum-told-2 c = search needs
+
 returns : tie.Need-returns
 returns c = search needs
 
--- src/main.rt:21:1
 returns-2 : tie.Need-returns-2
 returns-2 c = search needs
+
+returns-3 : tie.Need-returns-3
+returns-3 c = search needs
 
 pub main-spec : {M : Type 1} → statement M
 main-spec =
@@ -96,11 +83,14 @@ main-spec =
     array-share-prefix-journal
     slice-aggregate-run-2
     slice-aggregate-run-3
+    slice-aggregate-run-4
     run-requires
     enum-known-answer
     array-share-prefix-text
     slice-aggregate-write-all
     write-all-requires
     enum-told
+    enum-told-2
     returns
-    returns-2)
+    returns-2
+    returns-3)
