@@ -1,2 +1,3 @@
 -- Laws of packed answers.
 pub mod Packing
+pub mod Unpacking

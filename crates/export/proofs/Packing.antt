@@ -46,7 +46,7 @@ module _ (bs ws : List ℕ) (t : ℕ) where
   -- a part that is not empty
   pub record Held : Type 0 where
     pub exists : t < 32
-    pub few : length (entriesPart entryLimit bs ws t) ≤ entryWidth * entryLimit
+    pub few : length (entriesPart entryLimit bs ws t) ≤ 64
     pub there : entriesPart entryLimit bs ws t ≡ take (length (entriesPart entryLimit bs ws t)) (drop (entriesPlace entryLimit t) ws)
 
   held-at : (k : ℕ) → t < 32 → k ≤ entryLimit → entriesPart entryLimit bs ws t ≡ take (entryWidth * k) (drop (entriesPlace entryLimit t) ws) → Held
@@ -92,7 +92,7 @@ pub part-packed : (part xs : List ℕ) (t from : ℕ) → xs ≡ part → (lengt
 unfolding packedPart bit16 entryWidth
 part-packed part xs t from e h f = rw (sym e, ne-eqb (length xs) 0 h) (omega arith)
 
--- its place is small
-pub place-small : (t u from : ℕ) → u ≡ t → t < 32 → from ≡ entriesPlace entryLimit u + entryWidth * 0 → from < 2147
+-- the place of a track's entry is small
+pub place-small : (t u k from : ℕ) → u ≡ t → t < 32 → from ≡ entriesPlace entryLimit u + entryWidth * k → k ≤ 32 → from < 2211
 unfolding entriesPlace trackPlace trackWidth headWords entryWidth entryLimit leadingWords
-place-small t u from e h f = omega arith
+place-small t u k from e h f m = omega arith
