@@ -3,6 +3,7 @@ pub mod ChainLaws
 pub mod FieldLaws
 pub mod Searches
 pub mod HeightLaws
+pub mod RootHeights
 pub mod Hosting
 pub mod Judging
 pub mod KindTables

@@ -1,12 +1,14 @@
 // Refusal 16: a track's height and a state's reach, each by the other, as far as a remaining height allows.
 use crate::fields::is_in;
+use crate::fields::is_root;
 use crate::fields::is_state_of;
 use rules::Counts;
 ghost use mathlib.Core.Path.{_≡_};
+ghost use mathlib.Core.Bool.{false, _&&_};
 ghost use Prim.Native.Nat.{_<_, _≤_, max};
 ghost use Rattle.rules.specs.Fold.{someBelow};
-ghost use Rattle.rules.specs.Plan.{planOf, heightTo, reachBy};
-ghost use Rattle.rules.specs.Acceptance.{tooHigh};
+ghost use Rattle.rules.specs.Plan.{planOf, isRoot, heightTo, reachBy};
+ghost use Rattle.rules.specs.Acceptance.{badHost, tooHigh};
 ghost use Rattle.plan.specs.Holds.{Holds};
 
 const MOST_HEIGHT: usize = 8;
@@ -62,9 +64,21 @@ pub fn too_high(plan: &[u8], c: Counts, t: usize) -> bool
     MOST_HEIGHT < height(plan, c, t, MOST_HEIGHT + 1)
 }
 
-// No plan of 8 tracks or fewer is higher than 8.
+// Whether a track is a root, and too high.
+fn root_too_high(plan: &[u8], c: Counts, t: usize) -> bool
+    requires { ⌜ Holds (now plan) c × (8 < c .tracks) × (t < c .tracks) ⌝ }
+    ensures { λ r. ⌜ r ≡ (isRoot (planOf (now (plan .entry)) c) t && tooHigh (planOf (now (plan .entry)) c) t) ⌝ }
+{
+    if !is_root(plan, c, t) {
+        return false;
+    }
+    too_high(plan, c, t)
+}
+
+// Where hosts are as 10 has them, a root is higher than all that it hosts, so only roots are looked at. No plan of 8 tracks or fewer is
+// higher than 8.
 pub fn some_too_high(plan: &[u8], c: Counts) -> bool
-    requires { ⌜ Holds (now plan) c ⌝ }
+    requires { ⌜ Holds (now plan) c × (someBelow (c .tracks) (badHost (planOf (now plan) c)) ≡ false) ⌝ }
     ensures { λ r. ⌜ r ≡ someBelow (c .tracks) (tooHigh (planOf (now (plan .entry)) c)) ⌝ }
 {
     let tracks = c.tracks;
@@ -73,7 +87,7 @@ pub fn some_too_high(plan: &[u8], c: Counts) -> bool
     }
     let mut t: usize = 0;
     while t < tracks {
-        if too_high(plan, c, t) {
+        if root_too_high(plan, c, t) {
             return true;
         }
         t += 1;

@@ -105,7 +105,7 @@ returns-8 c =
     ))
 
 some-too-high-requires : tie.Need-some-too-high-requires
-some-too-high-requires c κs = search needs
+some-too-high-requires c κs = (search needs, sym (c .before .before .before .before .before .before .before .before .before .before .before .some-bad-host .ensures) ∙ c .before .before .before .before .before .before .before .before .before .before .if3 .left)
 
 returns-9 : tie.Need-returns-9
 returns-9 c =
