@@ -116,14 +116,21 @@ pub fn some_bad_first(plan: &[u8], c: Counts) -> bool
 }
 
 // 12: a final state hosts a track, or a state that hosts none has a replacement.
-pub fn bad_hosting(plan: &[u8], c: Counts, s: usize, hosting: bool) -> bool
-    requires { ⌜ Holds (now plan) c × (s < c .states) × (hosting ≡ isHosting (planOf (now plan) c) s) ⌝ }
+// No track is looked at for a state that is not final and has no replacement.
+pub fn bad_hosting(plan: &[u8], c: Counts, s: usize) -> bool
+    requires { ⌜ Holds (now plan) c × (s < c .states) ⌝ }
     ensures { λ r. ⌜ r ≡ badHosting (planOf (now (plan .entry)) c) s ⌝ }
 {
-    if hosting {
-        return is_final(plan, c, s);
+    if is_final(plan, c, s) {
+        if is_hosting(plan, c, s) {
+            return true;
+        }
+        return replacement_of(plan, c, s) != 0;
     }
-    replacement_of(plan, c, s) != 0
+    if replacement_of(plan, c, s) == 0 {
+        return false;
+    }
+    !is_hosting(plan, c, s)
 }
 
 pub fn some_bad_hosting(plan: &[u8], c: Counts) -> bool
@@ -133,8 +140,7 @@ pub fn some_bad_hosting(plan: &[u8], c: Counts) -> bool
     let states = c.states;
     let mut s: usize = 0;
     while s < states {
-        let hosting = is_hosting(plan, c, s);
-        if bad_hosting(plan, c, s, hosting) {
+        if bad_hosting(plan, c, s) {
             return true;
         }
         s += 1;

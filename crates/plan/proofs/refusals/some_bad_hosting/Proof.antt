@@ -21,14 +21,11 @@ loop-holds : tie.Need-loop-holds Inv-loop μ-loop
 unfolding someBelow
 loop-holds c = (search needs, refl)
 
-is-hosting-requires : tie.Need-is-hosting-requires Inv-loop μ-loop
-is-hosting-requires c κs = search needs
-
 bad-hosting-requires : tie.Need-bad-hosting-requires Inv-loop μ-loop
 bad-hosting-requires c κs = search needs
 
 returns : tie.Need-returns Inv-loop μ-loop
-returns c = sym (some-at _ _ (c .before .before .before .before .loop .s) (search needs) (sym (c .before .bad-hosting .ensures) ∙ c .if1 .taken))
+returns c = sym (some-at _ _ (c .before .before .before .loop .s) (search needs) (sym (c .before .bad-hosting .ensures) ∙ c .if1 .taken))
 
 add-s : tie.Need-add-s Inv-loop μ-loop
 add-s c = search needs
@@ -37,7 +34,7 @@ loop-less : tie.Need-loop-less Inv-loop μ-loop
 loop-less c = search needs
 
 loop-again : tie.Need-loop-again Inv-loop μ-loop
-loop-again c = (search needs, none-more _ _ (c .before .before .before .before .loop .inv .1) (sym (c .before .bad-hosting .ensures) ∙ c .if1 .left))
+loop-again c = (search needs, none-more _ _ (c .before .before .before .loop .inv .1) (sym (c .before .bad-hosting .ensures) ∙ c .if1 .left))
 
 returns-2 : tie.Need-returns-2 Inv-loop μ-loop
 returns-2 c = sym (none-all _ _ _ (search needs) (search needs) (c .before .loop .inv .1))
@@ -49,7 +46,6 @@ some-bad-hosting-spec =
     Inv-loop
     μ-loop
     loop-holds
-    is-hosting-requires
     bad-hosting-requires
     returns
     add-s
