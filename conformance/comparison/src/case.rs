@@ -120,3 +120,30 @@ fn numbers<Number: TryFrom<u32>>(hex: &str, digits: usize) -> Option<Vec<Number>
     };
     starts.map(number).collect()
 }
+
+#[cfg(test)]
+mod tests {
+    use super::*;
+
+    #[test]
+    fn a_call_is_read_back_from_its_line() {
+        let call = Call::Fire(7);
+        let (plan, words) = (vec![4, 0, 255], vec![1, 65535, 0]);
+        let given = Given { plan, words, call };
+        let line = call_line(&given);
+        assert_eq!(line, "L;0400ff;0001ffff0000;F7");
+        assert!(matches!(parse(&line), Some(Again::Call(same)) if same == given));
+    }
+
+    #[test]
+    fn a_journal_is_read_back_from_its_line() {
+        let journal = Journal {
+            plan: vec![],
+            journal: vec![4, 0, 17, 0],
+        };
+        let line = journal_line(&journal);
+        assert_eq!(line, "U;;04001100");
+        let same = |again: &Journal| again.plan.is_empty() && again.journal == journal.journal;
+        assert!(matches!(parse(&line), Some(Again::Journal(ref again)) if same(again)));
+    }
+}

@@ -12,6 +12,14 @@ pub struct Done {
     pub words: Vec<u16>,
 }
 
+impl Done {
+    /// The number and the words, in hex.
+    pub fn text(&self) -> String {
+        let words: String = self.words.iter().map(|w| format!("{w:04x}")).collect();
+        format!("{:#x}, words {words}", self.answer)
+    }
+}
+
 /// The call, made by the second program.
 pub fn answer(given: &Given) -> Done {
     let plan = &given.plan[..];

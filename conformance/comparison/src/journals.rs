@@ -1,5 +1,5 @@
-//! A journal through the proved calls, its text printed here; or through a
-//! program `unwind`.
+//! A journal through the proved calls, its text printed here, and through the
+//! proved program `unwind`.
 
 use std::fs;
 use std::io::{self, Write};
@@ -27,6 +27,13 @@ impl Runner {
             path: fs::canonicalize(path)?,
             folder: folder.to_path_buf(),
         })
+    }
+
+    pub fn name(&self) -> &'static str {
+        match self {
+            Runner::Calls => "proved calls",
+            Runner::Program { .. } => "proved program",
+        }
     }
 
     /// What it prints.
