@@ -1,0 +1,2 @@
+-- Document 01's calls as steps of the report's automaton.
+pub mod Sample
