@@ -1,2 +1,6 @@
 -- Document 01's calls as steps of the report's automaton.
 pub mod Sample
+pub mod Listings
+pub mod Frames
+pub mod Entered
+pub mod Terminated
