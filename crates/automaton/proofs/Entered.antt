@@ -27,13 +27,8 @@ use Rattle.restoration.proofs.SoundBegin.{all-asleep, asleep-formed, roots-free
 use Rattle.automaton.specs.Listing.{listed}
 use Rattle.automaton.specs.Configuration.{forward, Stack, NConf, Basic, Nest, Vect, initBy, gotoTo, goto, init}
 use Rattle.automaton.specs.View.{stackOf, directionOf, isWithin, basic, nested, shown, viewOf, isOnTop, view}
-use Rattle.automaton.proofs.Listings.{listed-same}
+use Rattle.automaton.proofs.Listings.{alike, listed-same}
 use Rattle.automaton.proofs.Frames.{down, within-parts, within-of, view-law}
-
-alike : (a b : Bool) → (a ≡ true → b ≡ true) → (b ≡ true → a ≡ true) → a ≡ b
-alike true b f g = sym (f refl)
-alike false true f g = g refl
-alike false false f g = refl
 
 module _ (p : Plan) (ok : Accepted p) where
   in-owner : (q u : ℕ) → isIn p q u ≡ true → isHostedBy p (owner p q) u ≡ true

@@ -4,3 +4,4 @@ pub mod Listings
 pub mod Frames
 pub mod Entered
 pub mod Terminated
+pub mod Calm

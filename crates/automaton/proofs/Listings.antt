@@ -18,6 +18,12 @@ use Rattle.automaton.specs.Listing.{listedFrom, listed, listedDown, some
 use Rattle.automaton.specs.Configuration.{NConf, Conf, Vect}
 use Rattle.automaton.specs.Semantics.{Act, Step, VStep, VECT, Run, stop, step}
 
+-- two tests that imply each other
+pub alike : (a b : Bool) → (a ≡ true → b ≡ true) → (b ≡ true → a ≡ true) → a ≡ b
+alike true b f g = sym (f refl)
+alike false true f g = g refl
+alike false false f g = refl
+
 module _ {A : Type 0} where
   pick : (b c : Bool) (x y : A) (xs ys : List A) → b ≡ c → (b ≡ true → x ≡ y) → xs ≡ ys → cond b (x ∷ xs) xs ≡ cond c (y ∷ ys) ys
   pick true true x y xs ys h e q = ap₂ (λ a b. a ∷ b) (e refl) q

@@ -27,13 +27,8 @@ use Rattle.restoration.proofs.SoundEvent.{abandoning-of}
 use Rattle.automaton.specs.Listing.{listed, someOf, everyOf}
 use Rattle.automaton.specs.Configuration.{NConf, Conf, Vect, members, isForwards, isBackwards, isBare, isTerminated, isCompensated, hasTerminated, hasCompensated}
 use Rattle.automaton.specs.View.{stackOf, directionOf, isWithin, basic, nested, shown, viewOf, scopeView}
-use Rattle.automaton.proofs.Listings.{listed-every, listed-every-at, listed-some, listed-some-find}
+use Rattle.automaton.proofs.Listings.{alike, listed-every, listed-every-at, listed-some, listed-some-find}
 use Rattle.automaton.proofs.Frames.{within-parts, within-of, shown-free, shown-busy, view-law}
-
-pub alike : (a b : Bool) → (a ≡ true → b ≡ true) → (b ≡ true → a ≡ true) → a ≡ b
-alike true b f g = sym (f refl)
-alike false true f g = g refl
-alike false false f g = refl
 
 pub members-vect : (xs : List NConf) → members (Vect xs) ≡ xs
 unfolding members Vect
