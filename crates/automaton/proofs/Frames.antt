@@ -9,18 +9,19 @@ use native.Mathlib.Omega.{arith}
 use lib.Dec.{eqb, ltb}
 use borrow.Author.Tests.{eqb-true, eqb-false, ltb-true, ltb-false}
 use Rattle.rules.specs.Plan.{Plan, trackCount, host, owner, isRoot, isHostedBy, isAbove}
-use Rattle.rules.specs.Ledger.{Ledger, isAwake}
+use Rattle.rules.specs.Ledger.{Ledger, isAwake, isForward}
 use Rattle.rules.specs.Scope.{hasOpenScope}
 use Rattle.rules.proofs.Tests.{look, look-option, clash, none-some, and-true, and-both, strong}
+use Rattle.rules.proofs.Folds.{some-same}
 use Rattle.rules.proofs.Acceptance.{Accepted}
 use Rattle.rules.proofs.Scopes.{by-host, host-by, root-of, root-none, not-root}
 use Rattle.rules.proofs.Forest.{Reaches, above-up, above-down, above-hosted, above-lower, reaches-above, in-line}
 use Rattle.rules.proofs.Abandoning.{hosts-higher}
 use Rattle.restoration.proofs.Nesting.{Awake, Nested, host-awake, host-busy}
 use Rattle.automaton.specs.Listing.{listed}
-use Rattle.automaton.specs.Configuration.{NConf, Conf, Vect}
+use Rattle.automaton.specs.Configuration.{forward, NConf, Basic, Nest, Conf, Vect}
 use Rattle.automaton.specs.Semantics.{Act, Step, NEST, VStep}
-use Rattle.automaton.specs.View.{isWithin, basic, nested, shown, viewTo, viewOf, isOnTop, view}
+use Rattle.automaton.specs.View.{stackOf, directionOf, isWithin, basic, nested, shown, viewTo, viewOf, isOnTop, view}
 use Rattle.automaton.proofs.Listings.{listed-same, listed-step}
 
 -- from the highest number down
@@ -217,3 +218,28 @@ module _ (p : Plan) (l : Ledger) where
       -- the step at u is a step of the whole
       pub replaced : Awake l u → Step p (frame o u) a (frame o′ u) → VStep p (frames o) a (frames o′)
       replaced w s = upwards u w (inl refl) s
+
+-- A track shown alike on two ledgers: the same state and entries, the same tracks within, and where there are none the same direction.
+module _ (p : Plan) (l m : Ledger) (t : ℕ) (within : (u : ℕ) → u < trackCount p → isWithin p l t u ≡ isWithin p m t u) where
+  pub busy-alike : hasOpenScope p l t ≡ hasOpenScope p m t
+  unfolding hasOpenScope isWithin
+  busy-alike = some-same (trackCount p) (λ u. isHostedBy p t u && isAwake (l u .mode)) (λ u. isHostedBy p t u && isAwake (m u .mode)) within
+
+  pub shown-alike : (g g′ : ℕ → NConf) → l t .state ≡ m t .state → l t .held ≡ m t .held
+      → (hasOpenScope p l t ≡ false → isForward (l t .mode) ≡ isForward (m t .mode))
+      → ((u : ℕ) → u < trackCount p → isWithin p l t u ≡ true → g u ≡ g′ u) → shown p l t g ≡ shown p m t g′
+  unfolding nested basic
+  shown-alike g g′ st hd way inner =
+      elim (look (hasOpenScope p l t)) [
+        | inl b ↦
+            shown-busy p l t g b
+            ∙ ap₂ (λ q S. Nest t q forward (stackOf S) (Vect (listed (trackCount p) (isWithin p l t) g))) st hd
+            ∙ ap (λ x. Nest t (m t .state) forward (stackOf (m t .held)) (Vect x))
+            (listed-same (trackCount p) (isWithin p l t) (isWithin p m t) g g′ within inner)
+            ∙ sym (shown-busy p m t g′ (sym busy-alike ∙ b))
+        | inr b ↦
+            shown-free p l t g b
+            ∙ ap₂ (λ q S. Basic t q (directionOf (isForward (l t .mode))) (stackOf S)) st hd
+            ∙ ap (λ x. Basic t (m t .state) (directionOf x) (stackOf (m t .held))) (way b)
+            ∙ sym (shown-free p m t g′ (sym busy-alike ∙ b))
+      ]

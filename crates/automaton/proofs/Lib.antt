@@ -5,3 +5,4 @@ pub mod Frames
 pub mod Entered
 pub mod Terminated
 pub mod Calm
+pub mod Leaving

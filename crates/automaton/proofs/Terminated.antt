@@ -35,7 +35,7 @@ unfolding members Vect
 members-vect [] = refl
 members-vect (x ∷ xs) = ap (λ z. x ∷ z) (members-vect xs)
 
-bare-stack : (es : List Entry) → isBare (stackOf es) ≡ isEmpty es
+pub bare-stack : (es : List Entry) → isBare (stackOf es) ≡ isEmpty es
 unfolding isBare stackOf isEmpty Rattle.automaton.specs.Configuration.pushComp
 bare-stack [] = refl
 bare-stack (e ∷ es) = refl
