@@ -66,7 +66,7 @@ module _ (p : Plan) (l : Ledger) where
   unfolding shown
   shown-busy t g h = rw h
 
-  shown-same : (t : ℕ) (g g′ : ℕ → NConf) → ((u : ℕ) → u < trackCount p → isHostedBy p t u ≡ true → Awake l u → g u ≡ g′ u) → shown p l t g ≡ shown p l t g′
+  pub shown-same : (t : ℕ) (g g′ : ℕ → NConf) → ((u : ℕ) → u < trackCount p → isHostedBy p t u ≡ true → Awake l u → g u ≡ g′ u) → shown p l t g ≡ shown p l t g′
   unfolding shown
   shown-same t g g′ h =
       ap (λ x. cond (hasOpenScope p l t) (nested p l t (Vect x)) (basic p l t))
@@ -134,7 +134,7 @@ module _ (p : Plan) (l : Ledger) where
     frames-same o o′ h =
         ap Vect (listed-same (trackCount p) (isOnTop p l) (isOnTop p l) (frame o) (frame o′) (λ k b. refl) (λ k b y. frame-same o o′ h k b))
 
-    hosted-above : (t v : ℕ) → isHostedBy p t v ≡ true → isAbove p t v ≡ true
+    pub hosted-above : (t v : ℕ) → isHostedBy p t v ≡ true → isAbove p t v ≡ true
     hosted-above t v i = let (h, e, q) = by-host p t v i in above-down p ok t v h e (inl (sym q))
 
     reach-up : (t v u : ℕ) → isHostedBy p t v ≡ true → Reaches p ok v u → Reaches p ok t u

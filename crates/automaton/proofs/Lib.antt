@@ -6,3 +6,5 @@ pub mod Entered
 pub mod Terminated
 pub mod Calm
 pub mod Leaving
+pub mod Replacing
+pub mod Turning

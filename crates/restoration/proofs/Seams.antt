@@ -200,7 +200,7 @@ module _ (p : Plan) (ok : Accepted p) (a : SignalArguments) (l : Ledger) where
   unfolding turned
   turned-awake t = turned-case (l t) .0
 
-  turned-forward : (t : ℕ) → isForward (turns p a l t .mode) ≡ false
+  pub turned-forward : (t : ℕ) → isForward (turns p a l t .mode) ≡ false
   unfolding turned
   turned-forward t = turned-case (l t) .1
 
