@@ -2,7 +2,7 @@
 -- on its first state. From the highest track down. So begin is init. Assumes nothing.
 use mathlib.Core.Path.{_≡_, refl, sym, ap, ap₂, _∙_, subst}
 use mathlib.Core.Logic.{inl, inr}
-use mathlib.Core.Bool.{Bool, true, false, cond, _&&_}
+use mathlib.Core.Bool.{Bool, true, false, cond, _&&_, _||_}
 use mathlib.Core.List.{List, []}
 use mathlib.Core.Option.{Option, none, some}
 use Prim.Native.Nat.{ℕ, zero, suc, _+_, _<_, _≤_}
@@ -15,14 +15,14 @@ use Rattle.rules.specs.Plan.{Plan, trackCount, host, owner, isRoot, isStateOf, 
 use Rattle.rules.specs.Ledger.{Entry, Configuration, Ledger, isAwake, isForward, sleeping}
 use Rattle.rules.specs.Scope.{hasOpenScope}
 use Rattle.rules.specs.Opening.{fresh, wakes, enter, rootsFirst, begun}
-use Rattle.rules.proofs.Tests.{look, look-option, clash, none-some, and-true, and-both}
+use Rattle.rules.proofs.Tests.{look, look-option, clash, refuted, and-true, and-both}
 use Rattle.rules.proofs.Folds.{some-same}
 use Rattle.rules.proofs.Acceptance.{Accepted}
 use Rattle.rules.proofs.Scopes.{in-host, host-in, by-host, host-by, root-of, root-none}
 use Rattle.rules.proofs.Opening.{wakes-entered, wakes-woken, enter-to, enter-woken, roots-to, begun-root}
 use Rattle.restoration.proofs.Modes.{forward-awake, is-forward}
 use Rattle.restoration.proofs.Nesting.{Awake, Sleeps, Nested, state-of, host-awake, host-busy}
-use Rattle.restoration.proofs.Entering.{Enterable, arrived, fresh-awake, fresh-mode, fresh-state, fresh-held, woken-asleep, enter-nested}
+use Rattle.restoration.proofs.Entering.{Enterable, fresh-awake, woken-asleep, awake-or, enter-nested}
 use Rattle.restoration.proofs.SoundBegin.{all-asleep, asleep-formed, roots-free}
 use Rattle.automaton.specs.Listing.{listed}
 use Rattle.automaton.specs.Configuration.{forward, Stack, NConf, Basic, Nest, Vect, initBy, gotoTo, goto, init}
@@ -134,6 +134,25 @@ module _ (p : Plan) (ok : Accepted p) where
               opened m t q [] b own at (same-scope t q own (ap (λ (c : Configuration). c .state) at) wake)
               (λ u c i. let f = in-host p q u i in ih u c (subst (λ x. x < u) ow (ok .lower u q f)) .wakens (woken-none u (wake u i) q f) (wake u i));
         })
+
+    -- a track that neither enters a state nor wakes keeps the tracks within its open scope
+    pub stays-within : (t : ℕ) → Awake l t → to t ≡ none → (u : ℕ) → isWithin p l t u ≡ isWithin p m t u
+    unfolding isWithin
+    stays-within t a e u =
+        elim (look (isHostedBy p t u)) [
+          | inr i ↦ rw i
+          | inl i ↦
+              let (h, f, o) = by-host p t u i in
+              let still : wakes p to u ≡ false =
+              wakes-woken p ok to u h f (ap to o ∙ e)
+              ∙ ap (λ x. x && eqb h (firstState p (owner p h)))
+              (ap (wakes p to) o ∙ refuted (wakes p to t) (λ w. clash a (woken-asleep p ok l to n g t w))) in
+              ap (λ x. isHostedBy p t u && x) (sym (awake-or p ok l to n g u h f ∙ ap (λ x. isAwake (l u .mode) || x) still ∙ or-none (isAwake (l u .mode))))
+        ]
+      where
+        or-none : (b : Bool) → (b || false) ≡ b
+        or-none true = refl
+        or-none false = refl
 
   -- "begin gives init": the view of begin's ledger is the initial configuration of the vector of roots
   pub begin-init : view p (begun p) ≡ init p (isRoot p)

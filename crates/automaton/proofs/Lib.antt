@@ -8,3 +8,4 @@ pub mod Calm
 pub mod Leaving
 pub mod Replacing
 pub mod Turning
+pub mod Moving

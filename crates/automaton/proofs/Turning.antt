@@ -28,7 +28,7 @@ use Rattle.automaton.proofs.Replacing.{Alike, frames-view, allStepped, 
 use Rattle.automaton.proofs.Leaving.{abandoning-run}
 
 -- a configuration replaced by one, as the other
-some-same : (a b : NConf) → some a ≡ some b → a ≡ b
+pub some-same : (a b : NConf) → some a ≡ some b → a ≡ b
 some-same a b h = cc
 
 module _ (p : Plan) (ok : Accepted p) (l : Ledger) (n : Nested p l) where
