@@ -9,3 +9,4 @@ pub mod Leaving
 pub mod Replacing
 pub mod Turning
 pub mod Moving
+pub mod Closing
