@@ -10,3 +10,4 @@ pub mod Replacing
 pub mod Turning
 pub mod Moving
 pub mod Closing
+pub mod Firing
