@@ -1,6 +1,6 @@
--- On a sound ledger nothing is left to settle: no rule applies to its view whose label is τ. A calm configuration has no deviation on top
+-- Where no settling is due nothing is left to settle: no rule applies to the view whose label is τ. A calm configuration has no deviation on top
 -- of its stack, and where it is nested it is forward, its vector neither terminated nor compensated, and calm itself; by the rules one
--- after the other it takes no silent step; and the view of a sound ledger is calm. Assumes nothing.
+-- after the other it takes no silent step; and such a view is calm. Assumes nothing.
 use mathlib.Core.Path.{_≡_, refl, sym, ap, ap₂, _∙_, subst}
 use mathlib.Core.Logic.{inl, inr}
 use mathlib.Core.Bool.{Bool, true, false, cond, not, _&&_, _||_}
@@ -10,12 +10,13 @@ use borrow.Author.Tests.{not-true}
 use Rattle.rules.specs.Plan.{Plan, trackCount, owner}
 use Rattle.rules.specs.Ledger.{Entry, Ledger, isAwake}
 use Rattle.rules.specs.Scope.{isOpen, hasOpenScope}
+use Rattle.rules.specs.Event.{isClosing}
+use Rattle.rules.specs.Signal.{isAbandoning}
 use Rattle.rules.proofs.Tests.{look, clash, and-true, and-both, or-true}
 use Rattle.rules.proofs.Acceptance.{Accepted}
 use Rattle.rules.proofs.Scopes.{open-at, busy-find}
 use Rattle.rules.proofs.Abandoning.{hosts-higher}
 use Rattle.restoration.proofs.Nesting.{Awake, Nested, state-of}
-use Rattle.restoration.proofs.Soundness.{Sound}
 use Rattle.automaton.specs.Listing.{listed, everyOf}
 use Rattle.automaton.specs.Configuration.{Direction, forward, backward, Element, Comp, Dev, Stack, NConf, Basic, Nest, Conf, end, next, Vect, isForwards, hasTerminated, hasCompensated, pushComp}
 use Rattle.automaton.specs.Semantics.{Trace, Forw, Back, γ, τ, Act, trace, Step, SUC, FAIL, COMP, DEV, NESTSUC, NESTFAIL, NESTCOMP, NEST, VStep, VECT, Settled}
@@ -105,10 +106,7 @@ module _ (p : Plan) where
   unfolding calm nested isForwards
   nested-calm l t c h k i = rw (h, k, i)
 
-  module _ (limit : ℕ) (ok : Accepted p) (l : Ledger) (s : Sound limit p l) where
-    abbrev n : Nested p l
-    n = s .formed .nested
-
+  module _ (ok : Accepted p) (l : Ledger) (n : Nested p l) (closing : (s : ℕ) → isClosing p l s ≡ false) (abandoning : (s : ℕ) → isAbandoning p l s ≡ false) where
     -- a track with an open scope has that of the state that it is in
     busy-open : (t : ℕ) → hasOpenScope p l t ≡ true → isOpen p l (l t .state) ≡ true
     busy-open t b =
@@ -128,17 +126,17 @@ module _ (p : Plan) where
               let w : owner p (l t .state) ≡ t = state-of p t (l t .state) (n .own t a) .1 in
               ap calm (shown-busy p l t (viewOf p l) f)
               ∙ nested-calm l t (scopeView p l t)
-              (ap (λ x. hasTerminated p (scopeView p l x)) (sym w) ∙ sym (closing-terminated p ok l n (l t .state) o) ∙ s .closing (l t .state))
-              (ap (λ x. hasCompensated p (scopeView p l x)) (sym w) ∙ sym (abandoning-compensated p ok l n (l t .state) o) ∙ s .abandoning (l t .state))
+              (ap (λ x. hasTerminated p (scopeView p l x)) (sym w) ∙ sym (closing-terminated p ok l n (l t .state) o) ∙ closing (l t .state))
+              (ap (λ x. hasCompensated p (scopeView p l x)) (sym w) ∙ sym (abandoning-compensated p ok l n (l t .state) o) ∙ abandoning (l t .state))
               (calms-of (listed (trackCount p) (isWithin p l t) (viewOf p l))
               ∙ listed-every calm (trackCount p) (isWithin p l t) (viewOf p l)
               (λ u c y. let (i, v) = within-parts p l t u y in ih u c (hosts-higher p ok t u i) v))
         ])
 
     -- "no other rule of the settling kind applies afterwards"
-    pub sound-settled : Settled p (view p l)
+    pub view-settled : Settled p (view p l)
     unfolding view
-    sound-settled =
+    view-settled =
         calm-settled (view p l)
         (calms-of (listed (trackCount p) (isOnTop p l) (viewOf p l))
         ∙ listed-every calm (trackCount p) (isOnTop p l) (viewOf p l) (λ t b y. view-calm t b (top-parts p l t y .1)))

@@ -11,3 +11,4 @@ pub mod Turning
 pub mod Moving
 pub mod Closing
 pub mod Firing
+pub mod Calls

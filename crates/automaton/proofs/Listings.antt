@@ -45,6 +45,16 @@ module _ {A : Type 0} where
   unfolding listed
   listed-same n f f′ g g′ h e = from-same n 0 f f′ g g′ (λ k b c. h k (omega arith)) (λ k b c. e k (omega arith))
 
+  from-none : (n i : ℕ) (f : ℕ → Bool) (g : ℕ → A) → ((k : ℕ) → k < i + n → f k ≡ false) → listedFrom n i f g ≡ []
+  unfolding listedFrom
+  from-none zero i f g h = refl
+  from-none (suc n) i f g h = rw (h i (omega arith)) (from-none n (suc i) f g (λ k b. h k (omega arith)))
+
+  -- none passes
+  pub listed-none : (n : ℕ) (f : ℕ → Bool) (g : ℕ → A) → ((k : ℕ) → k < n → f k ≡ false) → listed n f g ≡ []
+  unfolding listed
+  listed-none n f g h = from-none n 0 f g (λ k b. h k (omega arith))
+
   -- tests
   module _ (test : A → Bool) where
     from-every : (n i : ℕ) (f : ℕ → Bool) (g : ℕ → A) → ((k : ℕ) → i ≤ k → k < i + n → f k ≡ true → test (g k) ≡ true) → everyOf test (listedFrom n i f g) ≡ true

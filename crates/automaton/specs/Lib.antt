@@ -3,3 +3,4 @@ pub mod Listing
 pub mod Configuration
 pub mod Semantics
 pub mod View
+pub mod Exactly
