@@ -72,7 +72,7 @@ module _ (p : Plan) (ok : Accepted p) (l : Ledger) (n : Nested p l) where
       (λ b.
       let (u, k, c, e, o, a) = busy-find p m t b in
       let (d, w) = closed-awake p l u a in
-      clash (closing-direct p ok l n t h u (hosted-above p l ok t u (subst (λ x. Rattle.rules.specs.Plan.isHostedBy p x u ≡ true) o (host-by p u k e))) w) d)
+      clash (closing-direct p ok l n t h u (hosted-above p ok t u (subst (λ x. Rattle.rules.specs.Plan.isHostedBy p x u ≡ true) o (host-by p u k e))) w) d)
 
   going : (t : ℕ) → closesScope p l t ≡ true → isForward (l t .mode) ≡ true
   going t h =

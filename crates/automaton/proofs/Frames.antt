@@ -32,6 +32,15 @@ down n C f t b = go n t b (omega arith)
     go zero t b h = absurd (omega arith)
     go (suc k) t b h = f t b (λ u c d. go k u c (omega arith))
 
+-- A track is above those in its scopes, and above what they are above.
+module _ (p : Plan) (ok : Accepted p) where
+  pub hosted-above : (t v : ℕ) → isHostedBy p t v ≡ true → isAbove p t v ≡ true
+  hosted-above t v i = let (h, e, q) = by-host p t v i in above-down p ok t v h e (inl (sym q))
+
+  pub reach-up : (t v u : ℕ) → isHostedBy p t v ≡ true → Reaches p ok v u → Reaches p ok t u
+  reach-up t v u i (inl e) = inr (subst (λ z. isAbove p t z ≡ true) e (hosted-above t v i))
+  reach-up t v u i (inr a) = inr (reaches-above p ok t v u (inr (hosted-above t v i)) a)
+
 -- what is put in place of a configuration
 unfoldable pub instead : Option NConf → NConf → NConf
 instead none c = c
@@ -134,13 +143,6 @@ module _ (p : Plan) (l : Ledger) where
     frames-same o o′ h =
         ap Vect (listed-same (trackCount p) (isOnTop p l) (isOnTop p l) (frame o) (frame o′) (λ k b. refl) (λ k b y. frame-same o o′ h k b))
 
-    pub hosted-above : (t v : ℕ) → isHostedBy p t v ≡ true → isAbove p t v ≡ true
-    hosted-above t v i = let (h, e, q) = by-host p t v i in above-down p ok t v h e (inl (sym q))
-
-    reach-up : (t v u : ℕ) → isHostedBy p t v ≡ true → Reaches p ok v u → Reaches p ok t u
-    reach-up t v u i (inl e) = inr (subst (λ z. isAbove p t z ≡ true) e (hosted-above t v i))
-    reach-up t v u i (inr a) = inr (reaches-above p ok t v u (inr (hosted-above t v i)) a)
-
     -- of two tracks in one track's scopes neither is above the other
     not-above : (x k t : ℕ) → isHostedBy p x k ≡ true → isHostedBy p x t ≡ true → isAbove p k t ≡ true → ⊥
     not-above x k t i j a =
@@ -177,7 +179,7 @@ module _ (p : Plan) (l : Ledger) where
           (λ t b ih r.
           frame-law o t b
           ∙ ap₂ instead (same t (λ e. r (inl e)))
-          (shown-same t (frame o) (frame o′) (λ v c i w. ih v c (hosts-higher p ok t v i) (λ q. r (reach-up t v u i q))))
+          (shown-same t (frame o) (frame o′) (λ v c i w. ih v c (hosts-higher p ok t v i) (λ q. r (reach-up p ok t v u i q))))
           ∙ sym (frame-law o′ t b))
 
       upwards : (t : ℕ) → Awake l t → Reaches p ok t u → Step p (frame o t) a (frame o′ t) → VStep p (frames o) a (frames o′)
@@ -194,7 +196,7 @@ module _ (p : Plan) (l : Ledger) where
                 let e = q .1 in
                 let x = owner p h in
                 let j = host-by p t h e in
-                let up : isAbove p x u ≡ true = elim (reach-up x t u j r) [ inl z ↦ impossible t r x j z | inr z ↦ z ] in
+                let up : isAbove p x u ≡ true = elim (reach-up p ok x t u j r) [ inl z ↦ impossible t r x j z | inr z ↦ z ] in
                 let free : (x ≡ u → ⊥) = λ z. let c = above-lower p ok x u up in absurd (omega arith) in
                 let aw = host-awake p ok l n t h w e in
                 let by = host-busy p ok l n t h w e in

@@ -12,3 +12,5 @@ pub mod Moving
 pub mod Closing
 pub mod Firing
 pub mod Calls
+pub mod CancOut
+pub mod Stacks

@@ -34,7 +34,7 @@ module _ (p : Plan) (ok : Accepted p) (l : Ledger) where
       frame-law p l ok o t b ∙ instead-none p l (o t) (shown p l t (frame p l o)) e
       ∙ shown-same p l t (frame p l o) (viewOf p l)
       (λ u c i a.
-      let x = hosted-above p l ok t u i in
+      let x = hosted-above p ok t u i in
       ih u c (hosts-higher p ok t u i) (below u x a) (λ v y w. below v (reaches-above p ok t u v (inr x) y) w))
       ∙ sym (view-law p l ok t b))
 

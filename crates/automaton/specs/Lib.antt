@@ -4,3 +4,4 @@ pub mod Configuration
 pub mod Semantics
 pub mod View
 pub mod Exactly
+pub mod SelfCancelling

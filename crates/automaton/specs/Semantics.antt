@@ -77,6 +77,11 @@ module _ (p : Plan) where
     stop : {c : Conf} → Run c [] c
     step : {c d e : Conf} {a : Act} {w : List Act} → VStep c a d → Run d w e → Run c (a ∷ w) e
 
+  -- the same of one automaton's configuration
+  pub data NRun : NConf → List Act → NConf → Type 0 where
+    halt : {n : NConf} → NRun n [] n
+    then : {n m k : NConf} {a : Act} {w : List Act} → Step n a m → NRun m w k → NRun n (a ∷ w) k
+
   -- "with no further possible compositions": no rule applies that is not directly triggered by an event, a signal or a firing
   abbrev pub Settled : Conf → Type 0
   Settled c = (a : Act) (d : Conf) → VStep c a d → trace a ≡ τ → ⊥
