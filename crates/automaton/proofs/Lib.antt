@@ -14,3 +14,4 @@ pub mod Firing
 pub mod Calls
 pub mod CancOut
 pub mod Stacks
+pub mod SelfCancelling

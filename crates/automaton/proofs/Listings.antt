@@ -57,7 +57,7 @@ module _ {A : Type 0} where
 
   -- tests
   module _ (test : A → Bool) where
-    from-every : (n i : ℕ) (f : ℕ → Bool) (g : ℕ → A) → ((k : ℕ) → i ≤ k → k < i + n → f k ≡ true → test (g k) ≡ true) → everyOf test (listedFrom n i f g) ≡ true
+    pub from-every : (n i : ℕ) (f : ℕ → Bool) (g : ℕ → A) → ((k : ℕ) → i ≤ k → k < i + n → f k ≡ true → test (g k) ≡ true) → everyOf test (listedFrom n i f g) ≡ true
     unfolding listedFrom everyOf
     from-every zero i f g h = refl
     from-every (suc n) i f g h = go (f i) refl (from-every n (suc i) f g (λ k b c. h k (omega arith) (omega arith)))
