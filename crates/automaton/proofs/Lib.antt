@@ -15,3 +15,4 @@ pub mod Calls
 pub mod CancOut
 pub mod Stacks
 pub mod SelfCancelling
+pub mod Along

@@ -4,4 +4,5 @@ pub mod Configuration
 pub mod Semantics
 pub mod View
 pub mod Exactly
+pub mod Along
 pub mod SelfCancelling
