@@ -1,21 +1,20 @@
 -- A list of calls is a run of the automaton from init, unless it ends over; and where every root is withdrawn the vector has compensated,
 -- so that the calls' steps have cancelled out. Assumes nothing.
-use mathlib.Core.Path.{_≡_, refl, sym, ap, ap₂, _∙_, subst}
+use mathlib.Core.Path.{_≡_, refl, sym, ap, _∙_, subst}
 use mathlib.Core.Logic.{_⊎_, inl, inr}
-use mathlib.Core.Bool.{Bool, true, false, cond, not, _&&_}
+use mathlib.Core.Bool.{true, cond}
 use mathlib.Core.List.{List, [], _∷_, _++_}
-use mathlib.Core.Option.{none, some}
 use Prim.Native.Nat.{ℕ, zero, suc, _<_}
 use native.Mathlib.Omega.{arith}
 use Rattle.rules.specs.declared.Counts.{Counts}
 use Rattle.rules.specs.Plan.{Plan, trackCount, planOf, isRoot}
 use Rattle.rules.specs.Acceptance.{accepted, readPlan}
-use Rattle.rules.specs.Ledger.{Configuration, Ledger, isAwake, isUndoing, isEmpty, ledgerAt}
+use Rattle.rules.specs.Ledger.{Configuration, Ledger, isAwake, isEmpty, ledgerAt}
 use Rattle.rules.specs.Signal as signal
 use Rattle.rules.specs.Opening.{begun}
-use Rattle.rules.specs.Call.{Answer, refusal, done, Outcome, Call, event, signal, fire, callRefusal, next, callOutcome, beginOutcome}
-use Rattle.rules.specs.ReferenceRun.{wordsFrom, wordsAfter, ledgerAfter, Withdrawn, AllWithdrawn}
-use Rattle.rules.proofs.Tests.{look, clash, and-both}
+use Rattle.rules.specs.Call.{refusal, done, Call, event, signal, fire, callRefusal, next, callOutcome, beginOutcome}
+use Rattle.rules.specs.ReferenceRun.{wordsFrom, wordsAfter, ledgerAfter, AllWithdrawn}
+use Rattle.rules.proofs.Tests.{look, clash}
 use Rattle.rules.proofs.Acceptance.{Accepted, accepts}
 use Rattle.rules.proofs.Scopes.{root-of}
 use Rattle.restoration.proofs.Modes.{is-undoing}
@@ -30,10 +29,10 @@ use Rattle.restoration.proofs.SoundKept.{Over, Kept, over-is}
 use Rattle.restoration.proofs.SoundWords.{Holds, begin-holds, call-holds, call-accepted, call-refused}
 use Rattle.restoration.proofs.Restoration.{list-holds}
 use Rattle.automaton.specs.Listing.{listed, someOf, everyOf}
-use Rattle.automaton.specs.Configuration.{NConf, Conf, Vect, members, isTerminated, isCompensated, hasCompensated, init}
+use Rattle.automaton.specs.Configuration.{Conf, Vect, members, isTerminated, hasCompensated, init}
 use Rattle.automaton.specs.Semantics.{Act, Run, stop}
 use Rattle.automaton.specs.View.{isOnTop, viewOf, view, actsOf}
-use Rattle.automaton.specs.Exactly.{ended, Exactly}
+use Rattle.automaton.specs.Exactly.{ended}
 use Rattle.automaton.specs.Along.{made, actsFrom, actsAfter}
 use Rattle.automaton.specs.SelfCancelling.{projected, cancOut, Perfect}
 use Rattle.automaton.proofs.Listings.{listed-some, run-then, run-same}

@@ -1,45 +1,40 @@
 -- Every accepted call on every sound ledger is exactly its steps, and a refused call none: the runs of its parts put together, with nothing
 -- left to settle. On ledgers, and on words. Assumes nothing.
-use mathlib.Core.Path.{_≡_, refl, sym, ap, ap₂, _∙_, subst, fun-ext}
+use mathlib.Core.Path.{_≡_, refl, sym, ap, ap₂, _∙_, fun-ext}
 use mathlib.Core.Logic.{inl, inr}
 use mathlib.Core.Bool.{Bool, true, false, cond, not, _&&_, _||_}
 use mathlib.Core.List.{List, [], _∷_, _++_}
-use mathlib.Core.Option.{none, some}
-use Prim.Native.Nat.{ℕ, zero, suc, _+_, _<_}
+use Prim.Native.Nat.{ℕ, zero, suc, _+_}
 use native.Mathlib.Omega.{arith}
-use lib.ListN.{length}
 use Rattle.rules.specs.declared.Counts.{Counts}
 use Rattle.rules.specs.Fold.{countBelow, firstRefusal}
 use Rattle.rules.specs.Plan.{Plan, trackCount, planOf, isRoot, isFinal}
 use Rattle.rules.specs.Acceptance.{accepted, readPlan}
 use Rattle.rules.specs.Ledger.{Configuration, Ledger, isAwake, isForward, sleeping, ledgerAt}
 use Rattle.rules.specs.Scope.{hasOpenScope}
-use Rattle.rules.specs.Opening.{begun}
-use Rattle.rules.specs.Event.{moves, moved, closed, closings, isFinishing, finished, afterEvent}
+use Rattle.rules.specs.Event.{moves, moved, closed, isFinishing, finished, afterEvent}
 use Rattle.rules.specs.Signal.{turned, abandoned, turnings, afterSignal}
 use Rattle.rules.specs.Fire.{fired, afterFire}
-use Rattle.rules.specs.Call.{EventArguments, SignalArguments, FireArguments, Answer, refusal, done, Outcome, Call, event, signal, fire, refusedOr, ledgerRefusals, callRefusals, callRefusal, figures, after, callOutcome, beginOutcome}
-use Rattle.rules.proofs.Tests.{look, clash, and-true, implies, implied}
+use Rattle.rules.specs.Call.{EventArguments, SignalArguments, FireArguments, refusal, done, Call, event, signal, fire, refusedOr, ledgerRefusals, callRefusals, callRefusal, figures, after, callOutcome, beginOutcome}
+use Rattle.rules.proofs.Tests.{look, implies, implied}
 use Rattle.rules.proofs.Folds.{every-at, every-of}
 use Rattle.rules.proofs.Acceptance.{Accepted, accepts}
 use Rattle.rules.proofs.Scopes.{root-of, root-none}
 use Rattle.rules.proofs.Closing.{closed-done}
-use Rattle.rules.proofs.Abandoning.{abandoned-done}
-use Rattle.restoration.proofs.Nesting.{Awake, Nested}
+use Rattle.restoration.proofs.Nesting.{Nested}
 use Rattle.restoration.proofs.Seams.{fire-accepted, over-refused, next-accepted}
 use Rattle.restoration.proofs.Moving.{moved-nested}
 use Rattle.restoration.proofs.Closing.{sleeping-asleep, closed-nested}
-use Rattle.restoration.proofs.Leaving.{turned-nested, abandoned-nested}
 use Rattle.restoration.proofs.Soundness.{RootsAwake, Sound}
 use Rattle.restoration.proofs.SoundEvent.{event-roots, event-abandoning}
-use Rattle.restoration.proofs.SoundRetraction.{signal-sound, fire-sound, fired-formed}
+use Rattle.restoration.proofs.SoundRetraction.{signal-sound, fire-sound}
 use Rattle.restoration.proofs.Unfinished.{unfinished}
 use Rattle.restoration.proofs.SoundKept.{over-is}
 use Rattle.restoration.proofs.SoundWords.{Holds, outcome, not-refused, passed-ledger, sound-holds, begin-holds, call-holds, call-accepted, call-refused}
 use Rattle.automaton.specs.Listing.{listed, everyOf}
-use Rattle.automaton.specs.Configuration.{Conf, Vect, members, isTerminated, init}
-use Rattle.automaton.specs.Semantics.{sucAt, failAt, Run}
-use Rattle.automaton.specs.View.{isOnTop, viewOf, view, isGoing, movings, closers, turners, actsOf}
+use Rattle.automaton.specs.Configuration.{Vect, members, isTerminated, init}
+use Rattle.automaton.specs.Semantics.{sucAt, failAt}
+use Rattle.automaton.specs.View.{isOnTop, viewOf, view, isGoing, movings, turners, actsOf}
 use Rattle.automaton.specs.Exactly.{ended, isTurnedEarly, counted, Exactly}
 use Rattle.automaton.proofs.Listings.{alike, listed-none, listed-every, listed-every-at, listed-length, run-then}
 use Rattle.automaton.proofs.Frames.{top-parts, top-of}

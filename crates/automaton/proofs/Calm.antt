@@ -1,26 +1,26 @@
 -- Where no settling is due nothing is left to settle: no rule applies to the view whose label is τ. A calm configuration has no deviation on top
 -- of its stack, and where it is nested it is forward, its vector neither terminated nor compensated, and calm itself; by the rules one
 -- after the other it takes no silent step; and such a view is calm. Assumes nothing.
-use mathlib.Core.Path.{_≡_, refl, sym, ap, ap₂, _∙_, subst}
+use mathlib.Core.Path.{_≡_, refl, sym, ap, _∙_, subst}
 use mathlib.Core.Logic.{inl, inr}
-use mathlib.Core.Bool.{Bool, true, false, cond, not, _&&_, _||_}
+use mathlib.Core.Bool.{Bool, true, false, not, _&&_}
 use mathlib.Core.List.{List, [], _∷_, _++_}
 use Prim.Native.Nat.{ℕ, _<_}
 use borrow.Author.Tests.{not-true}
 use Rattle.rules.specs.Plan.{Plan, trackCount, owner}
-use Rattle.rules.specs.Ledger.{Entry, Ledger, isAwake}
+use Rattle.rules.specs.Ledger.{Entry, Ledger}
 use Rattle.rules.specs.Scope.{isOpen, hasOpenScope}
 use Rattle.rules.specs.Event.{isClosing}
 use Rattle.rules.specs.Signal.{isAbandoning}
-use Rattle.rules.proofs.Tests.{look, clash, and-true, and-both, or-true}
+use Rattle.rules.proofs.Tests.{look, clash, and-true}
 use Rattle.rules.proofs.Acceptance.{Accepted}
 use Rattle.rules.proofs.Scopes.{open-at, busy-find}
 use Rattle.rules.proofs.Abandoning.{hosts-higher}
 use Rattle.restoration.proofs.Nesting.{Awake, Nested, state-of}
 use Rattle.automaton.specs.Listing.{listed, everyOf}
-use Rattle.automaton.specs.Configuration.{Direction, forward, backward, Element, Comp, Dev, Stack, NConf, Basic, Nest, Conf, end, next, Vect, isForwards, hasTerminated, hasCompensated, pushComp}
-use Rattle.automaton.specs.Semantics.{Trace, Forw, Back, γ, τ, Act, trace, Step, SUC, FAIL, COMP, DEV, NESTSUC, NESTFAIL, NESTCOMP, NEST, VStep, VECT, Settled}
-use Rattle.automaton.specs.View.{stackOf, isWithin, basic, nested, shown, viewOf, isOnTop, view, scopeView}
+use Rattle.automaton.specs.Configuration.{Direction, forward, backward, Comp, Dev, Stack, NConf, Basic, Nest, Conf, end, next, Vect, isForwards, hasTerminated, hasCompensated, pushComp}
+use Rattle.automaton.specs.Semantics.{Trace, Forw, Back, γ, τ, Act, trace, SUC, FAIL, COMP, DEV, NESTSUC, NESTFAIL, NESTCOMP, NEST, VStep, VECT, Settled}
+use Rattle.automaton.specs.View.{stackOf, isWithin, basic, nested, viewOf, isOnTop, view, scopeView}
 use Rattle.automaton.proofs.Listings.{listed-every}
 use Rattle.automaton.proofs.Frames.{down, within-parts, top-parts, shown-free, shown-busy, view-law}
 use Rattle.automaton.proofs.Terminated.{closing-terminated, abandoning-compensated}

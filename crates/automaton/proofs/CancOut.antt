@@ -1,13 +1,11 @@
 -- cancOut has the two laws of the report's Definition 15: a pair may be taken out anywhere, and a string without a pair is left as it is.
 -- Assumes nothing.
 use mathlib.Core.Path.{_≡_, refl, sym, ap, _∙_}
-use mathlib.Core.Logic.{inl, inr}
-use mathlib.Core.Bool.{Bool, true, false, cond, _||_}
+use mathlib.Core.Bool.{false}
 use mathlib.Core.List.{List, [], _∷_, _++_}
 use Prim.Native.Nat.{ℕ}
-use lib.Dec.{eqb}
 use borrow.Author.Tests.{eq-eqb}
-use Rattle.rules.proofs.Tests.{look, or-false}
+use Rattle.rules.proofs.Tests.{or-false}
 use Rattle.automaton.specs.SelfCancelling.{Symbol, activity, action, isPair, hasPair, leftAfter, leftOf, onto, cancOut}
 
 module _ (comp : ℕ → ℕ) where

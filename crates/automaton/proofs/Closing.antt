@@ -2,15 +2,12 @@
 -- final states, which host nothing. Assumes nothing.
 use mathlib.Core.Path.{_≡_, refl, sym, ap, ap₂, _∙_, subst}
 use mathlib.Core.Logic.{inl, inr}
-use mathlib.Core.Bool.{Bool, true, false, _&&_}
-use mathlib.Core.List.{List}
-use mathlib.Core.Option.{Option, none, some}
+use mathlib.Core.Bool.{true, false}
+use mathlib.Core.Option.{Option, none}
 use Prim.Native.Nat.{ℕ, _<_}
 use lib.ListN.{length}
-use lib.Dec.{eqb}
 use borrow.Author.Tests.{eq-eqb}
-use Rattle.rules.specs.Fold.{countBelow}
-use Rattle.rules.specs.Plan.{Plan, trackCount, stateCount, noState, optional, host, owner, replacement, isRoot, isAbove}
+use Rattle.rules.specs.Plan.{Plan, trackCount, stateCount, noState, optional, host, owner, replacement, isHostedBy, isAbove}
 use Rattle.rules.specs.Ledger.{Configuration, Ledger, isAwake, isForward}
 use Rattle.rules.specs.Scope.{hasOpenScope}
 use Rattle.rules.specs.Event.{installed, isClosing, isClosed, closesScope, closed, closings}
@@ -22,14 +19,13 @@ use Rattle.rules.proofs.Closing.{closing-final, closed-host, closed-root, close
 use Rattle.restoration.proofs.Nesting.{Awake, Nested, state-of, open-host}
 use Rattle.restoration.proofs.Seams.{installed-mode, installed-state, installed-held}
 use Rattle.restoration.proofs.Closing.{closing-open, closes-known, closes-of, closed-awake, closing-busy, closing-open-track, closing-direct}
-use Rattle.automaton.specs.Listing.{listed}
-use Rattle.automaton.specs.Configuration.{forward, NConf, Basic, Conf, Vect, push, hasTerminated}
+use Rattle.automaton.specs.Configuration.{forward, NConf, Basic, push, hasTerminated}
 use Rattle.automaton.specs.Semantics.{nestsucAt, Step, NESTSUC, Run}
 use Rattle.automaton.specs.View.{stackOf, directionOf, isWithin, basic, nested, viewOf, isOnTop, view, scopeView, closers}
 use Rattle.automaton.proofs.Listings.{alike, listed-length, run-same}
 use Rattle.automaton.proofs.Frames.{within-parts, within-of, top-parts, top-of, hosted-above, shown-free, shown-busy, view-law}
 use Rattle.automaton.proofs.Terminated.{closing-terminated}
-use Rattle.automaton.proofs.Replacing.{Alike, frames-view, allStepped, stepped-all, stepped-not, steps-run}
+use Rattle.automaton.proofs.Replacing.{frames-view, allStepped, stepped-all, stepped-not, steps-run}
 use Rattle.automaton.proofs.Turning.{some-same}
 use Rattle.automaton.proofs.Moving.{stack-install}
 
@@ -72,7 +68,7 @@ module _ (p : Plan) (ok : Accepted p) (l : Ledger) (n : Nested p l) where
       (λ b.
       let (u, k, c, e, o, a) = busy-find p m t b in
       let (d, w) = closed-awake p l u a in
-      clash (closing-direct p ok l n t h u (hosted-above p ok t u (subst (λ x. Rattle.rules.specs.Plan.isHostedBy p x u ≡ true) o (host-by p u k e))) w) d)
+      clash (closing-direct p ok l n t h u (hosted-above p ok t u (subst (λ x. isHostedBy p x u ≡ true) o (host-by p u k e))) w) d)
 
   going : (t : ℕ) → closesScope p l t ≡ true → isForward (l t .mode) ≡ true
   going t h =

@@ -8,8 +8,7 @@ use mathlib.Core.Option.{Option, none, some}
 use Prim.Native.Nat.{ℕ, zero, suc, _+_, _<_, _≤_}
 use native.Mathlib.Omega.{arith}
 use lib.Dec.{eqb}
-use borrow.Author.Tests.{eqb-true, eq-eqb}
-use Rattle.rules.specs.declared.Mode.{Mode}
+use borrow.Author.Tests.{eq-eqb}
 use Rattle.rules.specs.declared.Mode.the-variants.{Forward}
 use Rattle.rules.specs.Plan.{Plan, trackCount, host, owner, isRoot, isStateOf, isIn, isHostedBy, isHosting, firstState}
 use Rattle.rules.specs.Ledger.{Entry, Configuration, Ledger, isAwake, isForward, sleeping}
@@ -18,14 +17,14 @@ use Rattle.rules.specs.Opening.{fresh, wakes, enter, rootsFirst, begun}
 use Rattle.rules.proofs.Tests.{look, look-option, clash, refuted, and-true, and-both}
 use Rattle.rules.proofs.Folds.{some-same}
 use Rattle.rules.proofs.Acceptance.{Accepted}
-use Rattle.rules.proofs.Scopes.{in-host, host-in, by-host, host-by, root-of, root-none}
+use Rattle.rules.proofs.Scopes.{in-host, host-in, by-host, host-by, root-none}
 use Rattle.rules.proofs.Opening.{wakes-entered, wakes-woken, enter-to, enter-woken, roots-to, begun-root}
 use Rattle.restoration.proofs.Modes.{forward-awake, is-forward}
-use Rattle.restoration.proofs.Nesting.{Awake, Sleeps, Nested, state-of, host-awake, host-busy}
+use Rattle.restoration.proofs.Nesting.{Awake, Nested, state-of}
 use Rattle.restoration.proofs.Entering.{Enterable, fresh-awake, woken-asleep, awake-or, enter-nested}
 use Rattle.restoration.proofs.SoundBegin.{all-asleep, asleep-formed, roots-free}
 use Rattle.automaton.specs.Listing.{listed}
-use Rattle.automaton.specs.Configuration.{forward, Stack, NConf, Basic, Nest, Vect, initBy, gotoTo, goto, init}
+use Rattle.automaton.specs.Configuration.{forward, Stack, Basic, Nest, Vect, initBy, gotoTo, goto, init}
 use Rattle.automaton.specs.View.{stackOf, directionOf, isWithin, basic, nested, shown, viewOf, isOnTop, view}
 use Rattle.automaton.proofs.Listings.{alike, listed-same}
 use Rattle.automaton.proofs.Frames.{down, within-parts, within-of, view-law}

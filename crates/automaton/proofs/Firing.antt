@@ -2,7 +2,7 @@
 -- NESTFAIL once for each scope abandoned. Assumes nothing.
 use mathlib.Core.Path.{_≡_, refl, sym, ap, ap₂, _∙_, subst}
 use mathlib.Core.Logic.{inl, inr}
-use mathlib.Core.Bool.{Bool, true, false, cond, _&&_}
+use mathlib.Core.Bool.{true, false, cond, _&&_}
 use mathlib.Core.List.{List, [], _∷_, _++_}
 use mathlib.Core.Option.{Option, none, some}
 use Prim.Native.Nat.{ℕ, _<_}
@@ -26,7 +26,7 @@ use Rattle.restoration.proofs.Entries.{Good}
 use Rattle.restoration.proofs.Entering.{Fate, enters, wakens, stays, fate, arrived-awake}
 use Rattle.restoration.proofs.Firing.{fired-is, removed-mode, removed-state, removed-here, removed-other, removed-awake, deviates-known, deviates-here, removed-nested, deviates-free, fired-nested, fired-still}
 use Rattle.automaton.specs.Configuration.{backward, Comp, Dev, Stack, NConf, Basic, pushComp, pushDev, goto}
-use Rattle.automaton.specs.Semantics.{Act, compAt, devAt, Step, COMP, DEV, VStep, Run, stop, step}
+use Rattle.automaton.specs.Semantics.{compAt, devAt, Step, COMP, DEV, VStep, Run, stop, step}
 use Rattle.automaton.specs.View.{stackOf, directionOf, isWithin, basic, shown, viewOf, isOnTop, view, abandonings, deviating}
 use Rattle.automaton.proofs.Listings.{alike, run-then}
 use Rattle.automaton.proofs.Frames.{frame, frames, instead-some, top-parts, top-of, shown-free, busy-alike, view-frame, view-frames, view-law, frame-law, replaced}

@@ -1,20 +1,20 @@
 -- A view with some tracks' configurations replaced. Two that differ at one track alone, where the one steps to the other, are a step of the
 -- whole apart: by NEST and VECT from that track up to its root, everything beside the way up being the same. Assumes nothing.
 use mathlib.Core.Path.{_≡_, refl, sym, ap, ap₂, _∙_, subst}
-use mathlib.Core.Logic.{_⊎_, inl, inr}
-use mathlib.Core.Bool.{Bool, true, false, cond, _&&_}
+use mathlib.Core.Logic.{inl, inr}
+use mathlib.Core.Bool.{true, false, cond, _&&_}
 use mathlib.Core.Option.{Option, none, some}
 use Prim.Native.Nat.{ℕ, zero, suc, _+_, _<_, _≤_}
 use native.Mathlib.Omega.{arith}
-use lib.Dec.{eqb, ltb}
-use borrow.Author.Tests.{eqb-true, eqb-false, ltb-true, ltb-false}
+use lib.Dec.{ltb}
+use borrow.Author.Tests.{ltb-true, ltb-false}
 use Rattle.rules.specs.Plan.{Plan, trackCount, host, owner, isRoot, isHostedBy, isAbove}
 use Rattle.rules.specs.Ledger.{Ledger, isAwake, isForward}
 use Rattle.rules.specs.Scope.{hasOpenScope}
-use Rattle.rules.proofs.Tests.{look, look-option, clash, none-some, and-true, and-both, strong}
+use Rattle.rules.proofs.Tests.{look, look-option, none-some, and-true, and-both, strong}
 use Rattle.rules.proofs.Folds.{some-same}
 use Rattle.rules.proofs.Acceptance.{Accepted}
-use Rattle.rules.proofs.Scopes.{by-host, host-by, root-of, root-none, not-root}
+use Rattle.rules.proofs.Scopes.{by-host, host-by, root-of, root-none}
 use Rattle.rules.proofs.Forest.{Reaches, above-up, above-down, above-hosted, above-lower, reaches-above, in-line}
 use Rattle.rules.proofs.Abandoning.{hosts-higher}
 use Rattle.restoration.proofs.Nesting.{Awake, Nested, host-awake, host-busy}

@@ -1,29 +1,27 @@
 -- Abandoning is NESTFAIL once for each scope abandoned, from the highest host down: a host's nested vector has compensated once the scopes
 -- inside it are gone, since what it has in it was spent; and what is left is the view of the ledger after abandoning. Assumes nothing.
-use mathlib.Core.Path.{_≡_, refl, sym, ap, ap₂, _∙_, subst}
+use mathlib.Core.Path.{_≡_, sym, ap, _∙_, subst}
 use mathlib.Core.Logic.{inl, inr}
-use mathlib.Core.Bool.{Bool, true, false, cond, _&&_}
-use mathlib.Core.List.{List}
+use mathlib.Core.Bool.{true, false, cond, _&&_}
 use mathlib.Core.Option.{Option, none, some}
 use Prim.Native.Nat.{ℕ, suc, _<_, _≤_}
 use native.Mathlib.Omega.{arith}
 use lib.Dec.{eqb, leb}
 use borrow.Author.Tests.{eqb-true, eqb-false, leb-true, leb-false, le-leb}
-use Rattle.rules.specs.declared.Mode.{Mode}
-use Rattle.rules.specs.Plan.{Plan, trackCount, host, owner, isHostedBy, everyIn, isAbove}
+use Rattle.rules.specs.Plan.{Plan, trackCount, host, owner, isHostedBy, everyIn}
 use Rattle.rules.specs.Ledger.{Configuration, Ledger, isAwake, isForward, isUndoing, isEmpty}
 use Rattle.rules.specs.Scope.{isOpen, hasOpenScope}
 use Rattle.rules.specs.Signal.{isSpent, isLeft, isAbandoned, abandoned}
 use Rattle.rules.proofs.Tests.{look, clash, refuted, and-true, and-both}
 use Rattle.rules.proofs.Acceptance.{Accepted}
-use Rattle.rules.proofs.Scopes.{in-host, host-in, host-by, by-host, every-in-at, every-in-of, open-find, open-at, busy-at, busy-find}
+use Rattle.rules.proofs.Scopes.{in-host, host-in, host-by, by-host, every-in-at, every-in-of, open-find, open-at, busy-find}
 use Rattle.rules.proofs.Forest.{above-lower}
 use Rattle.rules.proofs.Abandoning.{hosts-higher, spent-parts, abandoned-host, left-kept}
 use Rattle.restoration.proofs.Modes.{undoing-forward}
 use Rattle.restoration.proofs.Nesting.{Awake, Nested, state-of, host-busy}
 use Rattle.restoration.proofs.Leaving.{left-awake, left-root}
 use Rattle.automaton.specs.Listing.{listed, listedDown}
-use Rattle.automaton.specs.Configuration.{backward, NConf, Basic, Conf, Vect, isBare, isBackwards, isCompensated, hasCompensated}
+use Rattle.automaton.specs.Configuration.{backward, NConf, Basic, Vect, isBackwards, isCompensated}
 use Rattle.automaton.specs.Semantics.{nestfailAt, Step, NESTFAIL, VStep, Run}
 use Rattle.automaton.specs.View.{stackOf, directionOf, isWithin, basic, nested, shown, viewOf, isOnTop, view, leavesScope, abandonings}
 use Rattle.automaton.proofs.Listings.{alike, listed-same, run-down, run-same}

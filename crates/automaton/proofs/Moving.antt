@@ -1,32 +1,31 @@
 -- The moves of an event are SUC once for each track that moves: each is a basic configuration in forward direction, and none is above
 -- another; entering the destination is goto. Assumes nothing.
-use mathlib.Core.Path.{_≡_, refl, sym, ap, ap₂, _∙_, subst}
+use mathlib.Core.Path.{_≡_, refl, sym, ap, _∙_, subst}
 use mathlib.Core.Logic.{inl, inr}
-use mathlib.Core.Bool.{Bool, true, false, cond, not, _&&_}
-use mathlib.Core.List.{List, _∷_}
+use mathlib.Core.Bool.{Bool, true, false, not, _&&_}
+use mathlib.Core.List.{List}
 use mathlib.Core.Option.{Option, none, some}
 use Prim.Native.Nat.{ℕ, _<_}
 use lib.Dec.{eqb}
-use Rattle.rules.specs.Plan.{Plan, trackCount, transition, optional, host, isRoot, isHostedBy, isAbove, transitionFor}
+use Rattle.rules.specs.Plan.{Plan, trackCount, transition, optional, host, isHostedBy, isAbove, transitionFor}
 use Rattle.rules.specs.Ledger.{Entry, Configuration, Ledger, isAwake, isForward}
 use Rattle.rules.specs.Scope.{hasOpenScope}
-use Rattle.rules.specs.Opening.{wakes}
+use Rattle.rules.specs.Opening.{enter}
 use Rattle.rules.specs.Event.{install, isMove, move, moves, moved}
 use Rattle.rules.proofs.Tests.{look, look-option, clash, none-some}
 use Rattle.rules.proofs.Acceptance.{Accepted, transition-for}
 use Rattle.rules.proofs.Opening.{wakes-root}
 use Rattle.restoration.proofs.Nesting.{Awake, Nested, free-below}
-use Rattle.restoration.proofs.Seams.{move-takes, by-none, by-some, to-none, to-some, to-destination}
+use Rattle.restoration.proofs.Seams.{move-takes, by-some, to-none, to-some, to-destination}
 use Rattle.restoration.proofs.Entering.{Fate, enters, wakens, stays, fate, arrived-awake}
 use Rattle.restoration.proofs.Moving.{recorded, goes, moved-is, recorded-awake, mover-awake, mover-is, recorded-nested, goes-free, moved-still}
-use Rattle.automaton.specs.Listing.{listed}
-use Rattle.automaton.specs.Configuration.{forward, NConf, Basic, push, pushComp, pushDev, goto}
-use Rattle.automaton.specs.Semantics.{sucAt, Act, Step, SUC, Run}
+use Rattle.automaton.specs.Configuration.{forward, NConf, Basic, push, goto}
+use Rattle.automaton.specs.Semantics.{sucAt, Step, SUC, Run}
 use Rattle.automaton.specs.View.{stackOf, directionOf, isWithin, basic, viewOf, isOnTop, view, movings}
 use Rattle.automaton.proofs.Listings.{alike, run-same}
 use Rattle.automaton.proofs.Frames.{top-parts, top-of, shown-free, view-law}
 use Rattle.automaton.proofs.Entered as entered
-use Rattle.automaton.proofs.Replacing.{Alike, frames-view, allStepped, stepped-all, stepped-not, steps-run}
+use Rattle.automaton.proofs.Replacing.{frames-view, allStepped, stepped-all, stepped-not, steps-run}
 use Rattle.automaton.proofs.Turning.{some-same}
 
 -- installing is pushing
@@ -98,7 +97,7 @@ module _ (p : Plan) (l : Ledger) (e : ℕ) where
     root-awake : (t : ℕ) → host p t ≡ none → isAwake (m t .mode) ≡ isAwake (l t .mode)
     root-awake t h = ap (λ (k : Ledger). isAwake (k t .mode)) (moved-is p l e) ∙ go (fate p ok (recorded p l e) (goes p l e) t)
       where
-        go : Fate p ok (recorded p l e) (goes p l e) t → isAwake (Rattle.rules.specs.Opening.enter p (goes p l e) (recorded p l e) t .mode) ≡ isAwake (l t .mode)
+        go : Fate p ok (recorded p l e) (goes p l e) t → isAwake (enter p (goes p l e) (recorded p l e) t .mode) ≡ isAwake (l t .mode)
         go (enters s f q) =
             let (x, k, z) = to-some p (move p l e t) s f in
             ap (λ (c : Configuration). isAwake (c .mode)) q ∙ arrived-awake s (recorded p l e t) ∙ sym (mover-awake p l e t x k)

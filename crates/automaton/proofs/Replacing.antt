@@ -1,24 +1,23 @@
 -- Steps of many tracks, none above another: one after the other, in track order, they are a run, since each leaves the others as they
 -- were. And when what they end in is the view of a ledger. Assumes nothing.
-use mathlib.Core.Path.{_≡_, refl, sym, ap, ap₂, _∙_, subst}
+use mathlib.Core.Path.{_≡_, sym, ap, _∙_, subst}
 use mathlib.Core.Logic.{inl, inr}
 use mathlib.Core.Bool.{Bool, true, false, cond, _&&_}
-use mathlib.Core.List.{List}
 use mathlib.Core.Option.{Option, none, some}
 use Prim.Native.Nat.{ℕ, suc, _<_, _≤_}
 use native.Mathlib.Omega.{arith}
 use lib.Dec.{eqb, ltb}
 use borrow.Author.Tests.{eqb-true, eqb-false, ltb-true, ltb-false, lt-ltb}
-use Rattle.rules.specs.Plan.{Plan, trackCount, isHostedBy, isAbove}
+use Rattle.rules.specs.Plan.{Plan, trackCount, isAbove}
 use Rattle.rules.specs.Ledger.{Ledger, isForward}
 use Rattle.rules.specs.Scope.{hasOpenScope}
-use Rattle.rules.proofs.Tests.{look, look-option, clash, refuted}
+use Rattle.rules.proofs.Tests.{look, look-option, refuted}
 use Rattle.rules.proofs.Acceptance.{Accepted}
-use Rattle.rules.proofs.Forest.{above-lower, reaches-above}
+use Rattle.rules.proofs.Forest.{reaches-above}
 use Rattle.rules.proofs.Abandoning.{hosts-higher}
 use Rattle.restoration.proofs.Nesting.{Awake, Nested}
 use Rattle.automaton.specs.Listing.{listed}
-use Rattle.automaton.specs.Configuration.{NConf, Conf, Vect}
+use Rattle.automaton.specs.Configuration.{NConf, Vect}
 use Rattle.automaton.specs.Semantics.{Act, Step, VStep, Run}
 use Rattle.automaton.specs.View.{isWithin, shown, viewOf, isOnTop, view}
 use Rattle.automaton.proofs.Listings.{listed-same, run-listed, run-same}

@@ -3,7 +3,6 @@ use mathlib.Core.Path.{_≡_, refl}
 use mathlib.Core.List.{List, [], _∷_}
 use Prim.Native.Nat.{ℕ}
 use lib.ListN.{replicate}
-use Rattle.rules.specs.declared.Counts.{Counts}
 use Rattle.rules.specs.Plan.{Plan, planOf, isRoot}
 use Rattle.rules.specs.Layout.{entryLimit}
 use Rattle.rules.specs.Ledger.{Ledger}
@@ -12,8 +11,8 @@ use Rattle.rules.specs.ReferenceRun.{ledgerAfter}
 use Rattle.runs.specs.SamplePlan.{planP}
 use Rattle.runs.specs.Computing.{computing}
 use Rattle.automaton.specs.Listing.{listedFrom, listed, listedDown}
-use Rattle.automaton.specs.Configuration.{Direction, forward, backward, Element, Comp, NConf, Basic, Nest, Conf, Vect, pushComp, pushDev, push, initBy, gotoTo, goto, init}
-use Rattle.automaton.specs.Semantics.{Act, sucAt, failAt, compAt, nestsucAt, nestfailAt}
+use Rattle.automaton.specs.Configuration.{forward, backward, Comp, Basic, Nest, Vect, pushComp, pushDev, initBy, gotoTo, goto, init}
+use Rattle.automaton.specs.Semantics.{sucAt, failAt, compAt, nestsucAt, nestfailAt}
 use Rattle.automaton.specs.View.{stackOf, directionOf, isWithin, basic, nested, shown, viewTo, viewOf, isOnTop, view, leavesScope, isGoing, abandonings, deviating, movings, closers, turners, actsOf}
 
 abbrev P : Plan

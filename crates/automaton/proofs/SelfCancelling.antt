@@ -1,22 +1,21 @@
 -- The report's Theorem 1 and Corollary 1: an automaton that ends with an empty stack has cancelled itself out, and so has each automaton of
 -- a vector that has compensated. By Lemma 1; in a vector the steps of the others leave an automaton's string alone. Assumes nothing.
-use mathlib.Core.Path.{_≡_, refl, sym, ap, ap₂, _∙_, subst}
-use mathlib.Core.Logic.{_⊎_, inl, inr}
+use mathlib.Core.Path.{_≡_, refl, sym, ap, _∙_, subst}
+use mathlib.Core.Logic.{inl, inr}
 use mathlib.Core.Bool.{Bool, true, false, cond, not, _&&_}
 use mathlib.Core.List.{List, [], _∷_, _++_}
-use mathlib.Core.Option.{none}
 use Prim.Native.Nat.{ℕ, zero, suc, _+_, _<_, _≤_}
 use native.Mathlib.Omega.{arith}
 use lib.Dec.{eqb}
 use borrow.Author.Tests.{eqb-true, eqb-false, eq-eqb, ne-eqb, not-true}
-use Rattle.rules.specs.Plan.{Plan, trackCount, host, isRoot, isAbove, firstState}
+use Rattle.rules.specs.Plan.{Plan, trackCount, isRoot, isAbove, firstState}
 use Rattle.rules.proofs.Tests.{look, clash, none-some, and-true, and-both}
 use Rattle.rules.proofs.Acceptance.{Accepted}
 use Rattle.rules.proofs.Forest.{Reaches, above-hosted}
 use Rattle.rules.proofs.Scopes.{root-none}
 use Rattle.automaton.specs.Listing.{listedFrom, listed, everyOf}
-use Rattle.automaton.specs.Configuration.{Direction, Stack, NConf, Basic, Nest, Conf, Vect, members, isBare, isBackwards, isCompensated, hasCompensated, initBy, goto, init}
-use Rattle.automaton.specs.Semantics.{Act, trace, Step, VStep, VECT, Run, stop, step, NRun}
+use Rattle.automaton.specs.Configuration.{Direction, Stack, NConf, Basic, Nest, Conf, members, isBare, isBackwards, isCompensated, hasCompensated, initBy, goto, init}
+use Rattle.automaton.specs.Semantics.{Act, trace, VStep, VECT, Run, stop, step, NRun}
 use Rattle.automaton.specs.SelfCancelling.{Symbol, symbol, projected, leftOf, onto, cancOut, Perfect}
 use Rattle.automaton.proofs.Listings.{from-every, listed-every}
 use Rattle.automaton.proofs.Terminated.{members-vect}

@@ -1,25 +1,25 @@
 -- The report's Lemma 1: "the compensation stack acts as a record of past activities". A stack records what is left of an automaton's string
 -- after cancelling; by the rules one after the other each step keeps it so, since the automata nested in one are others, whose labels the
 -- string does not have. Assumes nothing.
-use mathlib.Core.Path.{_≡_, refl, sym, ap, ap₂, _∙_, subst}
-use mathlib.Core.Logic.{_⊎_, inl, inr}
-use mathlib.Core.Bool.{Bool, true, false, cond, _&&_}
+use mathlib.Core.Path.{_≡_, refl, sym, ap, _∙_, subst}
+use mathlib.Core.Logic.{inl, inr}
+use mathlib.Core.Bool.{Bool, true, _&&_}
 use mathlib.Core.List.{List, [], _∷_, _++_}
 use mathlib.Core.Option.{Option, none, some}
 use Prim.Native.Nat.{ℕ, zero, suc, _<_}
 use native.Mathlib.Omega.{arith}
 use lib.Dec.{eqb}
-use borrow.Author.Tests.{eqb-true, eq-eqb, ne-eqb}
-use Rattle.rules.specs.Plan.{Plan, trackCount, transitionCount, transition, optional, owner, replacement, mover, isStateOf, isIn, isHostedBy, isHosting, isAbove, firstState}
-use Rattle.rules.proofs.Tests.{look, clash, and-true, and-both}
+use borrow.Author.Tests.{eq-eqb, ne-eqb}
+use Rattle.rules.specs.Plan.{Plan, trackCount, transition, optional, replacement, isStateOf, isIn, isHostedBy, isHosting, isAbove, firstState}
+use Rattle.rules.proofs.Tests.{look, and-true, and-both}
 use Rattle.rules.proofs.Acceptance.{Accepted}
 use Rattle.rules.proofs.Forest.{Reaches, above-lower}
 use Rattle.rules.proofs.Scopes.{in-host, host-by}
 use Rattle.restoration.proofs.Nesting.{state-of}
 use Rattle.automaton.specs.Listing.{listed, everyOf}
-use Rattle.automaton.specs.Configuration.{Direction, forward, backward, Element, Comp, Dev, Stack, NConf, Basic, Nest, Conf, end, next, Vect, pushComp, pushDev, push, initBy, gotoTo, goto}
-use Rattle.automaton.specs.Semantics.{Trace, Forw, Back, γ, τ, Act, sucAt, failAt, compAt, devAt, nestsucAt, nestfailAt, nestcompAt, trace, Step, SUC, FAIL, COMP, DEV, NESTSUC, NESTFAIL, NESTCOMP, NEST, VStep, VECT, NRun, halt, then}
-use Rattle.automaton.specs.SelfCancelling.{Symbol, activity, action, symbol, projected, leftAfter, leftOf, Perfect}
+use Rattle.automaton.specs.Configuration.{Comp, Dev, Stack, NConf, Basic, Nest, Conf, end, next, Vect, pushComp, pushDev, push, initBy, gotoTo, goto}
+use Rattle.automaton.specs.Semantics.{Act, sucAt, failAt, compAt, devAt, nestsucAt, nestfailAt, nestcompAt, trace, Step, SUC, FAIL, COMP, DEV, NESTSUC, NESTFAIL, NESTCOMP, NEST, VECT, NRun, halt, then}
+use Rattle.automaton.specs.SelfCancelling.{Symbol, activity, symbol, projected, leftOf, Perfect}
 use Rattle.automaton.proofs.Listings.{listed-every}
 use Rattle.automaton.proofs.Frames.{hosted-above, reach-up}
 use Rattle.automaton.proofs.CancOut.{left-joined, left-activity, left-action}

@@ -1,32 +1,32 @@
 -- "A scope can close exactly if its vector has terminated, and be abandoned exactly if it has compensated." A scope's tracks are all in
 -- one mode, so its vector is never mixed; a track in a final state has no open scope, so one that has is neither. Assumes nothing.
-use mathlib.Core.Path.{_≡_, refl, sym, ap, ap₂, _∙_, subst}
-use mathlib.Core.Logic.{_⊎_, inl, inr}
-use mathlib.Core.Bool.{Bool, true, false, cond, not, _&&_, _||_}
+use mathlib.Core.Path.{_≡_, refl, sym, ap, ap₂, _∙_}
+use mathlib.Core.Logic.{inl, inr}
+use mathlib.Core.Bool.{Bool, true, false, _&&_, _||_}
 use mathlib.Core.List.{List, [], _∷_}
-use mathlib.Core.Option.{none, some}
+use mathlib.Core.Option.{some}
 use Prim.Native.Nat.{ℕ, _<_}
 use Rattle.rules.specs.declared.Mode.{Mode}
 use Rattle.rules.specs.declared.Mode.the-variants.{Asleep, Forward, Undoing}
-use Rattle.rules.specs.Plan.{Plan, trackCount, host, owner, isIn, isHostedBy, isFinal, everyIn}
+use Rattle.rules.specs.Plan.{Plan, trackCount, host, owner, isFinal}
 use Rattle.rules.specs.Ledger.{Entry, Configuration, Ledger, isAwake, isForward, isUndoing, isEmpty}
 use Rattle.rules.specs.Scope.{isOpen, hasOpenScope}
 use Rattle.rules.specs.Event.{isClosing}
 use Rattle.rules.specs.Signal.{isAbandoning}
 use Rattle.rules.specs.Signal as signal
-use Rattle.rules.proofs.Tests.{look, clash, refuted, and-true, and-both, or-true, or-right}
+use Rattle.rules.proofs.Tests.{look, clash, refuted, and-true, and-both, or-true}
 use Rattle.rules.proofs.Acceptance.{Accepted}
-use Rattle.rules.proofs.Scopes.{in-host, host-in, by-host, host-by, every-in-at, every-in-of, open-at, open-find, busy-find}
+use Rattle.rules.proofs.Scopes.{by-host, host-by, open-find}
 use Rattle.rules.proofs.Closing.{closing-final}
 use Rattle.rules.proofs.Abandoning.{bare-parts}
-use Rattle.restoration.proofs.Modes.{forward-awake, undoing-forward}
-use Rattle.restoration.proofs.Nesting.{Awake, Nested, state-of, open-host}
+use Rattle.restoration.proofs.Modes.{undoing-forward}
+use Rattle.restoration.proofs.Nesting.{Awake, Nested, open-host}
 use Rattle.restoration.proofs.Closing.{closing-of, final-free}
 use Rattle.restoration.proofs.SoundBegin.{abandoning-bare}
 use Rattle.restoration.proofs.SoundEvent.{abandoning-of}
 use Rattle.automaton.specs.Listing.{listed, someOf, everyOf}
-use Rattle.automaton.specs.Configuration.{NConf, Conf, Vect, members, isForwards, isBackwards, isBare, isTerminated, isCompensated, hasTerminated, hasCompensated}
-use Rattle.automaton.specs.View.{stackOf, directionOf, isWithin, basic, nested, shown, viewOf, scopeView}
+use Rattle.automaton.specs.Configuration.{NConf, Conf, Vect, members, pushComp, isForwards, isBackwards, isBare, isTerminated, isCompensated, hasTerminated, hasCompensated}
+use Rattle.automaton.specs.View.{stackOf, directionOf, isWithin, basic, nested, viewOf, scopeView}
 use Rattle.automaton.proofs.Listings.{alike, listed-every, listed-every-at, listed-some, listed-some-find}
 use Rattle.automaton.proofs.Frames.{within-parts, within-of, shown-free, shown-busy, view-law}
 
@@ -36,7 +36,7 @@ members-vect [] = refl
 members-vect (x ∷ xs) = ap (λ z. x ∷ z) (members-vect xs)
 
 pub bare-stack : (es : List Entry) → isBare (stackOf es) ≡ isEmpty es
-unfolding isBare stackOf isEmpty Rattle.automaton.specs.Configuration.pushComp
+unfolding isBare stackOf isEmpty pushComp
 bare-stack [] = refl
 bare-stack (e ∷ es) = refl
 

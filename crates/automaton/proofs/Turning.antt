@@ -1,30 +1,29 @@
 -- A signal is FAIL at every basic configuration in forward direction, then NESTFAIL once for each scope abandoned. The hosts of open scopes,
 -- which document 01 turns in the same call, are shown forward until their scopes are gone. Assumes nothing.
-use mathlib.Core.Path.{_≡_, refl, sym, ap, ap₂, _∙_, subst}
+use mathlib.Core.Path.{_≡_, sym, ap, ap₂, _∙_, subst}
 use mathlib.Core.Logic.{inl, inr}
-use mathlib.Core.Bool.{Bool, true, false, not, _&&_}
-use mathlib.Core.List.{List, _++_}
-use mathlib.Core.Option.{none, some}
+use mathlib.Core.Bool.{true, false, not, _&&_}
+use mathlib.Core.List.{_++_}
+use mathlib.Core.Option.{some}
 use Prim.Native.Nat.{ℕ, _<_}
 use borrow.Author.Tests.{not-true}
 use Rattle.rules.specs.Plan.{Plan, trackCount, isRoot, isHostedBy, isAbove}
-use Rattle.rules.specs.Ledger.{Configuration, Ledger, isAwake, isForward}
+use Rattle.rules.specs.Ledger.{Ledger, isAwake, isForward}
 use Rattle.rules.specs.Scope.{hasOpenScope}
-use Rattle.rules.specs.Signal.{turned, abandoned, afterSignal}
-use Rattle.rules.specs.Call.{SignalArguments, nothing}
+use Rattle.rules.specs.Signal.{turned, afterSignal}
+use Rattle.rules.specs.Call.{nothing}
 use Rattle.rules.proofs.Tests.{look, clash, none-some, refuted, and-true}
 use Rattle.rules.proofs.Acceptance.{Accepted}
 use Rattle.restoration.proofs.Modes.{forward-awake}
 use Rattle.restoration.proofs.Nesting.{Awake, Nested, free-below, busy-same}
 use Rattle.restoration.proofs.Seams.{turned-awake, turned-state, turned-held, turned-forward}
 use Rattle.restoration.proofs.Leaving.{turned-nested}
-use Rattle.automaton.specs.Listing.{listed}
 use Rattle.automaton.specs.Configuration.{forward, backward, NConf, Basic}
 use Rattle.automaton.specs.Semantics.{failAt, Step, FAIL, Run}
-use Rattle.automaton.specs.View.{stackOf, directionOf, isWithin, basic, shown, viewOf, isOnTop, view, isGoing, abandonings, turners}
+use Rattle.automaton.specs.View.{stackOf, directionOf, isWithin, basic, viewOf, isOnTop, view, isGoing, abandonings, turners}
 use Rattle.automaton.proofs.Listings.{run-then, run-same}
-use Rattle.automaton.proofs.Frames.{shown-free, view-law, frames}
-use Rattle.automaton.proofs.Replacing.{Alike, frames-view, allStepped, stepped-all, stepped-not, steps-run}
+use Rattle.automaton.proofs.Frames.{shown-free, view-law}
+use Rattle.automaton.proofs.Replacing.{frames-view, allStepped, stepped-all, stepped-not, steps-run}
 use Rattle.automaton.proofs.Leaving.{abandoning-run}
 
 -- a configuration replaced by one, as the other

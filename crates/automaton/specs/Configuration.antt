@@ -5,7 +5,7 @@ use mathlib.Core.List.{List, [], _∷_}
 use mathlib.Core.Option.{Option, none, some}
 use Prim.Native.Nat.{ℕ, zero, suc}
 use lib.Dec.{eqb}
-use Rattle.rules.specs.Plan.{Plan, trackCount, isRoot, isFinal, isIn, isHosting, firstState}
+use Rattle.rules.specs.Plan.{Plan, trackCount, isFinal, isIn, isHosting, firstState}
 use Rattle.automaton.specs.Listing.{listed, someOf, everyOf}
 
 -- Definition 4. "an automaton execution direction, is of type ℛ = {→, ←} signifying forward and backward execution respectively"

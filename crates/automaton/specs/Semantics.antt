@@ -7,7 +7,7 @@ use mathlib.Core.List.{List, [], _∷_, _++_}
 use mathlib.Core.Option.{none}
 use Prim.Native.Nat.{ℕ, _<_}
 use Rattle.rules.specs.Plan.{Plan, transitionCount, transition, replacement, mover, optional}
-use Rattle.automaton.specs.Configuration.{Direction, forward, backward, Comp, Dev, Stack, NConf, Basic, Nest, Conf, Vect, pushComp, pushDev, push, hasTerminated, hasCompensated, goto}
+use Rattle.automaton.specs.Configuration.{Direction, forward, backward, Comp, Dev, Stack, NConf, Basic, Nest, Conf, Vect, push, hasTerminated, hasCompensated, goto}
 
 -- "Trace ::= Forw(𝒜 × Σ_τ × 2^Σ_L) | Back(𝒜 × Σ_Lτ × 2^Σ) | γ | τ": a transition of an automaton on an event, a compensation of an
 -- automaton, the compensate signal, and the rest
