@@ -1,7 +1,7 @@
 -- Where no settling is due nothing is left to settle: no rule applies to the view whose label is τ. A calm configuration has no deviation on top
 -- of its stack, and where it is nested it is forward, its vector neither terminated nor compensated, and calm itself; by the rules one
 -- after the other it takes no silent step; and such a view is calm. Assumes nothing.
-use mathlib.Core.Path.{_≡_, refl, sym, ap, _∙_, subst}
+use mathlib.Core.Path.{_≡_, refl, sym, ap, _∙_}
 use mathlib.Core.Logic.{inl, inr}
 use mathlib.Core.Bool.{Bool, true, false, not, _&&_}
 use mathlib.Core.List.{List, [], _∷_, _++_}
@@ -9,12 +9,11 @@ use Prim.Native.Nat.{ℕ, _<_}
 use borrow.Author.Tests.{not-true}
 use Rattle.rules.specs.Plan.{Plan, trackCount, owner}
 use Rattle.rules.specs.Ledger.{Entry, Ledger}
-use Rattle.rules.specs.Scope.{isOpen, hasOpenScope}
+use Rattle.rules.specs.Scope.{hasOpenScope}
 use Rattle.rules.specs.Event.{isClosing}
 use Rattle.rules.specs.Signal.{isAbandoning}
 use Rattle.rules.proofs.Tests.{look, clash, and-true}
 use Rattle.rules.proofs.Acceptance.{Accepted}
-use Rattle.rules.proofs.Scopes.{open-at, busy-find}
 use Rattle.rules.proofs.Abandoning.{hosts-higher}
 use Rattle.restoration.proofs.Nesting.{Awake, Nested, state-of}
 use Rattle.automaton.specs.Listing.{listed, everyOf}
@@ -23,7 +22,7 @@ use Rattle.automaton.specs.Semantics.{Trace, Forw, Back, γ, τ, Act, tr
 use Rattle.automaton.specs.View.{stackOf, isWithin, basic, nested, viewOf, isOnTop, view, scopeView}
 use Rattle.automaton.proofs.Listings.{listed-every}
 use Rattle.automaton.proofs.Frames.{down, within-parts, top-parts, shown-free, shown-busy, view-law}
-use Rattle.automaton.proofs.Terminated.{closing-terminated, abandoning-compensated}
+use Rattle.automaton.proofs.Terminated.{busy-open, closing-terminated, abandoning-compensated}
 
 deviates : Stack → Bool
 deviates [] = false
@@ -107,12 +106,6 @@ module _ (p : Plan) where
   nested-calm l t c h k i = rw (h, k, i)
 
   module _ (ok : Accepted p) (l : Ledger) (n : Nested p l) (closing : (s : ℕ) → isClosing p l s ≡ false) (abandoning : (s : ℕ) → isAbandoning p l s ≡ false) where
-    -- a track with an open scope has that of the state that it is in
-    busy-open : (t : ℕ) → hasOpenScope p l t ≡ true → isOpen p l (l t .state) ≡ true
-    busy-open t b =
-        let (u, h, c, e, o, a) = busy-find p l t b in
-        subst (λ z. isOpen p l z ≡ true) (sym (n .hosted u h a e .0) ∙ ap (λ y. l y .state) o) (open-at p l h u c e a)
-
     view-calm : (t : ℕ) → t < trackCount p → Awake l t → calm (viewOf p l t) ≡ true
     unfolding scopeView
     view-calm =
@@ -122,7 +115,7 @@ module _ (p : Plan) where
         ∙ elim (look (hasOpenScope p l t)) [
           | inr f ↦ ap calm (shown-free p l t (viewOf p l) f) ∙ basic-calm l t
           | inl f ↦
-              let o = busy-open t f in
+              let o = busy-open p ok l n t f in
               let w : owner p (l t .state) ≡ t = state-of p t (l t .state) (n .own t a) .1 in
               ap calm (shown-busy p l t (viewOf p l) f)
               ∙ nested-calm l t (scopeView p l t)

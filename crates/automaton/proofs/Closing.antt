@@ -23,10 +23,9 @@ use Rattle.automaton.specs.Configuration.{forward, NConf, Basic, push, h
 use Rattle.automaton.specs.Semantics.{nestsucAt, Step, NESTSUC, Run}
 use Rattle.automaton.specs.View.{stackOf, directionOf, isWithin, basic, nested, viewOf, isOnTop, view, scopeView, closers}
 use Rattle.automaton.proofs.Listings.{alike, listed-length, run-same}
-use Rattle.automaton.proofs.Frames.{within-parts, within-of, top-parts, top-of, hosted-above, shown-free, shown-busy, view-law}
+use Rattle.automaton.proofs.Frames.{same-conf, within-parts, within-of, top-parts, top-of, hosted-above, shown-free, shown-busy, view-law}
 use Rattle.automaton.proofs.Terminated.{closing-terminated}
 use Rattle.automaton.proofs.Replacing.{frames-view, allStepped, stepped-all, stepped-not, steps-run}
-use Rattle.automaton.proofs.Turning.{some-same}
 use Rattle.automaton.proofs.Moving.{stack-install}
 
 no-state : optional noState ≡ none
@@ -126,7 +125,7 @@ module _ (p : Plan) (ok : Accepted p) (l : Ledger) (n : Nested p l) where
       (λ t d b a w q.
       elim (look (closesScope p l t)) [
         | inl h ↦
-            some-same d (replacedBy t) (sym q ∙ stepped-all p ok l n (closesScope p l) nestsucAt replacedBy awake apart ends t h) ∙ replaced-view t b h
+            same-conf d (replacedBy t) (sym q ∙ stepped-all p ok l n (closesScope p l) nestsucAt replacedBy awake apart ends t h) ∙ replaced-view t b h
         | inr h ↦ none-some (stepped-not p ok l n (closesScope p l) nestsucAt replacedBy awake apart ends t h) q
       ])
       (λ t b a w q.

@@ -29,10 +29,9 @@ use Rattle.automaton.specs.Configuration.{backward, Comp, Dev, Stack, NC
 use Rattle.automaton.specs.Semantics.{compAt, devAt, Step, COMP, DEV, VStep, Run, stop, step}
 use Rattle.automaton.specs.View.{stackOf, directionOf, isWithin, basic, shown, viewOf, isOnTop, view, abandonings, deviating}
 use Rattle.automaton.proofs.Listings.{alike, run-then}
-use Rattle.automaton.proofs.Frames.{frame, frames, instead-some, top-parts, top-of, shown-free, busy-alike, view-frame, view-frames, view-law, frame-law, replaced}
+use Rattle.automaton.proofs.Frames.{same-conf, frame, frames, instead-some, top-parts, top-of, shown-free, busy-alike, view-frame, view-frames, view-law, frame-law, replaced}
 use Rattle.automaton.proofs.Entered as entered
 use Rattle.automaton.proofs.Replacing.{Alike, frames-view}
-use Rattle.automaton.proofs.Turning.{some-same}
 use Rattle.automaton.proofs.Leaving.{abandoning-run}
 
 -- the newest entry is on top of the stack: its compensation above its deviation
@@ -84,7 +83,7 @@ module _ (p : Plan) (ok : Accepted p) (l : Ledger) (n : Nested p l) (t : ℕ) (g
   only-known : (c d : NConf) (u : ℕ) → only c u ≡ some d → (u ≡ t) × (d ≡ c)
   only-known c d u h =
       elim (look (eqb u t)) [
-        | inl e ↦ let q = eqb-true u t e in (q, some-same d c (sym h ∙ ap (only c) q ∙ only-here c))
+        | inl e ↦ let q = eqb-true u t e in (q, same-conf d c (sym h ∙ ap (only c) q ∙ only-here c))
         | inr e ↦ none-some (only-other c u (eqb-false u t e)) h
       ]
 

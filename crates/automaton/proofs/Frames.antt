@@ -41,6 +41,10 @@ module _ (p : Plan) (ok : Accepted p) where
   reach-up t v u i (inl e) = inr (subst (λ z. isAbove p t z ≡ true) e (hosted-above t v i))
   reach-up t v u i (inr a) = inr (reaches-above p ok t v u (inr (hosted-above t v i)) a)
 
+-- two that are put in place of one
+pub same-conf : (a b : NConf) → some a ≡ some b → a ≡ b
+same-conf a b h = cc
+
 -- what is put in place of a configuration
 unfoldable pub instead : Option NConf → NConf → NConf
 instead none c = c

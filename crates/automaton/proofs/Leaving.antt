@@ -12,11 +12,11 @@ use Rattle.rules.specs.Plan.{Plan, trackCount, host, owner, isHostedBy, everyIn
 use Rattle.rules.specs.Ledger.{Configuration, Ledger, isAwake, isForward, isUndoing, isEmpty}
 use Rattle.rules.specs.Scope.{isOpen, hasOpenScope}
 use Rattle.rules.specs.Signal.{isSpent, isLeft, isAbandoned, abandoned}
-use Rattle.rules.proofs.Tests.{look, clash, refuted, and-true, and-both}
+use Rattle.rules.proofs.Tests.{look, clash, none-some, refuted, and-true, and-both}
 use Rattle.rules.proofs.Acceptance.{Accepted}
-use Rattle.rules.proofs.Scopes.{in-host, host-in, host-by, by-host, every-in-at, every-in-of, open-find, open-at, busy-find}
+use Rattle.rules.proofs.Scopes.{in-host, host-in, host-by, by-host, every-in-at, every-in-of, open-find, busy-find}
 use Rattle.rules.proofs.Forest.{above-lower}
-use Rattle.rules.proofs.Abandoning.{hosts-higher, spent-parts, abandoned-host, left-kept}
+use Rattle.rules.proofs.Abandoning.{spent-parts, abandoned-host, left-kept}
 use Rattle.restoration.proofs.Modes.{undoing-forward}
 use Rattle.restoration.proofs.Nesting.{Awake, Nested, state-of, host-busy}
 use Rattle.restoration.proofs.Leaving.{left-awake, left-root}
@@ -24,9 +24,10 @@ use Rattle.automaton.specs.Listing.{listed, listedDown}
 use Rattle.automaton.specs.Configuration.{backward, NConf, Basic, Vect, isBackwards, isCompensated}
 use Rattle.automaton.specs.Semantics.{nestfailAt, Step, NESTFAIL, VStep, Run}
 use Rattle.automaton.specs.View.{stackOf, directionOf, isWithin, basic, nested, shown, viewOf, isOnTop, view, leavesScope, abandonings}
-use Rattle.automaton.proofs.Listings.{alike, listed-same, run-down, run-same}
-use Rattle.automaton.proofs.Frames.{down, frame, frames, instead-none, instead-some, within-parts, within-of, top-parts, top-of, shown-free, shown-busy, view-frames, view-law, frame-law, frames-same, replaced, shown-alike}
-use Rattle.automaton.proofs.Terminated.{bare-stack, basic-compensated, within-host, compensated-of}
+use Rattle.automaton.proofs.Listings.{alike, run-down, run-same}
+use Rattle.automaton.proofs.Frames.{same-conf, frame, frames, instead-none, instead-some, within-parts, within-of, top-parts, top-of, shown-free, shown-busy, view-frames, view-law, frame-law, frames-same, replaced}
+use Rattle.automaton.proofs.Replacing.{frames-view}
+use Rattle.automaton.proofs.Terminated.{busy-open, bare-stack, basic-compensated, within-host, compensated-of}
 
 module _ (p : Plan) (ok : Accepted p) (l : Ledger) (n : Nested p l) where
   abbrev m : Ledger
@@ -61,11 +62,6 @@ module _ (p : Plan) (ok : Accepted p) (l : Ledger) (n : Nested p l) where
   own : (t : ℕ) → Awake l t → owner p (l t .state) ≡ t
   own t a = state-of p t (l t .state) (n .own t a) .1
 
-  busy-open : (t : ℕ) → hasOpenScope p l t ≡ true → isOpen p l (l t .state) ≡ true
-  busy-open t b =
-      let (u, h, c, e, o, a) = busy-find p l t b in
-      subst (λ z. isOpen p l z ≡ true) (sym (n .hosted u h a e .0) ∙ ap (λ y. l y .state) o) (open-at p l h u c e a)
-
   leaves-busy : (t : ℕ) → leavesScope p l t ≡ true → hasOpenScope p l t ≡ true
   leaves-busy t h =
       let (a, q) = leaves-parts t h in
@@ -76,7 +72,7 @@ module _ (p : Plan) (ok : Accepted p) (l : Ledger) (n : Nested p l) where
   -- a spent track with an open scope leaves it
   spent-leaves : (t : ℕ) → Awake l t → isSpent p l t ≡ true → hasOpenScope p l t ≡ true → leavesScope p l t ≡ true
   spent-leaves t a s b =
-      let o = busy-open t b in
+      let o = busy-open p ok l n t b in
       let q = spent-parts p ok l t (n .below t a) s in
       let (u, c, e, w) = open-find p l (l t .state) o in
       leaves-of t a
@@ -205,40 +201,41 @@ module _ (p : Plan) (ok : Accepted p) (l : Ledger) (n : Nested p l) where
       within-of p m t u i (ap (λ (c : Configuration). isAwake (c .mode)) (left-kept p ok l u z) ∙ w))
       (λ y. let (i, w) = within-parts p m t u y in within-of p l t u i (left-awake p ok l n u w .1))
 
-  track-after : (t : ℕ) → t < trackCount p → Awake m t → frame p l (gone 0) t ≡ viewOf p m t
+  back-view : (t : ℕ) → t < trackCount p → Awake m t → leavesScope p l t ≡ true → turnedBack t ≡ viewOf p m t
   unfolding turnedBack basic directionOf
-  track-after =
-      down (trackCount p) (λ t. Awake m t → frame p l (gone 0) t ≡ viewOf p m t)
-      (λ t b ih a.
-      let k = kept t a in
-      let w = left-awake p ok l n t a .1 in
-      frame-law p l ok (gone 0) t b
-      ∙ elim (look (leavesScope p l t)) [
-        | inl h ↦
-            instead-some p l (gone 0 t) (shown p l t (frame p l (gone 0))) (turnedBack t) (gone-some 0 t (omega arith) h)
-            ∙ ap (λ x. Basic t (l t .state) (directionOf x) (stackOf (l t .held))) (sym (undoing-host t h))
-            ∙ ap (λ (c : Configuration). Basic t (c .state) (directionOf (isForward (c .mode))) (stackOf (c .held))) (sym k)
-            ∙ sym (shown-free p m t (viewOf p m) (gone-free t h))
-        | inr h ↦
-            instead-none p l (gone 0 t) (shown p l t (frame p l (gone 0))) (gone-none 0 t h)
-            ∙ shown-alike p l m t (within-same t w h) (frame p l (gone 0)) (viewOf p m) (ap (λ (c : Configuration). c .state) (sym k)) (ap (λ (c : Configuration). c .held) (sym k))
-            (λ f. ap (λ (c : Configuration). isForward (c .mode)) (sym k))
-            (λ u c y.
-            let (i, v) = within-parts p m t u (sym (within-same t w h u c) ∙ y) in
-            ih u c (hosts-higher p ok t u i) v)
-      ]
-      ∙ sym (view-law p m ok t b))
+  back-view t b a h =
+      ap (λ x. Basic t (l t .state) (directionOf x) (stackOf (l t .held))) (sym (undoing-host t h))
+      ∙ ap (λ (c : Configuration). Basic t (c .state) (directionOf (isForward (c .mode))) (stackOf (c .held))) (sym (kept t a))
+      ∙ sym (shown-free p m t (viewOf p m) (gone-free t h))
+      ∙ sym (view-law p m ok t b)
+
+  root-awake : (t : ℕ) → host p t ≡ none → isAwake (m t .mode) ≡ isAwake (l t .mode)
+  root-awake t e = ap (λ (c : Configuration). isAwake (c .mode)) (left-root p ok l n t e)
 
   at-last : frames p l (gone 0) ≡ view p m
-  unfolding frames view
   at-last =
-      ap Vect
-      (listed-same (trackCount p) (isOnTop p l) (isOnTop p m) (frame p l (gone 0)) (viewOf p m)
+      frames-view p ok l (gone 0) m
       (λ t b.
       alike (isOnTop p l t) (isOnTop p m t)
-      (λ y. let (e, a) = top-parts p l t y in top-of p m t e (ap (λ (c : Configuration). isAwake (c .mode)) (left-root p ok l n t e) ∙ a))
-      (λ y. let (e, a) = top-parts p m t y in top-of p l t e (left-awake p ok l n t a .1)))
-      (λ t b y. let (e, a) = top-parts p l t y in track-after t b (ap (λ (c : Configuration). isAwake (c .mode)) (left-root p ok l n t e) ∙ a)))
+      (λ y. let (e, a) = top-parts p l t y in top-of p m t e (root-awake t e ∙ a))
+      (λ y. let (e, a) = top-parts p m t y in top-of p l t e (sym (root-awake t e) ∙ a)))
+      (λ t d b a w e.
+      elim (look (leavesScope p l t)) [
+        | inl h ↦ same-conf d (turnedBack t) (sym e ∙ gone-some 0 t (omega arith) h) ∙ back-view t b w h
+        | inr h ↦ none-some (gone-none 0 t h) e
+      ])
+      (λ t b a w e.
+      elim (look (leavesScope p l t)) [
+        | inl h ↦ none-some e (gone-some 0 t (omega arith) h)
+        | inr h ↦
+            let z = sym (kept t w) in
+            record {
+              within = within-same t a h;
+              state = ap (λ (c : Configuration). c .state) z;
+              held = ap (λ (c : Configuration). c .held) z;
+              way = λ f. ap (λ (c : Configuration). isForward (c .mode)) z;
+            }
+      ])
 
   -- "the abandoning rule for each abandoned scope"
   pub abandoning-run : Run p (view p l) (abandonings p l) (view p m)

@@ -23,10 +23,9 @@ use Rattle.automaton.specs.Configuration.{forward, NConf, Basic, push, g
 use Rattle.automaton.specs.Semantics.{sucAt, Step, SUC, Run}
 use Rattle.automaton.specs.View.{stackOf, directionOf, isWithin, basic, viewOf, isOnTop, view, movings}
 use Rattle.automaton.proofs.Listings.{alike, run-same}
-use Rattle.automaton.proofs.Frames.{top-parts, top-of, shown-free, view-law}
+use Rattle.automaton.proofs.Frames.{same-conf, top-parts, top-of, shown-free, view-law}
 use Rattle.automaton.proofs.Entered as entered
 use Rattle.automaton.proofs.Replacing.{frames-view, allStepped, stepped-all, stepped-not, steps-run}
-use Rattle.automaton.proofs.Turning.{some-same}
 
 -- installing is pushing
 pub stack-install : (c d : ℕ) (es : List Entry) → stackOf (install c d es) ≡ push c (optional d) (stackOf es)
@@ -138,7 +137,7 @@ module _ (p : Plan) (l : Ledger) (e : ℕ) where
         elim (look (moves p l e t)) [
           | inl h ↦
               let (x, k) = moves-some t h in
-              some-same d (arrival t) (sym q ∙ stepped-all p ok l n (moves p l e) (λ t. sucAt t e) arrival awake apart takes t h)
+              same-conf d (arrival t) (sym q ∙ stepped-all p ok l n (moves p l e) (λ t. sucAt t e) arrival awake apart takes t h)
               ∙ arrived-view t x b k
           | inr h ↦ none-some (stepped-not p ok l n (moves p l e) (λ t. sucAt t e) arrival awake apart takes t h) q
         ])

@@ -1,6 +1,6 @@
 -- "A scope can close exactly if its vector has terminated, and be abandoned exactly if it has compensated." A scope's tracks are all in
 -- one mode, so its vector is never mixed; a track in a final state has no open scope, so one that has is neither. Assumes nothing.
-use mathlib.Core.Path.{_≡_, refl, sym, ap, ap₂, _∙_}
+use mathlib.Core.Path.{_≡_, refl, sym, ap, ap₂, _∙_, subst}
 use mathlib.Core.Logic.{inl, inr}
 use mathlib.Core.Bool.{Bool, true, false, _&&_, _||_}
 use mathlib.Core.List.{List, [], _∷_}
@@ -9,14 +9,14 @@ use Prim.Native.Nat.{ℕ, _<_}
 use Rattle.rules.specs.declared.Mode.{Mode}
 use Rattle.rules.specs.declared.Mode.the-variants.{Asleep, Forward, Undoing}
 use Rattle.rules.specs.Plan.{Plan, trackCount, host, owner, isFinal}
-use Rattle.rules.specs.Ledger.{Entry, Configuration, Ledger, isAwake, isForward, isUndoing, isEmpty}
+use Rattle.rules.specs.Ledger.{Entry, Ledger, isAwake, isForward, isUndoing, isEmpty}
 use Rattle.rules.specs.Scope.{isOpen, hasOpenScope}
 use Rattle.rules.specs.Event.{isClosing}
 use Rattle.rules.specs.Signal.{isAbandoning}
 use Rattle.rules.specs.Signal as signal
 use Rattle.rules.proofs.Tests.{look, clash, refuted, and-true, and-both, or-true}
 use Rattle.rules.proofs.Acceptance.{Accepted}
-use Rattle.rules.proofs.Scopes.{by-host, host-by, open-find}
+use Rattle.rules.proofs.Scopes.{by-host, host-by, open-at, open-find, busy-find}
 use Rattle.rules.proofs.Closing.{closing-final}
 use Rattle.rules.proofs.Abandoning.{bare-parts}
 use Rattle.restoration.proofs.Modes.{undoing-forward}
@@ -145,6 +145,12 @@ module _ (p : Plan) (ok : Accepted p) (l : Ledger) (n : Nested p l) where
       none-of : (x : Bool) → (x && false) ≡ false
       none-of true = refl
       none-of false = refl
+
+  -- a track with an open scope has that of the state that it is in
+  pub busy-open : (t : ℕ) → hasOpenScope p l t ≡ true → isOpen p l (l t .state) ≡ true
+  busy-open t b =
+      let (u, h, c, e, o, a) = busy-find p l t b in
+      subst (λ z. isOpen p l z ≡ true) (sym (n .hosted u h a e .0) ∙ ap (λ y. l y .state) o) (open-at p l h u c e a)
 
   -- the tracks within a track's open scope are those of the state that it is in
   module _ (s : ℕ) (open-s : isOpen p l s ≡ true) where

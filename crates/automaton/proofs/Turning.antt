@@ -4,7 +4,6 @@ use mathlib.Core.Path.{_≡_, sym, ap, ap₂, _∙_, subst}
 use mathlib.Core.Logic.{inl, inr}
 use mathlib.Core.Bool.{true, false, not, _&&_}
 use mathlib.Core.List.{_++_}
-use mathlib.Core.Option.{some}
 use Prim.Native.Nat.{ℕ, _<_}
 use borrow.Author.Tests.{not-true}
 use Rattle.rules.specs.Plan.{Plan, trackCount, isRoot, isHostedBy, isAbove}
@@ -22,13 +21,9 @@ use Rattle.automaton.specs.Configuration.{forward, backward, NConf, Basi
 use Rattle.automaton.specs.Semantics.{failAt, Step, FAIL, Run}
 use Rattle.automaton.specs.View.{stackOf, directionOf, isWithin, basic, viewOf, isOnTop, view, isGoing, abandonings, turners}
 use Rattle.automaton.proofs.Listings.{run-then, run-same}
-use Rattle.automaton.proofs.Frames.{shown-free, view-law}
+use Rattle.automaton.proofs.Frames.{same-conf, shown-free, view-law}
 use Rattle.automaton.proofs.Replacing.{frames-view, allStepped, stepped-all, stepped-not, steps-run}
 use Rattle.automaton.proofs.Leaving.{abandoning-run}
-
--- a configuration replaced by one, as the other
-pub some-same : (a b : NConf) → some a ≡ some b → a ≡ b
-some-same a b h = cc
 
 module _ (p : Plan) (ok : Accepted p) (l : Ledger) (n : Nested p l) where
   abbrev m : Ledger
@@ -92,7 +87,7 @@ module _ (p : Plan) (ok : Accepted p) (l : Ledger) (n : Nested p l) where
       (λ t d b a w e.
       elim (look (isGoing p l t)) [
         | inl h ↦
-            some-same d (turnedBasic t) (sym e ∙ stepped-all p ok l n (isGoing p l) failAt turnedBasic awake apart fails t h)
+            same-conf d (turnedBasic t) (sym e ∙ stepped-all p ok l n (isGoing p l) failAt turnedBasic awake apart fails t h)
             ∙ turned-view t b (going-parts t h .1)
         | inr h ↦ none-some (stepped-not p ok l n (isGoing p l) failAt turnedBasic awake apart fails t h) e
       ])
