@@ -1,18 +1,23 @@
 -- Document 01's calls as steps of the report's automaton.
 pub mod Sample
+-- Sequences; a step of one track as a step of the whole; the steps of many.
 pub mod Listings
 pub mod Frames
+pub mod Replacing
+-- Entering is goto; closing and abandoning are due as the report says; nothing is left to settle.
 pub mod Entered
 pub mod Terminated
 pub mod Calm
-pub mod Leaving
-pub mod Replacing
-pub mod Turning
+-- The parts of each call, whole calls, lists of calls.
 pub mod Moving
 pub mod Closing
+pub mod Turning
+pub mod Leaving
 pub mod Firing
 pub mod Calls
+pub mod Along
+-- Self-cancelling.
 pub mod CancOut
 pub mod Stacks
 pub mod SelfCancelling
-pub mod Along
+pub mod SharedCodes
