@@ -15,9 +15,12 @@ pub mod Turning
 pub mod Leaving
 pub mod Firing
 pub mod Calls
-pub mod Along
--- Self-cancelling.
+-- Self-cancelling: by the report's Lemma 1, and from the restoration theorem.
 pub mod CancOut
 pub mod Stacks
 pub mod SelfCancelling
 pub mod SharedCodes
+pub mod StringBooks
+pub mod OwnCodes
+pub mod FromRestoration
+pub mod Along

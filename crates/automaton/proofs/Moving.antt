@@ -33,7 +33,7 @@ unfolding stackOf install push
 stack-install c d es = elim (look (eqb c 0)) [ inl e ↦ rw e | inr e ↦ rw e ]
 
 module _ (p : Plan) (l : Ledger) (e : ℕ) where
-  moves-some : (t : ℕ) → moves p l e t ≡ true → (x : ℕ) × (move p l e t ≡ some x)
+  pub moves-some : (t : ℕ) → moves p l e t ≡ true → (x : ℕ) × (move p l e t ≡ some x)
   unfolding moves isMove
   moves-some t h =
       elim (look-option (move p l e t)) [
@@ -41,15 +41,15 @@ module _ (p : Plan) (l : Ledger) (e : ℕ) where
         | inr q ↦ q
       ]
 
-  some-moves : (t x : ℕ) → move p l e t ≡ some x → moves p l e t ≡ true
+  pub some-moves : (t x : ℕ) → move p l e t ≡ some x → moves p l e t ≡ true
   unfolding moves isMove
   some-moves t x q = rw (q, isMove)
 
-  none-moves : (t : ℕ) → moves p l e t ≡ false → move p l e t ≡ none
+  pub none-moves : (t : ℕ) → moves p l e t ≡ false → move p l e t ≡ none
   none-moves t h = elim (look-option (move p l e t)) [ inl q ↦ q | inr q ↦ clash (some-moves t (q .0) (q .1)) h ]
 
   -- the transition taken is one for the event
-  on-event : (t x : ℕ) → move p l e t ≡ some x → transition p x .event ≡ e
+  pub on-event : (t x : ℕ) → move p l e t ≡ some x → transition p x .event ≡ e
   unfolding move
   on-event t x h =
       elim (look (isForward (l t .mode) && not (hasOpenScope p l t))) [

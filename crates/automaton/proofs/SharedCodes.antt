@@ -3,7 +3,7 @@
 use mathlib.Core.Path.{_≡_, sym, ap, _∙_}
 use Prim.Native.Nat.{ℕ, _<_}
 use Rattle.rules.specs.Plan.{Plan, transitionCount, transition, mover}
-use Rattle.rules.specs.Books.{Apart, Deed, change, retraction, does, Books}
+use Rattle.rules.specs.Books.{Apart, change, retraction, does, Books}
 
 pub same-change : (p : Plan) (limit : ℕ) (k : Books p limit) (x y : ℕ) → x < transitionCount p → y < transitionCount p
     → Apart p (mover p x) (mover p y) → transition p x .code ≡ transition p y .code → (b : k .State) → k .changed x b ≡ k .changed y b

@@ -5,7 +5,7 @@ use mathlib.Core.Bool.{Bool, false, cond, _||_}
 use mathlib.Core.List.{List, [], _∷_, _++_}
 use Prim.Native.Nat.{ℕ, _<_}
 use lib.Dec.{eqb}
-use Rattle.rules.specs.Plan.{Plan, transitionCount, transition, replacement}
+use Rattle.rules.specs.Plan.{Plan, transitionCount, transition, replacement, mover}
 use Rattle.automaton.specs.Semantics.{Trace, Forw, Back, γ, τ, Act, trace}
 
 -- Definition 14: "Trace⁻ ::= Σ_τ | 2^Σ", an activity or a compensation action
@@ -63,3 +63,8 @@ module _ (comp : ℕ → ℕ) where
     pub non-empty : (i : ℕ) → comp i ≡ 0 → ⊥
     pub codes : (x : ℕ) → x < transitionCount p → transition p x .code ≡ comp (transition p x .event)
     pub replacements : (s : ℕ) → replacement p s ≡ 0
+
+-- The report tags a label with its automaton, (i)_A: codes that tell the track whose transition installs them. The report's own theorem
+-- does without; what is read off books needs it
+pub record Tagged (p : Plan) : Type 0 where
+  pub track : (x y : ℕ) → x < transitionCount p → y < transitionCount p → transition p x .code ≡ transition p y .code → mover p x ≡ mover p y
