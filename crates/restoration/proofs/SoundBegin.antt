@@ -47,7 +47,7 @@ module _ (limit : ℕ) (p : Plan) (ok : Accepted p) where
   abbrev pub all-asleep : Ledger
   all-asleep t = sleeping
 
-  asleep-formed : Formed limit p all-asleep
+  pub asleep-formed : Formed limit p all-asleep
   asleep-formed =
       record {
         nested =
@@ -74,7 +74,7 @@ module _ (limit : ℕ) (p : Plan) (ok : Accepted p) where
         | inr k ↦ let q : none ≡ some s = rw k at h in none-some refl q
       ]
 
-  roots-free : Enterable p all-asleep (rootsFirst p)
+  pub roots-free : Enterable p all-asleep (rootsFirst p)
   roots-free =
       record {
         free =

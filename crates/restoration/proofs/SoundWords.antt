@@ -160,7 +160,7 @@ module _ (limit : ℕ) (bs : List ℕ) (k : Counts) (read : readPlan bs ≡ acce
   begin-sound ws h = begin-holds ws h .sound
 
   -- an accepted call got long and sound words
-  not-refused : (ws : List ℕ) (c : Call) (fs : List ℕ) → callOutcome limit bs ws c .answer ≡ done fs → (r : ℕ)
+  pub not-refused : (ws : List ℕ) (c : Call) (fs : List ℕ) → callOutcome limit bs ws c .answer ≡ done fs → (r : ℕ)
       → firstRefusal (ledgerRefusals limit thePlan ws ++ callRefusals limit thePlan (theLedger ws) c) ≡ r → r ≡ 0
   unfolding refusedOr
   not-refused ws c fs h zero e = refl
