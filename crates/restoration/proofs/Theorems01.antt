@@ -21,8 +21,8 @@ use Rattle.restoration.proofs.Entering.{Enterable}
 use Rattle.restoration.proofs.Firing as firing
 use Rattle.restoration.proofs.Soundness as theory
 use Rattle.restoration.proofs.Soundness.{Formed, RootsAwake}
-use Rattle.restoration.proofs.Turning as turning
 use Rattle.restoration.proofs.Settling as settling
+use Rattle.restoration.proofs.Turning as turning
 use Rattle.restoration.proofs.Moving as moving
 use Rattle.restoration.proofs.Closing as closing
 use Rattle.restoration.proofs.Leaving as leaving
@@ -30,8 +30,8 @@ use Rattle.restoration.proofs.SoundEvent as sound-event
 use Rattle.restoration.proofs.SoundRetraction as sound-retraction
 use Rattle.restoration.proofs.SoundKept as kept
 use Rattle.restoration.proofs.Document01.{document01, asTheory, there-and-back, same-by, laws01, unfinished01}
-pub use Rattle.restoration.proofs.Moving.{to-none, to-destination, to-some, has-code}
 pub use Rattle.restoration.proofs.Soundness.{Over, sleeping-asleep}
+pub use Rattle.restoration.proofs.Moving.{to-none, to-destination, to-some, has-code}
 pub use Rattle.restoration.proofs.SoundKept.{over-is}
 pub use Rattle.restoration.proofs.Document01.{move-takes, next-accepted, next-refused, event-accepted, signal-accepted, fire-accepted}
 
