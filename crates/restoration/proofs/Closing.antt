@@ -14,9 +14,9 @@ use Rattle.rules.proofs.Acceptance.{Accepted}
 use Rattle.rules.proofs.Forest.{above-hosted}
 use Rattle.rules.proofs.Scopes.{in-host, every-in-of, open-find, busy-find}
 use Rattle.rules.proofs.Closing.{Alike, closing-alike, closing-asleep, closing-final, closed-host, closed-root}
+use Rattle.rules.proofs.Abandoning.{undoing-awake}
 use Rattle.restoration.specs.Seams.{Seams}
 use Rattle.restoration.proofs.Modes.{forward-awake, undoing-forward}
-use Rattle.rules.proofs.Abandoning.{undoing-awake}
 use Rattle.restoration.proofs.Nesting.{Awake, Sleeps, Nested, state-of, host-awake, host-busy, open-host}
 use Rattle.restoration.proofs.Soundness.{sleeping-asleep}
 use Rattle.restoration.proofs.Laws.{Laws}

@@ -88,7 +88,7 @@ document01 =
 
 -- Moves.
 module _ (p : Plan) (l : Ledger) (e : ℕ) where
-  move-takes : (t x : ℕ) → move p l e t ≡ some x → Takes p l t x
+  pub move-takes : (t x : ℕ) → move p l e t ≡ some x → Takes p l t x
   unfolding move
   move-takes t x h = go (isForward (l t .mode) && not (hasOpenScope p l t)) refl
     where
@@ -105,7 +105,7 @@ same-installed : (a : EventArguments) (c d : ℕ) (k : Configuration) → rule-e
 unfolding rule-event.installed rule-event.install installed install
 same-installed a c d k = refl
 
-same-by : (a : EventArguments) (p : Plan) (o : Option ℕ) (k : Configuration) → rule-event.installedBy p o k ≡ installedBy (document01 .entry a) p o k
+pub same-by : (a : EventArguments) (p : Plan) (o : Option ℕ) (k : Configuration) → rule-event.installedBy p o k ≡ installedBy (document01 .entry a) p o k
 unfolding rule-event.installedBy installedBy
 same-by a p none k = refl
 same-by a p (some x) k = same-installed a _ _ k
@@ -177,7 +177,7 @@ module _ (limit : ℕ) (p : Plan) (l : Ledger) where
   unfolding next
   next-refused c h = rw (ne-eqb (callRefusal limit p l c) 0 h)
 
-  turned-is : (a : SignalArguments) → rule-signal.turned l ≡ turned document01 p l a
+  pub turned-is : (a : SignalArguments) → rule-signal.turned l ≡ turned document01 p l a
   unfolding rule-signal.turned
   turned-is a = refl
 
@@ -202,18 +202,19 @@ module _ (limit : ℕ) (p : Plan) (l : Ledger) where
       let y : leb limit (length (l t .held)) ≡ false = rw h at q in
       leb-false limit (length (l t .held)) y
 
-  event-accepted : (a : EventArguments) → callRefusal limit p l (call.event a) ≡ 0 → (isOver p l ≡ false) × Roomy document01 limit p l a
+  pub event-accepted : (a : EventArguments) → callRefusal limit p l (call.event a) ≡ 0
+      → (isOver p l ≡ false) × (isFull p limit l (a .event) ≡ false)
   unfolding callRefusal callRefusals firstRefusal
   event-accepted a h =
       let (x, y) = passed (eqb (a .event) 0) 18 _ h in
       let (o, z) = passed (isOver p l) 19 _ y in
-      (o, has-room a (passed (isFull p limit l (a .event)) 20 _ z .0))
+      (o, passed (isFull p limit l (a .event)) 20 _ z .0)
 
-  signal-accepted : (a : SignalArguments) → callRefusal limit p l (call.signal a) ≡ 0 → isOver p l ≡ false
+  pub signal-accepted : (a : SignalArguments) → callRefusal limit p l (call.signal a) ≡ 0 → isOver p l ≡ false
   unfolding callRefusal callRefusals firstRefusal
   signal-accepted a h = passed (isOver p l) 19 _ h .0
 
-  fire-accepted : (a : FireArguments) → callRefusal limit p l (call.fire a) ≡ 0 → (isOver p l ≡ false) × (mayFire p l (a .track) ≡ true)
+  pub fire-accepted : (a : FireArguments) → callRefusal limit p l (call.fire a) ≡ 0 → (isOver p l ≡ false) × (mayFire p l (a .track) ≡ true)
   unfolding callRefusal callRefusals firstRefusal
   fire-accepted a h =
       let (o, z) = passed (isOver p l) 19 _ h in
@@ -234,7 +235,7 @@ laws01 =
       goes-on = λ p l t b e n. not-ended p l t b e (or-false (ended p l t) (isBare p l t) n .0);
       settled = λ limit p h l c z. settled limit p l c z;
       refused = λ limit p h l c n. (next-refused limit p l (asRules c) n, refl);
-      event-accepted = λ limit p h l. event-accepted limit p l;
+      event-accepted = λ limit p h l a z. let (o, r) = event-accepted limit p l a z in (o, has-room limit p l a r);
       signal-accepted = λ limit p h l. signal-accepted limit p l;
       fire-accepted = λ limit p h l. fire-accepted limit p l;
     }

@@ -15,8 +15,8 @@ use Rattle.rules.specs.Fire.{newest, older, mayFire, removed, deviatesTo, fired
 use Rattle.rules.proofs.Tests.{look, look-option, clash, none-some, and-true}
 use Rattle.rules.proofs.Acceptance.{Accepted}
 use Rattle.restoration.proofs.Nesting.{Awake, Sleeps, Nested, busy-same}
-use Rattle.restoration.proofs.Entries.{Good, deviates}
 use Rattle.restoration.proofs.Entering.{Enterable, kept, kept-busy, new-fresh, enter-nested}
+use Rattle.restoration.proofs.Entries.{Good, deviates}
 
 module _ (p : Plan) (l : Ledger) where
   -- what a track that may be fired is

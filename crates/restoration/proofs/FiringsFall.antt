@@ -22,13 +22,13 @@ use Rattle.rules.proofs.Acceptance.{Accepted}
 use Rattle.rules.proofs.Abandoning.{left-asleep, left-kept}
 use Rattle.restoration.specs.Seams.{Seams, Call, event, signal, fire, isEvent, firingsOf, turned, work}
 use Rattle.restoration.specs.Runs.{firingsFrom, isEventless}
-use Rattle.restoration.proofs.Entries.{older-length, older-less}
 use Rattle.restoration.proofs.Entering.{Fate, enters, wakens, stays, fate, fresh-held}
+use Rattle.restoration.proofs.Entries.{older-length, older-less}
 use Rattle.restoration.proofs.Firing.{may-fire, fired-is, removed-here, removed-other}
 use Rattle.restoration.proofs.Soundness.{sleeping-held}
 use Rattle.restoration.proofs.Laws.{Laws}
-use Rattle.restoration.proofs.Turning.{turned-held}
 use Rattle.restoration.proofs.Settling.{next-cases}
+use Rattle.restoration.proofs.Turning.{turned-held}
 use Rattle.restoration.proofs.SoundKept.{Kept}
 
 -- Sums over the tracks.

@@ -12,8 +12,8 @@ use Rattle.rules.proofs.Tests.{look}
 use Rattle.rules.proofs.Acceptance.{Accepted}
 use Rattle.rules.proofs.Abandoning.{left-asleep, left-kept}
 use Rattle.restoration.specs.Seams.{Seams, turned}
-use Rattle.restoration.proofs.Entries.{Good}
 use Rattle.restoration.proofs.Entering.{Enterable, Fate, enters, wakens, stays, fate, fresh-held, enter-nested}
+use Rattle.restoration.proofs.Entries.{Good}
 use Rattle.restoration.proofs.Soundness.{Formed, sleeping-held, sleeping-few, sleeping-good}
 use Rattle.restoration.proofs.Laws.{Laws}
 use Rattle.restoration.proofs.Turning.{turned-held}

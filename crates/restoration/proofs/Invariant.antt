@@ -20,8 +20,8 @@ use Rattle.restoration.specs.Seams.{Seams}
 use Rattle.restoration.specs.Runs.{act, changing, does, Books}
 use Rattle.restoration.proofs.Composition.{when, join, All, none, all-append, all-map, Same, Swap, Commute, swap-words, swap-nil, join-nil}
 use Rattle.restoration.proofs.Nesting.{Sleeps, Nested, free-below, shut-inside, open-host}
-use Rattle.restoration.proofs.Soundness.{sleeping-held}
 use Rattle.restoration.proofs.Entering.{Enterable, Fate, enters, wakens, stays, fate, fresh-held, woken-asleep, kept-busy}
+use Rattle.restoration.proofs.Soundness.{sleeping-held}
 
 module _ {σ : Seams} (limit : ℕ) (p : Plan) (ok : Accepted p) (k : Books σ p limit) where
   open Seams σ using (Event, Change, change, Retraction, retraction)

@@ -26,12 +26,15 @@ use Rattle.restoration.proofs.Composition as all
 use Rattle.restoration.proofs.Composition.{when, join, when-nil, join-nil}
 use Rattle.restoration.proofs.Modes.{forward-awake}
 use Rattle.restoration.proofs.Nesting.{Nested, open-host, hosted-asleep}
+use Rattle.restoration.proofs.Entering.{fresh-held}
+use Rattle.restoration.proofs.Firing.{may-fire, removed-mode, fired-busy}
+use Rattle.restoration.proofs.Soundness.{Sound, Over, sleeping-asleep, sleeping-held}
+use Rattle.restoration.proofs.Laws.{Laws, Unfinished}
+use Rattle.restoration.proofs.Settling.{next-cases, over-refused}
+use Rattle.restoration.proofs.Turning.{turned-awake, spared}
 use Rattle.restoration.proofs.Moving.{moved-nested, moved-busy}
 use Rattle.restoration.proofs.Closing.{closing-open, closed-alike, closed-awake}
-use Rattle.restoration.proofs.Firing.{may-fire, removed-mode, fired-busy}
 use Rattle.restoration.proofs.Leaving.{turned-nested}
-use Rattle.restoration.proofs.Entering.{fresh-held}
-use Rattle.restoration.proofs.Soundness.{Sound, Over, sleeping-asleep, sleeping-held}
 use Rattle.restoration.proofs.SoundBegin.{root-zero, begun-sound, begun-fresh}
 use Rattle.restoration.proofs.SoundEvent.{was-open}
 use Rattle.restoration.proofs.SoundRetraction.{fired-awake, fired-formed}
@@ -40,9 +43,6 @@ use Rattle.restoration.proofs.Invariant.{Undoes, Held, Blocks, quiet}
 use Rattle.restoration.proofs.InvariantMoving.{grown, fresher, moves-last, moved-blocks}
 use Rattle.restoration.proofs.InvariantClosing.{settled, closed-blocks, closed-whole}
 use Rattle.restoration.proofs.InvariantRetraction.{turned-blocks, abandoned-blocks, shorter, fired-books, fired-blocks}
-use Rattle.restoration.proofs.Laws.{Laws, Unfinished}
-use Rattle.restoration.proofs.Turning.{turned-awake, spared}
-use Rattle.restoration.proofs.Settling.{next-cases, over-refused}
 
 module _ {σ : Seams} (ω : Laws σ) (υ : Unfinished σ) (limit : ℕ) (p : Plan) (ok : Accepted p) (k : Books σ p limit) where
   open Seams σ using (Event, Signal, Firing, Head, Change, track, moved, closed, movesOf, retraction, isTurned, firstHead, nextHead, refusal, next)

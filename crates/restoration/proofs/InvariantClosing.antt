@@ -22,12 +22,12 @@ use Rattle.restoration.specs.Seams.{Seams}
 use Rattle.restoration.specs.Runs.{act, replacementOf, Books}
 use Rattle.restoration.proofs.Composition.{when, join, All, all-when, Same, Swap, when-nil, join-same, join-nil, swap-when, swap-nil, nil-swap, same-join, put-behind-of, gather}
 use Rattle.restoration.proofs.Nesting.{Nested, state-of, open-host}
-use Rattle.restoration.proofs.Closing.{closing-open, closed-in, closes-known, closed-alike, closed-awake, closed-free, closed-was-awake, closed-closes, closing-open-track, closing-direct, closed-host-stays}
 use Rattle.restoration.proofs.Soundness.{sleeping-held}
-use Rattle.restoration.proofs.Invariant.{Undoes, Below, Held, inner, Blocks, quiet, word-below, swap-below, swap-free}
-use Rattle.restoration.proofs.InvariantMoving.{keep, keep-all, keep-same, held-install}
 use Rattle.restoration.proofs.Laws.{Laws}
 use Rattle.restoration.proofs.Installing.{installed-held}
+use Rattle.restoration.proofs.Closing.{closing-open, closed-in, closes-known, closed-alike, closed-awake, closed-free, closed-was-awake, closed-closes, closing-open-track, closing-direct, closed-host-stays}
+use Rattle.restoration.proofs.Invariant.{Undoes, Below, Held, inner, Blocks, quiet, word-below, swap-below, swap-free}
+use Rattle.restoration.proofs.InvariantMoving.{keep, keep-all, keep-same, held-install}
 
 -- the track that hosts a track; a root counts as its own
 unfoldable pub hostTrack : Plan → ℕ → ℕ

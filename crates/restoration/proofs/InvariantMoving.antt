@@ -21,10 +21,10 @@ use Rattle.restoration.specs.Runs.{act, Books}
 use Rattle.restoration.proofs.Composition as all
 use Rattle.restoration.proofs.Composition.{when, join, All, all-append, all-when, all-join, Same, nil-swap, act-append, same-join, same-when, put-behind-of}
 use Rattle.restoration.proofs.Nesting.{Nested, open-same}
-use Rattle.restoration.proofs.Moving.{moved-is, recorded-mode, recorded-awake, mover-is, recorded-nested, goes-free}
-use Rattle.restoration.proofs.Invariant.{Undoes, Below, below, Held, Blocks, swap-free, enter-blocks}
 use Rattle.restoration.proofs.Laws.{Laws}
 use Rattle.restoration.proofs.Installing.{install-none, install-one, by-none, by-some}
+use Rattle.restoration.proofs.Moving.{moved-is, recorded-mode, recorded-awake, mover-is, recorded-nested, goes-free}
+use Rattle.restoration.proofs.Invariant.{Undoes, Below, below, Held, Blocks, swap-free, enter-blocks}
 
 -- a word that a code other than 0 undoes
 abbrev pub keep : {C : Type 0} → ℕ → List C → List C
@@ -36,7 +36,7 @@ keep-all c a = all-when (not (eqb c 0)) (λ h. a)
 module _ {σ : Seams} (limit : ℕ) (p : Plan) (ok : Accepted p) (k : Books σ p limit) (e : σ .Event) where
   open Seams σ using (entry, Change, retraction)
 
-  -- the retraction of a code that is not 0, or undoes nothing: the word of a code 0 may be left out
+  -- what a code 0 undoes changes nothing, and may be left out
   pub keep-same : (c d : ℕ) (w : List Change) → Undoes limit p ok k (retraction (entry e c d)) w → Same (k .changed) (keep c w) w
   unfolding act
   keep-same c d w u b =

@@ -23,13 +23,13 @@ use Rattle.restoration.specs.Runs.{act, Books}
 use Rattle.restoration.proofs.Composition.{when, join, All, Swap, nil-swap, join-same, join-single, put-behind}
 use Rattle.restoration.proofs.Modes.{undoing-forward}
 use Rattle.restoration.proofs.Nesting.{Awake, Nested, open-same, mode-inside}
-use Rattle.restoration.proofs.Leaving.{left-awake, left-host-stays}
 use Rattle.restoration.proofs.Firing.{may-fire, fired-is, removed-mode, removed-awake, removed-here, removed-other, removed-nested, deviates-free}
 use Rattle.restoration.proofs.Soundness.{Sound, sleeping-held}
-use Rattle.restoration.proofs.SoundRetraction.{fired-awake}
-use Rattle.restoration.proofs.Invariant.{Undoes, Below, Held, inner, Blocks, swap-free, enter-blocks}
 use Rattle.restoration.proofs.Laws.{Laws}
 use Rattle.restoration.proofs.Turning.{turned-awake, turned-held, spared}
+use Rattle.restoration.proofs.Leaving.{left-awake, left-host-stays}
+use Rattle.restoration.proofs.SoundRetraction.{fired-awake}
+use Rattle.restoration.proofs.Invariant.{Undoes, Below, Held, inner, Blocks, swap-free, enter-blocks}
 
 empty-nil : (es : List Entry) → isEmpty es ≡ true → es ≡ []
 unfolding isEmpty

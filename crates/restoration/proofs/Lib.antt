@@ -35,6 +35,7 @@ pub mod ScopeRuns
 pub mod Weights
 -- Document 01: the instance, and the theorems in its own terms, on words.
 pub mod Document01
+pub mod Theorems01
 pub mod Runs01
 pub mod SoundLive
 pub mod SoundWords

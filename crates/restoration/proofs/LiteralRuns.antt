@@ -92,7 +92,7 @@ module _ (limit : ℕ) (p : Plan) (ok : Accepted p) (s : ℕ) where
       let q = theorem.open-next laws01 unfinished01 limit p ok s tt l (seam.signal a) h o in
       let k = run-sound r in
       let g = signal-forward l k (run-open r) a (subst Forward q f) in
-      let (t, i, j) = theorem.signal-turns laws01 unfinished01 limit p ok l s k (run-open r) g in
+      let (t, i, j) = theorem.forward-inside laws01 unfinished01 limit p ok l s k (run-open r) g in
       clash j (n t i)
   unsignalled (run.over-fire {l = l} r a h o) f =
       let q = theorem.open-next laws01 unfinished01 limit p ok s tt l (seam.fire a) h o in

@@ -20,9 +20,9 @@ use Rattle.rules.proofs.Abandoning.{undoing-awake}
 use Rattle.restoration.specs.Seams.{Seams}
 use Rattle.restoration.proofs.Modes.{is-undoing}
 use Rattle.restoration.proofs.Nesting.{Awake, Nested}
+use Rattle.restoration.proofs.Firing.{fire-may}
 use Rattle.restoration.proofs.Soundness.{Sound}
 use Rattle.restoration.proofs.SoundEvent.{bare-of, abandoning-of}
-use Rattle.restoration.proofs.Firing.{fire-may}
 
 -- a test fails somewhere below n, or holds everywhere
 search : (n : ℕ) (f : ℕ → Bool) → ((k : ℕ) × (k < n) × (f k ≡ false)) ⊎ ((k : ℕ) → k < n → f k ≡ true)

@@ -77,10 +77,10 @@ module _ {σ : Seams} (ω : Laws σ) (υ : Unfinished σ) (limit : ℕ) (p : Pla
             clash w (ap (λ (c : Configuration). isAwake (c .mode)) (v u) ∙ sleeping-asleep)
       ]
 
-  -- an accepted signal turns a track of every forward scope: no run of a forward scope goes over it
-  pub signal-turns : (l : Ledger) (s : ℕ) → Sound σ limit p l → isOpen p l s ≡ true → isForward (l (owner p s) .mode) ≡ true
+  -- an open forward scope has a forward track inside
+  pub forward-inside : (l : Ledger) (s : ℕ) → Sound σ limit p l → isOpen p l s ≡ true → isForward (l (owner p s) .mode) ≡ true
       → (t : ℕ) × (isInside p s t ≡ true) × (isForward (l t .mode) ≡ true)
-  signal-turns l s k o f =
+  forward-inside l s k o f =
       let (t, b, e, a) = open-find p l s o in (
         t,
         inside-host p ok s t s e ∙ (rw (eq-eqb s s refl)),

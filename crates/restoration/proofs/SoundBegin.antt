@@ -23,9 +23,9 @@ use Rattle.restoration.specs.Seams.{Seams}
 use Rattle.restoration.proofs.Modes.{is-forward, undoing-forward}
 use Rattle.restoration.proofs.Nesting.{Awake}
 use Rattle.restoration.proofs.Entering.{Enterable, fresh-awake, fresh-mode, fresh-state}
-use Rattle.restoration.proofs.Closing.{closing-open}
 use Rattle.restoration.proofs.Soundness.{Formed, RootsAwake, Sound, sleeping-held, sleeping-few, sleeping-good, sleeping-asleep}
 use Rattle.restoration.proofs.Laws.{Laws, ended}
+use Rattle.restoration.proofs.Closing.{closing-open}
 use Rattle.restoration.proofs.Forming.{enter-formed}
 
 -- abandoning is due: the scope is open, and each of its tracks is bare

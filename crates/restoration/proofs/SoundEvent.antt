@@ -20,15 +20,15 @@ use Rattle.rules.proofs.Closing.{closing-final, closed-root}
 use Rattle.rules.proofs.Abandoning.{bare-parts}
 use Rattle.restoration.specs.Seams.{Seams, installed, recorded, goes}
 use Rattle.restoration.proofs.Nesting.{Awake, Nested, state-of, open-host}
-use Rattle.restoration.proofs.Entries.{Good, may-none, may-own}
 use Rattle.restoration.proofs.Entering.{Fate, enters, wakens, stays, fate, arrived-awake, fresh-awake, fresh-state}
-use Rattle.restoration.proofs.Moving.{moved-is, recorded-awake, mover-awake, mover-is, recorded-nested, goes-free, moved-nested, moved-busy, moved-undoing, moved-undoing-back, moved-new, has-code}
-use Rattle.restoration.proofs.Closing.{closing-open, closes-known, closed-nested, closed-undoing, closed-undoing-back, closed-alike}
+use Rattle.restoration.proofs.Entries.{Good, may-none, may-own}
 use Rattle.restoration.proofs.Soundness.{Formed, RootsAwake, sleeping-held, sleeping-few, sleeping-good}
-use Rattle.restoration.proofs.SoundBegin.{abandoning-open, abandoning-bare}
 use Rattle.restoration.proofs.Laws.{Laws, Roomy}
 use Rattle.restoration.proofs.Installing.{installed-held, by-none, by-some, install-fits, good-install}
+use Rattle.restoration.proofs.Moving.{moved-is, recorded-awake, mover-awake, mover-is, recorded-nested, goes-free, moved-nested, moved-busy, moved-undoing, moved-undoing-back, moved-new, has-code}
+use Rattle.restoration.proofs.Closing.{closing-open, closes-known, closed-nested, closed-undoing, closed-undoing-back, closed-alike}
 use Rattle.restoration.proofs.Forming.{enter-formed}
+use Rattle.restoration.proofs.SoundBegin.{abandoning-open, abandoning-bare}
 
 -- bare, put together
 pub bare-of : (p : Plan) (l : Ledger) (t : ℕ) → isUndoing (l t .mode) ≡ true → isEmpty (l t .held) ≡ true → hasOpenScope p l t ≡ false → isBare p l t ≡ true

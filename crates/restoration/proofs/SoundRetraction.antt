@@ -23,14 +23,14 @@ use Rattle.rules.proofs.Abandoning.{undoing-awake, awake-kept, left-kept, aband
 use Rattle.restoration.specs.Seams.{Seams, turned}
 use Rattle.restoration.proofs.Modes.{forward-awake}
 use Rattle.restoration.proofs.Nesting.{Awake, Nested}
-use Rattle.restoration.proofs.Entries.{Good, good-older, older-length}
 use Rattle.restoration.proofs.Entering.{Fate, enters, wakens, stays, fate, arrived-awake, fresh-awake, fresh-state}
-use Rattle.restoration.proofs.Closing.{closing-open, closing-of}
-use Rattle.restoration.proofs.Leaving.{left-together, left-awake, left-root}
+use Rattle.restoration.proofs.Entries.{Good, good-older, older-length}
 use Rattle.restoration.proofs.Firing.{may-fire, fired-is, removed-mode, removed-state, removed-here, removed-other, removed-awake, deviates-hosted, deviates-free, removed-nested, fired-still, fired-new}
 use Rattle.restoration.proofs.Soundness.{Formed, Sound}
 use Rattle.restoration.proofs.Laws.{Laws}
 use Rattle.restoration.proofs.Turning.{turned-awake, unturned}
+use Rattle.restoration.proofs.Closing.{closing-open, closing-of}
+use Rattle.restoration.proofs.Leaving.{left-together, left-awake, left-root}
 use Rattle.restoration.proofs.Forming.{enter-formed, turned-formed, abandoned-formed}
 
 module _ {σ : Seams} (ω : Laws σ) (limit : ℕ) (p : Plan) (ok : Accepted p) (l : Ledger) (s : Sound σ limit p l) where

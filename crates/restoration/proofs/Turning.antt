@@ -75,12 +75,15 @@ module _ {σ : Seams} (ω : Laws σ) (p : Plan) (l : Ledger) (a : σ .Signal) wh
         | inr h ↦ ap (λ (c : Configuration). c .held) (spares t h)
       ]
 
+  pub turned-forward : (t : ℕ) → isTurned p a t ≡ true → isForward (T t .mode) ≡ false
+  turned-forward t h = ap (λ (c : Configuration). isForward (c .mode)) (turns t h) ∙ turned-case (l t) .1
+
   -- what is forward afterwards was not turned
   not-turned : (t : ℕ) → isForward (T t .mode) ≡ true → isTurned p a t ≡ false
   not-turned t f =
       elim (look (isTurned p a t)) [
         | inr h ↦ h
-        | inl h ↦ clash (ap (λ (c : Configuration). isForward (c .mode)) (sym (turns t h)) ∙ f) (turned-case (l t) .1)
+        | inl h ↦ clash f (turned-forward t h)
       ]
 
   pub unturned : (t : ℕ) → isForward (T t .mode) ≡ true → T t ≡ l t

@@ -19,6 +19,7 @@ pub data CallOf (E S F : Type 0) : Type 0 where
   signal : S → CallOf E S F
   fire : F → CallOf E S F
 
+-- whether it is an event, and how many firings it is
 abbrev pub isEvent : {E S F : Type 0} → CallOf E S F → Bool
 isEvent (event a) = true
 isEvent (signal a) = false
