@@ -1,4 +1,5 @@
--- The laws of the seams: all that the theory of restoration knows of its parameters. Assumes nothing.
+-- The laws of the seams: all that the theory of restoration knows of its parameters. Its theorems take the seams as σ, their laws as ω, and
+-- the law of calls after which finish is not looked for as υ. Assumes nothing.
 use mathlib.Core.Path.{_≡_}
 use mathlib.Core.Logic.{_⊎_}
 use mathlib.Core.Bool.{Bool, true, false, _&&_, _||_}
