@@ -20,14 +20,11 @@ use Rattle.rules.proofs.Scopes.{root-of}
 use Rattle.restoration.proofs.Modes.{is-undoing}
 use Rattle.rules.proofs.Abandoning.{undoing-awake}
 use Rattle.restoration.proofs.Nesting.{Awake, Nested}
-use Rattle.restoration.proofs.Seams.{over-refused, next-accepted, next-refused}
-use Rattle.restoration.proofs.Closing.{sleeping-asleep}
-use Rattle.restoration.proofs.Soundness.{Sound}
 use Rattle.restoration.proofs.SoundBegin.{root-zero}
 use Rattle.restoration.proofs.SoundEvent.{bare-of}
-use Rattle.restoration.proofs.SoundKept.{Over, Kept, over-is}
 use Rattle.restoration.proofs.SoundWords.{Holds, begin-holds, call-holds, call-accepted, call-refused}
 use Rattle.restoration.proofs.Restoration.{list-holds}
+use Rattle.restoration.proofs.Theorems01.{over-refused, next-accepted, next-refused, sleeping-asleep, Sound, Over, Kept, over-is}
 use Rattle.automaton.specs.Listing.{listed, someOf, everyOf}
 use Rattle.automaton.specs.Configuration.{Conf, Vect, members, isTerminated, hasCompensated, init}
 use Rattle.automaton.specs.Semantics.{Act, Run, stop}

@@ -22,15 +22,9 @@ use Rattle.rules.proofs.Acceptance.{Accepted, accepts}
 use Rattle.rules.proofs.Scopes.{root-of, root-none}
 use Rattle.rules.proofs.Closing.{closed-done}
 use Rattle.restoration.proofs.Nesting.{Nested}
-use Rattle.restoration.proofs.Seams.{fire-accepted, over-refused, next-accepted}
-use Rattle.restoration.proofs.Moving.{moved-nested}
-use Rattle.restoration.proofs.Closing.{sleeping-asleep, closed-nested}
-use Rattle.restoration.proofs.Soundness.{RootsAwake, Sound}
-use Rattle.restoration.proofs.SoundEvent.{event-roots, event-abandoning}
-use Rattle.restoration.proofs.SoundRetraction.{signal-sound, fire-sound}
-use Rattle.restoration.proofs.Unfinished.{unfinished}
-use Rattle.restoration.proofs.SoundKept.{over-is}
+use Rattle.restoration.proofs.Soundness.{RootsAwake}
 use Rattle.restoration.proofs.SoundWords.{Holds, outcome, not-refused, passed-ledger, sound-holds, begin-holds, call-holds, call-accepted, call-refused}
+use Rattle.restoration.proofs.Theorems01.{fire-accepted, over-refused, next-accepted, moved-nested, sleeping-asleep, closed-nested, Sound, event-roots, event-abandoning, signal-sound, fire-sound, unfinished, over-is}
 use Rattle.automaton.specs.Listing.{listed, everyOf}
 use Rattle.automaton.specs.Configuration.{Vect, members, isTerminated, init}
 use Rattle.automaton.specs.Semantics.{sucAt, failAt}

@@ -21,10 +21,10 @@ use Rattle.rules.proofs.Opening.{wakes-root}
 use Rattle.rules.proofs.Abandoning.{undoing-awake}
 use Rattle.restoration.proofs.Modes.{undoing-forward}
 use Rattle.restoration.proofs.Nesting.{Awake, Nested}
-use Rattle.restoration.proofs.Seams.{may-fire}
 use Rattle.restoration.proofs.Entries.{Good}
 use Rattle.restoration.proofs.Entering.{Fate, enters, wakens, stays, fate, arrived-awake}
 use Rattle.restoration.proofs.Firing.{fired-is, removed-mode, removed-state, removed-here, removed-other, removed-awake, deviates-known, deviates-here, removed-nested, deviates-free, fired-nested, fired-still}
+use Rattle.restoration.proofs.Theorems01.{may-fire}
 use Rattle.automaton.specs.Configuration.{backward, Comp, Dev, Stack, NConf, Basic, pushComp, pushDev, goto}
 use Rattle.automaton.specs.Semantics.{compAt, devAt, Step, COMP, DEV, VStep, Run, stop, step}
 use Rattle.automaton.specs.View.{stackOf, directionOf, isWithin, basic, shown, viewOf, isOnTop, view, abandonings, deviating}

@@ -24,12 +24,8 @@ use Rattle.rules.specs.Books.{act, Books}
 use Rattle.rules.specs.ReferenceRun.{bookedCall, booked, booksFrom, booksAfter, ledgerAfter, AllWithdrawn}
 use Rattle.rules.proofs.Tests.{look, look-option, none-some}
 use Rattle.rules.proofs.Acceptance.{Accepted, accepts}
-use Rattle.restoration.proofs.Composition.{act-append}
+use Rattle.restoration.proofs.Theorems01.{act-append, fire-accepted, may-fire, over-refused, mover-is, Sound, Kept, over-is}
 use Rattle.restoration.proofs.Nesting.{Nested}
-use Rattle.restoration.proofs.Seams.{fire-accepted, may-fire, over-refused}
-use Rattle.restoration.proofs.Moving.{mover-is}
-use Rattle.restoration.proofs.Soundness.{Sound}
-use Rattle.restoration.proofs.SoundKept.{Kept, over-is}
 use Rattle.restoration.proofs.SoundWords.{Holds, begin-holds, call-holds, call-accepted, call-refused}
 use Rattle.restoration.proofs.Restoration.{restored}
 use Rattle.automaton.specs.Listing.{listedFrom, listed, listedDown}

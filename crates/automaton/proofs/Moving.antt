@@ -16,9 +16,8 @@ use Rattle.rules.proofs.Tests.{look, look-option, clash, none-some}
 use Rattle.rules.proofs.Acceptance.{Accepted, transition-for}
 use Rattle.rules.proofs.Opening.{wakes-root}
 use Rattle.restoration.proofs.Nesting.{Awake, Nested, free-below}
-use Rattle.restoration.proofs.Seams.{move-takes, by-some, to-none, to-some, to-destination}
 use Rattle.restoration.proofs.Entering.{Fate, enters, wakens, stays, fate, arrived-awake}
-use Rattle.restoration.proofs.Moving.{recorded, goes, moved-is, recorded-awake, mover-awake, mover-is, recorded-nested, goes-free, moved-still}
+use Rattle.restoration.proofs.Theorems01.{move-takes, by-some, to-none, to-some, to-destination, recorded, goes, moved-is, recorded-awake, mover-awake, mover-is, recorded-nested, goes-free, moved-still}
 use Rattle.automaton.specs.Configuration.{forward, NConf, Basic, push, goto}
 use Rattle.automaton.specs.Semantics.{sucAt, Step, SUC, Run}
 use Rattle.automaton.specs.View.{stackOf, directionOf, isWithin, basic, viewOf, isOnTop, view, movings}

@@ -12,7 +12,7 @@ use Rattle.rules.specs.Plan.{Plan, transition, noState, replacement}
 use Rattle.rules.specs.Ledger.{Entry, Configuration, Ledger, isEmpty, sleeping}
 use Rattle.rules.specs.Opening.{begun, enter}
 use Rattle.rules.specs.Event.{install, move, moved, isClosed, closesScope, closed}
-use Rattle.rules.specs.Signal.{isAbandoned, abandoned}
+use Rattle.rules.specs.Signal.{turned, isAbandoned, abandoned}
 use Rattle.rules.specs.Fire.{newest, older, removed, deviatesTo, fired}
 use Rattle.rules.specs.Soundness.{everyHeld}
 use Rattle.rules.specs.Call.{Call, event, signal, fire, callRefusal, next}
@@ -23,14 +23,11 @@ use Rattle.rules.proofs.Acceptance.{Accepted}
 use Rattle.rules.proofs.Closing.{closed-asleep, closed-replaced, closed-kept}
 use Rattle.rules.proofs.Abandoning.{left-asleep, left-kept}
 use Rattle.restoration.proofs.Nesting.{Nested}
-use Rattle.restoration.proofs.Seams.{move-takes, install-cases, installed-held, by-none, by-some, turns, turned-held, work, next-cases, next-refused, over-refused}
 use Rattle.restoration.proofs.Entering.{Fate, enters, wakens, stays, fate, fresh-held}
-use Rattle.restoration.proofs.Moving.{recorded, goes, moved-is, mover-is}
 use Rattle.restoration.proofs.Firing.{fired-is, removed-here, removed-other}
 use Rattle.restoration.proofs.Soundness.{sleeping-held}
 use Rattle.restoration.proofs.SoundBegin.{all-asleep}
-use Rattle.restoration.proofs.SoundKept.{Kept, over-is}
-use Rattle.restoration.proofs.ScopeRuns.{reached-kept}
+use Rattle.restoration.proofs.Theorems01.{move-takes, installed-held, by-none, by-some, turned-held, work, next-cases, next-refused, reached-kept, over-refused, recorded, goes, moved-is, mover-is, Kept, over-is}
 use Rattle.automaton.specs.SelfCancelling.{Perfect}
 use Rattle.automaton.proofs.StringBooks.{isCodeOf, code-of}
 
@@ -51,13 +48,11 @@ module _ (p : Plan) where
   older-own t (e ∷ es) h = and-true (isCodeOf p t (e .code)) (everyHeld (λ e. isCodeOf p t (e .code)) es) h .1
 
   install-own : (t c d : ℕ) (es : List Entry) → (eqb c 0 ≡ false → isCodeOf p t c ≡ true) → own t es ≡ true → own t (install c d es) ≡ true
-  unfolding own everyHeld
+  unfolding own everyHeld install
   install-own t c d es k h =
-      elim (install-cases c d es) [
-        | inl q ↦ rw (q .1) h
-        | inr q ↦
-            rw (q .held)
-            (and-both (isCodeOf p t (q .entry .code)) (everyHeld (λ e. isCodeOf p t (e .code)) es) (ap (isCodeOf p t) (q .code) ∙ k (q .real)) h)
+      elim (look (eqb c 0)) [
+        | inl q ↦ rw q h
+        | inr q ↦ rw q (and-both (isCodeOf p t c) (everyHeld (λ e. isCodeOf p t (e .code)) es) (k q) h)
       ]
 
   -- the newest entry's code is the track's own
@@ -120,7 +115,7 @@ module _ (p : Plan) where
 
       work-own : (l : Ledger) → Nested p l → (c : Call) → ((t : ℕ) → own t (l t .held) ≡ true) → (t : ℕ) → own t (work p l c t .held) ≡ true
       work-own l n (event a) h = closed-own (moved p l (a .event)) (moved-own l n (a .event) h)
-      work-own l n (signal a) h = left-own (turns p a l) (λ t. ap (own t) (turned-held p ok a l t) ∙ h t)
+      work-own l n (signal a) h = left-own (turned l) (λ t. ap (own t) (turned-held p ok a l t) ∙ h t)
       work-own l n (fire a) h =
           left-own (fired p l (a .track))
           (λ u. ap (λ m. own u (m u .held)) (fired-is p l (a .track)) ∙ enter-own (removed p l (a .track)) (deviatesTo p l (a .track)) (removed-own l (a .track) h) u)
@@ -132,7 +127,7 @@ module _ (p : Plan) where
               | inr z ↦ ap (λ m. own t (m t .held)) (next-refused limit p l c (eqb-false (callRefusal limit p l c) 0 z)) ∙ h t
               | inl z ↦
                   let e = eqb-true (callRefusal limit p l c) 0 z in
-                  elim (next-cases limit p l c e) [
+                  elim (next-cases limit p ok l c e) [
                     | inl q ↦ ap (λ m. own t (m t .held)) q ∙ work-own l (nested k e) c h t
                     | inr o ↦ none-own t (next limit p l c t .held) (ap (λ (x : Configuration). x .held) (o t) ∙ sleeping-held)
                   ]

@@ -20,12 +20,8 @@ use Rattle.rules.proofs.Folds.{some-at, some-find}
 use Rattle.rules.proofs.Acceptance.{Accepted}
 use Rattle.rules.proofs.Forest.{inside-root}
 use Rattle.rules.proofs.Scopes.{root-none}
-use Rattle.restoration.proofs.Composition.{act-append}
+use Rattle.restoration.proofs.Theorems01.{act-append, over-refused, mover-is, Over, Kept, over-is, reached-kept, running-reached}
 use Rattle.restoration.proofs.Nesting.{Nested}
-use Rattle.restoration.proofs.Seams.{over-refused}
-use Rattle.restoration.proofs.Moving.{mover-is}
-use Rattle.restoration.proofs.SoundKept.{Over, Kept, over-is}
-use Rattle.restoration.proofs.ScopeRuns.{reached-kept, running-reached}
 use Rattle.automaton.specs.SelfCancelling.{Symbol, activity, action, leftAfter, Perfect, Tagged}
 use Rattle.automaton.proofs.CancOut.{left-activity, left-action}
 

@@ -15,8 +15,7 @@ use Rattle.rules.proofs.Tests.{look, clash, none-some, refuted, and-true}
 use Rattle.rules.proofs.Acceptance.{Accepted}
 use Rattle.restoration.proofs.Modes.{forward-awake}
 use Rattle.restoration.proofs.Nesting.{Awake, Nested, free-below, busy-same}
-use Rattle.restoration.proofs.Seams.{turned-awake, turned-state, turned-held, turned-forward}
-use Rattle.restoration.proofs.Leaving.{turned-nested}
+use Rattle.restoration.proofs.Theorems01.{turned-awake, turned-state, turned-held, turned-forward, turned-nested}
 use Rattle.automaton.specs.Configuration.{forward, backward, NConf, Basic}
 use Rattle.automaton.specs.Semantics.{failAt, Step, FAIL, Run}
 use Rattle.automaton.specs.View.{stackOf, directionOf, isWithin, basic, viewOf, isOnTop, view, isGoing, abandonings, turners}
