@@ -7,9 +7,11 @@
 //! - [`manager`]: the six calls, on plan bytes and lent words.
 //! - [`journal`]: the program `unwind` as a function of bytes.
 //! - [`generate`], [`coverage`], [`vectors`]: random cases for the comparison.
+//! - [`samples`], [`cases`]: plans and journals by hand, and the stored runs.
 //! - [`theorems`]: the same cases, said of the definitions of the rules.
 
 pub mod automaton;
+pub mod cases;
 pub mod coverage;
 pub mod generate;
 pub mod journal;
@@ -18,5 +20,6 @@ pub mod manager;
 pub mod plan;
 pub mod record;
 pub mod refusal;
+pub mod samples;
 pub mod theorems;
 pub mod vectors;

@@ -22,7 +22,6 @@ ghost use Rattle.rules.specs.Fire.{mayFire};
 ghost use Rattle.rules.specs.Call.{fireOutcome, Meets};
 ghost use Rattle.rules.specs.Answers.{fireTold};
 ghost use Rattle.steps.specs.Going.{Accepts, Roomy, Checked, ledgerOf};
-ghost use Rattle.plan.specs.Passes.{firstMarks};
 ghost use Rattle.backward.specs.Orderly.{Orderly, withConfiguration};
 ghost use Rattle.backward.specs.Entering.{deviating, enteredBy, Sleepers};
 
@@ -45,9 +44,8 @@ fn may_fire(plan: &[u8], c: Counts, ledger: &[u16], t: usize) -> bool
     !opens::has_open_scope(plan, c, ledger, t)
 }
 
-// A track enters its state in `to`, or wakes if it is marked, or is left as it is.
+// A track goes forward in its state in `to`, or wakes in its first state if it is marked, or is left as it is.
 fn enter_track(
-    plan: &[u8],
     c: Counts,
     ledger: &mut [u16],
     firsts: [u16; 32],
@@ -55,8 +53,8 @@ fn enter_track(
     woken: [bool; 32],
     t: usize,
 )
-    requires { ⌜ Accepts (now plan) c × Orderly c (now ledger) × (t < c .tracks) × (getD woken t false ≡ true → ledgerOf c (now ledger) t ≡ sleeping) × (firsts ≡ firstMarks (planOf (now plan) c) (c .states)) ⌝ }
-    ensures { λ _. ⌜ now (ledger .exit) ≡ withConfiguration c (now (ledger .entry)) t (enteredBy (planOf (now (plan .entry)) c) to woken t (ledgerOf c (now (ledger .entry)) t)) ⌝ }
+    requires { ⌜ Orderly c (now ledger) × (t < c .tracks) × (getD woken t false ≡ true → ledgerOf c (now ledger) t ≡ sleeping) ⌝ }
+    ensures { λ _. ⌜ now (ledger .exit) ≡ withConfiguration c (now (ledger .entry)) t (enteredBy firsts to woken t (ledgerOf c (now (ledger .entry)) t)) ⌝ }
 {
     let s = to[t];
     if s != NO_STATE {
@@ -81,7 +79,7 @@ fn deviate(plan: &[u8], c: Counts, ledger: &mut [u16], t: usize, s: u16)
     let tracks = c.tracks;
     let mut u: usize = 0;
     while u < tracks {
-        enter_track(plan, c, &mut ledger[..], firsts, to, woken, u);
+        enter_track(c, &mut ledger[..], firsts, to, woken, u);
         u += 1;
     }
 }

@@ -10,13 +10,13 @@ use Rattle.rules.specs.Layout.{entryLimit}
 use Rattle.rules.specs.Plan.{Plan}
 use Rattle.rules.specs.Call.{Answer, refusal, done, Call, event, signal, fire, callOutcome}
 use Rattle.rules.specs.Journal.{Entered, ended, broken, fireLowest, called, enteredAt}
-use Rattle.rules.specs.Transcript.{refusalLine, callLine, firingsOf, ledgerOf, lastLine, callText, replay}
+use Rattle.rules.specs.Transcript.{callLine, firingsOf, ledgerOf, callText, replay}
 use Rattle.journal.specs.Entered.{sizeOf}
 use Rattle.journal.specs.Replayed.{replayed, callOf}
 use Rattle.journal.specs.Writing.{Wrote, Lined}
 use Rattle.journal.proofs.Written.{written-none, retold, wrote-then}
 use Rattle.journal.proofs.Entering.{stands}
-use Rattle.journal.proofs.Replaying.{replay-start, replay-ended, replay-broken, replay-call}
+use Rattle.journal.proofs.Replaying.{replay-start, replay-call}
 
 -- a record has four bytes or more, and does one firing at most
 size-least : (x : Entered) → 0 < sizeOf x → 4 ≤ sizeOf x
@@ -58,17 +58,9 @@ module _ (bs js : List ℕ) (p : Plan) (out : List ℕ) (start : ℕ) (whole : L
       }
 
   module _ (h : start ≤ length out) (at : ℕ) (ws : List ℕ) (fired : ℕ) (out′ : List ℕ) (place : ℕ) (r : Running at ws fired out′ place) where
-    pub run-ended : (out″ : List ℕ) (end : ℕ) → enteredAt js at ≡ ended → Lined out′ place (lastLine bs js p ws fired) out″ end → Wrote out start whole out″ end
-    run-ended out″ end e l = retold (ap (λ (t : List ℕ). r .text ++ t) (sym (replay-ended bs js p at ws fired e)) ∙ r .rest) (wrote-then h (r .wrote) (l .wrote))
-
-    pub run-broken : (mid out″ : List ℕ) (next end : ℕ) → enteredAt js at ≡ broken → Lined out′ place (refusalLine 23) mid next
-        → Lined mid next (lastLine bs js p ws fired) out″ end → Wrote out start whole out″ end
-    run-broken mid out″ next end e k l =
-        retold
-        (append-assoc (r .text) (refusalLine 23) (lastLine bs js p ws fired)
-        ∙ ap (λ (t : List ℕ). r .text ++ t) (sym (replay-broken bs js p at ws fired e))
-        ∙ r .rest)
-        (wrote-then h (wrote-then h (r .wrote) (k .wrote)) (l .wrote))
+    -- the reading ends at the place, and the text from there on was written
+    pub run-stopped : (t out″ : List ℕ) (end : ℕ) → replayed bs js p at ws fired ≡ t → Wrote out′ place t out″ end → Wrote out start whole out″ end
+    run-stopped t out″ end e w = retold (ap (λ (u : List ℕ). r .text ++ u) (sym e) ∙ r .rest) (wrote-then h (r .wrote) w)
 
     -- the call c stands at the place, and its line was written
     module _ (x : Entered) (c : Call) (e : enteredAt js at ≡ x) (l : 0 < sizeOf x) (q : c ≡ callOf p (ledgerOf bs js p ws) x) where

@@ -2,7 +2,9 @@
 -- theorem of that name at the instance. Assumes nothing.
 use Prim.{tt}
 use mathlib.Core.Path.{_≡_, refl, sym, ap, _∙_, subst, fun-ext}
+use mathlib.Core.Logic.{_⊎_, inl, inr}
 use mathlib.Core.Bool.{Bool, true, false}
+use mathlib.Core.List.{List, [], _∷_, _++_}
 use mathlib.Core.Option.{Option, none, some}
 use Prim.Native.Nat.{ℕ, _<_}
 use Rattle.rules.specs.Plan.{Plan, trackCount, transition, mover}
@@ -12,7 +14,9 @@ use Rattle.rules.specs.Opening.{enter}
 use Rattle.rules.specs.Event.{install, installed, destinationOf, installedBy, move, moved, isClosed, closed, isFinishing}
 use Rattle.rules.specs.Signal.{turned, isAbandoning, abandoned}
 use Rattle.rules.specs.Fire.{mayFire, fired}
-use Rattle.rules.specs.Call.{EventArguments, SignalArguments, Call, event, signal, fire, callRefusal}
+use Rattle.rules.specs.Call.{EventArguments, SignalArguments, Call, event, signal, fire, callRefusal, next}
+use Rattle.rules.specs.Books.{act}
+use Rattle.rules.specs.FinishedRun.{Reached, start, then, Running, by-begin, by-call, over-event, over-signal, over-fire}
 use Rattle.rules.proofs.Tests.{clash}
 use Rattle.rules.proofs.Acceptance.{Accepted}
 use Rattle.restoration.specs.Seams as seam
@@ -29,6 +33,8 @@ use Rattle.restoration.proofs.Leaving as leaving
 use Rattle.restoration.proofs.SoundEvent as sound-event
 use Rattle.restoration.proofs.SoundRetraction as sound-retraction
 use Rattle.restoration.proofs.SoundKept as kept
+use Rattle.restoration.proofs.Histories as histories
+use Rattle.restoration.proofs.Runs01.{from-reached}
 use Rattle.restoration.proofs.Document01.{document01, asTheory, there-and-back, same-by, laws01, unfinished01}
 pub use Rattle.restoration.proofs.Soundness.{Over, sleeping-asleep}
 pub use Rattle.restoration.proofs.Moving.{to-none, to-destination, to-some, has-code}
@@ -41,6 +47,12 @@ Sound = theory.Sound document01
 
 abbrev pub Kept : ℕ → Plan → Ledger → Type 0
 Kept = kept.Kept document01
+
+-- Changes one after the other.
+pub act-append : {B : Type 0} (f : ℕ → B → B) (w v : List ℕ) (b : B) → act f (w ++ v) b ≡ act f v (act f w b)
+unfolding act
+act-append f [] v b = refl
+act-append f (x ∷ w) v b = act-append f w v (f x b)
 
 -- Installing.
 pub installed-mode : (c d : ℕ) (k : Configuration) → installed c d k .mode ≡ k .mode
@@ -186,3 +198,24 @@ module _ (limit : ℕ) (p : Plan) (ok : Accepted p) (l : Ledger) (s : Sound limi
   unfinished (signal a) h n =
       subst (λ m. isFinishing p (abandoned p m) ≡ false) (sym (same-turned p ok a l)) (unfinished01 limit p ok tt l s (seam.signal a) h refl)
   unfinished (fire a) h n = unfinished01 limit p ok tt l s (seam.fire a) h refl
+
+-- an accepted call leaves its work, or all asleep
+pub next-cases : (limit : ℕ) (p : Plan) (ok : Accepted p) (l : Ledger) (c : Call) → callRefusal limit p l c ≡ 0
+    → (next limit p l c ≡ work p l c) ⊎ Over (next limit p l c)
+next-cases limit p ok l (event a) h = settling.next-cases laws01 limit p tt l (seam.event a) h
+next-cases limit p ok l (signal a) h =
+    subst (λ m. (next limit p l (signal a) ≡ abandoned p m) ⊎ Over (next limit p l (signal a))) (sym (same-turned p ok a l))
+    (settling.next-cases laws01 limit p tt l (seam.signal a) h)
+next-cases limit p ok l (fire a) h = settling.next-cases laws01 limit p tt l (seam.fire a) h
+
+-- Runs: what lists of calls reach is sound or over, and a run stands on what one reaches.
+module _ (limit : ℕ) (p : Plan) (ok : Accepted p) where
+  pub reached-kept : {l : Ledger} → Reached p limit l → Kept limit p l
+  reached-kept r = histories.reached-kept laws01 unfinished01 limit p ok (from-reached p limit r)
+
+  pub running-reached : {s : ℕ} {l : Ledger} {w : List ℕ} → Running p limit s l w → Reached p limit l
+  running-reached (by-begin o) = start
+  running-reached (by-call r c f o) = then r c
+  running-reached (over-event r a z o) = then (running-reached r) (event a)
+  running-reached (over-signal r a z f o) = then (running-reached r) (signal a)
+  running-reached (over-fire r a z o) = then (running-reached r) (fire a)

@@ -4,7 +4,7 @@ use Prim.Native.Nat.{_≤_, _-_}
 use native.Mathlib.Omega.{arith}
 use borrow.Author.Needs.{needs}
 use Rattle.rules.specs.Layout.{entryLimit}
-use Rattle.rules.specs.Plan.{planOf, noState}
+use Rattle.rules.specs.Plan.{noState}
 use Rattle.rules.specs.Ledger.{written}
 use Rattle.rules.proofs.Passes.{upTo}
 use Rattle.steps.specs.Going.{ledgerOf}
@@ -14,7 +14,7 @@ use Rattle.backward.proofs.fire.deviate.Statement.{statement}
 use Rattle.backward.proofs.fire.deviate.Tie as tie
 
 abbrev Inv-loop : tie.InvT-loop
-Inv-loop plan c ledger₀ t s firsts to woken tracks u₀ ledger u = (u ≤ c .tracks) × (ledger ≡ written entryLimit (c .tracks) (upTo (λ v. enteredBy (planOf plan c) to woken v (ledgerOf c ledger₀ v)) (ledgerOf c ledger₀) u) ledger₀)
+Inv-loop plan c ledger₀ t s firsts to woken tracks u₀ ledger u = (u ≤ c .tracks) × (ledger ≡ written entryLimit (c .tracks) (upTo (λ v. enteredBy firsts to woken v (ledgerOf c ledger₀ v)) (ledgerOf c ledger₀) u) ledger₀)
 
 abbrev μ-loop : tie.MeasureT-loop
 μ-loop plan c ledger₀ t s firsts to woken tracks u₀ ledger u = c .tracks - u
@@ -33,11 +33,11 @@ woken-by-requires c κs = (c .before .before .before .pre .0, c .first-states .e
 
 loop-holds : tie.Need-loop-holds Inv-loop μ-loop
 unfolding noState
-loop-holds c = (omega arith, entering-start _ _ (c .before .before .before .before .pre .0) _ (c .before .before .before .before .pre .2) _ _ (c .before .before .before .before .pre .1) (c .woken-by .ensures))
+loop-holds c = (omega arith, entering-start _ _ (c .before .before .before .before .pre .0) _ (c .before .before .before .before .pre .2) _ (c .before .first-states .ensures) _ (c .before .before .before .before .pre .1) (c .woken-by .ensures))
 
 enter-track-requires : tie.Need-enter-track-requires Inv-loop μ-loop
 unfolding noState
-enter-track-requires c κs = let o = entering-orderly _ _ (c .before .before .before .before .before .before .before .pre .0) _ (c .before .before .before .before .before .before .before .pre .2) _ _ (c .before .before .before .before .before .before .before .pre .1) (c .before .before .before .woken-by .ensures) _ (c .before .before .loop .inv .0) (c .before .before .loop .inv .1) in (c .before .before .before .before .before .before .before .pre .0, o, search needs, entering-asleep _ _ (c .before .before .before .before .before .before .before .pre .0) _ (c .before .before .before .before .before .before .before .pre .2) _ _ (c .before .before .before .before .before .before .before .pre .1) (c .before .before .before .woken-by .ensures) _ (c .before .before .loop .inv .0) (c .before .before .loop .inv .1) (omega arith) (c .before .before .before .before .before .before .before .pre .3), c .before .before .before .before .first-states .ensures)
+enter-track-requires c κs = let o = entering-orderly _ _ (c .before .before .before .before .before .before .before .pre .0) _ (c .before .before .before .before .before .before .before .pre .2) _ (c .before .before .before .before .first-states .ensures) _ (c .before .before .before .before .before .before .before .pre .1) (c .before .before .before .woken-by .ensures) _ (c .before .before .loop .inv .0) (c .before .before .loop .inv .1) in (o, search needs, entering-asleep _ _ (c .before .before .before .before .before .before .before .pre .0) _ (c .before .before .before .before .before .before .before .pre .2) _ (c .before .before .before .before .first-states .ensures) _ (c .before .before .before .before .before .before .before .pre .1) (c .before .before .before .woken-by .ensures) _ (c .before .before .loop .inv .0) (c .before .before .loop .inv .1) (omega arith) (c .before .before .before .before .before .before .before .pre .3))
 
 add-u : tie.Need-add-u Inv-loop μ-loop
 add-u c = search needs
@@ -47,15 +47,15 @@ loop-less c = search needs
 
 loop-again : tie.Need-loop-again Inv-loop μ-loop
 unfolding noState
-loop-again c = (omega arith, entering-more _ _ (c .before .before .before .before .before .before .before .before .before .before .pre .0) _ (c .before .before .before .before .before .before .before .before .before .before .pre .2) _ _ (c .before .before .before .before .before .before .before .before .before .before .pre .1) (c .before .before .before .before .before .before .woken-by .ensures) _ (c .before .before .before .before .before .loop .inv .0) (c .before .before .before .before .before .loop .inv .1) (c .before .before .enter-track .ensures))
+loop-again c = (omega arith, entering-more _ _ (c .before .before .before .before .before .before .before .before .before .before .pre .0) _ (c .before .before .before .before .before .before .before .before .before .before .pre .2) _ (c .before .before .before .before .before .before .before .first-states .ensures) _ (c .before .before .before .before .before .before .before .before .before .before .pre .1) (c .before .before .before .before .before .before .woken-by .ensures) _ (c .before .before .before .before .before .loop .inv .0) (c .before .before .before .before .before .loop .inv .1) (c .before .before .enter-track .ensures))
 
 same-length : tie.Need-same-length Inv-loop μ-loop
 unfolding noState
-same-length c = entering-length _ _ (c .before .before .before .before .before .before .pre .0) _ (c .before .before .before .before .before .before .pre .2) _ _ (c .before .before .before .before .before .before .pre .1) (c .before .before .woken-by .ensures) _ (c .before .loop .inv .0) (c .before .loop .inv .1)
+same-length c = entering-length _ _ (c .before .before .before .before .before .before .pre .0) _ (c .before .before .before .before .before .before .pre .2) _ (c .before .before .before .first-states .ensures) _ (c .before .before .before .before .before .before .pre .1) (c .before .before .woken-by .ensures) _ (c .before .loop .inv .0) (c .before .loop .inv .1)
 
 returns : tie.Need-returns Inv-loop μ-loop
 unfolding noState
-returns c = entering-end _ _ (c .before .before .before .before .before .before .pre .0) _ (c .before .before .before .before .before .before .pre .2) _ _ (c .before .before .before .before .before .before .pre .1) (c .before .before .woken-by .ensures) _ (c .before .loop .inv .0) (c .before .loop .inv .1) (omega arith)
+returns c = entering-end _ _ (c .before .before .before .before .before .before .pre .0) _ (c .before .before .before .before .before .before .pre .2) _ (c .before .before .before .first-states .ensures) _ (c .before .before .before .before .before .before .pre .1) (c .before .before .woken-by .ensures) _ (c .before .loop .inv .0) (c .before .loop .inv .1) (omega arith)
 
 pub deviate-spec : {M : Type 1} → statement M
 deviate-spec =

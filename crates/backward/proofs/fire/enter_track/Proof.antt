@@ -1,7 +1,6 @@
 -- A track enters a state, is left as it is, or wakes: what wakes was asleep and holds nothing. Assumes nothing.
 use borrow.Author.Tests.{not-true, not-false}
 use Rattle.rules.specs.Plan.{noState}
-use Rattle.steps.proofs.FirstStates.{first-at}
 use Rattle.backward.proofs.Entering.{enter-state, enter-not, enter-first}
 use borrow.Author.Needs.{needs}
 use Rattle.backward.proofs.fire.enter_track.Statement.{statement}
@@ -21,14 +20,14 @@ same-length c = search needs
 
 returns : tie.Need-returns
 unfolding noState
-returns c = enter-state _ _ (c .before .before .before .before .before .before .before .pre .1) _ _ _ _ (c .before .before .before .before .if1 .taken) (c .before .before .put-mode .ensures)
+returns c = enter-state _ _ (c .before .before .before .before .before .before .pre .0) _ _ _ _ (c .before .before .before .before .if1 .taken) (c .before .before .put-mode .ensures)
 
 array-read-if2 : tie.Need-array-read-if2
 array-read-if2 c = search needs
 
 returns-2 : tie.Need-returns-2
 unfolding noState
-returns-2 c = enter-not _ _ (c .before .before .before .before .pre .1) _ _ _ _ (c .before .if1 .left) (not-true _ (c .if2 .taken))
+returns-2 c = enter-not _ _ (c .before .before .before .pre .0) _ _ _ _ (c .before .if1 .left) (not-true _ (c .if2 .taken))
 
 mul-put-mode : tie.Need-mul-put-mode
 mul-put-mode c = search needs
@@ -44,7 +43,7 @@ same-length-2 c = search needs
 
 returns-3 : tie.Need-returns-3
 unfolding noState
-returns-3 c = let w = not-false _ (c .before .before .before .before .if2 .left) in enter-first _ _ (c .before .before .before .before .before .before .before .before .pre .1) _ _ _ _ (c .before .before .before .before .before .if1 .left) w (c .before .before .before .before .before .before .before .before .pre .3 w) (first-at _ _ (c .before .before .before .before .before .before .before .before .pre .0) _ (c .before .before .before .before .before .before .before .before .pre .2) (c .before .before .before .before .before .before .before .before .pre .4)) (c .before .before .put-mode2 .ensures)
+returns-3 c = let w = not-false _ (c .before .before .before .before .if2 .left) in enter-first _ _ (c .before .before .before .before .before .before .before .pre .0) _ _ _ _ (c .before .before .before .before .before .if1 .left) w (c .before .before .before .before .before .before .before .pre .2 w) (c .before .before .put-mode2 .ensures)
 
 pub enter-track-spec : {M : Type 1} → statement M
 enter-track-spec =

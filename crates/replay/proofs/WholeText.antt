@@ -1,0 +1,198 @@
+-- The whole text, by what the run finds: an input that is too long, a plan that is turned back, or the plan's line and the records'.
+-- The program's own ledger and the lent one hold the same after begin, so they give the same text. Assumes nothing.
+use mathlib.Core.Path.{_≡_, refl, sym, ap, _∙_, subst}
+use mathlib.Core.Bool.{Bool, true, false, not, cond, _||_}
+use mathlib.Core.List.{List, _++_}
+use Prim.Native.Nat.{ℕ, suc, _+_, _*_, _<_, _≤_}
+use native.Mathlib.Omega.{arith}
+use lib.Dec.{ltb}
+use lib.ListN.{length, length-replicate}
+use borrow.Author.Tests.{lt-ltb, le-ltb, ltb-true, ltb-false, not-true, not-false}
+use Rattle.rules.specs.declared.Counts.{Counts}
+use Rattle.rules.specs.Record.{mostOf}
+use Rattle.rules.specs.Plan.{planOf}
+use Rattle.rules.specs.Acceptance.{turnedBack, accepted, readPlan}
+use Rattle.rules.specs.Layout.{entryLimit, leadingWords, headWords, entryWidth, trackWidth, trackPlace, wordCount}
+use Rattle.rules.specs.Ledger.{written}
+use Rattle.rules.specs.Opening.{begun}
+use Rattle.rules.specs.Call.{beginOutcome}
+use Rattle.rules.specs.Transcript.{refusalLine, planLine, replay, mostBytes, ownWords, transcript}
+use Rattle.rules.proofs.Tests.{or-right}
+use Rattle.plan.proofs.Reader.{accepted-holds}
+use Rattle.steps.specs.Going.{Accepts, Roomy}
+use Rattle.journal.specs.Writing.{Wrote, Lined, lineRoom, writtenAt}
+use Rattle.journal.proofs.Written.{wrote-then, length-written}
+use Rattle.replay.specs.declared.RunAnswer.{RunAnswer}
+use Rattle.replay.specs.declared.RunAnswer.the-variants.{Written, TooSmall, ShortLedger}
+use Rattle.replay.specs.Left.{wordsFrom, wordsLeft}
+use Rattle.replay.specs.Runs.{textRoom, runOutcome, Ran, RanFrom}
+use Rattle.replay.proofs.Keeping.{begin-words, begin-holding}
+use Rattle.replay.proofs.SameText.{replay-same}
+
+-- the words of the plan's tracks are among those of 32
+fewer-words : (n : ℕ) → n ≤ 32 → wordCount entryLimit n ≤ wordCount entryLimit (mostOf 1)
+unfolding wordCount trackPlace leadingWords trackWidth headWords entryWidth entryLimit mostOf
+fewer-words n h = omega arith
+
+pub accepts : (bs : List ℕ) (c : Counts) → readPlan bs ≡ accepted c → Accepts bs c
+accepts bs c e = record { read = e; holds = accepted-holds bs c e }
+
+pub roomy : (bs : List ℕ) (c : Counts) → readPlan bs ≡ accepted c → (ws : List ℕ) → wordCount entryLimit (mostOf 1) ≤ length ws → Roomy c ws
+roomy bs c e ws h =
+    let n = accepted-holds bs c e .tracks in
+    let m = fewer-words (c .tracks) n in
+    record { few = n; room = omega arith }
+
+own-long : wordCount entryLimit (mostOf 1) ≤ length ownWords
+unfolding ownWords
+own-long = let e = length-replicate {A = ℕ} (wordCount entryLimit (mostOf 1)) 0 in omega arith
+
+-- what the tests of the run tell: of the ledger's length, and of the output's
+pub long-ledger : (n : ℕ) (q : Bool) → q ≡ not (ltb n (wordCount entryLimit 32)) → not q ≡ false → wordCount entryLimit (mostOf 1) ≤ n
+unfolding mostOf
+long-ledger n q f g = ltb-false n (wordCount entryLimit 32) (not-true _ (sym f ∙ not-false _ g))
+
+pub line-fits : (js : List ℕ) (room n : ℕ) → room ≡ textRoom js → room ≤ n → lineRoom ≤ n
+unfolding textRoom
+line-fits js room n e h = go (ltb mostBytes (length js)) refl
+  where
+    go : (b : Bool) → ltb mostBytes (length js) ≡ b → lineRoom ≤ n
+    go true t = let f : room ≡ 72 = e ∙ rw t in omega arith
+    go false t = let f : room ≡ 6 * length js + 72 = e ∙ rw t in omega arith
+
+pub text-fits : (js : List ℕ) (room n : ℕ) → room ≡ textRoom js → room ≤ n → length js ≤ mostBytes → 6 * length js + 72 ≤ n
+unfolding textRoom
+text-fits js room n e h k = let f : room ≡ 6 * length js + 72 = e ∙ rw (le-ltb mostBytes (length js) k) in omega arith
+
+-- the lines after a first line
+pub ran-after : (out mid : List ℕ) (start : ℕ) (head text words ws out′ : List ℕ) (end : ℕ) → Lined out 0 head mid start → length mid ≡ length out
+    → RanFrom mid start text words ws out′ end → RanFrom out 0 (head ++ text) words ws out′ end
+ran-after out mid start head text words ws out′ end l same r =
+    let s = r .short in
+    record { wrote = wrote-then (omega arith) (l .wrote) (r .wrote); left = r .left; short = omega arith }
+
+-- a refusal's line alone
+pub ran-refused : (out out′ : List ℕ) (end n : ℕ) (ws : List ℕ) → lineRoom ≤ length out → Lined out 0 (refusalLine n) out′ end → RanFrom out 0 (refusalLine n) ws ws out′ end
+ran-refused out out′ end n ws h l = let s = l .short in record { wrote = l .wrote; left = refl; short = omega arith }
+
+-- begin's words under either name
+pub ran-begun : (bs js : List ℕ) (c : Counts) (a : Accepts bs c) (ws ws′ : List ℕ) → Roomy c ws → ws′ ≡ written entryLimit (c .tracks) (begun (planOf bs c)) ws
+    → (mid : List ℕ) (start : ℕ) (vs out′ : List ℕ) (end : ℕ)
+    → RanFrom mid start (replay bs js (planOf bs c) (suc (length js)) 0 ws′ 0) (wordsFrom bs js (planOf bs c) (suc (length js)) 0 ws′) vs out′ end
+    → RanFrom mid start (replay bs js (planOf bs c) (suc (length js)) 0 (beginOutcome entryLimit bs ws .words) 0) (wordsFrom bs js (planOf bs c) (suc (length js)) 0 (beginOutcome entryLimit bs ws .words)) vs out′ end
+ran-begun bs js c a ws ws′ r e mid start vs out′ end g =
+    subst
+    (λ (us : List ℕ). RanFrom mid start (replay bs js (planOf bs c) (suc (length js)) 0 us 0) (wordsFrom bs js (planOf bs c) (suc (length js)) 0 us) vs out′ end)
+    (e ∙ begin-words bs c a ws r) g
+
+module _ (bs js ws : List ℕ) where
+  -- one of the inputs is too long
+  abbrev tooLong : Bool
+  tooLong = ltb mostBytes (length bs) || ltb mostBytes (length js)
+
+  long-text : tooLong ≡ true → transcript bs js ≡ refusalLine 1
+  unfolding transcript
+  long-text e = rw (e, transcript)
+
+  long-words : tooLong ≡ true → wordsLeft bs js ws ≡ ws
+  unfolding wordsLeft
+  long-words e = rw (e, wordsLeft)
+
+  long-plan : mostBytes < length bs → tooLong ≡ true
+  long-plan h = rw (lt-ltb mostBytes (length bs) h)
+
+  long-journal : mostBytes < length js → tooLong ≡ true
+  long-journal h = or-right (ltb mostBytes (length bs)) (ltb mostBytes (length js)) (lt-ltb mostBytes (length js) h)
+
+  neither : length bs ≤ mostBytes → length js ≤ mostBytes → tooLong ≡ false
+  neither h k = rw (le-ltb mostBytes (length bs) h, le-ltb mostBytes (length js) k)
+
+  refused-text : (n : ℕ) → tooLong ≡ false → readPlan bs ≡ turnedBack n → transcript bs js ≡ refusalLine n
+  unfolding transcript
+  refused-text n e f = rw (e, transcript, f)
+
+  refused-words : (n : ℕ) → tooLong ≡ false → readPlan bs ≡ turnedBack n → wordsLeft bs js ws ≡ ws
+  unfolding wordsLeft
+  refused-words n e f = rw (e, wordsLeft, f)
+
+  accepted-own : (c : Counts) → tooLong ≡ false → readPlan bs ≡ accepted c
+      → transcript bs js ≡ planLine c ++ replay bs js (planOf bs c) (suc (length js)) 0 (beginOutcome entryLimit bs ownWords .words) 0
+  unfolding transcript
+  accepted-own c e f = rw (e, transcript, f)
+
+  accepted-text : (c : Counts) → tooLong ≡ false → readPlan bs ≡ accepted c → wordCount entryLimit (mostOf 1) ≤ length ws
+      → transcript bs js ≡ planLine c ++ replay bs js (planOf bs c) (suc (length js)) 0 (beginOutcome entryLimit bs ws .words) 0
+  unfolding accepts
+  accepted-text c e f h =
+      accepted-own c e f
+      ∙ ap (λ (t : List ℕ). planLine c ++ t)
+      (replay-same bs js c f (suc (length js)) 0 0 (beginOutcome entryLimit bs ownWords .words) (beginOutcome entryLimit bs ws .words) (begun (planOf bs c))
+      (begin-holding bs c (accepts bs c f) ownWords (roomy bs c f ownWords own-long)) (begin-holding bs c (accepts bs c f) ws (roomy bs c f ws h)))
+
+  accepted-words : (c : Counts) → tooLong ≡ false → readPlan bs ≡ accepted c
+      → wordsLeft bs js ws ≡ wordsFrom bs js (planOf bs c) (suc (length js)) 0 (beginOutcome entryLimit bs ws .words)
+  unfolding wordsLeft
+  accepted-words c e f = rw (e, wordsLeft, f)
+
+  module _ (out : List ℕ) where
+    pub small : (room : ℕ) → room ≡ textRoom js → length out < room → Ran (runOutcome bs js ws out) (TooSmall room) ws out
+    unfolding runOutcome
+    small room e h =
+        let t : ltb (length out) (textRoom js) ≡ true = lt-ltb (length out) (textRoom js) (omega arith) in
+        record {
+          answered = rw (t, e);
+          left = rw t;
+          written = rw t;
+          within = λ n i. let z : _≡_ {A = ℕ} 0 1 = cc in absurd (omega arith);
+        }
+
+    module _ (room : ℕ) (e : room ≡ textRoom js) (h : room ≤ length out) where
+      fits : ltb (length out) (textRoom js) ≡ false
+      fits = le-ltb (length out) (textRoom js) (omega arith)
+
+      pub short : (q : Bool) → q ≡ not (ltb (length ws) (wordCount entryLimit 32)) → not q ≡ true → Ran (runOutcome bs js ws out) ShortLedger ws out
+      unfolding runOutcome mostOf
+      short q f g =
+          let t : ltb (length ws) (wordCount entryLimit 32) ≡ true = not-false _ (sym f ∙ not-true _ g) in
+          record {
+            answered = rw (fits, t);
+            left = rw (fits, t);
+            written = rw (fits, t);
+            within = λ n i. let z : _≡_ {A = ℕ} 0 1 = cc in absurd (omega arith);
+          }
+
+      module _ (l : wordCount entryLimit (mostOf 1) ≤ length ws) (out′ : List ℕ) (same : length out′ ≡ length out) (end : ℕ) where
+        ran : (text words ws′ : List ℕ) → transcript bs js ≡ text → wordsLeft bs js ws ≡ words → RanFrom out 0 text words ws′ out′ end
+            → Ran (runOutcome bs js ws out) (Written end) ws′ out′
+        unfolding runOutcome
+        ran text words ws′ f g r =
+            let t : ltb (length ws) (wordCount entryLimit (mostOf 1)) ≡ false = le-ltb (length ws) (wordCount entryLimit (mostOf 1)) l in
+            let m : length (transcript bs js) ≡ length text = ap (λ (t : List ℕ). length t) f in
+            let p = r .wrote .place in
+            let n : end ≡ length (transcript bs js) = omega arith in
+            let s = r .short in
+            record {
+              answered = rw (fits, t) (ap Written n);
+              left = rw (fits, t) (r .left ∙ sym g);
+              written = rw (fits, t) (r .wrote .bytes ∙ ap (writtenAt out 0) (sym f));
+              within = λ k i. let z : end ≡ k = cc in omega arith;
+            }
+
+        ran-long : tooLong ≡ true → Lined out 0 (refusalLine 1) out′ end → Ran (runOutcome bs js ws out) (Written end) ws out′
+        ran-long t r = ran (refusalLine 1) ws ws (long-text t) (long-words t) (ran-refused out out′ end 1 ws (line-fits js room (length out) e h) r)
+
+        pub ran-long-plan : mostBytes < length bs → Lined out 0 (refusalLine 1) out′ end → Ran (runOutcome bs js ws out) (Written end) ws out′
+        ran-long-plan b r = ran-long (long-plan b) r
+
+        pub ran-long-journal : mostBytes < length js → Lined out 0 (refusalLine 1) out′ end → Ran (runOutcome bs js ws out) (Written end) ws out′
+        ran-long-journal b r = ran-long (long-journal b) r
+
+        pub ran-back : (n : ℕ) → length bs ≤ mostBytes → length js ≤ mostBytes → readPlan bs ≡ turnedBack n → Lined out 0 (refusalLine n) out′ end
+            → Ran (runOutcome bs js ws out) (Written end) ws out′
+        ran-back n b k f r =
+            ran (refusalLine n) ws ws (refused-text n (neither b k) f) (refused-words n (neither b k) f) (ran-refused out out′ end n ws (line-fits js room (length out) e h) r)
+
+        pub ran-plan : (c : Counts) (ws′ : List ℕ) → length bs ≤ mostBytes → length js ≤ mostBytes → readPlan bs ≡ accepted c
+            → RanFrom out 0 (planLine c ++ replay bs js (planOf bs c) (suc (length js)) 0 (beginOutcome entryLimit bs ws .words) 0) (wordsFrom bs js (planOf bs c) (suc (length js)) 0 (beginOutcome entryLimit bs ws .words)) ws′ out′ end
+            → Ran (runOutcome bs js ws out) (Written end) ws′ out′
+        ran-plan c ws′ h k f r = ran _ _ ws′ (accepted-text c (neither h k) f l) (accepted-words c (neither h k) f) r

@@ -1,0 +1,40 @@
+-- The step's promise, the line's and the tally's are the turn's. Assumes nothing.
+use Rattle.rules.specs.Call.{event, eventOutcome}
+use Rattle.replay.proofs.Turning.{turned, event-fires}
+use borrow.Author.Needs.{needs}
+use Rattle.replay.proofs.turns.event_turn.Statement.{statement}
+use Rattle.replay.proofs.turns.event_turn.Tie as tie
+
+event-requires : tie.Need-event-requires
+event-requires c κs = search needs
+
+event-line-requires : tie.Need-event-line-requires
+event-line-requires c κs = search needs
+
+held-total-requires : tie.Need-held-total-requires
+held-total-requires c κs = search needs
+
+advanced-requires : tie.Need-advanced-requires
+advanced-requires c κs = search needs
+
+same-length : tie.Need-same-length
+same-length c = search needs
+
+same-length-2 : tie.Need-same-length-2
+same-length-2 c = search needs
+
+returns : tie.Need-returns
+unfolding eventOutcome
+returns c = turned _ _ (event (record { event = _ })) _ _ _ _ _ _ _ _ _ _ (c .before .before .before .before .before .before .before .before .before .before .event .ensures) (c .before .before .before .before .before .before .event-line .ensures) (c .before .before .held-total .ensures) (event-fires _ _) (c .advanced .ensures)
+
+pub event-turn-spec : {M : Type 1} → statement M
+event-turn-spec =
+    tie.close
+    (tie.spec
+    event-requires
+    event-line-requires
+    held-total-requires
+    advanced-requires
+    same-length
+    same-length-2
+    returns)

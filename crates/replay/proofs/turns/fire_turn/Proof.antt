@@ -1,0 +1,46 @@
+-- The step's promise, the line's and the tally's are the turn's. Assumes nothing.
+use native.Mathlib.Omega.{arith}
+use Rattle.rules.specs.Answers.{fireTold}
+use Rattle.rules.specs.Call.{fire, fireOutcome}
+use Rattle.replay.proofs.Turning.{turned, fires-one}
+use borrow.Author.Needs.{needs}
+use Rattle.replay.proofs.turns.fire_turn.Statement.{statement}
+use Rattle.replay.proofs.turns.fire_turn.Tie as tie
+
+fire-requires : tie.Need-fire-requires
+fire-requires c κs = search needs
+
+fire-line-requires : tie.Need-fire-line-requires
+fire-line-requires c κs = search needs
+
+held-total-requires : tie.Need-held-total-requires
+held-total-requires c κs = search needs
+
+firings-of-requires : tie.Need-firings-of-requires
+firings-of-requires c κs = search needs
+
+advanced-requires : tie.Need-advanced-requires
+advanced-requires c κs = omega (arith, c .before .firings-of .ensures 0, fires-one (record { track = 0 }) (fireTold (c .before .before .before .before .before .before .before .before .before .before .fire .result)), c .before .before .before .before .before .before .before .before .before .before .before .before .before .before .before .pre .few)
+
+same-length : tie.Need-same-length
+same-length c = search needs
+
+same-length-2 : tie.Need-same-length-2
+same-length-2 c = search needs
+
+returns : tie.Need-returns
+unfolding fireOutcome
+returns c = turned _ _ (fire (record { track = _ })) _ _ _ _ _ _ _ _ _ _ (c .before .before .before .before .before .before .before .before .before .before .before .fire .ensures) (c .before .before .before .before .before .before .before .fire-line .ensures) (c .before .before .before .held-total .ensures) (c .before .before .firings-of .ensures _) (c .advanced .ensures)
+
+pub fire-turn-spec : {M : Type 1} → statement M
+fire-turn-spec =
+    tie.close
+    (tie.spec
+    fire-requires
+    fire-line-requires
+    held-total-requires
+    firings-of-requires
+    advanced-requires
+    same-length
+    same-length-2
+    returns)

@@ -1,0 +1,40 @@
+-- The step's promise, the line's and the tally's are the turn's. Assumes nothing.
+use Rattle.rules.specs.Call.{signal, nothing, signalOutcome}
+use Rattle.replay.proofs.Turning.{turned, signal-fires}
+use borrow.Author.Needs.{needs}
+use Rattle.replay.proofs.turns.signal_turn.Statement.{statement}
+use Rattle.replay.proofs.turns.signal_turn.Tie as tie
+
+signal-requires : tie.Need-signal-requires
+signal-requires c κs = search needs
+
+signal-line-requires : tie.Need-signal-line-requires
+signal-line-requires c κs = search needs
+
+held-total-requires : tie.Need-held-total-requires
+held-total-requires c κs = search needs
+
+advanced-requires : tie.Need-advanced-requires
+advanced-requires c κs = search needs
+
+same-length : tie.Need-same-length
+same-length c = search needs
+
+same-length-2 : tie.Need-same-length-2
+same-length-2 c = search needs
+
+returns : tie.Need-returns
+unfolding signalOutcome
+returns c = turned _ _ (signal nothing) _ _ _ _ _ _ _ _ _ _ (c .before .before .before .before .before .before .before .before .before .before .signal .ensures) (c .before .before .before .before .before .before .signal-line .ensures) (c .before .before .held-total .ensures) (signal-fires _ _) (c .advanced .ensures)
+
+pub signal-turn-spec : {M : Type 1} → statement M
+signal-turn-spec =
+    tie.close
+    (tie.spec
+    signal-requires
+    signal-line-requires
+    held-total-requires
+    advanced-requires
+    same-length
+    same-length-2
+    returns)

@@ -1,0 +1,4 @@
+-- What the contracts of this crate speak of beside the rules.
+pub mod Left
+pub mod Turned
+pub mod Runs

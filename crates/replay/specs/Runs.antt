@@ -1,0 +1,47 @@
+-- What a run answers, and what it leaves in the lent output and the lent ledger. Assumes nothing.
+use mathlib.Core.Path.{_≡_}
+use mathlib.Core.Bool.{cond}
+use mathlib.Core.List.{List}
+use Prim.Native.Nat.{ℕ, _+_, _*_, _≤_}
+use lib.ListN.{length}
+use lib.Dec.{ltb}
+use Rattle.rules.specs.Record.{mostOf}
+use Rattle.rules.specs.Layout.{entryLimit, wordCount}
+use Rattle.rules.specs.Transcript.{mostBytes, transcript}
+use Rattle.journal.specs.Writing.{writtenAt, Wrote}
+use Rattle.replay.specs.declared.RunAnswer.{RunAnswer}
+use Rattle.replay.specs.declared.RunAnswer.the-variants.{Written, TooSmall, ShortLedger}
+use Rattle.replay.specs.Left.{wordsLeft}
+
+-- the bytes that hold any text of a journal
+unfoldable pub textRoom : List ℕ → ℕ
+textRoom js = cond (ltb mostBytes (length js)) 72 (6 * length js + 72)
+
+pub record Result : Type 0 where
+  pub answer : RunAnswer
+  pub words : List ℕ
+  pub bytes : List ℕ
+
+-- The text stands at the output's start, and the bytes beyond are as they were. Where the output or the ledger is too small nothing changes.
+unfoldable pub runOutcome : List ℕ → List ℕ → List ℕ → List ℕ → Result
+runOutcome bs js ws out =
+    cond (ltb (length out) (textRoom js)) (record { answer = TooSmall (textRoom js); words = ws; bytes = out })
+    (cond (ltb (length ws) (wordCount entryLimit (mostOf 1))) (record { answer = ShortLedger; words = ws; bytes = out })
+    (record {
+      answer = Written (length (transcript bs js));
+      words = wordsLeft bs js ws;
+      bytes = writtenAt out 0 (transcript bs js);
+    }))
+
+-- What a run promises of its answer, of every lent word and of every lent byte.
+pub record Ran (o : Result) (told : RunAnswer) (ws out : List ℕ) : Type 0 where
+  pub answered : told ≡ o .answer
+  pub left : ws ≡ o .words
+  pub written : out ≡ o .bytes
+  pub within : (n : ℕ) → told ≡ Written n → n ≤ length out
+
+-- The same of the lines from a place on: their text, and the words that are left.
+pub record RanFrom (out : List ℕ) (start : ℕ) (text words ws out′ : List ℕ) (end : ℕ) : Type 0 where
+  pub wrote : Wrote out start text out′ end
+  pub left : ws ≡ words
+  pub short : end ≤ length out

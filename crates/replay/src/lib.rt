@@ -1,0 +1,92 @@
+// Runs a journal under a plan, and writes the program's text into a lent output.
+pub mod records;
+pub mod turns;
+
+use crate::records::run_records;
+use journal::lines::plan_line;
+use journal::lines::refusal_line;
+use ledger::layout;
+use rules::Counts;
+use rules::PlanAnswer;
+ghost use mathlib.Core.Path.{_≡_};
+ghost use mathlib.Core.List.{_++_};
+ghost use Prim.Native.Nat.{suc, _+_, _*_, _≤_};
+ghost use lib.ListN.{length};
+ghost use Rattle.rules.specs.Plan.{planOf};
+ghost use Rattle.rules.specs.Layout.{entryLimit};
+ghost use Rattle.rules.specs.Call.{beginOutcome};
+ghost use Rattle.rules.specs.Transcript.{planLine, replay, mostBytes};
+ghost use Rattle.steps.specs.Going.{Accepts, Roomy};
+ghost use Rattle.journal.specs.Writing.{lineRoom};
+ghost use Rattle.replay.specs.Left.{wordsFrom};
+ghost use Rattle.replay.specs.Runs.{textRoom, runOutcome, Ran, RanFrom};
+
+// The most bytes of a plan or a journal.
+pub const MOST_BYTES: usize = 32768;
+
+const MOST_TRACKS: usize = 32;
+
+// The words of a ledger that serves every plan.
+pub const LEDGER_WORDS: usize = layout::LEADING_WORDS + layout::TRACK_WIDTH * MOST_TRACKS;
+
+// No line is longer than 24 bytes and no record shorter than 4; three lines stand for no record.
+const ROOM_OF_BYTE: usize = 6;
+
+const ROOM_BESIDE: usize = 72;
+
+// The bytes of an output that serves every journal.
+pub const TEXT_BYTES: usize = ROOM_OF_BYTE * MOST_BYTES + ROOM_BESIDE;
+
+// How many bytes were written; or how many the output must have at least; or the ledger has not the words of 32 tracks.
+pub enum RunAnswer {
+    Written(usize),
+    TooSmall(usize),
+    ShortLedger,
+}
+
+// How many bytes hold any text of this journal.
+pub fn text_room(journal: &[u8]) -> usize
+    ensures { λ r. ⌜ r ≡ textRoom (now (journal .entry)) ⌝ }
+{
+    if MOST_BYTES < journal.len() {
+        return ROOM_BESIDE;
+    }
+    ROOM_OF_BYTE * journal.len() + ROOM_BESIDE
+}
+
+// Begins, and writes the lines of an accepted plan. Answers how many bytes were written.
+fn run_plan(plan: &[u8], c: Counts, journal: &[u8], ledger: &mut [u16], output: &mut [u8]) -> usize
+    requires { ⌜ Accepts (now plan) c × Roomy c (now ledger) × (length (now journal) ≤ mostBytes) × (6 * length (now journal) + 72 ≤ length (now output)) ⌝ }
+    ensures { λ r. ⌜ RanFrom (now (output .entry)) 0 (planLine c ++ replay (now (plan .entry)) (now (journal .entry)) (planOf (now (plan .entry)) c) (suc (length (now (journal .entry)))) 0 (beginOutcome entryLimit (now (plan .entry)) (now (ledger .entry)) .words) 0) (wordsFrom (now (plan .entry)) (now (journal .entry)) (planOf (now (plan .entry)) c) (suc (length (now (journal .entry)))) 0 (beginOutcome entryLimit (now (plan .entry)) (now (ledger .entry)) .words)) (now (ledger .exit)) (now (output .exit)) r ⌝ }
+{
+    let start = plan_line(&mut output[..], 0, c);
+    manager::opening::begin_all(plan, c, &mut ledger[..]);
+    run_records(plan, c, journal, &mut ledger[..], &mut output[..], start)
+}
+
+// Writes the text of a plan and a journal into the output. Where the output or the ledger is too small, nothing is written.
+pub fn run(plan: &[u8], journal: &[u8], ledger: &mut [u16], output: &mut [u8]) -> RunAnswer
+    ensures { λ r. ⌜ Ran (runOutcome (now (plan .entry)) (now (journal .entry)) (now (ledger .entry)) (now (output .entry))) r (now (ledger .exit)) (now (output .exit)) ⌝ }
+{
+    let room = text_room(journal);
+    if output.len() < room {
+        return RunAnswer::TooSmall(room);
+    }
+    if !layout::has_room(&ledger[..], MOST_TRACKS) {
+        return RunAnswer::ShortLedger;
+    }
+    if MOST_BYTES < plan.len() {
+        return RunAnswer::Written(refusal_line(&mut output[..], 0, 1));
+    }
+    if MOST_BYTES < journal.len() {
+        return RunAnswer::Written(refusal_line(&mut output[..], 0, 1));
+    }
+    let answer = plan::read_plan(plan);
+    match answer {
+        PlanAnswer::Refused(n) => RunAnswer::Written(refusal_line(&mut output[..], 0, n)),
+        PlanAnswer::Accepted(c) => {
+            let n = run_plan(plan, c, journal, &mut ledger[..], &mut output[..]);
+            RunAnswer::Written(n)
+        }
+    }
+}

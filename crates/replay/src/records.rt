@@ -1,0 +1,82 @@
+// The records of a journal, one after the other.
+use crate::turns::Progress;
+use crate::turns::turn;
+use journal::held;
+use journal::lines::refusal_line;
+use journal::lines::tally_line;
+use journal::record::Record;
+use journal::record::record_at;
+use journal::record::size_of;
+use journal::tally::Tally;
+use rules::Counts;
+ghost use mathlib.Core.Path.{_≡_};
+ghost use Prim.Native.Nat.{suc, _+_, _*_, _≤_};
+ghost use lib.ListN.{length};
+ghost use Rattle.rules.specs.Plan.{planOf};
+ghost use Rattle.rules.specs.Transcript.{replay, mostBytes};
+ghost use Rattle.steps.specs.Going.{Checked};
+ghost use Rattle.journal.specs.Entered.{entered};
+ghost use Rattle.journal.specs.Writing.{lineRoom};
+ghost use Rattle.replay.specs.Left.{wordsFrom};
+ghost use Rattle.replay.specs.Runs.{RanFrom};
+ghost use Rattle.replay.specs.Turned.{isBrokenRecord, Closed};
+
+fn is_broken(found: Record) -> bool
+    ensures { λ r. ⌜ r ≡ isBrokenRecord (entered found) ⌝ }
+{
+    match found {
+        Record::Ended => false,
+        Record::Broken => true,
+        Record::Event(_) => false,
+        Record::Signal => false,
+        Record::Fire(_) => false,
+        Record::FireLowest => false,
+    }
+}
+
+// The refusal of a broken record, where the reading ended at one, and the last line.
+fn close(found: Record, output: &mut [u8], from: Progress) -> usize
+    requires { ⌜ from .place + 2 * lineRoom ≤ length (now output) ⌝ }
+    ensures { λ r. ⌜ Closed (entered found) (now (output .entry)) from (now (output .exit)) r ⌝ }
+{
+    let last = from.tally;
+    if is_broken(found) {
+        let place = refusal_line(&mut output[..], from.place, 23);
+        return tally_line(output, place, last.held, last.fired);
+    }
+    tally_line(output, from.place, last.held, last.fired)
+}
+
+// Writes the lines of the records and the last line from a place of the output on. Answers the place after them.
+pub fn run_records(
+    plan: &[u8],
+    c: Counts,
+    journal: &[u8],
+    ledger: &mut [u16],
+    output: &mut [u8],
+    start: usize,
+) -> usize
+    requires { ⌜ Checked (now plan) c (now ledger) × (length (now journal) ≤ mostBytes) × (start + 6 * length (now journal) + 2 * lineRoom ≤ length (now output)) ⌝ }
+    ensures { λ r. ⌜ RanFrom (now (output .entry)) start (replay (now (plan .entry)) (now (journal .entry)) (planOf (now (plan .entry)) c) (suc (length (now (journal .entry)))) 0 (now (ledger .entry)) 0) (wordsFrom (now (plan .entry)) (now (journal .entry)) (planOf (now (plan .entry)) c) (suc (length (now (journal .entry)))) 0 (now (ledger .entry))) (now (ledger .exit)) (now (output .exit)) r ⌝ }
+{
+    let held = held::held_total(c, &ledger[..]);
+    let tally = Tally {
+        held: held,
+        fired: 0,
+    };
+    let mut so_far = Progress {
+        place: start,
+        tally: tally,
+    };
+    let mut at: usize = 0;
+    loop {
+        let found = record_at(journal, at);
+        let size = size_of(found);
+        if size == 0 {
+            return close(found, &mut output[..], so_far);
+        }
+        let next = turn(plan, c, &mut ledger[..], &mut output[..], so_far, found);
+        so_far = next;
+        at += size;
+    }
+}

@@ -1,0 +1,60 @@
+// Reads a plan and a journal, and prints what the journal's records did.
+use libc::STDIN_FILENO;
+use libc::STDOUT_FILENO;
+use replay::LEDGER_WORDS;
+use replay::MOST_BYTES;
+use replay::RunAnswer;
+use replay::TEXT_BYTES;
+ghost use Prim.Native.Nat.{_≤_};
+ghost use Rattle.io.specs.Counts.{Counts};
+
+// Whether the next read of a file fails.
+fn is_failing(file: i32) -> bool {
+    let mut byte = [0u8; 1];
+    libc::read(file, &mut byte) < 0
+}
+
+// How many of the bytes read count: none where the file cannot be read to its end or to the buffer's.
+fn counted(file: i32, n: usize, room: usize) -> usize
+    ensures { λ r. ⌜ r ≤ n ⌝ }
+{
+    if n == room {
+        return n;
+    }
+    if is_failing(file) {
+        return 0;
+    }
+    n
+}
+
+// The bytes of a file, as many as the buffer takes; none where it cannot be opened or read.
+fn load(path: &[u8], buffer: &mut [u8]) -> usize
+    ensures { λ r. ⌜ Counts r (now (buffer .exit)) ⌝ }
+{
+    let file = os::open_read(path);
+    if file < 0 {
+        return 0;
+    }
+    let n = io::read_full(file, &mut buffer[..]);
+    let count = counted(file, n, buffer.len());
+    libc::close(file);
+    count
+}
+
+// One byte more of each input than is allowed tells that it is too long.
+fn main() {
+    let mut plan = [0u8; MOST_BYTES + 1];
+    let n = load(b"plan.bin", &mut plan);
+    let mut journal = [0u8; MOST_BYTES + 1];
+    let m = io::read_full(STDIN_FILENO, &mut journal);
+    let mut ledger = [0u16; LEDGER_WORDS];
+    let mut text = [0u8; TEXT_BYTES];
+    let answer = replay::run(&plan[..n], &journal[..m], &mut ledger, &mut text);
+    match answer {
+        RunAnswer::Written(written) => {
+            io::write_all(STDOUT_FILENO, &text[..written]);
+        }
+        RunAnswer::TooSmall(_) => {}
+        RunAnswer::ShortLedger => {}
+    }
+}
