@@ -29,6 +29,7 @@ use Rattle.rules.proofs.Acceptance.{Accepted, transition-for}
 use Rattle.rules.proofs.Scopes.{root-of, root-none}
 use Rattle.rules.proofs.Opening.{enter-to}
 use Rattle.rules.proofs.Closing as closing
+use Rattle.restoration.specs.Roots.{rootOf}
 use Rattle.restoration.specs.Seams.{Seams, CallOf, event, signal, fire, isEvent, installed, installedBy, install, recorded, goes, changeOf, turned, work}
 use Rattle.restoration.proofs.Composition.{when, join}
 use Rattle.restoration.proofs.Modes.{undoing-forward}
@@ -278,7 +279,8 @@ module _ (limit : ℕ) (p : Plan) (ok : Accepted p) (l : Ledger) (s : Sound docu
             not-ended p (abandoned p X) t b e
             (not-final (isForward (abandoned p X t .mode)) (isFinal p (abandoned p X t .state)) (ap (isFinal p) st ∙ f))
         | inl d ↦
-            let (r, c, e, m) = root-above p ok l n t a in
+            let r = rootOf p t in
+            let (c, e, m) = root-above p ok l n t a in
             let q = fired-still p l t ok n g free a r (s .roots r c e) (deviates-not p l t d r) in
             let md : abandoned p X r .mode ≡ l t .mode =
             ap (λ (c : Configuration). c .mode) (fired-root laws01 limit p ok l s t may r e ∙ q) ∙ removed-mode p l t r ∙ m in

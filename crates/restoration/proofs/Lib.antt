@@ -2,6 +2,7 @@
 -- Changes composed; ledgers nested, and what they hold; the laws.
 pub mod Composition
 pub mod Modes
+pub mod Roots
 pub mod Nesting
 pub mod Entering
 pub mod Entries
