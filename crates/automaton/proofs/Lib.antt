@@ -24,3 +24,4 @@ pub mod StringBooks
 pub mod OwnCodes
 pub mod FromRestoration
 pub mod Along
+pub mod SampleString
