@@ -1,19 +1,18 @@
 -- Every accepted call on every sound ledger is exactly its steps, and a refused call none: the runs of its parts put together, with nothing
 -- left to settle. On ledgers, and on words. Assumes nothing.
-use mathlib.Core.Path.{_≡_, refl, sym, ap, ap₂, _∙_, fun-ext}
+use mathlib.Core.Path.{_≡_, refl, sym, ap, _∙_, fun-ext}
 use mathlib.Core.Logic.{inl, inr}
 use mathlib.Core.Bool.{Bool, true, false, cond, not, _&&_, _||_}
-use mathlib.Core.List.{List, [], _∷_, _++_}
-use Prim.Native.Nat.{ℕ, zero, suc, _+_}
+use mathlib.Core.List.{List, [], _++_}
+use Prim.Native.Nat.{ℕ, zero, suc}
 use native.Mathlib.Omega.{arith}
 use Rattle.rules.specs.declared.Counts.{Counts}
-use Rattle.rules.specs.Fold.{countBelow, firstRefusal}
+use Rattle.rules.specs.Fold.{firstRefusal}
 use Rattle.rules.specs.Plan.{Plan, trackCount, planOf, isRoot, isFinal}
 use Rattle.rules.specs.Acceptance.{accepted, readPlan}
 use Rattle.rules.specs.Ledger.{Configuration, Ledger, isAwake, isForward, sleeping, ledgerAt}
-use Rattle.rules.specs.Scope.{hasOpenScope}
-use Rattle.rules.specs.Event.{moves, moved, closed, isFinishing, finished, afterEvent}
-use Rattle.rules.specs.Signal.{turned, abandoned, turnings, afterSignal}
+use Rattle.rules.specs.Event.{moved, closed, isFinishing, finished, afterEvent}
+use Rattle.rules.specs.Signal.{turned, abandoned, afterSignal}
 use Rattle.rules.specs.Fire.{fired, afterFire}
 use Rattle.rules.specs.Call.{EventArguments, SignalArguments, FireArguments, refusal, done, Call, event, signal, fire, refusedOr, ledgerRefusals, callRefusals, callRefusal, figures, after, callOutcome, beginOutcome}
 use Rattle.rules.proofs.Tests.{look, implies, implied}
@@ -27,36 +26,18 @@ use Rattle.restoration.proofs.SoundWords.{Holds, outcome, not-refused, passed-l
 use Rattle.restoration.proofs.Theorems01.{fire-accepted, over-refused, next-accepted, moved-nested, sleeping-asleep, closed-nested, Sound, event-roots, event-abandoning, signal-sound, fire-sound, unfinished, over-is}
 use Rattle.automaton.specs.Listing.{listed, everyOf}
 use Rattle.automaton.specs.Configuration.{Vect, members, isTerminated, init}
-use Rattle.automaton.specs.Semantics.{sucAt, failAt}
-use Rattle.automaton.specs.View.{isOnTop, viewOf, view, isGoing, movings, turners, actsOf}
-use Rattle.automaton.specs.Exactly.{ended, isTurnedEarly, counted, Exactly}
-use Rattle.automaton.proofs.Listings.{alike, listed-none, listed-every, listed-every-at, listed-length, run-then}
+use Rattle.automaton.specs.View.{isOnTop, viewOf, view, actsOf}
+use Rattle.automaton.specs.Exactly.{ended, counted, Exactly}
+use Rattle.automaton.proofs.Listings.{alike, listed-none, listed-every, listed-every-at, run-then}
 use Rattle.automaton.proofs.Frames.{top-parts, top-of}
 use Rattle.automaton.proofs.Terminated.{members-vect, view-terminated}
 use Rattle.automaton.proofs.Entered.{begin-init}
 use Rattle.automaton.proofs.Calm.{view-settled}
 use Rattle.automaton.proofs.Moving.{moving-run}
-use Rattle.automaton.proofs.Closing.{closing-run, closings-counted}
+use Rattle.automaton.proofs.Closing.{closing-run}
 use Rattle.automaton.proofs.Turning.{signal-run}
 use Rattle.automaton.proofs.Firing.{fire-run}
-
--- a signal turns the forward tracks, with an open scope or without
-one-split : (a b : Bool) → cond a 1 0 ≡ cond (a && not b) 1 0 + cond (a && b) 1 0
-one-split true true = omega arith
-one-split true false = omega arith
-one-split false b = omega arith
-
-count-split : (n : ℕ) (f g : ℕ → Bool) → countBelow n f ≡ countBelow n (λ t. f t && not (g t)) + countBelow n (λ t. f t && g t)
-unfolding countBelow
-count-split zero f g = omega arith
-count-split (suc n) f g =
-    let i = count-split n f g in
-    let j = one-split (f n) (g n) in
-    let a : ℕ = countBelow n (λ t. f t && not (g t)) in
-    let b : ℕ = countBelow n (λ t. f t && g t) in
-    let c : ℕ = cond (f n && not (g n)) 1 0 in
-    let d : ℕ = cond (f n && g n) 1 0 in
-    ap₂ (λ x y. x + y) i j ∙ (let e : (a + b) + (c + d) ≡ (a + c) + (b + d) = omega arith in e)
+use Rattle.automaton.proofs.Figures.{figures-counted}
 
 module _ (p : Plan) (ok : Accepted p) where
   -- Finish: all roots are terminated
@@ -110,7 +91,7 @@ module _ (p : Plan) (ok : Accepted p) where
     n = s .formed .nested
 
     event-exactly : (a : EventArguments) → callRefusal limit p l (event a) ≡ 0 → Exactly p limit l (event a)
-    unfolding actsOf after afterEvent ended figures counted movings
+    unfolding actsOf after afterEvent ended
     event-exactly a h =
         let m = moved p l (a .event) in
         let nm = moved-nested p l (a .event) ok n in
@@ -121,13 +102,11 @@ module _ (p : Plan) (ok : Accepted p) where
               view-settled p ok (closed p m) (closed-nested p ok m nm) (closed-done p m)
               (event-abandoning limit p ok l (s .formed) (a .event) (s .abandoning));
           left = finished-view (closed p m) (closed-nested p ok m nm) (event-roots limit p ok l (s .formed) (a .event) (s .roots));
-          told =
-              ap₂ (λ x y. x ∷ y ∷ []) (sym (listed-length (trackCount p) (moves p l (a .event)) (λ t. sucAt t (a .event))))
-              (closings-counted p ok m nm);
+          told = figures-counted p ok l n limit (event a);
         }
 
     signal-exactly : (a : SignalArguments) → callRefusal limit p l (signal a) ≡ 0 → Exactly p limit l (signal a)
-    unfolding actsOf after afterSignal ended figures counted turners turnings isGoing isTurnedEarly
+    unfolding actsOf after afterSignal ended
     signal-exactly a h =
         let k = signal-sound limit p ok l s a (unfinished limit p ok l s (signal a) h refl) in
         record {
@@ -135,14 +114,11 @@ module _ (p : Plan) (ok : Accepted p) where
           run = signal-run p ok l n;
           settled = view-settled p ok (abandoned p (turned l)) (k .formed .nested) (k .closing) (k .abandoning);
           left = refl;
-          told =
-              ap (λ x. x ∷ [])
-              (count-split (trackCount p) (λ t. isForward (l t .mode)) (hasOpenScope p l)
-              ∙ ap (λ x. x + countBelow (trackCount p) (isTurnedEarly p l)) (sym (listed-length (trackCount p) (isGoing p l) failAt)));
+          told = figures-counted p ok l n limit (signal a);
         }
 
     fire-exactly : (a : FireArguments) → callRefusal limit p l (fire a) ≡ 0 → Exactly p limit l (fire a)
-    unfolding actsOf after afterFire ended figures counted
+    unfolding actsOf after afterFire ended
     fire-exactly a h =
         let may = fire-accepted limit p l a h .1 in
         let k = fire-sound limit p ok l s (a .track) may (unfinished limit p ok l s (fire a) h refl) in
@@ -151,7 +127,7 @@ module _ (p : Plan) (ok : Accepted p) where
           run = fire-run p ok l n (a .track) (s .formed .good (a .track)) may;
           settled = view-settled p ok (abandoned p (fired p l (a .track))) (k .formed .nested) (k .closing) (k .abandoning);
           left = refl;
-          told = refl;
+          told = figures-counted p ok l n limit (fire a);
         }
 
     -- "For every accepted call on every sound ledger, the view afterwards is reached from the view before by exactly these steps"

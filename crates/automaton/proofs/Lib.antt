@@ -14,6 +14,7 @@ pub mod Closing
 pub mod Turning
 pub mod Leaving
 pub mod Firing
+pub mod Figures
 pub mod Calls
 -- Self-cancelling: by the report's Lemma 1, and from the restoration theorem.
 pub mod CancOut
@@ -24,3 +25,4 @@ pub mod StringBooks
 pub mod OwnCodes
 pub mod FromRestoration
 pub mod Along
+pub mod SampleString
