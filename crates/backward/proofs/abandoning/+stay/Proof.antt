@@ -94,7 +94,7 @@ stay-returns-3 : (t : ℕ) → stay-lts.Need-returns-3 (
   stay.Post,
 ) (stay-at t) stay.Post
 unfolding noState
-stay-returns-3 t c = climb-root _ _ (c .before .before .before .before .before .before .before .pre .1 .0) _ _ _ (c .before .before .before .before .if1 .left) (c .before .before .before .is-awake .ensures) (c .before .before .if2 .left) (c .before .host-track .ensures) (c .if3 .taken)
+stay-returns-3 t c = climb-root _ _ (c .before .before .before .before .before .before .before .pre .1 .0) _ _ (c .before .before .before .before .before .before .before .args .t) (c .before .before .before .before .if1 .left) (c .before .before .before .is-awake .ensures) (c .before .before .if2 .left) (c .before .host-track .ensures) (c .if3 .taken)
 
 stay-cast-stay : (t : ℕ) → stay-lts.Need-cast-stay (
   is-awake-reads.Asked,
@@ -126,7 +126,7 @@ stay-returns-4 : (t : ℕ) → stay-lts.Need-returns-4 (
   stay.Post,
 ) (stay-at t) stay.Post
 unfolding noState
-stay-returns-4 t c = climb-host _ _ (c .before .before .before .before .before .before .before .before .pre .1 .0) _ _ _ (c .before .before .before .before .before .if1 .left) (c .before .before .before .before .is-awake .ensures) (c .before .before .before .if2 .left) (c .before .before .host-track .ensures) (c .before .if3 .left) (c .stay .ensures)
+stay-returns-4 t c = climb-host _ _ (c .before .before .before .before .before .before .before .before .pre .1 .0) _ _ (c .before .before .before .before .before .before .before .before .args .t) (c .before .before .before .before .before .if1 .left) (c .before .before .before .before .is-awake .ensures) (c .before .before .before .if2 .left) (c .before .before .host-track .ensures) (c .before .if3 .left) (c .stay .ensures)
 
 pub +stay-spec : {M : Type 1} → statement M
 +stay-spec = close μ-stay λ t. stay-lts.spec (
