@@ -14,7 +14,8 @@ use Rattle.rules.specs.Fold.{everyBelow}
 use Rattle.rules.specs.Layout.{entryLimit, headWords, entryWidth, trackPlace, entriesPlace}
 use Rattle.rules.specs.Plan.{Plan, State, planOf, trackCount, stateCount, state, noState, hostWord, owner, isRoot, isStateOf, isFinal}
 use Rattle.rules.specs.Ledger.{Entry, Configuration, Ledger, isAwake, entryAt, heldAt, configurationAt, ledgerAt}
-use Rattle.rules.specs.Soundness.{everyHeld, sameMode, goodDeviation, isHostedWell}
+use Rattle.rules.specs.Soundness.{areTidy, everyHeld, sameMode, goodDeviation, isHostedWell}
+use Rattle.rules.proofs.Tests.{clash}
 use Rattle.rules.proofs.TrackWords.{length-heldAt}
 use Rattle.rules.proofs.Stored.{read-at}
 use Rattle.plan.proofs.FieldLaws.{track-count}
@@ -22,9 +23,10 @@ use Rattle.plan.proofs.Hosting.{host-none}
 use Rattle.ledger.specs.Words.{trackOf}
 use Rattle.ledger.proofs.Branches.{and-stops, and-goes}
 use Rattle.ledger.proofs.ReadTracks.{mode-as, state-as, count-within}
-use Rattle.steps.specs.Going.{ledgerOf}
+use Rattle.steps.specs.Going.{Accepts, Roomy, ledgerOf}
 use Rattle.steps.proofs.Facts.{host-is}
-use Rattle.soundness.specs.Asked.{Tidied}
+use Rattle.soundness.specs.declared.tracks.Test.{Test}
+use Rattle.soundness.specs.Asked.{ofEntries, Askable}
 
 -- beyond the last state none is final
 pub final-beyond : (p : Plan) (s : ℕ) → stateCount p ≤ s → false ≡ isFinal p s
@@ -62,9 +64,9 @@ held-asked c ws t k f h e =
     ap (λ (i : ℕ). everyHeld f (heldAt ws (trackPlace entryLimit t + headWords) i)) i ∙ ap (everyHeld f) (r ∙ sym (ap (λ (x : Configuration). x .held) q))
 
 -- tidy words hold no more than the limit
-pub few-held : (bs : List ℕ) (c : Counts) (ws : List ℕ) (t k : ℕ) → Tidied bs c ws → k ≡ length (ledgerOf c ws t .held) → k ≤ entryLimit
+pub few-held : (c : Counts) (ws : List ℕ) (t k : ℕ) → areTidy entryLimit ws (c .tracks) ≡ true → k ≡ length (ledgerOf c ws t .held) → k ≤ entryLimit
 unfolding ledgerOf
-few-held bs c ws t k g e = count-within entryLimit (c .tracks) ws t k (g .tidy) e
+few-held c ws t k g e = count-within entryLimit (c .tracks) ws t k g e
 
 -- A deviation, asked in this order.
 module _ (p : Plan) (l : Ledger) (t d : ℕ) where
@@ -120,3 +122,11 @@ host-read p l h w a b e i j =
 -- what is asked of the tracks that the counts tell is asked of the plan's
 pub tracks-asked : (bs : List ℕ) (c : Counts) (f : ℕ → Bool) → everyBelow (c .tracks) f ≡ everyBelow (trackCount (planOf bs c)) f
 tracks-asked bs c f = ap (λ (n : ℕ). everyBelow n f) (sym (track-count bs c))
+
+-- a test of no entries needs no tidy words
+pub no-entries : (bs : List ℕ) (c : Counts) (ws : List ℕ) (test : Test) → Accepts bs c → Roomy c ws → ofEntries test ≡ false → Askable bs c ws test
+no-entries bs c ws test a r e = record { accepts = a; roomy = r; tidy = λ h. clash h e }
+
+pub with-entries : (bs : List ℕ) (c : Counts) (ws : List ℕ) (test : Test) → Accepts bs c → Roomy c ws → areTidy entryLimit ws (c .tracks) ≡ true
+    → Askable bs c ws test
+with-entries bs c ws test a r e = record { accepts = a; roomy = r; tidy = λ h. e }

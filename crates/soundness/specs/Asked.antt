@@ -16,11 +16,23 @@ use Rattle.steps.specs.Marks.{markTurn, marksFrom}
 use Rattle.soundness.specs.declared.tracks.Test.{Test}
 use Rattle.soundness.specs.declared.tracks.Test.the-variants.{RootAwake, StateOwn, CodesReal, DeviationsGood, HostedWell, RootDone, Awake, Done, Emptied}
 
--- The plan is accepted, and the ledger's words are as the layout has them.
-pub record Tidied (bs : List ℕ) (c : Counts) (ws : List ℕ) : Type 0 where
+-- the test is of the entries held
+unfoldable pub ofEntries : Test → Bool
+ofEntries RootAwake = false
+ofEntries StateOwn = false
+ofEntries CodesReal = true
+ofEntries DeviationsGood = true
+ofEntries HostedWell = false
+ofEntries RootDone = false
+ofEntries Awake = false
+ofEntries Done = false
+ofEntries Emptied = false
+
+-- What a test needs: a plan that is accepted and a ledger that has room; to look at entries, counts within the limit too.
+pub record Askable (bs : List ℕ) (c : Counts) (ws : List ℕ) (test : Test) : Type 0 where
   pub accepts : Accepts bs c
   pub roomy : Roomy c ws
-  pub tidy : areTidy entryLimit ws (c .tracks) ≡ true
+  pub tidy : ofEntries test ≡ true → areTidy entryLimit ws (c .tracks) ≡ true
 
 module _ (p : Plan) (l : Ledger) where
   unfoldable pub passes : Test → ℕ → Bool

@@ -6,17 +6,16 @@ use plan::fields::NO_STATE;
 use rules::Counts;
 use steps::reading;
 ghost use mathlib.Core.Path.{_≡_};
-ghost use mathlib.Core.Bool.{not};
+ghost use mathlib.Core.Bool.{true, not};
 ghost use Prim.Native.Nat.{_<_, _≤_};
 ghost use lib.Dec.{eqb};
 ghost use Rattle.rules.specs.Layout.{entryLimit, entriesPlace};
 ghost use Rattle.rules.specs.Plan.{planOf, isFinal};
 ghost use Rattle.rules.specs.Ledger.{heldAt};
-ghost use Rattle.rules.specs.Soundness.{everyHeld, goodDeviation};
+ghost use Rattle.rules.specs.Soundness.{areTidy, everyHeld, goodDeviation};
 ghost use Rattle.plan.specs.Holds.{Holds};
 ghost use Rattle.ledger.specs.Words.{Within};
-ghost use Rattle.steps.specs.Going.{ledgerOf};
-ghost use Rattle.soundness.specs.Asked.{Tidied};
+ghost use Rattle.steps.specs.Going.{Accepts, Roomy, ledgerOf};
 
 // Whether a number is a final state, whatever the number.
 pub fn is_final(plan: &[u8], c: Counts, s: usize) -> bool
@@ -45,8 +44,8 @@ fn real_codes(ledger: &[u16], t: usize, count: usize) -> bool
 }
 
 // Whether the codes that a track holds are not 0.
-pub fn codes_real_of(plan: &[u8], c: Counts, ledger: &[u16], t: usize) -> bool
-    requires { ⌜ Tidied (now plan) c (now ledger) × (t < c .tracks) ⌝ }
+pub fn codes_real_of(c: Counts, ledger: &[u16], t: usize) -> bool
+    requires { ⌜ Roomy c (now ledger) × (t < c .tracks) × (areTidy entryLimit (now ledger) (c .tracks) ≡ true) ⌝ }
     ensures { λ r. ⌜ r ≡ everyHeld (λ e. not (eqb (e .code) 0)) (ledgerOf c (now (ledger .entry)) t .held) ⌝ }
 {
     let k = reading::track(c, ledger, t);
@@ -55,7 +54,7 @@ pub fn codes_real_of(plan: &[u8], c: Counts, ledger: &[u16], t: usize) -> bool
 
 // "a deviation held is 65535, or, in a root, a non-final state of that root"
 fn good_deviation(plan: &[u8], c: Counts, ledger: &[u16], t: usize, deviation: u16) -> bool
-    requires { ⌜ Tidied (now plan) c (now ledger) × (t < c .tracks) ⌝ }
+    requires { ⌜ Accepts (now plan) c × (t < c .tracks) ⌝ }
     ensures { λ r. ⌜ r ≡ goodDeviation (planOf (now (plan .entry)) c) (ledgerOf c (now (ledger .entry))) t deviation ⌝ }
 {
     if deviation == NO_STATE {
@@ -72,7 +71,7 @@ fn good_deviation(plan: &[u8], c: Counts, ledger: &[u16], t: usize, deviation: u
 
 // Whether the deviations of a track's first entries, so many of them, are good.
 fn good_deviations(plan: &[u8], c: Counts, ledger: &[u16], t: usize, count: usize) -> bool
-    requires { ⌜ Tidied (now plan) c (now ledger) × (t < c .tracks) × (count ≤ entryLimit) ⌝ }
+    requires { ⌜ Accepts (now plan) c × Roomy c (now ledger) × (t < c .tracks) × (count ≤ entryLimit) ⌝ }
     ensures { λ r. ⌜ r ≡ everyHeld (λ e. goodDeviation (planOf (now (plan .entry)) c) (ledgerOf c (now (ledger .entry))) t (e .deviation)) (heldAt (now (ledger .entry)) (entriesPlace entryLimit t) count) ⌝ }
 {
     let mut k: usize = 0;
@@ -87,7 +86,7 @@ fn good_deviations(plan: &[u8], c: Counts, ledger: &[u16], t: usize, count: usiz
 
 // Whether the deviations that a track holds are good.
 pub fn deviations_good_of(plan: &[u8], c: Counts, ledger: &[u16], t: usize) -> bool
-    requires { ⌜ Tidied (now plan) c (now ledger) × (t < c .tracks) ⌝ }
+    requires { ⌜ Accepts (now plan) c × Roomy c (now ledger) × (t < c .tracks) × (areTidy entryLimit (now ledger) (c .tracks) ≡ true) ⌝ }
     ensures { λ r. ⌜ r ≡ everyHeld (λ e. goodDeviation (planOf (now (plan .entry)) c) (ledgerOf c (now (ledger .entry))) t (e .deviation)) (ledgerOf c (now (ledger .entry)) t .held) ⌝ }
 {
     let k = reading::track(c, ledger, t);

@@ -4,15 +4,15 @@ use ledger::tidy;
 use rules::Counts;
 use steps::reading;
 ghost use mathlib.Core.Path.{_≡_};
+ghost use mathlib.Core.Bool.{true};
 ghost use Rattle.rules.specs.Layout.{entryLimit};
 ghost use Rattle.rules.specs.Plan.{planOf};
-ghost use Rattle.rules.specs.Soundness.{isLive, isSound};
+ghost use Rattle.rules.specs.Soundness.{areTidy, isLive, isSound};
 ghost use Rattle.steps.specs.Going.{Accepts, Roomy, ledgerOf};
-ghost use Rattle.soundness.specs.Asked.{Tidied};
 
 // Whether all clauses of a ledger that is not over hold.
 fn is_live(plan: &[u8], c: Counts, ledger: &[u16]) -> bool
-    requires { ⌜ Tidied (now plan) c (now ledger) ⌝ }
+    requires { ⌜ Accepts (now plan) c × Roomy c (now ledger) × (areTidy entryLimit (now ledger) (c .tracks) ≡ true) ⌝ }
     ensures { λ r. ⌜ r ≡ isLive (planOf (now (plan .entry)) c) (ledgerOf c (now (ledger .entry))) ⌝ }
 {
     if !clauses::roots_awake(plan, c, ledger) {

@@ -13,9 +13,10 @@ ghost use Prim.Native.Nat.{_<_};
 ghost use lib.Dec.{eqb};
 ghost use Rattle.rules.specs.Fold.{everyBelow};
 ghost use Rattle.rules.specs.Plan.{planOf, owner};
+ghost use Rattle.rules.specs.Ledger.{isUndoing, isEmpty};
 ghost use Rattle.rules.specs.Soundness.{sameMode};
-ghost use Rattle.steps.specs.Going.{ledgerOf};
-ghost use Rattle.soundness.specs.Asked.{Tidied, passes, failMark, failMarks};
+ghost use Rattle.steps.specs.Going.{Accepts, Roomy, ledgerOf};
+ghost use Rattle.soundness.specs.Asked.{Askable, passes, failMark, failMarks};
 
 pub enum Test {
     RootAwake,
@@ -31,7 +32,7 @@ pub enum Test {
 
 // Whether a track, if it is a root, is awake.
 fn root_awake(plan: &[u8], c: Counts, ledger: &[u16], t: usize) -> bool
-    requires { ⌜ Tidied (now plan) c (now ledger) × (t < c .tracks) ⌝ }
+    requires { ⌜ Accepts (now plan) c × Roomy c (now ledger) × (t < c .tracks) ⌝ }
     ensures { λ r. ⌜ r ≡ passes (planOf (now (plan .entry)) c) (ledgerOf c (now (ledger .entry))) Test.RootAwake t ⌝ }
 {
     if !fields::is_root(plan, c, t) {
@@ -42,7 +43,7 @@ fn root_awake(plan: &[u8], c: Counts, ledger: &[u16], t: usize) -> bool
 
 // Whether a track, if it is awake, is in a state of its own.
 fn state_own(plan: &[u8], c: Counts, ledger: &[u16], t: usize) -> bool
-    requires { ⌜ Tidied (now plan) c (now ledger) × (t < c .tracks) ⌝ }
+    requires { ⌜ Accepts (now plan) c × Roomy c (now ledger) × (t < c .tracks) ⌝ }
     ensures { λ r. ⌜ r ≡ passes (planOf (now (plan .entry)) c) (ledgerOf c (now (ledger .entry))) Test.StateOwn t ⌝ }
 {
     let k = reading::track(c, ledger, t);
@@ -55,7 +56,7 @@ fn state_own(plan: &[u8], c: Counts, ledger: &[u16], t: usize) -> bool
 
 // Whether the track of the state `h` is in it, and in the given mode.
 fn host_is(plan: &[u8], c: Counts, ledger: &[u16], h: usize, m: Mode) -> bool
-    requires { ⌜ Tidied (now plan) c (now ledger) × (h < c .states) ⌝ }
+    requires { ⌜ Accepts (now plan) c × Roomy c (now ledger) × (h < c .states) ⌝ }
     ensures { λ r. ⌜ r ≡ (eqb (ledgerOf c (now (ledger .entry)) (owner (planOf (now (plan .entry)) c) h) .state) h && sameMode (ledgerOf c (now (ledger .entry)) (owner (planOf (now (plan .entry)) c) h) .mode) m) ⌝ }
 {
     let o = layout::wide(fields::track_of(plan, c, h));
@@ -69,7 +70,7 @@ fn host_is(plan: &[u8], c: Counts, ledger: &[u16], h: usize, m: Mode) -> bool
 
 // Whether a track, if it is hosted and awake, has its host awake in the hosting state and in the same mode.
 fn hosted_well(plan: &[u8], c: Counts, ledger: &[u16], t: usize) -> bool
-    requires { ⌜ Tidied (now plan) c (now ledger) × (t < c .tracks) ⌝ }
+    requires { ⌜ Accepts (now plan) c × Roomy c (now ledger) × (t < c .tracks) ⌝ }
     ensures { λ r. ⌜ r ≡ passes (planOf (now (plan .entry)) c) (ledgerOf c (now (ledger .entry))) Test.HostedWell t ⌝ }
 {
     let h = fields::host_word(plan, c, t);
@@ -86,7 +87,7 @@ fn hosted_well(plan: &[u8], c: Counts, ledger: &[u16], t: usize) -> bool
 
 // Whether a track is forward in a final state.
 fn is_done(plan: &[u8], c: Counts, ledger: &[u16], t: usize) -> bool
-    requires { ⌜ Tidied (now plan) c (now ledger) × (t < c .tracks) ⌝ }
+    requires { ⌜ Accepts (now plan) c × Roomy c (now ledger) × (t < c .tracks) ⌝ }
     ensures { λ r. ⌜ r ≡ passes (planOf (now (plan .entry)) c) (ledgerOf c (now (ledger .entry))) Test.Done t ⌝ }
 {
     let k = reading::track(c, ledger, t);
@@ -99,7 +100,7 @@ fn is_done(plan: &[u8], c: Counts, ledger: &[u16], t: usize) -> bool
 
 // Whether a track, if it is a root, is forward in a final state.
 fn root_done(plan: &[u8], c: Counts, ledger: &[u16], t: usize) -> bool
-    requires { ⌜ Tidied (now plan) c (now ledger) × (t < c .tracks) ⌝ }
+    requires { ⌜ Accepts (now plan) c × Roomy c (now ledger) × (t < c .tracks) ⌝ }
     ensures { λ r. ⌜ r ≡ passes (planOf (now (plan .entry)) c) (ledgerOf c (now (ledger .entry))) Test.RootDone t ⌝ }
 {
     if !fields::is_root(plan, c, t) {
@@ -109,9 +110,9 @@ fn root_done(plan: &[u8], c: Counts, ledger: &[u16], t: usize) -> bool
 }
 
 // Whether a track is undoing and holds nothing.
-fn is_emptied(plan: &[u8], c: Counts, ledger: &[u16], t: usize) -> bool
-    requires { ⌜ Tidied (now plan) c (now ledger) × (t < c .tracks) ⌝ }
-    ensures { λ r. ⌜ r ≡ passes (planOf (now (plan .entry)) c) (ledgerOf c (now (ledger .entry))) Test.Emptied t ⌝ }
+fn is_emptied(c: Counts, ledger: &[u16], t: usize) -> bool
+    requires { ⌜ Roomy c (now ledger) × (t < c .tracks) ⌝ }
+    ensures { λ r. ⌜ r ≡ (isUndoing (ledgerOf c (now (ledger .entry)) t .mode) && isEmpty (ledgerOf c (now (ledger .entry)) t .held)) ⌝ }
 {
     let k = reading::track(c, ledger, t);
     let m = k.mode;
@@ -123,25 +124,25 @@ fn is_emptied(plan: &[u8], c: Counts, ledger: &[u16], t: usize) -> bool
 
 // Whether a track passes a test.
 fn passes(plan: &[u8], c: Counts, ledger: &[u16], test: Test, t: usize) -> bool
-    requires { ⌜ Tidied (now plan) c (now ledger) × (t < c .tracks) ⌝ }
+    requires { ⌜ Askable (now plan) c (now ledger) test × (t < c .tracks) ⌝ }
     ensures { λ r. ⌜ r ≡ passes (planOf (now (plan .entry)) c) (ledgerOf c (now (ledger .entry))) test t ⌝ }
 {
     match test {
         Test::RootAwake => root_awake(plan, c, ledger, t),
         Test::StateOwn => state_own(plan, c, ledger, t),
-        Test::CodesReal => entries::codes_real_of(plan, c, ledger, t),
+        Test::CodesReal => entries::codes_real_of(c, ledger, t),
         Test::DeviationsGood => entries::deviations_good_of(plan, c, ledger, t),
         Test::HostedWell => hosted_well(plan, c, ledger, t),
         Test::RootDone => root_done(plan, c, ledger, t),
         Test::Awake => reading::is_awake(c, ledger, t),
         Test::Done => is_done(plan, c, ledger, t),
-        Test::Emptied => is_emptied(plan, c, ledger, t),
+        Test::Emptied => is_emptied(c, ledger, t),
     }
 }
 
 // Whether every track passes a test.
 pub fn every_track(plan: &[u8], c: Counts, ledger: &[u16], test: Test) -> bool
-    requires { ⌜ Tidied (now plan) c (now ledger) ⌝ }
+    requires { ⌜ Askable (now plan) c (now ledger) test ⌝ }
     ensures { λ r. ⌜ r ≡ everyBelow (c .tracks) (passes (planOf (now (plan .entry)) c) (ledgerOf c (now (ledger .entry))) test) ⌝ }
 {
     let tracks = c.tracks;
@@ -164,7 +165,7 @@ fn mark_failing(
     marks: [bool; 32],
     t: usize,
 ) -> [bool; 32]
-    requires { ⌜ Tidied (now plan) c (now ledger) × (t < c .tracks) ⌝ }
+    requires { ⌜ Askable (now plan) c (now ledger) test × (t < c .tracks) ⌝ }
     ensures { λ r. ⌜ r ≡ failMark (planOf (now (plan .entry)) c) (ledgerOf c (now (ledger .entry))) test t marks ⌝ }
 {
     if passes(plan, c, ledger, test, t) {
@@ -177,7 +178,7 @@ fn mark_failing(
 
 // Marks, and those of the tracks that fail a test.
 pub fn failing(plan: &[u8], c: Counts, ledger: &[u16], test: Test, marks: [bool; 32]) -> [bool; 32]
-    requires { ⌜ Tidied (now plan) c (now ledger) ⌝ }
+    requires { ⌜ Askable (now plan) c (now ledger) test ⌝ }
     ensures { λ r. ⌜ r ≡ failMarks (planOf (now (plan .entry)) c) (ledgerOf c (now (ledger .entry))) test marks (c .tracks) ⌝ }
 {
     let mut all = marks;

@@ -2,13 +2,13 @@
 use mathlib.Core.Path.{_∙_}
 use Rattle.rules.specs.Soundness.{deviationsGood}
 use Rattle.soundness.specs.Asked.{passes}
-use Rattle.soundness.proofs.Asking.{tracks-asked}
+use Rattle.soundness.proofs.Asking.{tracks-asked, with-entries}
 use borrow.Author.Needs.{needs}
 use Rattle.soundness.proofs.clauses.deviations_good.Statement.{statement}
 use Rattle.soundness.proofs.clauses.deviations_good.Tie as tie
 
 every-track-requires : tie.Need-every-track-requires
-every-track-requires c κs = search needs
+every-track-requires c κs = with-entries _ _ _ _ (c .before .before .pre .0) (c .before .before .pre .1) (c .before .before .pre .2)
 
 returns : tie.Need-returns
 unfolding deviationsGood passes

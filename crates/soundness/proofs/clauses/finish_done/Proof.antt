@@ -1,16 +1,17 @@
 -- The clause is the test, asked of every track. Assumes nothing.
-use mathlib.Core.Path.{ap, _∙_}
+use mathlib.Core.Path.{refl, ap, _∙_}
 use mathlib.Core.Bool.{not}
 use Rattle.rules.specs.Event.{isFinishing}
 use Rattle.rules.specs.Soundness.{finishDone}
-use Rattle.soundness.specs.Asked.{passes}
-use Rattle.soundness.proofs.Asking.{tracks-asked}
+use Rattle.soundness.specs.Asked.{passes, ofEntries}
+use Rattle.soundness.proofs.Asking.{tracks-asked, no-entries}
 use borrow.Author.Needs.{needs}
 use Rattle.soundness.proofs.clauses.finish_done.Statement.{statement}
 use Rattle.soundness.proofs.clauses.finish_done.Tie as tie
 
 every-track-requires : tie.Need-every-track-requires
-every-track-requires c κs = search needs
+unfolding ofEntries
+every-track-requires c κs = no-entries _ _ _ _ (c .before .before .pre .0) (c .before .before .pre .1) refl
 
 returns : tie.Need-returns
 unfolding finishDone isFinishing passes

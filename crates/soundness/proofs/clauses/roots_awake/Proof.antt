@@ -1,14 +1,15 @@
 -- The clause is the test, asked of every track. Assumes nothing.
-use mathlib.Core.Path.{_∙_}
+use mathlib.Core.Path.{refl, _∙_}
 use Rattle.rules.specs.Soundness.{rootsAwake}
-use Rattle.soundness.specs.Asked.{passes}
-use Rattle.soundness.proofs.Asking.{tracks-asked}
+use Rattle.soundness.specs.Asked.{passes, ofEntries}
+use Rattle.soundness.proofs.Asking.{tracks-asked, no-entries}
 use borrow.Author.Needs.{needs}
 use Rattle.soundness.proofs.clauses.roots_awake.Statement.{statement}
 use Rattle.soundness.proofs.clauses.roots_awake.Tie as tie
 
 every-track-requires : tie.Need-every-track-requires
-every-track-requires c κs = search needs
+unfolding ofEntries
+every-track-requires c κs = no-entries _ _ _ _ (c .before .before .pre .0) (c .before .before .pre .1) refl
 
 returns : tie.Need-returns
 unfolding rootsAwake passes

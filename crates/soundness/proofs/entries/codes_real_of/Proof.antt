@@ -14,10 +14,10 @@ wide-requires : tie.Need-wide-requires
 wide-requires c κs = search needs
 
 real-codes-requires : tie.Need-real-codes-requires
-real-codes-requires c κs = (in-room _ _ _ (c .before .before .before .before .pre .0 .roomy) (c .before .before .before .before .pre .1), few-held _ _ _ _ _ (c .before .before .before .before .pre .0) (c .wide .ensures .0 ∙ count-as _ (c .before .track .ensures)))
+real-codes-requires c κs = (in-room _ _ _ (c .before .before .before .pre .0) (c .before .before .before .pre .1), few-held _ _ _ _ (c .before .before .before .pre .2) (c .wide .ensures .0 ∙ count-as _ (c .before .track .ensures)))
 
 returns : tie.Need-returns
-returns c = c .real-codes .ensures ∙ held-asked _ _ _ _ _ (c .before .before .before .before .before .pre .1) (c .before .wide .ensures .0 ∙ count-as _ (c .before .before .track .ensures))
+returns c = c .real-codes .ensures ∙ held-asked _ _ _ _ _ (c .before .before .before .before .pre .1) (c .before .wide .ensures .0 ∙ count-as _ (c .before .before .track .ensures))
 
 pub codes-real-of-spec : {M : Type 1} → statement M
 codes-real-of-spec =

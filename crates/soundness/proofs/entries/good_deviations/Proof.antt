@@ -27,7 +27,7 @@ unfolding everyBelow
 loop-holds c = (search needs, refl)
 
 entry-deviation-requires : tie.Need-entry-deviation-requires Inv-loop μ-loop
-entry-deviation-requires c κs = (in-room _ _ _ (c .before .before .before .before .pre .0 .roomy) (c .before .before .before .before .pre .1), search needs)
+entry-deviation-requires c κs = (in-room _ _ _ (c .before .before .before .before .pre .1) (c .before .before .before .before .pre .2), search needs)
 
 good-deviation-requires : tie.Need-good-deviation-requires Inv-loop μ-loop
 good-deviation-requires c κs = search needs

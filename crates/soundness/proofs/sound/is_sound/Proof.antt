@@ -18,7 +18,7 @@ returns-2 : tie.Need-returns-2
 returns-2 c = sound-over _ _ _ (c .before .before .before .are-tidy .ensures) (c .before .before .if1 .left) (c .before .is-over .ensures) (c .if2 .taken)
 
 is-live-requires : tie.Need-is-live-requires
-is-live-requires c κs = record { accepts = c .before .before .before .before .before .before .pre .0; roomy = c .before .before .before .before .before .before .pre .1; tidy = holds (c .before .before .before .are-tidy .ensures) (c .before .before .if1 .left) }
+is-live-requires c κs = (c .before .before .before .before .before .before .pre .0, c .before .before .before .before .before .before .pre .1, holds (c .before .before .before .are-tidy .ensures) (c .before .before .if1 .left))
 
 returns-3 : tie.Need-returns-3
 returns-3 c = sound-live _ _ _ (c .before .before .before .before .are-tidy .ensures) (c .before .before .before .if1 .left) (c .before .before .is-over .ensures) (c .before .if2 .left) (c .is-live .ensures)

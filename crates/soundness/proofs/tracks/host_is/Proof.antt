@@ -14,7 +14,7 @@ wide-requires : tie.Need-wide-requires
 wide-requires c κs = search needs
 
 track-requires : tie.Need-track-requires
-track-requires c κs = (c .before .before .before .before .pre .0 .roomy, rw (c .wide .ensures .0 ∙ c .before .track-of .ensures) (owner-low _ _ _ (c .before .before .before .before .pre .0 .accepts) (c .before .before .before .before .pre .1)))
+track-requires c κs = (c .before .before .before .before .pre .1, rw (c .wide .ensures .0 ∙ c .before .track-of .ensures) (owner-low _ _ _ (c .before .before .before .before .pre .0) (c .before .before .before .before .pre .2)))
 
 wide-requires-2 : tie.Need-wide-requires-2
 wide-requires-2 c κs = search needs

@@ -34,7 +34,7 @@ wide-requires c κs = search needs
 
 host-is-requires : tie.Need-host-is-requires
 unfolding noState
-host-is-requires c κs = (c .before .before .before .before .before .before .before .before .pre .0, rw (c .wide .ensures .0) (host-low _ _ _ _ (c .before .before .before .before .before .before .before .before .pre .0 .accepts) (c .before .before .before .before .before .host-word .ensures) (c .before .before .before .before .if1 .left)))
+host-is-requires c κs = (c .before .before .before .before .before .before .before .before .pre .0, c .before .before .before .before .before .before .before .before .pre .1, rw (c .wide .ensures .0) (host-low _ _ _ _ (c .before .before .before .before .before .before .before .before .pre .0) (c .before .before .before .before .before .host-word .ensures) (c .before .before .before .before .if1 .left)))
 
 returns-3 : tie.Need-returns-3
 unfolding passes noState

@@ -1,5 +1,6 @@
 -- Each test by itself. Assumes nothing.
-use Rattle.soundness.specs.Asked.{passes}
+use Rattle.soundness.specs.Asked.{passes, ofEntries}
+use mathlib.Core.Path.{ap}
 use borrow.Author.Needs.{needs}
 use Rattle.soundness.proofs.tracks.passes.Statement.{statement}
 use Rattle.soundness.proofs.tracks.passes.Tie as tie
@@ -20,13 +21,15 @@ enum-told-3 : tie.Need-enum-told-3
 enum-told-3 c = search needs
 
 codes-real-of-requires : tie.Need-codes-real-of-requires
-codes-real-of-requires c κs = search needs
+unfolding ofEntries
+codes-real-of-requires c κs = (c .before .before .before .before .pre .0 .roomy, c .before .before .before .before .pre .1, c .before .before .before .before .pre .0 .tidy (ap ofEntries (c .enum-told3 .given .1)))
 
 enum-told-4 : tie.Need-enum-told-4
 enum-told-4 c = search needs
 
 deviations-good-of-requires : tie.Need-deviations-good-of-requires
-deviations-good-of-requires c κs = search needs
+unfolding ofEntries
+deviations-good-of-requires c κs = (c .before .before .before .before .pre .0 .accepts, c .before .before .before .before .pre .0 .roomy, c .before .before .before .before .pre .1, c .before .before .before .before .pre .0 .tidy (ap ofEntries (c .enum-told4 .given .1)))
 
 enum-told-5 : tie.Need-enum-told-5
 enum-told-5 c = search needs
