@@ -18,6 +18,7 @@ ghost use Rattle.rules.specs.Soundness.{sameMode};
 ghost use Rattle.steps.specs.Going.{Accepts, Roomy, ledgerOf};
 ghost use Rattle.soundness.specs.Asked.{Askable, passes, failMark, failMarks};
 
+// The tests; `passes` says which function answers each.
 pub enum Test {
     RootAwake,
     StateOwn,

@@ -3,7 +3,6 @@ use mathlib.Core.Path.{_∙_}
 use Rattle.rules.specs.Soundness.{codesReal}
 use Rattle.soundness.specs.Asked.{passes}
 use Rattle.soundness.proofs.Asking.{tracks-asked, with-entries}
-use borrow.Author.Needs.{needs}
 use Rattle.soundness.proofs.clauses.codes_real.Statement.{statement}
 use Rattle.soundness.proofs.clauses.codes_real.Tie as tie
 

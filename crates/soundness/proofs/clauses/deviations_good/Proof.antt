@@ -3,7 +3,6 @@ use mathlib.Core.Path.{_∙_}
 use Rattle.rules.specs.Soundness.{deviationsGood}
 use Rattle.soundness.specs.Asked.{passes}
 use Rattle.soundness.proofs.Asking.{tracks-asked, with-entries}
-use borrow.Author.Needs.{needs}
 use Rattle.soundness.proofs.clauses.deviations_good.Statement.{statement}
 use Rattle.soundness.proofs.clauses.deviations_good.Tie as tie
 

@@ -5,7 +5,6 @@ use Rattle.rules.specs.Event.{isFinishing}
 use Rattle.rules.specs.Soundness.{finishDone}
 use Rattle.soundness.specs.Asked.{passes, ofEntries}
 use Rattle.soundness.proofs.Asking.{tracks-asked, no-entries}
-use borrow.Author.Needs.{needs}
 use Rattle.soundness.proofs.clauses.finish_done.Statement.{statement}
 use Rattle.soundness.proofs.clauses.finish_done.Tie as tie
 

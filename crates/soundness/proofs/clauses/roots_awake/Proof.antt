@@ -3,7 +3,6 @@ use mathlib.Core.Path.{refl, _∙_}
 use Rattle.rules.specs.Soundness.{rootsAwake}
 use Rattle.soundness.specs.Asked.{passes, ofEntries}
 use Rattle.soundness.proofs.Asking.{tracks-asked, no-entries}
-use borrow.Author.Needs.{needs}
 use Rattle.soundness.proofs.clauses.roots_awake.Statement.{statement}
 use Rattle.soundness.proofs.clauses.roots_awake.Tie as tie
 
