@@ -5,6 +5,8 @@ pub mod Searches
 pub mod HeightLaws
 pub mod Hosting
 pub mod Judging
+pub mod PassLaws
+pub mod PassTurns
 pub mod KindTables
 pub mod Reader
 pub mod RecordTable

@@ -35,7 +35,7 @@ returns-3 c =
     ))
 
 some-bad-first-requires : tie.Need-some-bad-first-requires
-some-bad-first-requires c κs = search needs
+some-bad-first-requires c κs = (search needs, sym (c .before .before .before .some-bad-state .ensures) ∙ c .before .before .if2 .left)
 
 returns-4 : tie.Need-returns-4
 returns-4 c =
@@ -47,7 +47,7 @@ returns-4 c =
     ))
 
 some-bad-hosting-requires : tie.Need-some-bad-hosting-requires
-some-bad-hosting-requires c κs = search needs
+some-bad-hosting-requires c κs = (search needs, sym (c .before .before .before .some-bad-host .ensures) ∙ c .before .before .if3 .left)
 
 returns-5 : tie.Need-returns-5
 returns-5 c =
@@ -105,7 +105,7 @@ returns-8 c =
     ))
 
 some-too-high-requires : tie.Need-some-too-high-requires
-some-too-high-requires c κs = search needs
+some-too-high-requires c κs = (search needs, sym (c .before .before .before .before .before .before .before .before .before .before .before .some-bad-host .ensures) ∙ c .before .before .before .before .before .before .before .before .before .before .if3 .left)
 
 returns-9 : tie.Need-returns-9
 returns-9 c =

@@ -1,0 +1,168 @@
+//! Cases compared, and what happened in them counted.
+
+use std::io;
+use std::path::{Path, PathBuf};
+use std::sync::mpsc::{sync_channel, SyncSender};
+use std::thread;
+
+use conformance::coverage::{Coverage, JOURNALS};
+use conformance::generate::journals::{self, Case};
+use conformance::generate::rng::Rng;
+use conformance::generate::singles;
+use conformance::journal;
+use conformance::plan::MAX_TRACKS;
+
+use crate::case::{self, Call, Given};
+use crate::expected::{self, Done};
+use crate::guarded::{self, Answers, Requests};
+use crate::journals::Runner;
+
+/// Of so many single calls one is followed by a begin on the same input.
+pub const BEGINS: u64 = 8;
+
+/// Calls asked for and not yet compared.
+const AHEAD: usize = 256;
+
+/// What a comparison found.
+pub enum Verdict {
+    Agree,
+    /// The case's line, and what each side says.
+    Differ(String),
+}
+
+/// Who is compared with the second program, and what happened so far.
+pub struct Comparison {
+    calls: PathBuf,
+    runners: Vec<Runner>,
+    coverage: Coverage,
+}
+
+impl Comparison {
+    /// By the programs `calls` and `unwind` of a folder.
+    pub fn new(programs: &Path) -> io::Result<Comparison> {
+        let unwind = Runner::program(&programs.join("unwind"), &programs.join("folder"))?;
+        Ok(Comparison {
+            calls: programs.join("calls"),
+            runners: vec![Runner::Calls, unwind],
+            coverage: Coverage::default(),
+        })
+    }
+
+    /// So many journals.
+    pub fn journals(&mut self, seed: u64, count: u64) -> io::Result<Verdict> {
+        for index in 0..count {
+            let case = journals::case(&mut Rng::for_case(seed, 1, index), MAX_TRACKS);
+            self.coverage.journal(&case);
+            if let Verdict::Differ(text) = self.journal(&case)? {
+                return Ok(Verdict::Differ(text));
+            }
+        }
+        Ok(Verdict::Agree)
+    }
+
+    /// One journal, by the calls and by the program.
+    pub fn journal(&self, case: &Case) -> io::Result<Verdict> {
+        let second = journal::unwind(&case.plan, &case.journal);
+        for runner in &self.runners {
+            let first = runner.run(case)?;
+            if first != second {
+                let text = |bytes: &[u8]| String::from_utf8_lossy(bytes).into_owned();
+                let (line, name) = (case::journal_line(case), runner.name());
+                let (first, second) = (text(&first), text(&second));
+                return Ok(Verdict::Differ(format!(
+                    "{line}\n-- {name}:\n{first}-- second program:\n{second}"
+                )));
+            }
+        }
+        Ok(Verdict::Agree)
+    }
+
+    /// So many single calls, and begins among them.
+    pub fn singles(&mut self, seed: u64, count: u64) -> io::Result<Verdict> {
+        let (mut child, mut requests, mut answers) = guarded::start(&self.calls)?;
+        let (to, from) = sync_channel(AHEAD);
+        let coverage = &mut self.coverage;
+        let verdict = thread::scope(|scope| {
+            let asking = scope.spawn(move || ask(&mut requests, &to, coverage, (seed, count)));
+            let verdict = from.iter().find_map(|(given, expected)| {
+                let verdict = compare(&mut answers, &given, &expected);
+                (!matches!(verdict, Verdict::Agree)).then_some(verdict)
+            });
+            drop((from, answers));
+            let asked = asking.join().expect("asking does not panic");
+            verdict.map_or(asked.map(|()| Verdict::Agree), Ok)
+        });
+        let status = child.wait()?;
+        match verdict? {
+            Verdict::Agree if !status.success() => Err(io::Error::other(status.to_string())),
+            verdict => Ok(verdict),
+        }
+    }
+
+    /// One single call.
+    pub fn single(&self, given: &Given) -> io::Result<Verdict> {
+        let (mut child, mut requests, mut answers) = guarded::start(&self.calls)?;
+        requests.send(given)?;
+        let verdict = compare(&mut answers, given, &expected::answer(given));
+        drop(requests);
+        child.wait()?;
+        Ok(verdict)
+    }
+
+    /// Prints what happened; whether every row reaches its floor, which is
+    /// that of the default batch in proportion.
+    pub fn covers(&self, journals: u64) -> bool {
+        let rows = self.coverage.rows();
+        let mut below = 0;
+        println!("{:<45} {:>9} {:>9}", "row", "count", "floor");
+        for row in &rows {
+            let floor = row.floor * journals / JOURNALS;
+            let mark = if row.count < floor { "  BELOW" } else { "" };
+            below += usize::from(row.count < floor);
+            println!("{:<45} {:>9} {:>9}{mark}", row.name, row.count, floor);
+        }
+        println!("{} rows, {below} below their floor", rows.len());
+        below == 0
+    }
+}
+
+/// Asks for the calls, and has the second program answer them as well.
+fn ask(
+    requests: &mut Requests,
+    to: &SyncSender<(Given, Done)>,
+    coverage: &mut Coverage,
+    (seed, count): (u64, u64),
+) -> io::Result<()> {
+    for index in 0..count {
+        let single = singles::single(&mut Rng::for_case(seed, 2, index), MAX_TRACKS);
+        coverage.single(&single);
+        let given = Given::from(single);
+        let begin = (index % BEGINS == 0).then(|| Given {
+            call: Call::Begin,
+            ..given.clone()
+        });
+        for given in [Some(given), begin].into_iter().flatten() {
+            requests.send(&given)?;
+            let expected = expected::answer(&given);
+            if to.send((given, expected)).is_err() {
+                return Ok(());
+            }
+        }
+    }
+    Ok(())
+}
+
+/// The answer of the proved call against the second program's.
+fn compare(answers: &mut Answers, given: &Given, expected: &Done) -> Verdict {
+    let line = || case::call_line(given);
+    match answers.next(given.words.len()) {
+        Ok(done) if done == *expected => Verdict::Agree,
+        Ok(done) => Verdict::Differ(format!(
+            "{}\n-- proved: {}\n-- second program: {}\n",
+            line(),
+            done.text(),
+            expected.text()
+        )),
+        Err(error) => Verdict::Differ(format!("{}\n-- no answer: {error}\n", line())),
+    }
+}

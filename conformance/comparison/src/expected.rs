@@ -1,0 +1,62 @@
+//! What the second program answers, as the number that the calls for C give.
+
+use conformance::ledger::{PAIRS, TRACK_WORDS};
+use conformance::manager::{self, Answer};
+
+use crate::case::{Call, Given};
+
+/// A call's answer and the words afterwards.
+#[derive(Clone, Debug, PartialEq, Eq)]
+pub struct Done {
+    pub answer: u64,
+    pub words: Vec<u16>,
+}
+
+impl Done {
+    /// The number and the words, in hex.
+    pub fn text(&self) -> String {
+        let words: String = self.words.iter().map(|w| format!("{w:04x}")).collect();
+        format!("{:#x}, words {words}", self.answer)
+    }
+}
+
+/// The call, made by the second program.
+pub fn answer(given: &Given) -> Done {
+    let plan = &given.plan[..];
+    let mut words = given.words.clone();
+    let answer = match given.call {
+        Call::Begin => number(manager::begin(plan, &mut words), |()| 0),
+        Call::Event(event) => number(manager::event(plan, &mut words, event), |m| {
+            pair(m.moved, m.closed)
+        }),
+        Call::Signal => number(manager::signal(plan, &mut words), |turned| pair(turned, 0)),
+        Call::Fire(track) => number(manager::fire(plan, &mut words, track), |entry| {
+            pair(entry.code, entry.deviation)
+        }),
+        Call::Ready => number(manager::ready(plan, &words), |bits| u64::from(bits) << 32),
+        Call::Entries(track) => part(manager::entries(plan, &words, track), track),
+    };
+    Done { answer, words }
+}
+
+/// Bits 0 to 15 a refusal; else the figures.
+fn number<Figures>(answer: Answer<Figures>, figures: impl FnOnce(Figures) -> u64) -> u64 {
+    match answer {
+        Answer::Done(done) => figures(done),
+        Answer::Refused(refusal) => u64::from(refusal.number()),
+    }
+}
+
+/// Bits 16 to 31 and 32 to 47.
+fn pair(first: u16, second: u16) -> u64 {
+    u64::from(first) << 16 | u64::from(second) << 32
+}
+
+/// Bits 0 to 15 the count of words, bits 16 to 47 the index of the first one.
+fn part(words: &[u16], track: u16) -> u64 {
+    let index = u64::from(track) * TRACK_WORDS as u64 + PAIRS as u64;
+    match words.len() as u64 {
+        0 => 0,
+        count => count | index << 16,
+    }
+}

@@ -1,0 +1,70 @@
+//! The calls of the static library, made by a program in C on guarded
+//! buffers, which runs beside this one.
+
+use std::io::{self, BufReader, Read, Write};
+use std::path::Path;
+use std::process::{Child, ChildStdin, ChildStdout, Command, Stdio};
+
+use crate::case::{Call, Given};
+use crate::expected::Done;
+
+/// The program's number for a call, and its argument.
+fn code(call: Call) -> (u32, u16) {
+    match call {
+        Call::Begin => (0, 0),
+        Call::Event(event) => (1, event),
+        Call::Signal => (2, 0),
+        Call::Fire(track) => (3, track),
+        Call::Ready => (4, 0),
+        Call::Entries(track) => (5, track),
+    }
+}
+
+/// The program, started.
+pub fn start(program: &Path) -> io::Result<(Child, Requests, Answers)> {
+    let mut child = Command::new(program)
+        .stdin(Stdio::piped())
+        .stdout(Stdio::piped())
+        .spawn()?;
+    let requests = child.stdin.take().ok_or(io::ErrorKind::BrokenPipe)?;
+    let answers = child.stdout.take().ok_or(io::ErrorKind::BrokenPipe)?;
+    Ok((child, Requests(requests), Answers(BufReader::new(answers))))
+}
+
+/// Where calls are asked for.
+pub struct Requests(ChildStdin);
+
+impl Requests {
+    /// Asks for a call, in one write.
+    pub fn send(&mut self, given: &Given) -> io::Result<()> {
+        let (call, argument) = code(given.call);
+        let sizes = [given.plan.len() as u32, given.words.len() as u32];
+        let mut bytes = Vec::with_capacity(16 + given.plan.len() + 2 * given.words.len());
+        for number in [call, u32::from(argument), sizes[0], sizes[1]] {
+            bytes.extend(number.to_ne_bytes());
+        }
+        bytes.extend(&given.plan);
+        for word in &given.words {
+            bytes.extend(word.to_ne_bytes());
+        }
+        self.0.write_all(&bytes)
+    }
+}
+
+/// Where answers are read, in the order of the calls.
+pub struct Answers(BufReader<ChildStdout>);
+
+impl Answers {
+    /// The next answer, of a call on so many words.
+    pub fn next(&mut self, words: usize) -> io::Result<Done> {
+        let mut number = [0; 8];
+        self.0.read_exact(&mut number)?;
+        let mut bytes = vec![0; 2 * words];
+        self.0.read_exact(&mut bytes)?;
+        let words = bytes.chunks_exact(2);
+        Ok(Done {
+            answer: u64::from_ne_bytes(number),
+            words: words.map(|w| u16::from_ne_bytes([w[0], w[1]])).collect(),
+        })
+    }
+}

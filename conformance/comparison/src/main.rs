@@ -1,0 +1,121 @@
+//! The proved calls, the program `unwind` and the second program on the same
+//! random input, until a difference, or until as many cases as asked for agree.
+//!
+//! `comparison PROGRAMS run SEED JOURNALS CALLS` compares so many and holds
+//! what happened to the floors of coverage. `comparison PROGRAMS on SEED` goes
+//! on with seed after seed until stopped. `comparison PROGRAMS again FILE`
+//! runs the cases of a file of differences once more. PROGRAMS is a folder
+//! with the programs `calls` and `unwind`.
+//!
+//! Exit status: 0 no difference, 1 a difference or a row below its floor, 2
+//! there is no verdict.
+
+mod case;
+mod comparison;
+mod expected;
+mod guarded;
+mod journals;
+
+use std::fs;
+use std::io;
+use std::path::Path;
+use std::process::ExitCode;
+
+use conformance::coverage::{JOURNALS, SINGLES_PER_JOURNAL};
+
+use case::Again;
+use comparison::{Comparison, Verdict, BEGINS};
+
+/// Prints a difference and keeps it where it can be run again.
+fn report(programs: &Path, text: &str) -> io::Result<()> {
+    let file = programs.join("difference");
+    fs::write(&file, text)?;
+    print!("{text}");
+    println!("once more: conformance/compare again {}", file.display());
+    Ok(())
+}
+
+/// So many cases; whether they agree and cover what they should.
+fn run(programs: &Path, seed: u64, journals: u64, calls: u64) -> io::Result<bool> {
+    let mut comparison = Comparison::new(programs)?;
+    let mut verdict = comparison.singles(seed, calls)?;
+    if matches!(verdict, Verdict::Agree) {
+        verdict = comparison.journals(seed, journals)?;
+    }
+    if let Verdict::Differ(text) = verdict {
+        report(programs, &text)?;
+        return Ok(false);
+    }
+    let covered = comparison.covers(journals.min(calls / SINGLES_PER_JOURNAL));
+    let begins = calls.div_ceil(BEGINS);
+    println!(
+        "seed {seed}: {journals} journals, {calls} single calls and {begins} begins, 0 differences"
+    );
+    Ok(covered)
+}
+
+/// Batch after batch until stopped, or until one differs.
+fn on(programs: &Path, seed: u64) -> io::Result<bool> {
+    let calls = JOURNALS * SINGLES_PER_JOURNAL;
+    for seed in seed.. {
+        if !run(programs, seed, JOURNALS, calls)? {
+            return Ok(false);
+        }
+    }
+    Ok(true)
+}
+
+/// The cases of a file, once more.
+fn again(programs: &Path, file: &str) -> io::Result<bool> {
+    let comparison = Comparison::new(programs)?;
+    let mut agree = true;
+    for again in fs::read_to_string(file)?.lines().filter_map(case::parse) {
+        let verdict = match again {
+            Again::Call(given) => comparison.single(&given)?,
+            Again::Journal(case) => comparison.journal(&case)?,
+        };
+        if let Verdict::Differ(text) = verdict {
+            print!("{text}");
+            agree = false;
+        }
+    }
+    println!(
+        "{}",
+        if agree {
+            "no difference"
+        } else {
+            "differences"
+        }
+    );
+    Ok(agree)
+}
+
+fn number(text: &str) -> io::Result<u64> {
+    text.parse()
+        .map_err(|_| io::Error::other(format!("{text} is no number")))
+}
+
+fn done(words: &[&str]) -> io::Result<bool> {
+    match *words {
+        [programs, "run", seed, journals, calls] => {
+            let (seed, journals, calls) = (number(seed)?, number(journals)?, number(calls)?);
+            run(Path::new(programs), seed, journals, calls)
+        }
+        [programs, "on", seed] => on(Path::new(programs), number(seed)?),
+        [programs, "again", file] => again(Path::new(programs), file),
+        _ => Err(io::Error::other("usage: PROGRAMS run SEED JOURNALS CALLS")),
+    }
+}
+
+fn main() -> ExitCode {
+    let given: Vec<String> = std::env::args().skip(1).collect();
+    let words: Vec<&str> = given.iter().map(String::as_str).collect();
+    match done(&words) {
+        Ok(true) => ExitCode::SUCCESS,
+        Ok(false) => ExitCode::FAILURE,
+        Err(error) => {
+            eprintln!("comparison: {error}");
+            ExitCode::from(2)
+        }
+    }
+}

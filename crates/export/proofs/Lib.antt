@@ -1,0 +1,3 @@
+-- Laws of packed answers.
+pub mod Packing
+pub mod Unpacking

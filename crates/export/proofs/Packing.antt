@@ -1,0 +1,98 @@
+-- A packed answer keeps what the call promised. A part that is not empty lies in one track's words, so its place and its count can be packed.
+-- Assumes nothing.
+use mathlib.Core.Path.{_≡_, refl, sym, ap, _∙_}
+use mathlib.Core.Bool.{Bool, true, false, cond, not, _&&_}
+use mathlib.Core.List.{List, [], _∷_}
+use Prim.Native.Nat.{ℕ, zero, suc, _+_, _*_, _≤_, _<_}
+use native.Mathlib.Omega.{arith}
+use lib.Dec.{ltb, eqb}
+use lib.ListN.{length, take, drop}
+use borrow.Author.Tests.{ltb-true, eq-eqb, ne-eqb}
+use Rattle.rules.specs.declared.Counts.{Counts}
+use Rattle.rules.specs.Fold.{firstRefusal}
+use Rattle.rules.specs.Layout.{entryLimit, entryWidth, trackWidth, headWords, leadingWords, trackPlace, entriesPlace}
+use Rattle.rules.specs.Plan.{planOf, trackCount}
+use Rattle.rules.specs.Acceptance.{Reading, turnedBack, accepted, readPlan}
+use Rattle.rules.specs.Ledger.{ledgerAt}
+use Rattle.rules.specs.Soundness.{areTidy, isSound}
+use Rattle.rules.specs.Call.{Answer, Outcome, Meets, tooShort, ledgerRefusals, heldPart, entriesPart}
+use Rattle.rules.proofs.Tests.{and-true}
+use Rattle.plan.proofs.FieldLaws.{track-count}
+use Rattle.plan.proofs.Reader.{accepted-holds}
+use Rattle.ledger.proofs.SoundLaws.{count-within}
+use Rattle.export.specs.Packed.{bit16, packedPart, Returns}
+
+pub packs : (pack : Answer → ℕ) (o : Outcome) (a : Answer) (n : ℕ) (ws : List ℕ) → Meets o a ws → n ≡ pack a → Returns pack o n ws
+packs pack o a n ws m e = record { answered = e ∙ ap pack (m .answered); left = m .left }
+
+take-within : (n : ℕ) (xs : List ℕ) → length (take n xs) ≤ n
+take-within zero xs = omega arith
+take-within (suc n) [] = omega arith
+take-within (suc n) (x ∷ xs) = omega (arith, take-within n xs)
+
+-- what a part of so many words is, by its length
+take-again : (n : ℕ) (xs : List ℕ) → take n xs ≡ take (length (take n xs)) xs
+take-again zero xs = refl
+take-again (suc n) [] = refl
+take-again (suc n) (x ∷ xs) = ap (λ (r : List ℕ). x ∷ r) (take-again n xs)
+
+-- neither 17 nor 18 applies
+sound-if-unrefused : (short sound : Bool) → eqb (cond short 17 (cond (not sound) 18 0)) 0 ≡ true → sound ≡ true
+sound-if-unrefused true sound e = let z : _≡_ {A = ℕ} 0 1 = cc in absurd (omega arith)
+sound-if-unrefused false true e = refl
+sound-if-unrefused false false e = let z : _≡_ {A = ℕ} 0 1 = cc in absurd (omega arith)
+
+module _ (bs ws : List ℕ) (t : ℕ) where
+  -- a part that is not empty
+  pub record Held : Type 0 where
+    pub exists : t < 32
+    pub few : length (entriesPart entryLimit bs ws t) ≤ 64
+    pub there : entriesPart entryLimit bs ws t ≡ take (length (entriesPart entryLimit bs ws t)) (drop (entriesPlace entryLimit t) ws)
+
+  held-at : (k : ℕ) → t < 32 → k ≤ entryLimit → entriesPart entryLimit bs ws t ≡ take (entryWidth * k) (drop (entriesPlace entryLimit t) ws) → Held
+  unfolding entryWidth entryLimit
+  held-at k h m e =
+      record {
+        exists = h;
+        few = rw e (omega (arith, take-within (entryWidth * k) (drop (entriesPlace entryLimit t) ws)));
+        there = rw e (take-again (entryWidth * k) (drop (entriesPlace entryLimit t) ws));
+      }
+
+  held-under : (c : Counts) → readPlan bs ≡ accepted c → (eqb (firstRefusal (ledgerRefusals entryLimit (planOf bs c) ws)) 0 && ltb t (trackCount (planOf bs c))) ≡ true → Held
+  unfolding entriesPart heldPart ledgerRefusals firstRefusal isSound
+  held-under c a e =
+      let (f, l) = and-true (eqb (firstRefusal (ledgerRefusals entryLimit (planOf bs c) ws)) 0) (ltb t (trackCount (planOf bs c))) e in
+      let s : isSound entryLimit (planOf bs c) ws ≡ true = sound-if-unrefused (tooShort entryLimit (planOf bs c) ws) (isSound entryLimit (planOf bs c) ws) f in
+      let y = and-true (areTidy entryLimit ws (trackCount (planOf bs c))) _ s .0 in
+      let b = ltb-true t (trackCount (planOf bs c)) l in
+      held-at
+      (length (ledgerAt entryLimit ws (trackCount (planOf bs c)) t .held))
+      (omega (arith, b, track-count bs c, accepted-holds bs c a .tracks))
+      (count-within entryLimit (trackCount (planOf bs c)) ws t _ y refl)
+      (rw (a, entriesPart, e))
+
+  pub held : (length (entriesPart entryLimit bs ws t) ≡ 0 → ⊥) → Held
+  unfolding entriesPart
+  held h = go (readPlan bs) refl
+    where
+      tested : (c : Counts) (b : Bool) → readPlan bs ≡ accepted c → (eqb (firstRefusal (ledgerRefusals entryLimit (planOf bs c) ws)) 0 && ltb t (trackCount (planOf bs c))) ≡ b → Held
+      tested c true a e = held-under c a e
+      tested c false a e = absurd (h (rw (a, entriesPart, e)))
+
+      go : (x : Reading) → readPlan bs ≡ x → Held
+      go (turnedBack r) a = absurd (h (rw (a, entriesPart)))
+      go (accepted c) a = tested c (eqb (firstRefusal (ledgerRefusals entryLimit (planOf bs c) ws)) 0 && ltb t (trackCount (planOf bs c))) a refl
+
+-- the number of the empty part, and of another
+pub part-empty : (part : List ℕ) (t : ℕ) → length part ≡ 0 → 0 ≡ packedPart part t
+unfolding packedPart
+part-empty part t h = rw (eq-eqb (length part) 0 h)
+
+pub part-packed : (part xs : List ℕ) (t from : ℕ) → xs ≡ part → (length xs ≡ 0 → ⊥) → from ≡ entriesPlace entryLimit t + entryWidth * 0 → length xs + from * 65536 ≡ packedPart part t
+unfolding packedPart bit16 entryWidth
+part-packed part xs t from e h f = rw (sym e, ne-eqb (length xs) 0 h) (omega arith)
+
+-- the place of a track's entry is small
+pub place-small : (t u k from : ℕ) → u ≡ t → t < 32 → from ≡ entriesPlace entryLimit u + entryWidth * k → k ≤ 32 → from < 2211
+unfolding entriesPlace trackPlace trackWidth headWords entryWidth entryLimit leadingWords
+place-small t u k from e h f m = omega arith

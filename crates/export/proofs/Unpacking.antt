@@ -1,0 +1,50 @@
+-- The bits of a packed answer give it back: the refusal, the figures, and where a part lies. By division. Assumes nothing.
+use mathlib.Core.Path.{_≡_, refl, sym, ap, _∙_}
+use mathlib.Core.List.{List, [], _∷_}
+use Prim.Native.Nat.{ℕ, _+_, _*_, _≤_, _<_, _/_, _%_}
+use native.Mathlib.Omega.{arith}
+use lib.ListN.{length, take, drop}
+use borrow.Author.Tests.{ne-eqb}
+use Rattle.rules.specs.Layout.{entryLimit, entriesPlace}
+use Rattle.rules.specs.Call.{refusal, done, entriesPart}
+use Rattle.export.specs.Packed.{bit16, bit32, packed, packedReady, packedPart}
+use Rattle.export.proofs.Packing.{held}
+
+pub refusal-read : (n : ℕ) → n < bit16 → packed (refusal n) % bit16 ≡ n
+unfolding packed bit16
+refusal-read n h = omega arith
+
+pub accepted-read : (a b : ℕ) → packed (done (a ∷ b ∷ [])) % bit16 ≡ 0
+unfolding packed bit16 bit32
+accepted-read a b = omega arith
+
+pub first-read : (a b : ℕ) → a < bit16 → (packed (done (a ∷ b ∷ [])) / bit16) % bit16 ≡ a
+unfolding packed bit16 bit32
+first-read a b h = omega arith
+
+pub second-read : (a b : ℕ) → a < bit16 → b < bit16 → (packed (done (a ∷ b ∷ [])) / bit32) % bit16 ≡ b
+unfolding packed bit16 bit32
+second-read a b h k = omega arith
+
+pub ready-read : (n : ℕ) → packedReady (done (n ∷ [])) / bit32 ≡ n
+unfolding packedReady bit32
+ready-read n = omega arith
+
+-- the part that entries speaks of, from the number alone
+module _ (ws : List ℕ) (t : ℕ) where
+  held-read : (part : List ℕ) → (length part ≡ 0 → ⊥) → length part ≤ 64
+      → part ≡ take (length part) (drop (entriesPlace entryLimit t) ws) → take (packedPart part t % bit16) (drop (packedPart part t / bit16) ws) ≡ part
+  unfolding packedPart bit16
+  held-read part h few e =
+      let n : packedPart part t ≡ length part + entriesPlace entryLimit t * bit16 = rw (ne-eqb (length part) 0 h, packedPart) in
+      let count : packedPart part t % bit16 ≡ length part = omega arith in
+      let index : packedPart part t / bit16 ≡ entriesPlace entryLimit t = omega arith in
+      rw (count, index) (sym e)
+
+  pub part-read : (bs : List ℕ) (part : List ℕ) → part ≡ entriesPart entryLimit bs ws t
+      → take (packedPart part t % bit16) (drop (packedPart part t / bit16) ws) ≡ part
+  unfolding packedPart bit16
+  part-read bs [] e = refl
+  part-read bs (x ∷ xs) e =
+      let h = held bs ws t (λ z. let y : _≡_ {A = ℕ} (length (x ∷ xs)) 0 = ap length e ∙ z in absurd (omega arith)) in
+      held-read (x ∷ xs) (λ z. absurd (omega arith)) (rw (sym e) at (h .few)) (rw (sym e) at (h .there))

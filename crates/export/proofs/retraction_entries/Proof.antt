@@ -1,0 +1,44 @@
+-- A part that is not empty lies in the words of a track that exists, so its place and its count fit their bits. Assumes nothing.
+use mathlib.Core.Path.{sym, ap, _∙_}
+use native.Mathlib.Omega.{arith}
+use lib.ListN.{length}
+use Prim.Native.Nat.{ℕ, _+_, _*_}
+use Rattle.rules.specs.Layout.{entryLimit, entryWidth, entriesPlace}
+use Rattle.export.proofs.Packing.{held, part-empty, part-packed, place-small}
+use borrow.Author.Needs.{needs}
+use Rattle.export.proofs.retraction_entries.Statement.{statement}
+use Rattle.export.proofs.retraction_entries.Tie as tie
+
+entries-requires : tie.Need-entries-requires
+entries-requires c κs = search needs
+
+returns : tie.Need-returns
+returns c = part-empty _ _ (ap length (sym (c .before .entries .ensures)) ∙ c .if1 .taken)
+
+wide-requires : tie.Need-wide-requires
+wide-requires c κs = search needs
+
+entry-place-requires : tie.Need-entry-place-requires
+unfolding entryLimit
+entry-place-requires c κs = (omega (arith, c .wide .ensures .0, held _ _ _ (λ e. c .before .if1 .left (ap length (c .before .before .entries .ensures) ∙ e)) .exists), omega arith)
+
+mul-result : tie.Need-mul-result
+mul-result c = omega (arith, place-small _ _ _ _ (c .before .wide .ensures .0) (held _ _ _ (λ e. c .before .before .if1 .left (ap length (c .before .before .before .entries .ensures) ∙ e)) .exists) (c .entry-place .ensures) (omega arith))
+
+add-result : tie.Need-add-result
+add-result c = omega (arith, ap length (c .before .before .before .entries .ensures), held _ _ _ (λ e. c .before .before .if1 .left (ap length (c .before .before .before .entries .ensures) ∙ e)) .few, place-small _ _ _ _ (c .before .wide .ensures .0) (held _ _ _ (λ e. c .before .before .if1 .left (ap length (c .before .before .before .entries .ensures) ∙ e)) .exists) (c .entry-place .ensures) (omega arith))
+
+returns-2 : tie.Need-returns-2
+returns-2 c = part-packed _ _ _ _ (c .before .before .before .entries .ensures) (c .before .before .if1 .left) (c .entry-place .ensures ∙ ap (λ (t : ℕ). entriesPlace entryLimit t + entryWidth * 0) (c .before .wide .ensures .0))
+
+pub retraction-entries-spec : {M : Type 1} → statement M
+retraction-entries-spec =
+    tie.close
+    (tie.spec
+    entries-requires
+    returns
+    wide-requires
+    entry-place-requires
+    mul-result
+    add-result
+    returns-2)

@@ -1,0 +1,2 @@
+-- What the exported functions' contracts speak of beside the rules.
+pub mod Packed

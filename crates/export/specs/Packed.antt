@@ -1,0 +1,38 @@
+-- A call's answer as one number of 64 bits, for callers in other languages. Assumes nothing.
+use mathlib.Core.Path.{_≡_}
+use mathlib.Core.Bool.{cond}
+use mathlib.Core.List.{List, [], _∷_}
+use Prim.Native.Nat.{ℕ, _+_, _*_}
+use lib.ListN.{length}
+use lib.Dec.{eqb}
+use Rattle.rules.specs.Layout.{entryLimit, entriesPlace}
+use Rattle.rules.specs.Call.{Answer, refusal, done, Outcome}
+
+-- what a figure is multiplied by to stand at bit 16, and at bit 32
+unfoldable pub bit16 : ℕ
+bit16 = 65536
+
+unfoldable pub bit32 : ℕ
+bit32 = 4294967296
+
+-- bits 0 to 15 the refusal, 0 where accepted; bits 16 to 31 and 32 to 47 the figures
+unfoldable pub packed : Answer → ℕ
+packed (refusal n) = n
+packed (done []) = 0
+packed (done (a ∷ [])) = a * bit16
+packed (done (a ∷ b ∷ _)) = a * bit16 + b * bit32
+
+-- Ready's: bits 0 to 15 the refusal, bits 32 to 63 the number
+unfoldable pub packedReady : Answer → ℕ
+packedReady (refusal n) = n
+packedReady (done []) = 0
+packedReady (done (bits ∷ _)) = bits * bit32
+
+-- Entries': bits 0 to 15 the count of words of a track's part, bits 16 to 47 the index of its first word; 0 for the empty part
+unfoldable pub packedPart : List ℕ → ℕ → ℕ
+packedPart part t = cond (eqb (length part) 0) 0 (length part + entriesPlace entryLimit t * bit16)
+
+-- What a contract promises: the number is the outcome's answer, packed, and every lent word is the outcome's.
+pub record Returns (pack : Answer → ℕ) (o : Outcome) (number : ℕ) (words : List ℕ) : Type 0 where
+  pub answered : number ≡ pack (o .answer)
+  pub left : words ≡ o .words

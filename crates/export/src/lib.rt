@@ -1,0 +1,113 @@
+// The calls for C and Rust, under include/retraction.h. Each is a call of `manager`, its answer packed into one number.
+use ledger::layout;
+use rules::BeginAnswer;
+use rules::EventAnswer;
+use rules::FireAnswer;
+use rules::ReadyAnswer;
+use rules::SignalAnswer;
+ghost use mathlib.Core.Path.{_≡_};
+ghost use Prim.Native.Nat.{_+_, _*_, _<_};
+ghost use Rattle.rules.specs.Layout.{entryLimit};
+ghost use Rattle.rules.specs.Call.{nothing, beginOutcome, eventOutcome, signalOutcome, fireOutcome, readyOutcome, entriesPart};
+ghost use Rattle.export.specs.Packed.{bit16, bit32, packed, packedReady, packedPart, Returns};
+
+// What a figure is multiplied by to stand at bit 16, and at bit 32.
+const BIT16: u64 = 65536;
+
+const BIT32: u64 = 4294967296;
+
+// A refusal, at bit 0.
+fn at_bit0(n: u8) -> u64
+    ensures { λ r. ⌜ r ≡ n ⌝ }
+{
+    n as u64
+}
+
+// A figure, at bit 16.
+fn at_bit16(figure: u16) -> u64
+    ensures { λ r. ⌜ (r ≡ figure * bit16) × (r < bit32) ⌝ }
+{
+    (figure as u64) * BIT16
+}
+
+// A figure, at bit 32.
+fn at_bit32(figure: u32) -> u64
+    ensures { λ r. ⌜ r ≡ figure * bit32 ⌝ }
+{
+    (figure as u64) * BIT32
+}
+
+// Two figures, at bits 16 and 32.
+fn pair(a: u16, b: u16) -> u64
+    ensures { λ r. ⌜ r ≡ a * bit16 + b * bit32 ⌝ }
+{
+    at_bit16(a) + at_bit32(b as u32)
+}
+
+#[no_mangle]
+pub extern "C" fn retraction_begin(plan: &[u8], ledger: &mut [u16]) -> u64
+    ensures { λ r. ⌜ Returns packed (beginOutcome entryLimit (now (plan .entry)) (now (ledger .entry))) r (now (ledger .exit)) ⌝ }
+{
+    let answer = manager::begin(plan, &mut ledger[..]);
+    match answer {
+        BeginAnswer::Refused(n) => at_bit0(n),
+        BeginAnswer::Begun => 0,
+    }
+}
+
+#[no_mangle]
+pub extern "C" fn retraction_event(plan: &[u8], ledger: &mut [u16], event: u16) -> u64
+    ensures { λ r. ⌜ Returns packed (eventOutcome entryLimit (now (plan .entry)) (now (ledger .entry)) (record { event = event })) r (now (ledger .exit)) ⌝ }
+{
+    let answer = manager::event(plan, &mut ledger[..], event);
+    match answer {
+        EventAnswer::Refused(n) => at_bit0(n),
+        EventAnswer::Moved(moved, closed) => pair(moved, closed),
+    }
+}
+
+#[no_mangle]
+pub extern "C" fn retraction_signal(plan: &[u8], ledger: &mut [u16]) -> u64
+    ensures { λ r. ⌜ Returns packed (signalOutcome entryLimit (now (plan .entry)) (now (ledger .entry)) nothing) r (now (ledger .exit)) ⌝ }
+{
+    let answer = manager::signal(plan, &mut ledger[..]);
+    match answer {
+        SignalAnswer::Refused(n) => at_bit0(n),
+        SignalAnswer::Turned(turned) => at_bit16(turned),
+    }
+}
+
+#[no_mangle]
+pub extern "C" fn retraction_fire(plan: &[u8], ledger: &mut [u16], track: u16) -> u64
+    ensures { λ r. ⌜ Returns packed (fireOutcome entryLimit (now (plan .entry)) (now (ledger .entry)) (record { track = track })) r (now (ledger .exit)) ⌝ }
+{
+    let answer = manager::fire(plan, &mut ledger[..], track);
+    match answer {
+        FireAnswer::Refused(n) => at_bit0(n),
+        FireAnswer::Fired(code, deviation) => pair(code, deviation),
+    }
+}
+
+#[no_mangle]
+pub extern "C" fn retraction_ready(plan: &[u8], ledger: &mut [u16]) -> u64
+    ensures { λ r. ⌜ Returns packedReady (readyOutcome entryLimit (now (plan .entry)) (now (ledger .entry))) r (now (ledger .exit)) ⌝ }
+{
+    let answer = manager::ready(plan, &mut ledger[..]);
+    match answer {
+        ReadyAnswer::Refused(n) => at_bit0(n),
+        ReadyAnswer::Ready(bits) => at_bit32(bits),
+    }
+}
+
+#[no_mangle]
+pub extern "C" fn retraction_entries(plan: &[u8], ledger: &[u16], track: u16) -> u64
+    ensures { λ r. ⌜ r ≡ packedPart (entriesPart entryLimit (now (plan .entry)) (now (ledger .entry)) track) track ⌝ }
+{
+    let part = manager::entries(plan, ledger, track);
+    let count = part.len();
+    if count == 0 {
+        return 0;
+    }
+    let from = layout::entry_place(layout::wide(track), 0);
+    (count as u64) + (from as u64) * BIT16
+}

@@ -1,0 +1,18 @@
+-- The clause is the test, asked of every track. Assumes nothing.
+use mathlib.Core.Path.{_∙_}
+use Rattle.rules.specs.Soundness.{hostsAwake}
+use Rattle.soundness.specs.Asked.{passes}
+use Rattle.soundness.proofs.Asking.{tracks-asked}
+use borrow.Author.Needs.{needs}
+use Rattle.soundness.proofs.clauses.hosts_awake.Statement.{statement}
+use Rattle.soundness.proofs.clauses.hosts_awake.Tie as tie
+
+every-track-requires : tie.Need-every-track-requires
+every-track-requires c κs = search needs
+
+returns : tie.Need-returns
+unfolding hostsAwake passes
+returns c = c .every-track .ensures ∙ tracks-asked _ _ _
+
+pub hosts-awake-spec : {M : Type 1} → statement M
+hosts-awake-spec = tie.close (tie.spec every-track-requires returns)

@@ -1,0 +1,106 @@
+/* The paper's sample plan P and its journal, by the calls. Prints what `unwind` prints for them. */
+#include <stdio.h>
+
+#include "retraction.h"
+
+enum { TRACKS = 3, ROOT = 65535, NONE = 65535 };
+
+/* Records: length, kind, fields; the plan's bytes are these words, little-endian. */
+static const uint16_t records[] = {
+    6, 1, ROOT, 6, 1, 1, 6, 1, 1,
+    10, 2, 0, 0, 0, 10, 2, 0, 0, 90, 10, 2, 0, 1, 0,
+    10, 2, 1, 0, 0, 10, 2, 1, 1, 0,
+    10, 2, 2, 0, 0, 10, 2, 2, 0, 0, 10, 2, 2, 1, 0,
+    14, 3, 0, 10, 50, NONE, 1,
+    14, 3, 1, 13, 0, NONE, 2,
+    14, 3, 3, 11, 51, NONE, 4,
+    14, 3, 5, 12, 52, NONE, 6,
+    14, 3, 6, 14, 54, NONE, 7,
+    4, 4,
+};
+
+enum { WORDS = sizeof records / sizeof records[0] };
+
+static uint8_t plan[2 * WORDS];
+static uint16_t ledger[TRACKS * RETRACTION_TRACK_WORDS];
+static const size_t room = sizeof ledger / sizeof ledger[0];
+
+static void lay_out_plan(void)
+{
+    for (size_t i = 0; i < WORDS; i++) {
+        plan[2 * i] = (uint8_t)(records[i] & 255);
+        plan[2 * i + 1] = (uint8_t)(records[i] >> 8);
+    }
+}
+
+static void print_event(uint16_t event)
+{
+    uint64_t answer = retraction_event(plan, sizeof plan, ledger, room, event);
+    if (retraction_refusal(answer) != 0)
+        printf("R %u\n", retraction_refusal(answer));
+    else
+        printf("E %u %u %u\n", event, retraction_first(answer), retraction_second(answer));
+}
+
+static void print_signal(void)
+{
+    uint64_t answer = retraction_signal(plan, sizeof plan, ledger, room);
+    if (retraction_refusal(answer) != 0)
+        printf("R %u\n", retraction_refusal(answer));
+    else
+        printf("S %u\n", retraction_first(answer));
+}
+
+/* The lowest track that may be fired, or one that does not exist. */
+static uint16_t lowest_ready(void)
+{
+    uint32_t ready = retraction_tracks(retraction_ready(plan, sizeof plan, ledger, room));
+    uint16_t track = 0;
+    while (track < 32 && (ready >> track & 1) == 0)
+        track++;
+    return track;
+}
+
+/* Whether a firing was done. */
+static int print_firing(uint16_t track)
+{
+    uint64_t answer = retraction_fire(plan, sizeof plan, ledger, room, track);
+    uint16_t deviation = retraction_second(answer);
+    if (retraction_refusal(answer) != 0) {
+        printf("R %u\n", retraction_refusal(answer));
+        return 0;
+    }
+    if (deviation == NONE)
+        printf("F %u %u -\n", track, retraction_first(answer));
+    else
+        printf("F %u %u %u\n", track, retraction_first(answer), deviation);
+    return 1;
+}
+
+static unsigned entries_held(void)
+{
+    unsigned words = 0;
+    for (uint16_t track = 0; track < TRACKS; track++)
+        words += retraction_part_count(retraction_entries(plan, sizeof plan, ledger, room, track));
+    return words / 2;
+}
+
+int main(void)
+{
+    unsigned firings = 0;
+    lay_out_plan();
+    uint64_t begun = retraction_begin(plan, sizeof plan, ledger, room);
+    if (retraction_refusal(begun) != 0) {
+        printf("R %u\n", retraction_refusal(begun));
+        return 0;
+    }
+    printf("PLAN 3 8 5\n");
+    print_event(10);
+    print_event(11);
+    print_event(12);
+    print_signal();
+    for (int i = 0; i < 4; i++)
+        firings += (unsigned)print_firing(lowest_ready());
+    printf("H %u %u\n", entries_held(), firings);
+    return 0;
+}
