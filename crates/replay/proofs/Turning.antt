@@ -2,12 +2,12 @@
 use mathlib.Core.Path.{_≡_, refl, sym, ap, _∙_, subst}
 use mathlib.Core.Bool.{Bool, true, false}
 use mathlib.Core.List.{List}
-use Prim.Native.Nat.{ℕ, _+_, _*_, _<_, _≤_}
+use Prim.Native.Nat.{ℕ, _+_, _<_, _≤_}
 use native.Mathlib.Omega.{arith}
 use lib.ListN.{length}
 use Rattle.rules.specs.declared.Counts.{Counts}
 use Rattle.rules.specs.Fold.{sumBelow}
-use Rattle.rules.specs.Plan.{planOf, trackCount}
+use Rattle.rules.specs.Plan.{planOf}
 use Rattle.rules.specs.Layout.{entryLimit}
 use Rattle.rules.specs.Call.{Answer, refusal, done, Call, event, signal, fire, EventArguments, SignalArguments, FireArguments, callOutcome, Meets}
 use Rattle.rules.specs.Journal.{Entered}

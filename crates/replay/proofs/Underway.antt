@@ -1,25 +1,25 @@
 -- The loop over the records: what is written so far, with the text of the rest, is the whole text; the ledger is checked; the tally has
 -- the ledger's entries and the firings done. Assumes nothing.
 use mathlib.Core.Path.{_≡_, refl, sym, ap, _∙_, subst}
-use mathlib.Core.Bool.{Bool, true, false, cond}
+use mathlib.Core.Bool.{cond}
 use mathlib.Core.List.{List, _++_}
-use Prim.Native.Nat.{ℕ, zero, suc, _+_, _*_, _-_, _<_, _≤_, _^_}
+use Prim.Native.Nat.{ℕ, zero, suc, _+_, _*_, _-_, _<_, _≤_}
 use native.Mathlib.Omega.{arith}
 use lib.ListN.{length}
 use Rattle.rules.specs.declared.Counts.{Counts}
-use Rattle.rules.specs.Plan.{Plan, planOf, trackCount}
+use Rattle.rules.specs.Plan.{Plan, planOf}
 use Rattle.rules.specs.Record.{sizeAt}
 use Rattle.rules.specs.Layout.{entryLimit}
 use Rattle.rules.specs.Ledger.{Ledger, ledgerAt}
 use Rattle.rules.specs.Call.{Call, event, signal, fire, callOutcome}
-use Rattle.rules.specs.Journal.{Entered, ended, broken, fireLowest, called, enteredAt, fireLowestCall}
+use Rattle.rules.specs.Journal.{Entered, ended, broken, fireLowest, called, enteredAt}
 use Rattle.rules.specs.Transcript.{refusalLine, tallyLine, heldTotal, firingsOf, lastLine, replay, mostBytes}
 use Rattle.rules.specs.Transcript as text
 use Rattle.plan.proofs.FieldLaws.{track-count}
 use Rattle.steps.specs.Going.{Checked, ledgerOf}
 use Rattle.journal.specs.Entered.{sizeOf}
 use Rattle.journal.specs.Replayed.{replayed, callOf}
-use Rattle.journal.specs.Writing.{Wrote, lineRoom}
+use Rattle.journal.specs.Writing.{lineRoom}
 use Rattle.journal.proofs.Entering.{stands}
 use Rattle.journal.proofs.Replaying.{replay-ended, replay-broken}
 use Rattle.journal.proofs.Running.{Running, run-start, run-call, run-stopped}

@@ -1,13 +1,13 @@
 -- The whole text, by what the run finds: an input that is too long, a plan that is turned back, or the plan's line and the records'.
 -- The program's own ledger and the lent one hold the same after begin, so they give the same text. Assumes nothing.
 use mathlib.Core.Path.{_≡_, refl, sym, ap, _∙_, subst}
-use mathlib.Core.Bool.{Bool, true, false, not, cond, _||_}
+use mathlib.Core.Bool.{Bool, true, false, not, _||_}
 use mathlib.Core.List.{List, _++_}
 use Prim.Native.Nat.{ℕ, suc, _+_, _*_, _<_, _≤_}
 use native.Mathlib.Omega.{arith}
 use lib.Dec.{ltb}
 use lib.ListN.{length, length-replicate}
-use borrow.Author.Tests.{lt-ltb, le-ltb, ltb-true, ltb-false, not-true, not-false}
+use borrow.Author.Tests.{lt-ltb, le-ltb, ltb-false, not-true, not-false}
 use Rattle.rules.specs.declared.Counts.{Counts}
 use Rattle.rules.specs.Record.{mostOf}
 use Rattle.rules.specs.Plan.{planOf}
@@ -20,12 +20,11 @@ use Rattle.rules.specs.Transcript.{refusalLine, planLine, replay, mostBytes, ow
 use Rattle.rules.proofs.Tests.{or-right}
 use Rattle.plan.proofs.Reader.{accepted-holds}
 use Rattle.steps.specs.Going.{Accepts, Roomy}
-use Rattle.journal.specs.Writing.{Wrote, Lined, lineRoom, writtenAt}
-use Rattle.journal.proofs.Written.{wrote-then, length-written}
-use Rattle.replay.specs.declared.RunAnswer.{RunAnswer}
+use Rattle.journal.specs.Writing.{Lined, lineRoom, writtenAt}
+use Rattle.journal.proofs.Written.{wrote-then}
 use Rattle.replay.specs.declared.RunAnswer.the-variants.{Written, TooSmall, ShortLedger}
 use Rattle.replay.specs.Left.{wordsFrom, wordsLeft}
-use Rattle.replay.specs.Runs.{textRoom, runOutcome, Ran, RanFrom}
+use Rattle.replay.specs.Runs.{textRoom, runOutcome, Ran, RanFrom, RanRecords, RanPlan}
 use Rattle.replay.proofs.Keeping.{begin-words, begin-holding}
 use Rattle.replay.proofs.SameText.{replay-same}
 
@@ -78,11 +77,9 @@ ran-refused out out′ end n ws h l = let s = l .short in record { wrote = l .wr
 -- begin's words under either name
 pub ran-begun : (bs js : List ℕ) (c : Counts) (a : Accepts bs c) (ws ws′ : List ℕ) → Roomy c ws → ws′ ≡ written entryLimit (c .tracks) (begun (planOf bs c)) ws
     → (mid : List ℕ) (start : ℕ) (vs out′ : List ℕ) (end : ℕ)
-    → RanFrom mid start (replay bs js (planOf bs c) (suc (length js)) 0 ws′ 0) (wordsFrom bs js (planOf bs c) (suc (length js)) 0 ws′) vs out′ end
-    → RanFrom mid start (replay bs js (planOf bs c) (suc (length js)) 0 (beginOutcome entryLimit bs ws .words) 0) (wordsFrom bs js (planOf bs c) (suc (length js)) 0 (beginOutcome entryLimit bs ws .words)) vs out′ end
+    → RanRecords bs js c ws′ mid start vs out′ end → RanRecords bs js c (beginOutcome entryLimit bs ws .words) mid start vs out′ end
 ran-begun bs js c a ws ws′ r e mid start vs out′ end g =
-    subst
-    (λ (us : List ℕ). RanFrom mid start (replay bs js (planOf bs c) (suc (length js)) 0 us 0) (wordsFrom bs js (planOf bs c) (suc (length js)) 0 us) vs out′ end)
+    subst (λ (us : List ℕ). RanRecords bs js c us mid start vs out′ end)
     (e ∙ begin-words bs c a ws r) g
 
 module _ (bs js ws : List ℕ) where
@@ -193,6 +190,6 @@ module _ (bs js ws : List ℕ) where
             ran (refusalLine n) ws ws (refused-text n (neither b k) f) (refused-words n (neither b k) f) (ran-refused out out′ end n ws (line-fits js room (length out) e h) r)
 
         pub ran-plan : (c : Counts) (ws′ : List ℕ) → length bs ≤ mostBytes → length js ≤ mostBytes → readPlan bs ≡ accepted c
-            → RanFrom out 0 (planLine c ++ replay bs js (planOf bs c) (suc (length js)) 0 (beginOutcome entryLimit bs ws .words) 0) (wordsFrom bs js (planOf bs c) (suc (length js)) 0 (beginOutcome entryLimit bs ws .words)) ws′ out′ end
+            → RanPlan bs js c ws out ws′ out′ end
             → Ran (runOutcome bs js ws out) (Written end) ws′ out′
         ran-plan c ws′ h k f r = ran _ _ ws′ (accepted-text c (neither h k) f l) (accepted-words c (neither h k) f) r

@@ -1,17 +1,20 @@
 -- What a run answers, and what it leaves in the lent output and the lent ledger. Assumes nothing.
 use mathlib.Core.Path.{_≡_}
 use mathlib.Core.Bool.{cond}
-use mathlib.Core.List.{List}
-use Prim.Native.Nat.{ℕ, _+_, _*_, _≤_}
+use mathlib.Core.List.{List, _++_}
+use Prim.Native.Nat.{ℕ, suc, _+_, _*_, _≤_}
 use lib.ListN.{length}
 use lib.Dec.{ltb}
+use Rattle.rules.specs.declared.Counts.{Counts}
 use Rattle.rules.specs.Record.{mostOf}
+use Rattle.rules.specs.Plan.{planOf}
 use Rattle.rules.specs.Layout.{entryLimit, wordCount}
-use Rattle.rules.specs.Transcript.{mostBytes, transcript}
+use Rattle.rules.specs.Call.{beginOutcome}
+use Rattle.rules.specs.Transcript.{planLine, replay, mostBytes, transcript}
 use Rattle.journal.specs.Writing.{writtenAt, Wrote}
 use Rattle.replay.specs.declared.RunAnswer.{RunAnswer}
 use Rattle.replay.specs.declared.RunAnswer.the-variants.{Written, TooSmall, ShortLedger}
-use Rattle.replay.specs.Left.{wordsLeft}
+use Rattle.replay.specs.Left.{wordsFrom, wordsLeft}
 
 -- the bytes that hold any text of a journal
 unfoldable pub textRoom : List ℕ → ℕ
@@ -40,8 +43,18 @@ pub record Ran (o : Result) (told : RunAnswer) (ws out : List ℕ) : Type 0 wher
   pub written : out ≡ o .bytes
   pub within : (n : ℕ) → told ≡ Written n → n ≤ length out
 
--- The same of the lines from a place on: their text, and the words that are left.
+-- The same of a text that is written from a place on, and of the words that are left.
 pub record RanFrom (out : List ℕ) (start : ℕ) (text words ws out′ : List ℕ) (end : ℕ) : Type 0 where
   pub wrote : Wrote out start text out′ end
   pub left : ws ≡ words
   pub short : end ≤ length out
+
+-- The same of the journal's records and the last line, on a ledger that was begun, and of a plan's line before them.
+abbrev pub RanRecords : List ℕ → List ℕ → Counts → List ℕ → List ℕ → ℕ → List ℕ → List ℕ → ℕ → Type 0
+RanRecords bs js c ws out start ws′ out′ end =
+    RanFrom out start (replay bs js (planOf bs c) (suc (length js)) 0 ws 0) (wordsFrom bs js (planOf bs c) (suc (length js)) 0 ws) ws′ out′ end
+
+abbrev pub RanPlan : List ℕ → List ℕ → Counts → List ℕ → List ℕ → List ℕ → List ℕ → ℕ → Type 0
+RanPlan bs js c ws out ws′ out′ end =
+    let vs : List ℕ = beginOutcome entryLimit bs ws .words in
+    RanFrom out 0 (planLine c ++ replay bs js (planOf bs c) (suc (length js)) 0 vs 0) (wordsFrom bs js (planOf bs c) (suc (length js)) 0 vs) ws′ out′ end

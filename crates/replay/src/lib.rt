@@ -9,17 +9,11 @@ use ledger::layout;
 use rules::Counts;
 use rules::PlanAnswer;
 ghost use mathlib.Core.Path.{_≡_};
-ghost use mathlib.Core.List.{_++_};
-ghost use Prim.Native.Nat.{suc, _+_, _*_, _≤_};
+ghost use Prim.Native.Nat.{_+_, _*_, _≤_};
 ghost use lib.ListN.{length};
-ghost use Rattle.rules.specs.Plan.{planOf};
-ghost use Rattle.rules.specs.Layout.{entryLimit};
-ghost use Rattle.rules.specs.Call.{beginOutcome};
-ghost use Rattle.rules.specs.Transcript.{planLine, replay, mostBytes};
+ghost use Rattle.rules.specs.Transcript.{mostBytes};
 ghost use Rattle.steps.specs.Going.{Accepts, Roomy};
-ghost use Rattle.journal.specs.Writing.{lineRoom};
-ghost use Rattle.replay.specs.Left.{wordsFrom};
-ghost use Rattle.replay.specs.Runs.{textRoom, runOutcome, Ran, RanFrom};
+ghost use Rattle.replay.specs.Runs.{textRoom, runOutcome, Ran, RanPlan};
 
 // The most bytes of a plan or a journal.
 pub const MOST_BYTES: usize = 32768;
@@ -57,7 +51,7 @@ pub fn text_room(journal: &[u8]) -> usize
 // Begins, and writes the lines of an accepted plan. Answers how many bytes were written.
 fn run_plan(plan: &[u8], c: Counts, journal: &[u8], ledger: &mut [u16], output: &mut [u8]) -> usize
     requires { ⌜ Accepts (now plan) c × Roomy c (now ledger) × (length (now journal) ≤ mostBytes) × (6 * length (now journal) + 72 ≤ length (now output)) ⌝ }
-    ensures { λ r. ⌜ RanFrom (now (output .entry)) 0 (planLine c ++ replay (now (plan .entry)) (now (journal .entry)) (planOf (now (plan .entry)) c) (suc (length (now (journal .entry)))) 0 (beginOutcome entryLimit (now (plan .entry)) (now (ledger .entry)) .words) 0) (wordsFrom (now (plan .entry)) (now (journal .entry)) (planOf (now (plan .entry)) c) (suc (length (now (journal .entry)))) 0 (beginOutcome entryLimit (now (plan .entry)) (now (ledger .entry)) .words)) (now (ledger .exit)) (now (output .exit)) r ⌝ }
+    ensures { λ r. ⌜ RanPlan (now (plan .entry)) (now (journal .entry)) c (now (ledger .entry)) (now (output .entry)) (now (ledger .exit)) (now (output .exit)) r ⌝ }
 {
     let start = plan_line(&mut output[..], 0, c);
     manager::opening::begin_all(plan, c, &mut ledger[..]);

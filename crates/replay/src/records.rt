@@ -10,15 +10,13 @@ use journal::record::size_of;
 use journal::tally::Tally;
 use rules::Counts;
 ghost use mathlib.Core.Path.{_≡_};
-ghost use Prim.Native.Nat.{suc, _+_, _*_, _≤_};
+ghost use Prim.Native.Nat.{_+_, _*_, _≤_};
 ghost use lib.ListN.{length};
-ghost use Rattle.rules.specs.Plan.{planOf};
-ghost use Rattle.rules.specs.Transcript.{replay, mostBytes};
+ghost use Rattle.rules.specs.Transcript.{mostBytes};
 ghost use Rattle.steps.specs.Going.{Checked};
 ghost use Rattle.journal.specs.Entered.{entered};
 ghost use Rattle.journal.specs.Writing.{lineRoom};
-ghost use Rattle.replay.specs.Left.{wordsFrom};
-ghost use Rattle.replay.specs.Runs.{RanFrom};
+ghost use Rattle.replay.specs.Runs.{RanRecords};
 ghost use Rattle.replay.specs.Turned.{isBrokenRecord, Closed};
 
 fn is_broken(found: Record) -> bool
@@ -57,7 +55,7 @@ pub fn run_records(
     start: usize,
 ) -> usize
     requires { ⌜ Checked (now plan) c (now ledger) × (length (now journal) ≤ mostBytes) × (start + 6 * length (now journal) + 2 * lineRoom ≤ length (now output)) ⌝ }
-    ensures { λ r. ⌜ RanFrom (now (output .entry)) start (replay (now (plan .entry)) (now (journal .entry)) (planOf (now (plan .entry)) c) (suc (length (now (journal .entry)))) 0 (now (ledger .entry)) 0) (wordsFrom (now (plan .entry)) (now (journal .entry)) (planOf (now (plan .entry)) c) (suc (length (now (journal .entry)))) 0 (now (ledger .entry))) (now (ledger .exit)) (now (output .exit)) r ⌝ }
+    ensures { λ r. ⌜ RanRecords (now (plan .entry)) (now (journal .entry)) c (now (ledger .entry)) (now (output .entry)) start (now (ledger .exit)) (now (output .exit)) r ⌝ }
 {
     let held = held::held_total(c, &ledger[..]);
     let tally = Tally {

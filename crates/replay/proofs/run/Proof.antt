@@ -1,6 +1,6 @@
 -- By the tests, in their order: each case is the whole text of the definitions. Assumes nothing.
 use Rattle.replay.proofs.WholeText.{accepts, roomy, small, short, long-ledger, line-fits, text-fits, ran-long-plan, ran-long-journal, ran-back, ran-plan}
-use mathlib.Core.Path.{refl, sym, ap, _∙_}
+use mathlib.Core.Path.{sym, ap, _∙_}
 use Rattle.rules.specs.Answers.{planTold}
 use borrow.Author.Needs.{needs}
 use Rattle.replay.proofs.run.Statement.{statement}
