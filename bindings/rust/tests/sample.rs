@@ -1,42 +1,10 @@
 //! The paper's sample plan through the safe calls.
 
+mod sample_plan;
+
 use retraction::{begin, entries, event, fire, ready, signal};
 use retraction::{Begin, Event, Fire, Ready, Signal, NONE, TRACK_WORDS};
-
-/// The records of plan P: length, kind, fields.
-const RECORDS: &[&[u16]] = &[
-    &[6, 1, NONE],
-    &[6, 1, 1],
-    &[6, 1, 1],
-    &[10, 2, 0, 0, 0],
-    &[10, 2, 0, 0, 90],
-    &[10, 2, 0, 1, 0],
-    &[10, 2, 1, 0, 0],
-    &[10, 2, 1, 1, 0],
-    &[10, 2, 2, 0, 0],
-    &[10, 2, 2, 0, 0],
-    &[10, 2, 2, 1, 0],
-    &[14, 3, 0, 10, 50, NONE, 1],
-    &[14, 3, 1, 13, 0, NONE, 2],
-    &[14, 3, 3, 11, 51, NONE, 4],
-    &[14, 3, 5, 12, 52, NONE, 6],
-    &[14, 3, 6, 14, 54, NONE, 7],
-    &[4, 4],
-];
-
-fn plan() -> Vec<u8> {
-    let words = RECORDS.iter().flat_map(|record| record.iter());
-    words.flat_map(|word| word.to_le_bytes()).collect()
-}
-
-/// Plan P begun, with words beyond that stay as they are.
-fn begun() -> (Vec<u8>, Vec<u16>) {
-    let plan = plan();
-    let mut ledger = vec![7; 3 * TRACK_WORDS + 5];
-    assert_eq!(begin(&plan, &mut ledger), Begin::Begun);
-    assert_eq!(ledger[3 * TRACK_WORDS..], [7; 5]);
-    (plan, ledger)
-}
+use sample_plan::{begun, plan};
 
 fn fired(code: u16) -> Fire {
     let deviation = NONE;

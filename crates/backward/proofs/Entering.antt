@@ -22,8 +22,10 @@ use Rattle.rules.proofs.Stored.{written-same}
 use Rattle.rules.proofs.Passes.{upTo}
 use Rattle.plan.proofs.FieldLaws.{track-count}
 use Rattle.steps.specs.Going.{Accepts, ledgerOf}
+use Rattle.plan.specs.Passes.{firstMarks}
 use Rattle.steps.specs.Marks.{slots, wakeMarks}
 use Rattle.steps.proofs.Facts.{plan-facts, few-tracks}
+use Rattle.steps.proofs.FirstStates.{first-at}
 use Rattle.steps.proofs.Marks.{wake-marks}
 use Rattle.backward.specs.Orderly.{Orderly, withConfiguration, withMode}
 use Rattle.backward.specs.Entering.{deviating, enteredBy, Sleepers}
@@ -31,24 +33,31 @@ use Rattle.backward.proofs.Standing.{holds, kept-track, Fitting, pass-s
 use Rattle.backward.proofs.Storing.{Stores, stores-at}
 
 -- one track, as the code takes it: it enters, is left, or wakes
-module _ (c : Counts) (ws : List ℕ) (o : Orderly c ws) (t : ℕ) (p : Plan) (to : List ℕ) (woken : List Bool) where
+module _ (c : Counts) (ws : List ℕ) (o : Orderly c ws) (t : ℕ) (firsts to : List ℕ) (woken : List Bool) where
   pub enter-state : (getD to t 0 ≡ noState → ⊥) → {vs : List ℕ} → vs ≡ withConfiguration c ws t (withMode Forward (getD to t 0) (ledgerOf c ws t))
-      → vs ≡ withConfiguration c ws t (enteredBy p to woken t (ledgerOf c ws t))
-  unfolding enteredBy entered optional withMode
-  enter-state n d = d ∙ ap (withConfiguration c ws t) (sym (rw (ne-eqb (getD to t 0) noState n, entered)))
+      → vs ≡ withConfiguration c ws t (enteredBy firsts to woken t (ledgerOf c ws t))
+  unfolding enteredBy withMode
+  enter-state n d = d ∙ ap (withConfiguration c ws t) (sym (rw (ne-eqb (getD to t 0) noState n)))
 
-  pub enter-not : getD to t 0 ≡ noState → getD woken t false ≡ false → ws ≡ withConfiguration c ws t (enteredBy p to woken t (ledgerOf c ws t))
-  unfolding enteredBy entered optional
-  enter-not n w = kept-track c ws o t _ (rw (eq-eqb (getD to t 0) noState n, entered, w))
+  pub enter-not : getD to t 0 ≡ noState → getD woken t false ≡ false → ws ≡ withConfiguration c ws t (enteredBy firsts to woken t (ledgerOf c ws t))
+  unfolding enteredBy
+  enter-not n w = kept-track c ws o t _ (rw (eq-eqb (getD to t 0) noState n, w))
 
-  pub enter-first : getD to t 0 ≡ noState → getD woken t false ≡ true → ledgerOf c ws t ≡ sleeping → {f : ℕ} → f ≡ firstState p t
-      → {vs : List ℕ} → vs ≡ withConfiguration c ws t (withMode Forward f (ledgerOf c ws t))
-      → vs ≡ withConfiguration c ws t (enteredBy p to woken t (ledgerOf c ws t))
-  unfolding enteredBy entered optional withMode fresh sleeping
-  enter-first n w a {f} e d =
-      let x : withMode Forward f (ledgerOf c ws t) ≡ fresh p t = rw (a, e) in
-      let y : enteredBy p to woken t (ledgerOf c ws t) ≡ fresh p t = rw (eq-eqb (getD to t 0) noState n, entered, w) in
-      d ∙ ap (withConfiguration c ws t) (x ∙ sym y)
+  pub enter-first : getD to t 0 ≡ noState → getD woken t false ≡ true → ledgerOf c ws t ≡ sleeping
+      → {vs : List ℕ} → vs ≡ withConfiguration c ws t (withMode Forward (getD firsts t 0) (ledgerOf c ws t))
+      → vs ≡ withConfiguration c ws t (enteredBy firsts to woken t (ledgerOf c ws t))
+  unfolding enteredBy withMode sleeping
+  enter-first n w a d = d ∙ ap (withConfiguration c ws t) (rw (eq-eqb (getD to t 0) noState n, w, a))
+
+-- the same as the rules have it
+enters : (p : Plan) (firsts to : List ℕ) (woken : List Bool) (t : ℕ) (x : Configuration) → getD firsts t 0 ≡ firstState p t
+    → enteredBy firsts to woken t x ≡ entered p x (fresh p t) (optional (getD to t 0)) (getD woken t false)
+unfolding enteredBy entered optional fresh
+enters p firsts to woken t x e =
+    elim (look (eqb (getD to t 0) noState)) [
+      | inl z ↦ rw (z, entered, e)
+      | inr z ↦ rw (z, entered)
+    ]
 
 -- what is entered or woken holds no more than before
 pub entered-stores : (limit : ℕ) (p : Plan) (x : Configuration) (t : ℕ) (o : Option ℕ) (w : Bool) → Stores limit x → Stores limit (entered p x (fresh p t) o w)
@@ -57,10 +66,18 @@ entered-stores limit p x t none true s = record { fits = omega arith; blank = λ
 entered-stores limit p x t none false s = s
 entered-stores limit p x t (some d) w s = record { fits = s .fits; blank = λ a. clash refl a }
 
-pub entering-fits : (c : Counts) (ws : List ℕ) (o : Orderly c ws) (p : Plan) (to : List ℕ) (woken : List Bool) → Fitting c ws o (enteredBy p to woken)
-unfolding enteredBy
-entering-fits c ws o p to woken =
-    let s : (t : ℕ) → Stores entryLimit (entered p (ledgerOf c ws t) (fresh p t) (optional (getD to t 0)) (getD woken t false)) = λ t. entered-stores entryLimit p (ledgerOf c ws t) t (optional (getD to t 0)) (getD woken t false) (stores-at entryLimit (c .tracks) (ledgerOf c ws) (holds c ws o) t) in
+turn-stores : (limit : ℕ) (firsts to : List ℕ) (woken : List Bool) (t : ℕ) (x : Configuration) → Stores limit x → Stores limit (enteredBy firsts to woken t x)
+unfolding enteredBy isAwake
+turn-stores limit firsts to woken t x s =
+    elim (look (eqb (getD to t 0) noState)) [
+      | inr z ↦ rw z (record { fits = s .fits; blank = λ a. clash refl a })
+      | inl z ↦
+          elim (look (getD woken t false)) [ inl w ↦ rw (z, w) (record { fits = omega arith; blank = λ a. clash refl a }) | inr w ↦ rw (z, w) s ]
+    ]
+
+pub entering-fits : (c : Counts) (ws : List ℕ) (o : Orderly c ws) (firsts to : List ℕ) (woken : List Bool) → Fitting c ws o (enteredBy firsts to woken)
+entering-fits c ws o firsts to woken =
+    let s : (t : ℕ) → Stores entryLimit (enteredBy firsts to woken t (ledgerOf c ws t)) = λ t. turn-stores entryLimit firsts to woken t (ledgerOf c ws t) (stores-at entryLimit (c .tracks) (ledgerOf c ws) (holds c ws o) t) in
     record { fits = λ t b. s t .fits; blank = λ t b. s t .blank }
 
 -- Of all tracks, t alone enters a state.
@@ -92,39 +109,45 @@ module _ (bs : List ℕ) (c : Counts) (acc : Accepts bs c) (t : ℕ) (b : t < c 
       wake-marks p (plan-facts bs c acc) (few-tracks bs c acc) to (c .tracks) (omega arith) u h
       ∙ wakes-same p (plan-facts bs c acc) (λ v. optional (getD to v 0)) (deviating t s) (λ v k. alone v (omega arith)) u
 
-  pub deviates : (ws : List ℕ) → written entryLimit (c .tracks) (λ u. enteredBy p to (wakeMarks p to (c .tracks)) u (ledgerOf c ws u)) ws
-      ≡ written entryLimit (c .tracks) (enter p (deviating t s) (ledgerOf c ws)) ws
-  unfolding enteredBy enter
-  deviates ws =
-      written-same entryLimit (c .tracks) _ _ ws
-      (λ u h. ap₂ (entered p (ledgerOf c ws u) (fresh p u)) (alone u h) (woken-marks u h))
+  module _ {firsts : List ℕ} (f : firsts ≡ firstMarks p (c .states)) where
+    deviates : (ws : List ℕ) → written entryLimit (c .tracks) (λ u. enteredBy firsts to (wakeMarks p to (c .tracks)) u (ledgerOf c ws u)) ws
+        ≡ written entryLimit (c .tracks) (enter p (deviating t s) (ledgerOf c ws)) ws
+    unfolding enter
+    deviates ws =
+        written-same entryLimit (c .tracks) _ _ ws
+        (λ u h.
+        enters p firsts to (wakeMarks p to (c .tracks)) u (ledgerOf c ws u) (first-at bs c acc u h f)
+        ∙ ap₂ (entered p (ledgerOf c ws u) (fresh p u)) (alone u h) (woken-marks u h))
 
-  -- the pass, with the marks that the code has
-  module _ (ws : List ℕ) (o : Orderly c ws) {woken : List Bool} (m : woken ≡ wakeMarks p to (c .tracks)) where
-    abbrev through : ℕ → Ledger
-    through i = upTo (λ u. enteredBy p to woken u (ledgerOf c ws u)) (ledgerOf c ws) i
+    -- the pass, with the marks that the code has
+    module _ (ws : List ℕ) (o : Orderly c ws) {woken : List Bool} (m : woken ≡ wakeMarks p to (c .tracks)) where
+      abbrev turn : ℕ → Configuration → Configuration
+      turn = enteredBy firsts to woken
 
-    pub entering-start : ws ≡ written entryLimit (c .tracks) (through 0) ws
-    entering-start = pass-start c ws o (enteredBy p to woken)
+      abbrev through : ℕ → Ledger
+      through i = upTo (λ u. turn u (ledgerOf c ws u)) (ledgerOf c ws) i
 
-    module _ (i : ℕ) (h : i ≤ c .tracks) {vs : List ℕ} (e : vs ≡ written entryLimit (c .tracks) (through i) ws) where
-      pub entering-orderly : Orderly c vs
-      entering-orderly = pass-orderly c ws o (enteredBy p to woken) (entering-fits c ws o p to woken) i h e
+      pub entering-start : ws ≡ written entryLimit (c .tracks) (through 0) ws
+      entering-start = pass-start c ws o turn
 
-      pub entering-length : length vs ≡ length ws
-      entering-length = pass-length c ws o (enteredBy p to woken) (entering-fits c ws o p to woken) i h e
+      module _ (i : ℕ) (h : i ≤ c .tracks) {vs : List ℕ} (e : vs ≡ written entryLimit (c .tracks) (through i) ws) where
+        pub entering-orderly : Orderly c vs
+        entering-orderly = pass-orderly c ws o turn (entering-fits c ws o firsts to woken) i h e
 
-      pub entering-asleep : i < c .tracks → Sleepers p (deviating t s) (ledgerOf c ws) → getD woken i false ≡ true → ledgerOf c vs i ≡ sleeping
-      entering-asleep k a w =
-          pass-old c ws o (enteredBy p to woken) (entering-fits c ws o p to woken) i h e i (omega arith)
-          ∙ a i (sym (ap (λ (ms : List Bool). getD ms i false) m ∙ woken-marks i k) ∙ w)
+        pub entering-length : length vs ≡ length ws
+        entering-length = pass-length c ws o turn (entering-fits c ws o firsts to woken) i h e
 
-      pub entering-more : {us : List ℕ} → us ≡ withConfiguration c vs i (enteredBy p to woken i (ledgerOf c vs i))
-          → us ≡ written entryLimit (c .tracks) (through (i + 1)) ws
-      entering-more d = pass-more c ws o (enteredBy p to woken) (entering-fits c ws o p to woken) i h e d
+        pub entering-asleep : i < c .tracks → Sleepers p (deviating t s) (ledgerOf c ws) → getD woken i false ≡ true → ledgerOf c vs i ≡ sleeping
+        entering-asleep k a w =
+            pass-old c ws o turn (entering-fits c ws o firsts to woken) i h e i (omega arith)
+            ∙ a i (sym (ap (λ (ms : List Bool). getD ms i false) m ∙ woken-marks i k) ∙ w)
 
-      pub entering-end : c .tracks ≤ i → vs ≡ written entryLimit (c .tracks) (enter p (deviating t s) (ledgerOf c ws)) ws
-      entering-end k =
-          pass-end c ws o (enteredBy p to woken) (entering-fits c ws o p to woken) i h e k
-          ∙ ap (λ (ms : List Bool). written entryLimit (c .tracks) (λ u. enteredBy p to ms u (ledgerOf c ws u)) ws) m
-          ∙ deviates ws
+        pub entering-more : {us : List ℕ} → us ≡ withConfiguration c vs i (turn i (ledgerOf c vs i))
+            → us ≡ written entryLimit (c .tracks) (through (i + 1)) ws
+        entering-more d = pass-more c ws o turn (entering-fits c ws o firsts to woken) i h e d
+
+        pub entering-end : c .tracks ≤ i → vs ≡ written entryLimit (c .tracks) (enter p (deviating t s) (ledgerOf c ws)) ws
+        entering-end k =
+            pass-end c ws o turn (entering-fits c ws o firsts to woken) i h e k
+            ∙ ap (λ (ms : List Bool). written entryLimit (c .tracks) (λ u. enteredBy firsts to ms u (ledgerOf c ws u)) ws) m
+            ∙ deviates ws

@@ -17,7 +17,8 @@ use Rattle.rules.specs.Plan.{Plan, planOf, trackCount, host}
 use Rattle.rules.specs.Ledger.{Entry, Configuration, Ledger, isAwake, isUndoing, sleeping, entryAt, heldAt, configurationAt, ledgerAt, written}
 use Rattle.rules.specs.Scope.{isOver, hasOpenScope}
 use Rattle.rules.specs.Opening.{wakes, enter}
-use Rattle.rules.specs.Fire.{newest, older, mayFire, removed, deviatesTo, fired}
+use Rattle.rules.specs.Signal.{abandoned}
+use Rattle.rules.specs.Fire.{newest, older, mayFire, removed, deviatesTo, fired, afterFire}
 use Rattle.rules.specs.Call.{refusal, done, fire, callRefusal, callRefusals, figures, after, fireOutcome, Meets}
 use Rattle.rules.proofs.Tests.{look, look-option, clash}
 use Rattle.rules.proofs.Acceptance.{Accepted}
@@ -28,13 +29,12 @@ use Rattle.rules.proofs.TrackWords.{length-heldAt}
 use Rattle.rules.proofs.Stored.{Storable, read-at, written-same}
 use Rattle.plan.proofs.FieldLaws.{track-count}
 use Rattle.ledger.specs.Words.{Within, trackOf, trackAt, entryPlace, withRemoved}
-use Rattle.ledger.proofs.ScopeLaws.{empty-count, mode-as, count-as, empty-as, held-as}
+use Rattle.ledger.proofs.ReadTracks.{empty-count, mode-as, count-as, empty-as, held-as}
 use Rattle.steps.specs.Going.{Checked, ledgerOf}
 use Rattle.steps.proofs.Facts.{plan-facts, live-of-going, in-room, track-read}
 use Rattle.backward.specs.Orderly.{Orderly, withConfiguration}
-use Rattle.backward.specs.Leaving.{leaveFrom}
 use Rattle.backward.specs.Entering.{deviating}
-use Rattle.backward.proofs.Firing.{Fires, fire-parts, to-other, removed-other, after-fire, woken-asleep}
+use Rattle.backward.proofs.Firing.{Fires, fire-parts, to-other, removed-other, woken-asleep}
 use Rattle.backward.proofs.Standing.{holds, put-removed, read-back, orderly-after, then}
 use Rattle.backward.proofs.Storing.{Stores, stores-at, storable-of}
 use Rattle.backward.proofs.Entering.{entered-stores}
@@ -131,7 +131,7 @@ pub record Fireable (bs : List ℕ) (c : Counts) (ws : List ℕ) (t : ℕ) : Typ
 
 -- the two refusals, and what holds after them
 module _ {bs : List ℕ} {c : Counts} {ws : List ℕ} (g : Checked bs c ws) {r : Bool}
-    (e : r ≡ everyBelow (c .tracks) (λ t. not (isAwake (ledgerAt entryLimit ws (c .tracks) t .mode)))) where
+    (e : r ≡ everyBelow (c .tracks) (λ t. not (isAwake (ledgerOf c ws t .mode)))) where
   pub fire-over : (t : ℕ) → r ≡ true → Meets (fireOutcome entryLimit bs ws (record { track = t })) (refusal 20) ws
   unfolding fireOutcome callRefusal callRefusals firstRefusal
   fire-over t h =
@@ -251,10 +251,9 @@ module _ {bs : List ℕ} {c : Counts} {ws : List ℕ} {t : ℕ} (a : Fireable bs
       pub fired-orderly : Orderly c us
       fired-orderly = orderly-after c ws in-order (fired p l t) stored-fired fired-words
 
-      pub fire-done : {code : ℕ} → code ≡ newest (l t .held) .code → {xs : List ℕ} → xs ≡ written entryLimit (c .tracks) (leaveFrom p (ledgerOf c us) t) us
+      pub fire-done : {code : ℕ} → code ≡ newest (l t .held) .code → {xs : List ℕ} → xs ≡ written entryLimit (c .tracks) (abandoned p (ledgerOf c us)) us
           → Meets (fireOutcome entryLimit bs ws (record { track = t })) (done (code ∷ dev ∷ [])) xs
-      unfolding fireOutcome callRefusal callRefusals firstRefusal figures after
+      unfolding fireOutcome callRefusal callRefusals firstRefusal figures after afterFire
       fire-done k h =
           done-call bs c ws (a .checked) (fire (record { track = t })) (rw (a .not-over, a .may)) (rw (k, e))
-          (then c ws in-order (fired p l t) stored-fired fired-words (λ (m : Ledger). leaveFrom p m t) h
-          ∙ ap (λ (m : Ledger). written entryLimit (c .tracks) m ws) (after-fire p ok l live t parts))
+          (then c ws in-order (fired p l t) stored-fired fired-words (abandoned p) h)

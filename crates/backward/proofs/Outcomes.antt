@@ -13,16 +13,13 @@ use Rattle.rules.specs.Plan.{Plan, trackCount, planOf}
 use Rattle.rules.specs.Layout.{entryLimit, wordCount}
 use Rattle.rules.specs.Ledger.{Ledger, isAwake, isForward, ledgerAt, written}
 use Rattle.rules.specs.Scope.{isOver}
-use Rattle.rules.specs.Signal.{turned, turnings}
+use Rattle.rules.specs.Signal.{turned, turnings, abandoned, afterSignal}
 use Rattle.rules.specs.Soundness.{isSound, isLive, areTidy}
 use Rattle.rules.specs.Call.{refusal, done, Outcome, nothing, Call, signal, refusedOr, underPlan, tooShort, ledgerRefusals, callRefusals, callRefusal, figures, after, callOutcome, signalOutcome, Meets}
 use Rattle.rules.proofs.Tests.{clash, and-true, or-true}
 use Rattle.plan.proofs.FieldLaws.{track-count}
 use Rattle.steps.specs.Going.{Checked, Going, ledgerOf}
-use Rattle.steps.proofs.Facts.{plan-facts, live-of-going}
 use Rattle.backward.specs.Orderly.{Orderly}
-use Rattle.backward.specs.Leaving.{leaveDown}
-use Rattle.backward.proofs.Turning.{after-signal}
 use Rattle.backward.proofs.Standing.{holds, orderly-after, then}
 use Rattle.backward.proofs.Storing.{storable-turned}
 
@@ -71,9 +68,9 @@ module _ (bs : List ℕ) (c : Counts) (ws : List ℕ) (g : Checked bs c ws) wher
             ap (areTidy entryLimit ws) (sym (track-count bs c)) ∙ q;
       }
 
-  pub over-as : {r : Bool} → r ≡ everyBelow (c .tracks) (λ t. not (isAwake (ledgerAt entryLimit ws (c .tracks) t .mode))) → r ≡ isOver p (ledgerOf c ws)
-  unfolding isOver ledgerOf
-  over-as e = e ∙ ap (λ (n : ℕ). everyBelow n (λ t. not (isAwake (ledgerAt entryLimit ws (c .tracks) t .mode)))) (sym (track-count bs c))
+  pub over-as : {r : Bool} → r ≡ everyBelow (c .tracks) (λ t. not (isAwake (ledgerOf c ws t .mode))) → r ≡ isOver p (ledgerOf c ws)
+  unfolding isOver
+  over-as e = e ∙ ap (λ (n : ℕ). everyBelow n (λ t. not (isAwake (ledgerOf c ws t .mode)))) (sym (track-count bs c))
 
   pub going : isOver p (ledgerOf c ws) ≡ false → Going bs c ws
   unfolding isSound ledgerOf
@@ -113,14 +110,11 @@ module _ (bs : List ℕ) (c : Counts) (ws : List ℕ) (g : Checked bs c ws) wher
 
   pub signal-done : {n : ℕ} {vs us : List ℕ} → isOver p (ledgerOf c ws) ≡ false
       → n ≡ countBelow (c .tracks) (λ t. isForward (ledgerOf c ws t .mode)) → vs ≡ written entryLimit (c .tracks) (turned (ledgerOf c ws)) ws
-      → us ≡ written entryLimit (c .tracks) (leaveDown p (c .tracks) (ledgerOf c vs)) vs
+      → us ≡ written entryLimit (c .tracks) (abandoned p (ledgerOf c vs)) vs
       → Meets (signalOutcome entryLimit bs ws nothing) (done (n ∷ [])) us
-  unfolding signalOutcome callRefusal callRefusals firstRefusal figures after turnings
+  unfolding signalOutcome callRefusal callRefusals firstRefusal figures after turnings afterSignal
   signal-done o f v w =
       let l : Ledger = ledgerOf c ws in
       done-call (signal nothing) (rw o)
       (ap (λ (n : ℕ). n ∷ []) (f ∙ ap (λ (m : ℕ). countBelow m (λ t. isForward (l t .mode))) (sym (track-count bs c))))
-      (then c ws orderly (turned l) (storable-turned entryLimit (c .tracks) l (holds c ws orderly)) v (leaveDown p (c .tracks)) w
-      ∙ ap (λ (n : ℕ). written entryLimit (c .tracks) (leaveDown p n (turned l)) ws) (sym (track-count bs c))
-      ∙ ap (λ (m : Ledger). written entryLimit (c .tracks) m ws)
-      (after-signal p (plan-facts bs c (g .accepts)) l (live-of-going bs c ws (going o))))
+      (then c ws orderly (turned l) (storable-turned entryLimit (c .tracks) l (holds c ws orderly)) v (abandoned p) w)

@@ -1,18 +1,12 @@
 -- The ledgers of a backward step can be stored: no track holds more than before, and what is asleep holds nothing. Assumes nothing.
-use mathlib.Core.Path.{_≡_, refl, sym, ap, _∙_, subst}
-use mathlib.Core.Logic.{inl, inr}
+use mathlib.Core.Path.{_≡_, refl, sym, ap, _∙_}
 use mathlib.Core.Bool.{false}
 use Prim.Native.Nat.{ℕ, _≤_}
 use native.Mathlib.Omega.{arith}
 use lib.ListN.{length}
-use Rattle.rules.specs.Plan.{Plan, trackCount, isIn}
 use Rattle.rules.specs.Ledger.{Configuration, Ledger, isAwake, sleeping}
 use Rattle.rules.specs.Signal.{turnedTrack, turned}
-use Rattle.rules.proofs.Tests.{look}
-use Rattle.rules.proofs.Acceptance.{Accepted}
 use Rattle.rules.proofs.Stored.{Storable}
-use Rattle.backward.specs.Leaving.{withoutScope, leaveFrom}
-use Rattle.backward.proofs.Climbing.{out-asleep, out-kept, by-climbing}
 use Rattle.backward.proofs.Turning.{turned-awake, turned-held, turned-sleeping}
 
 -- one configuration in place of another: it holds no more, and asleep it holds nothing
@@ -43,24 +37,3 @@ module _ (limit n : ℕ) where
   unfolding turned
   storable-turned l s =
       storable-of (turned l) (λ t. stores-turned (l t) (stores-at l s t)) (λ t b. ap turnedTrack (s .beyond t b) ∙ turned-sleeping)
-
-  module _ (p : Plan) (ok : Accepted p) (low : trackCount p ≤ n) where
-    -- a scope that goes to sleep
-    pub stores-out : (l : Ledger) → Storable limit n l → (s t : ℕ) → Stores limit (withoutScope p l s t)
-    stores-out l w s t =
-        elim (look (isIn p s t)) [
-          | inl i ↦ subst (Stores limit) (sym (out-asleep p l s t i)) (stores-sleeping limit)
-          | inr i ↦ subst (Stores limit) (sym (out-kept p l s t i)) (stores-at l w t)
-        ]
-
-    pub storable-out : (l : Ledger) (s : ℕ) → Storable limit n l → Storable limit n (withoutScope p l s)
-    storable-out l s w =
-        storable-of (withoutScope p l s) (stores-out l w s)
-        (λ t b.
-        elim (look (isIn p s t)) [ inl i ↦ out-asleep p l s t i | inr i ↦ out-kept p l s t i ∙ w .beyond t b ])
-
-    -- climbing
-    pub storable-left : (t : ℕ) (l : Ledger) → Storable limit n l → Storable limit n (leaveFrom p l t)
-    storable-left =
-        by-climbing p ok (λ l t m. Storable limit n l → Storable limit n m) (λ l t e w. w) (λ l t h e d w. w)
-        (λ l m t h e d ih w. ih (storable-out l h w))

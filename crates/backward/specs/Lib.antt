@@ -1,4 +1,4 @@
 -- What the backward steps' contracts speak of beside the rules.
 pub mod Orderly
-pub mod Leaving
+pub mod Staying
 pub mod Entering

@@ -1,69 +1,100 @@
-// Abandoning: an open scope whose tracks are all undoing, hold nothing and have no open scope goes to sleep, and then its host's track
-// is looked at, whose number is lower.
-use ledger::scope;
+// Abandoning: an open scope whose tracks are all undoing, hold nothing and have no open scope goes to sleep, "from scope to host until
+// nothing changes". What stays is marked: each track that is not undoing or holds an entry, and with an awake track its host's track,
+// whose number is lower. A scope without a mark goes to sleep.
 use ledger::track;
 use plan::fields;
 use plan::fields::NO_STATE;
 use rules::Counts;
+use steps::reading;
+use steps::scopes;
 ghost use mathlib.Core.Path.{_≡_};
 ghost use Prim.Native.Nat.{_<_};
 ghost use Rattle.rules.specs.Layout.{entryLimit};
 ghost use Rattle.rules.specs.Plan.{planOf};
 ghost use Rattle.rules.specs.Ledger.{written};
-ghost use Rattle.steps.specs.Going.{Accepts, ledgerOf};
+ghost use Rattle.rules.specs.Signal.{abandoned};
+ghost use Rattle.steps.specs.Going.{Accepts, Roomy, ledgerOf};
 ghost use Rattle.backward.specs.Orderly.{Orderly, withConfiguration};
-ghost use Rattle.backward.specs.Leaving.{withoutScope, leaveFrom, leaveDown};
+ghost use Rattle.backward.specs.Staying.{stayFrom, stayBy, stayMarks, leftBy};
 
-// Puts a track to sleep if it is in the scope of a state.
-fn leave_track(plan: &[u8], c: Counts, ledger: &mut [u16], s: usize, t: usize)
-    requires { ⌜ Accepts (now plan) c × Orderly c (now ledger) × (t < c .tracks) ⌝ }
-    ensures { λ _. ⌜ now (ledger .exit) ≡ withConfiguration c (now (ledger .entry)) t (withoutScope (planOf (now (plan .entry)) c) (ledgerOf c (now (ledger .entry))) s t) ⌝ }
+// A track stays, and if it is awake its host's track is next; where the mark stands already nothing changes.
+fn stay(plan: &[u8], c: Counts, ledger: &[u16], kept: [bool; 32], t: usize) -> [bool; 32]
+    requires { ⌜ Accepts (now plan) c × Roomy c (now ledger) × (t < c .tracks) ⌝ }
+    ensures { λ r. ⌜ r ≡ stayFrom (planOf (now (plan .entry)) c) (ledgerOf c (now (ledger .entry))) kept t ⌝ }
 {
-    if !fields::is_in(plan, c, s, t) {
-        return;
+    if kept[t] {
+        return kept;
     }
-    track::put_to_sleep(&mut ledger[..], t);
+    let mut next = kept;
+    next[t] = true;
+    if !reading::is_awake(c, ledger, t) {
+        return next;
+    }
+    let u = reading::host_track(plan, c, t);
+    if u == NO_STATE {
+        return next;
+    }
+    stay(plan, c, ledger, next, u as usize)
 }
 
-// Puts the scope of a state to sleep, with nothing installed.
-fn leave_scope(plan: &[u8], c: Counts, ledger: &mut [u16], s: usize)
-    requires { ⌜ Accepts (now plan) c × Orderly c (now ledger) ⌝ }
-    ensures { λ _. ⌜ now (ledger .exit) ≡ written entryLimit (c .tracks) (withoutScope (planOf (now (plan .entry)) c) (ledgerOf c (now (ledger .entry))) s) (now (ledger .entry)) ⌝ }
+// A track stays for its own sake unless it is undoing and holds nothing.
+fn stay_by(plan: &[u8], c: Counts, ledger: &[u16], kept: [bool; 32], t: usize) -> [bool; 32]
+    requires { ⌜ Accepts (now plan) c × Roomy c (now ledger) × (t < c .tracks) ⌝ }
+    ensures { λ r. ⌜ r ≡ stayBy (planOf (now (plan .entry)) c) (ledgerOf c (now (ledger .entry))) t kept ⌝ }
 {
+    let k = reading::track(c, ledger, t);
+    let m = k.mode;
+    if !track::is_undoing(m) {
+        return stay(plan, c, ledger, kept, t);
+    }
+    if k.count != 0 {
+        return stay(plan, c, ledger, kept, t);
+    }
+    kept
+}
+
+// The tracks that stay.
+fn staying(plan: &[u8], c: Counts, ledger: &[u16]) -> [bool; 32]
+    requires { ⌜ Accepts (now plan) c × Roomy c (now ledger) ⌝ }
+    ensures { λ r. ⌜ r ≡ stayMarks (planOf (now (plan .entry)) c) (ledgerOf c (now (ledger .entry))) (c .tracks) ⌝ }
+{
+    let mut kept = [false; 32];
     let tracks = c.tracks;
     let mut t: usize = 0;
     while t < tracks {
-        leave_track(plan, c, &mut ledger[..], s, t);
+        let next = stay_by(plan, c, ledger, kept, t);
+        kept = next;
         t += 1;
     }
+    kept
 }
 
-// If abandoning is due to a track's scope, the scope goes to sleep, and the host's track is next.
-pub fn abandon(plan: &[u8], c: Counts, ledger: &mut [u16], t: usize)
+// Puts a track to sleep if it is in a scope that is not marked.
+fn leave_track(plan: &[u8], c: Counts, ledger: &mut [u16], stays: [bool; 128], t: usize)
     requires { ⌜ Accepts (now plan) c × Orderly c (now ledger) × (t < c .tracks) ⌝ }
-    ensures { λ _. ⌜ now (ledger .exit) ≡ written entryLimit (c .tracks) (leaveFrom (planOf (now (plan .entry)) c) (ledgerOf c (now (ledger .entry))) t) (now (ledger .entry)) ⌝ }
+    ensures { λ _. ⌜ now (ledger .exit) ≡ withConfiguration c (now (ledger .entry)) t (leftBy (planOf (now (plan .entry)) c) stays t (ledgerOf c (now (ledger .entry)) t)) ⌝ }
 {
     let h = fields::host_word(plan, c, t);
     if h == NO_STATE {
         return;
     }
-    let s = h as usize;
-    if !scope::is_abandoning(plan, c, &ledger[..], s) {
+    if stays[h as usize] {
         return;
     }
-    leave_scope(plan, c, &mut ledger[..], s);
-    let u = fields::track_of(plan, c, s);
-    abandon(plan, c, &mut ledger[..], u as usize);
+    track::put_to_sleep(&mut ledger[..], t);
 }
 
-// Abandoning from every track, the highest first.
-pub fn abandon_all(plan: &[u8], c: Counts, ledger: &mut [u16])
+// Abandoning, with nothing installed.
+pub fn abandon(plan: &[u8], c: Counts, ledger: &mut [u16])
     requires { ⌜ Accepts (now plan) c × Orderly c (now ledger) ⌝ }
-    ensures { λ _. ⌜ now (ledger .exit) ≡ written entryLimit (c .tracks) (leaveDown (planOf (now (plan .entry)) c) (c .tracks) (ledgerOf c (now (ledger .entry)))) (now (ledger .entry)) ⌝ }
+    ensures { λ _. ⌜ now (ledger .exit) ≡ written entryLimit (c .tracks) (abandoned (planOf (now (plan .entry)) c) (ledgerOf c (now (ledger .entry)))) (now (ledger .entry)) ⌝ }
 {
-    let mut t = c.tracks;
-    while 0 < t {
-        t -= 1;
-        abandon(plan, c, &mut ledger[..], t);
+    let kept = staying(plan, c, &ledger[..]);
+    let stays = scopes::scopes_with(plan, c, kept);
+    let tracks = c.tracks;
+    let mut t: usize = 0;
+    while t < tracks {
+        leave_track(plan, c, &mut ledger[..], stays, t);
+        t += 1;
     }
 }

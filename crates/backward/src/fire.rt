@@ -1,13 +1,13 @@
 // A firing: the newest entry of a track that may be fired, its deviation entered, and then abandoning.
 use crate::abandoning;
 use crate::writing;
-use ledger::scope;
 use ledger::track as words;
-use plan::fields;
 use plan::fields::NO_STATE;
 use rules::Counts;
 use rules::FireAnswer;
 use rules::Mode;
+use steps::firsts;
+use steps::opens;
 use steps::reading;
 use steps::waking;
 ghost use mathlib.Core.Path.{_≡_};
@@ -41,20 +41,20 @@ fn may_fire(plan: &[u8], c: Counts, ledger: &[u16], t: usize) -> bool
     if k.count == 0 {
         return false;
     }
-    !scope::has_open_scope(plan, c, ledger, t)
+    !opens::has_open_scope(plan, c, ledger, t)
 }
 
-// A track enters its state in `to`, or wakes if it is marked, or is left as it is.
+// A track goes forward in its state in `to`, or wakes in its first state if it is marked, or is left as it is.
 fn enter_track(
-    plan: &[u8],
     c: Counts,
     ledger: &mut [u16],
+    firsts: [u16; 32],
     to: [u16; 32],
     woken: [bool; 32],
     t: usize,
 )
-    requires { ⌜ Accepts (now plan) c × Orderly c (now ledger) × (t < c .tracks) × (getD woken t false ≡ true → ledgerOf c (now ledger) t ≡ sleeping) ⌝ }
-    ensures { λ _. ⌜ now (ledger .exit) ≡ withConfiguration c (now (ledger .entry)) t (enteredBy (planOf (now (plan .entry)) c) to woken t (ledgerOf c (now (ledger .entry)) t)) ⌝ }
+    requires { ⌜ Orderly c (now ledger) × (t < c .tracks) × (getD woken t false ≡ true → ledgerOf c (now ledger) t ≡ sleeping) ⌝ }
+    ensures { λ _. ⌜ now (ledger .exit) ≡ withConfiguration c (now (ledger .entry)) t (enteredBy firsts to woken t (ledgerOf c (now (ledger .entry)) t)) ⌝ }
 {
     let s = to[t];
     if s != NO_STATE {
@@ -64,8 +64,7 @@ fn enter_track(
     if !woken[t] {
         return;
     }
-    let first = fields::first_state(plan, c, t);
-    writing::put_mode(c, &mut ledger[..], t, Mode::Forward, first);
+    writing::put_mode(c, &mut ledger[..], t, Mode::Forward, firsts[t]);
 }
 
 // A track goes forward in a state, 65535 for none, and the scopes that it enters open.
@@ -73,13 +72,14 @@ fn deviate(plan: &[u8], c: Counts, ledger: &mut [u16], t: usize, s: u16)
     requires { ⌜ Accepts (now plan) c × Orderly c (now ledger) × (t < c .tracks) × Sleepers (planOf (now plan) c) (deviating t s) (ledgerOf c (now ledger)) ⌝ }
     ensures { λ _. ⌜ now (ledger .exit) ≡ written entryLimit (c .tracks) (enter (planOf (now (plan .entry)) c) (deviating t s) (ledgerOf c (now (ledger .entry)))) (now (ledger .entry)) ⌝ }
 {
+    let firsts = firsts::first_states(plan, c);
     let mut to = [NO_STATE; 32];
     to[t] = s;
-    let woken = waking::woken_by(plan, c, to);
+    let woken = waking::woken_by(plan, c, firsts, to);
     let tracks = c.tracks;
     let mut u: usize = 0;
     while u < tracks {
-        enter_track(plan, c, &mut ledger[..], to, woken, u);
+        enter_track(c, &mut ledger[..], firsts, to, woken, u);
         u += 1;
     }
 }
@@ -90,7 +90,7 @@ pub fn fire(plan: &[u8], c: Counts, ledger: &mut [u16], track: u16) -> FireAnswe
     requires { ⌜ Checked (now plan) c (now ledger) ⌝ }
     ensures { λ r. ⌜ Meets (fireOutcome entryLimit (now (plan .entry)) (now (ledger .entry)) (record { track = track })) (fireTold r) (now (ledger .exit)) ⌝ }
 {
-    if scope::is_over(&ledger[..], c.tracks) {
+    if reading::is_over(c, &ledger[..]) {
         return FireAnswer::Refused(20);
     }
     let t = track as usize;
@@ -103,6 +103,6 @@ pub fn fire(plan: &[u8], c: Counts, ledger: &mut [u16], track: u16) -> FireAnswe
     let deviation = words::entry_deviation(&ledger[..], t, newest);
     words::remove_newest(&mut ledger[..], t);
     deviate(plan, c, &mut ledger[..], t, deviation);
-    abandoning::abandon(plan, c, &mut ledger[..], t);
+    abandoning::abandon(plan, c, &mut ledger[..]);
     FireAnswer::Fired(code, deviation)
 }

@@ -1,7 +1,6 @@
 // A signal: every forward track turns to undoing, and then abandoning.
 use crate::abandoning;
 use crate::writing;
-use ledger::scope;
 use ledger::track;
 use rules::Counts;
 use rules::Mode;
@@ -54,10 +53,10 @@ pub fn signal(plan: &[u8], c: Counts, ledger: &mut [u16]) -> SignalAnswer
     requires { ⌜ Checked (now plan) c (now ledger) ⌝ }
     ensures { λ r. ⌜ Meets (signalOutcome entryLimit (now (plan .entry)) (now (ledger .entry)) nothing) (signalTold r) (now (ledger .exit)) ⌝ }
 {
-    if scope::is_over(&ledger[..], c.tracks) {
+    if reading::is_over(c, &ledger[..]) {
         return SignalAnswer::Refused(20);
     }
     let count = turn_all(c, &mut ledger[..]);
-    abandoning::abandon_all(plan, c, &mut ledger[..]);
+    abandoning::abandon(plan, c, &mut ledger[..]);
     SignalAnswer::Turned(count)
 }

@@ -9,7 +9,6 @@ use lib.Dec.{eqb, leb, ltb}
 use lib.ListN.{length, getD}
 use borrow.Author.Tests.{eq-eqb, ne-eqb, le-ltb, leb-false}
 use Rattle.rules.specs.declared.Counts.{Counts}
-use Rattle.rules.specs.declared.Track.{Track}
 use Rattle.rules.specs.declared.EventAnswer.the-variants.{Moved, Refused}
 use Rattle.rules.specs.Fold.{someBelow, everyBelow, countBelow, firstRefusal}
 use Rattle.rules.specs.Layout.{entryLimit, wordCount}
@@ -24,16 +23,15 @@ use Rattle.rules.proofs.Tests.{clash, and-true, or-true}
 use Rattle.rules.proofs.Folds.{some-not}
 use Rattle.rules.proofs.Stored.{written-same}
 use Rattle.plan.proofs.FieldLaws.{track-count, state-count, transition-count}
-use Rattle.ledger.specs.Words.{trackOf}
 use Rattle.steps.specs.Going.{Checked, Going, ledgerOf}
 use Rattle.steps.specs.Marks.{Marks, openMarks}
 use Rattle.steps.proofs.Marks.{length-open, open-scopes}
 use Rattle.steps.proofs.Facts.{plan-facts, few-tracks, live-of-going, storable, beyond}
 use Rattle.forward.specs.Next.{closesNext, finishesNext}
-use Rattle.forward.specs.Marks.{wordOf, InRange, table, takes, codeGiven, endsAt, isFullAt, takeMarks, forwardMarks, closeMarks}
-use Rattle.forward.specs.Settled.{Spare, settledLedger, isAsleepAt, goingOutcome}
+use Rattle.choice.specs.Marks.{wordOf, InRange, table, takes, codeGiven, endsAt, isFullAt, takeMarks, forwardMarks, closeMarks}
+use Rattle.settling.specs.Settled.{Spare, settledLedger}
+use Rattle.forward.specs.Outcome.{goingOutcome}
 use Rattle.forward.proofs.Passes.{take-moves, close-scopes}
-use Rattle.forward.proofs.Turns.{awake-of}
 use Rattle.forward.proofs.Leaving.{table-at, word-low, full-is, finish-is, moves-are, closings-are, settled-is}
 
 met : {o : Outcome} {a : Answer} {w : List ℕ} → o ≡ record { answer = a; words = w } → Meets o a w
@@ -169,14 +167,10 @@ module _ (bs : List ℕ) (c : Counts) (ws : List ℕ) (g : Going bs c ws) (e : �
             (closes (closeMarks p l taken (forwardMarks l opens (c .tracks)) (c .tracks)) refl) t (rw (track-count bs c) b) n);
       }
 
--- asleep, over, and 19 and 20
-pub asleep-is : (l : Ledger) (t : ℕ) (k : Track) (r : Bool) → k ≡ trackOf (l t) → r ≡ isAwake (k .mode) → not r ≡ isAsleepAt l t
-unfolding isAsleepAt
-asleep-is l t k r e f = ap not (sym (awake-of l t k r e f))
-
+-- over, and 19 and 20
 module _ (bs : List ℕ) (c : Counts) (ws : List ℕ) (h : Checked bs c ws) (e : ℕ) where
-  over-is : everyBelow (c .tracks) (isAsleepAt (ledgerOf c ws)) ≡ isOver (planOf bs c) (ledgerAt entryLimit ws (trackCount (planOf bs c)))
-  unfolding isOver isAsleepAt ledgerOf
+  over-is : everyBelow (c .tracks) (λ t. not (isAwake (ledgerOf c ws t .mode))) ≡ isOver (planOf bs c) (ledgerAt entryLimit ws (trackCount (planOf bs c)))
+  unfolding isOver ledgerOf
   over-is = ap (λ (n : ℕ). everyBelow n (λ t. not (isAwake (ledgerAt entryLimit ws n t .mode)))) (sym (track-count bs c))
 
   long : ltb (length ws) (wordCount entryLimit (trackCount (planOf bs c))) ≡ false
@@ -198,7 +192,7 @@ module _ (bs : List ℕ) (c : Counts) (ws : List ℕ) (h : Checked bs c ws) (e :
   unfolding refusedOr eventTold
   event-zero z = met (checked ∙ (rw (eq-eqb e 0 z)))
 
-  module _ (n : e ≡ 0 → ⊥) (r : Bool) (q : r ≡ everyBelow (c .tracks) (isAsleepAt (ledgerOf c ws))) where
+  module _ (n : e ≡ 0 → ⊥) (r : Bool) (q : r ≡ everyBelow (c .tracks) (λ t. not (isAwake (ledgerOf c ws t .mode)))) where
     pub event-over : r ≡ true → Meets (eventOutcome entryLimit bs ws (record { event = e })) (eventTold (Refused 20)) ws
     unfolding refusedOr eventTold
     event-over z = met (checked ∙ (rw (ne-eqb e 0 n, sym over-is ∙ sym q ∙ z)))

@@ -27,12 +27,12 @@ use Rattle.rules.proofs.Soundness.{Live}
 use Rattle.steps.specs.Marks.{slots, Marks, wakeMarks}
 use Rattle.steps.proofs.Marks.{wake-marks}
 use Rattle.forward.specs.Next.{nextState, closesNext, closedNext, finishesNext, givenNext, nextBy, nextLedger}
-use Rattle.forward.specs.Marks.{wordOf, table, takes, codeGiven, endsAt, isFullAt, stateAfter}
-use Rattle.forward.specs.Settled.{enteredBy, turned, destinationWord, deviationWord, entersAt, closedAt, sleepsAt, settledLedger}
+use Rattle.choice.specs.Marks.{wordOf, table, takes, codeGiven, endsAt, isFullAt, stateAfter}
+use Rattle.settling.specs.Settled.{enteredBy, turned, destinationWord, deviationWord, entersFrom, entersAt, closedAt, sleepsAt, settledLedger}
 use Rattle.forward.proofs.Moves.{forward-awake, mover-facts, woken-asleep}
 use Rattle.forward.proofs.Settlings.{closes-parts, mover-open, full-before, after-before, closings-before}
 use Rattle.forward.proofs.Passes.{move-word, state-after}
-use Rattle.forward.proofs.Writing.{installed-none}
+use Rattle.settling.proofs.Writing.{installed-none}
 
 -- a table's figures
 length-table : (d : ℕ) (f : ℕ → ℕ) (n : ℕ) → length (table d f n) ≡ slots
@@ -207,13 +207,13 @@ module _ (p : Plan) (ok : Accepted p) (few : trackCount p ≤ slots) (small : st
   entering t = entersAt p to (wakeMarks p to (trackCount p)) t
 
   entering-some : (t x : ℕ) → t < trackCount p → move p l event t ≡ some x → entering t ≡ transition p x .destination
-  unfolding entersAt
+  unfolding entersAt entersFrom
   entering-some t x b e =
       ap (λ (z : ℕ). cond (eqb z noState) (cond (getD (wakeMarks p to (trackCount p)) t false) (firstState p t) noState) z) (to-some t x b e)
       ∙ (rw (destination-real t x e))
 
   entering-none : (t : ℕ) → t < trackCount p → move p l event t ≡ none → entering t ≡ cond (waking t) (firstState p t) noState
-  unfolding entersAt
+  unfolding entersAt entersFrom
   entering-none t b e =
       ap (λ (z : ℕ). cond (eqb z noState) (cond (getD (wakeMarks p to (trackCount p)) t false) (firstState p t) noState) z) (to-none t b e)
       ∙ ap (λ (z : Bool). cond z (cond (getD (wakeMarks p to (trackCount p)) t false) (firstState p t) noState) noState) (eq-eqb noState noState refl)

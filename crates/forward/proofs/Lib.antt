@@ -2,8 +2,5 @@
 pub mod Moves
 pub mod Settlings
 pub mod Passes
-pub mod Turns
-pub mod Writing
-pub mod Writes
 pub mod Leaving
 pub mod Answering

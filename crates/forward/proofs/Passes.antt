@@ -24,7 +24,7 @@ use Rattle.rules.proofs.Soundness.{Live}
 use Rattle.steps.specs.Marks.{slots, Marks, setHost}
 use Rattle.steps.proofs.Marks.{length-setHost, set-host, by-eqb, by-none}
 use Rattle.forward.specs.Next.{nextOf, nextState, allFinalNext, closesNext}
-use Rattle.forward.specs.Marks.{wordOf, isTaken, takeMark, takeMarks, stateAfter, isForwardOpen, forwardMarks, closeMark, closeMarks}
+use Rattle.choice.specs.Marks.{wordOf, isTaken, takeMark, takeMarks, stateAfter, isForwardOpen, forwardMarks, closeMark, closeMarks}
 use Rattle.forward.proofs.Moves.{forward-awake}
 
 -- a test that fails at n leaves the search below n as it was

@@ -1,4 +1,3 @@
 -- What an event will do, worked out on the ledger before the call.
 pub mod Next
-pub mod Marks
-pub mod Settled
+pub mod Outcome

@@ -1,48 +1,17 @@
 // An event: its refusals, judged before a word is written, then its step and its figures.
-use crate::closing;
-use crate::judging;
-use crate::moving;
-use crate::settling;
-use ledger::track;
+use choice::closing;
+use choice::judging;
+use choice::moving;
 use rules::Counts;
 use rules::EventAnswer;
 use steps::opens;
 use steps::reading;
-ghost use mathlib.Core.Path.{_≡_};
-ghost use Prim.Native.Nat.{_<_};
 ghost use Rattle.rules.specs.Layout.{entryLimit};
-ghost use Rattle.rules.specs.Fold.{everyBelow};
 ghost use Rattle.rules.specs.Plan.{planOf};
 ghost use Rattle.rules.specs.Call.{Meets, eventOutcome};
 ghost use Rattle.rules.specs.Answers.{eventTold};
-ghost use Rattle.steps.specs.Going.{Roomy, Checked, Going, ledgerOf};
-ghost use Rattle.forward.specs.Settled.{isAsleepAt, goingOutcome};
-
-// Whether a track is asleep.
-fn is_asleep(c: Counts, ledger: &[u16], t: usize) -> bool
-    requires { ⌜ Roomy c (now ledger) × (t < c .tracks) ⌝ }
-    ensures { λ r. ⌜ r ≡ isAsleepAt (ledgerOf c (now (ledger .entry))) t ⌝ }
-{
-    let k = reading::track(c, ledger, t);
-    let m = k.mode;
-    !track::is_awake(m)
-}
-
-// Whether the ledger is over: every track is asleep.
-fn is_over(c: Counts, ledger: &[u16]) -> bool
-    requires { ⌜ Roomy c (now ledger) ⌝ }
-    ensures { λ r. ⌜ r ≡ everyBelow (c .tracks) (isAsleepAt (ledgerOf c (now (ledger .entry)))) ⌝ }
-{
-    let tracks = c.tracks;
-    let mut t: usize = 0;
-    while t < tracks {
-        if !is_asleep(c, ledger, t) {
-            return false;
-        }
-        t += 1;
-    }
-    true
-}
+ghost use Rattle.steps.specs.Going.{Checked, Going};
+ghost use Rattle.forward.specs.Outcome.{goingOutcome};
 
 // An event other than 0 on a ledger that is not over.
 fn go_on(plan: &[u8], c: Counts, ledger: &mut [u16], event: u16) -> EventAnswer
@@ -71,7 +40,7 @@ pub fn event(plan: &[u8], c: Counts, ledger: &mut [u16], event: u16) -> EventAns
     if event == 0 {
         return EventAnswer::Refused(19);
     }
-    if is_over(c, &ledger[..]) {
+    if reading::is_over(c, &ledger[..]) {
         return EventAnswer::Refused(20);
     }
     go_on(plan, c, &mut ledger[..], event)

@@ -1,7 +1,6 @@
--- Laws of the ledger's words and of its soundness.
+-- Laws of the ledger's words.
 pub mod Loops
 pub mod Branches
 pub mod Words
 pub mod TidyLaws
-pub mod ScopeLaws
-pub mod SoundLaws
+pub mod ReadTracks

@@ -1,3 +1,2 @@
 -- What the ledger's contracts speak of beside the rules.
 pub mod Words
-pub mod Given

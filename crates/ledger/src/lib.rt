@@ -1,6 +1,4 @@
-// The ledger in its words: where each track's stand, reading and writing them, and whether a ledger is sound.
+// The ledger in its words: where each track's stand, reading and writing them, and whether they are as the layout has them.
 pub mod layout;
-pub mod scope;
-pub mod sound;
 pub mod tidy;
 pub mod track;

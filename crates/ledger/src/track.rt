@@ -10,9 +10,9 @@ ghost use mathlib.Core.Bool.{Bool};
 ghost use Prim.Native.Nat.{_+_, _*_, _≤_, _<_};
 ghost use lib.ListN.{length, set, replicate};
 ghost use Rattle.rules.specs.Layout.{entryLimit, entryWidth, trackWidth, trackPlace, entriesPlace};
-ghost use Rattle.rules.specs.Ledger.{modeOf, modeWord, entryAt, isAwake, isForward, isUndoing, ledgerAt};
+ghost use Rattle.rules.specs.Ledger.{modeOf, modeWord, entryAt, isAwake, isForward, isUndoing};
 ghost use Rattle.rules.specs.Soundness.{sameMode};
-ghost use Rattle.ledger.specs.Words.{Within, Room, trackOf, trackAt, withTrack, entryPlace, withEntry, withInstalled, withRemoved, withAsleep};
+ghost use Rattle.ledger.specs.Words.{Within, trackAt, withTrack, entryPlace, withEntry, withInstalled, withRemoved, withAsleep};
 
 fn mode_of(w: u16) -> Mode
     ensures { λ r. ⌜ r ≡ modeOf w ⌝ }
@@ -78,24 +78,6 @@ pub fn track_at(ledger: &[u16], t: usize) -> Track
         state: ledger[at + STATE_WORD],
         count: ledger[at + COUNT_WORD],
     }
-}
-
-// A track of a ledger of so many tracks.
-pub fn track_in(ledger: &[u16], tracks: usize, t: usize) -> Track
-    requires { ⌜ Room (now ledger) tracks × (t < tracks) ⌝ }
-    ensures { λ r. ⌜ r ≡ trackOf (ledgerAt entryLimit (now (ledger .entry)) tracks t) ⌝ }
-{
-    track_at(ledger, t)
-}
-
-// Whether a track of it is awake.
-pub fn awake_in(ledger: &[u16], tracks: usize, t: usize) -> bool
-    requires { ⌜ Room (now ledger) tracks × (t < tracks) ⌝ }
-    ensures { λ r. ⌜ r ≡ isAwake (ledgerAt entryLimit (now (ledger .entry)) tracks t .mode) ⌝ }
-{
-    let k = track_in(ledger, tracks, t);
-    let m = k.mode;
-    is_awake(m)
 }
 
 // Whether two modes are the same.

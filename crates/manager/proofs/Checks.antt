@@ -22,9 +22,8 @@ use Rattle.plan.proofs.FieldLaws.{track-count}
 use Rattle.plan.proofs.Reader.{accepted-holds}
 use Rattle.rules.proofs.Tests.{and-true}
 use Rattle.ledger.proofs.Words.{room-within}
-use Rattle.ledger.proofs.SoundLaws.{count-within}
+use Rattle.ledger.proofs.ReadTracks.{count-within}
 use Rattle.ledger.specs.Words.{Room}
-use Rattle.ledger.specs.Given.{Given}
 use Rattle.steps.specs.Going.{Accepts, Roomy, ledgerOf}
 use Rattle.manager.specs.Checked.{lent, checked, Span}
 
@@ -108,9 +107,6 @@ module _ (bs ws : List ℕ) where
         let f : ltb (length ws) (wordCount entryLimit (trackCount (planOf bs c))) ≡ false = lent-facts c e .1 in
         let h = accepted-holds bs c (lent-facts c e .0) in
         record { few = h .tracks; words = ltb-false (length ws) (wordCount entryLimit (c .tracks)) (rw track-count at f) }
-
-    pub lent-given : Given bs c ws
-    lent-given = record { holds = accepted-holds bs c (lent-facts c e .0); read = lent-facts c e .0; room = lent-room }
 
     pub lent-accepts : Accepts bs c
     lent-accepts = record { read = lent-facts c e .0; holds = accepted-holds bs c (lent-facts c e .0) }

@@ -5,6 +5,7 @@ use plan::fields::NO_STATE;
 use rules::Counts;
 use rules::Mode;
 use rules::Track;
+use steps::firsts;
 use steps::waking;
 ghost use mathlib.Core.Path.{_≡_};
 ghost use mathlib.Core.Bool.{false, cond, _||_};
@@ -16,29 +17,30 @@ ghost use Rattle.rules.specs.Ledger.{written};
 ghost use Rattle.rules.specs.Opening.{fresh, begun};
 ghost use Rattle.ledger.specs.Words.{Within, trackOf, withTrack, withAsleep};
 ghost use Rattle.steps.specs.Going.{Accepts, Roomy};
+ghost use Rattle.plan.specs.Passes.{firstMarks};
 ghost use Rattle.manager.specs.Roots.{rootWord, rootWords};
 
 // The state that a track enters of itself: a root its first state, another track none.
-fn root_word(plan: &[u8], c: Counts, t: usize) -> u16
-    requires { ⌜ Accepts (now plan) c × (t < c .tracks) ⌝ }
+fn root_word(plan: &[u8], c: Counts, firsts: [u16; 32], t: usize) -> u16
+    requires { ⌜ Accepts (now plan) c × (t < c .tracks) × (firsts ≡ firstMarks (planOf (now plan) c) (c .states)) ⌝ }
     ensures { λ r. ⌜ r ≡ rootWord (planOf (now (plan .entry)) c) t ⌝ }
 {
     if !fields::is_root(plan, c, t) {
         return NO_STATE;
     }
-    fields::first_state(plan, c, t)
+    firsts[t]
 }
 
 // That state for each track, 65535 for none.
-fn root_words(plan: &[u8], c: Counts) -> [u16; 32]
-    requires { ⌜ Accepts (now plan) c ⌝ }
+fn root_words(plan: &[u8], c: Counts, firsts: [u16; 32]) -> [u16; 32]
+    requires { ⌜ Accepts (now plan) c × (firsts ≡ firstMarks (planOf (now plan) c) (c .states)) ⌝ }
     ensures { λ r. ⌜ r ≡ rootWords (planOf (now (plan .entry)) c) (c .tracks) ⌝ }
 {
     let mut to = [NO_STATE; 32];
     let tracks = c.tracks;
     let mut t: usize = 0;
     while t < tracks {
-        to[t] = root_word(plan, c, t);
+        to[t] = root_word(plan, c, firsts, t);
         t += 1;
     }
     to
@@ -56,17 +58,25 @@ fn begins(plan: &[u8], c: Counts, woken: [bool; 32], t: usize) -> bool
 }
 
 // Overwrites a track's words.
-fn begin_track(plan: &[u8], c: Counts, ledger: &mut [u16], woken: [bool; 32], t: usize)
-    requires { ⌜ Accepts (now plan) c × Within (now ledger) t × (t < c .tracks) ⌝ }
+fn begin_track(
+    plan: &[u8],
+    c: Counts,
+    ledger: &mut [u16],
+    firsts: [u16; 32],
+    woken: [bool; 32],
+    t: usize,
+)
+    requires { ⌜ Accepts (now plan) c × Within (now ledger) t × (t < c .tracks) × (firsts ≡ firstMarks (planOf (now plan) c) (c .states)) ⌝ }
     ensures { λ _. ⌜ now (ledger .exit) ≡ cond (isRoot (planOf (now (plan .entry)) c) t || getD woken t false) (withTrack (withAsleep (now (ledger .entry)) t) t (trackOf (fresh (planOf (now (plan .entry)) c) t))) (withAsleep (now (ledger .entry)) t) ⌝ }
 {
     track::put_to_sleep(&mut ledger[..], t);
     if !begins(plan, c, woken, t) {
         return;
     }
+    let s = firsts[t];
     let k = Track {
         mode: Mode::Forward,
-        state: fields::first_state(plan, c, t),
+        state: s,
         count: 0,
     };
     track::put_track(&mut ledger[..], t, k);
@@ -77,12 +87,13 @@ pub fn begin_all(plan: &[u8], c: Counts, ledger: &mut [u16])
     requires { ⌜ Accepts (now plan) c × Roomy c (now ledger) ⌝ }
     ensures { λ _. ⌜ now (ledger .exit) ≡ written entryLimit (c .tracks) (begun (planOf (now (plan .entry)) c)) (now (ledger .entry)) ⌝ }
 {
-    let to = root_words(plan, c);
-    let woken = waking::woken_by(plan, c, to);
+    let firsts = firsts::first_states(plan, c);
+    let to = root_words(plan, c, firsts);
+    let woken = waking::woken_by(plan, c, firsts, to);
     let tracks = c.tracks;
     let mut t: usize = 0;
     while t < tracks {
-        begin_track(plan, c, &mut ledger[..], woken, t);
+        begin_track(plan, c, &mut ledger[..], firsts, woken, t);
         t += 1;
     }
 }

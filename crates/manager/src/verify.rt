@@ -1,7 +1,7 @@
 // Checks 2 to 18, which a call makes first.
 use ledger::layout;
-use ledger::sound;
 use rules::PlanAnswer;
+use soundness::sound;
 ghost use mathlib.Core.Path.{_≡_};
 ghost use Rattle.rules.specs.Answers.{planTold};
 ghost use Rattle.manager.specs.Checked.{lent, checked};

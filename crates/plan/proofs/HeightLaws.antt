@@ -62,7 +62,7 @@ module _ (p : Plan) where
       (λ o. reach-mono (heightTo p n) (heightTo p m) s (λ u k i. h s u l o k i)))
 
   -- what is hosted is no higher than the reach
-  pub reaches-at : (n t s u : ℕ) → s < stateCount p → isStateOf p t s ≡ true → u < trackCount p → isIn p s u ≡ true
+  reaches-at : (n t s u : ℕ) → s < stateCount p → isStateOf p t s ≡ true → u < trackCount p → isIn p s u ≡ true
       → heightTo p n u ≤ reaches n t
   unfolding reaches reachBy
   reaches-at n t s u l o k i =
@@ -90,7 +90,7 @@ module _ (p : Plan) where
       let q = reaches-mono n m t (λ s u a o k i. height-grows n m u (le-of-suc-le-suc l)) in
       omega (arith, height-suc n t, height-suc m t)
 
-  pub height-stays : (n m t : ℕ) → n ≤ m → heightTo p n t < n → heightTo p m t ≤ heightTo p n t
+  height-stays : (n m t : ℕ) → n ≤ m → heightTo p n t < n → heightTo p m t ≤ heightTo p n t
   height-stays zero m t l h = absurd (not-suc-le-zero h)
   height-stays (suc n) zero t l h = absurd (not-suc-le-zero l)
   height-stays (suc n) (suc m) t l h =

@@ -93,21 +93,13 @@ module _ (p : Plan) where
         go (some s) q = rw (q, badFirst, some-first s q .0)
 
   -- 12
-  pub hosting-final : (s : ℕ) → isFinal p s ≡ true → isHosting p s ≡ true → badHosting p s ≡ true
+  pub hosting-here : (s : ℕ) → isHosting p s ≡ true → badHosting p s ≡ isFinal p s
   unfolding badHosting
-  hosting-final s f h = rw (f, h)
+  hosting-here s h = rw h (rw (and-last (isFinal p s)) (or-last (isFinal p s)))
 
   pub hosting-none : (s : ℕ) → isHosting p s ≡ false → badHosting p s ≡ not (eqb (replacement p s) 0)
   unfolding badHosting
   hosting-none s h = rw h (rw (and-none (isFinal p s)))
-
-  pub hosting-plain : (s r : ℕ) → isFinal p s ≡ false → r ≡ replacement p s → r ≡ 0 → badHosting p s ≡ false
-  unfolding badHosting
-  hosting-plain s r f e z = rw (f, eq-eqb (replacement p s) 0 (sym e ∙ z)) (and-none (not (isHosting p s)))
-
-  pub hosting-replaced : (s r : ℕ) → isFinal p s ≡ false → r ≡ replacement p s → (r ≡ 0 → ⊥) → badHosting p s ≡ not (isHosting p s)
-  unfolding badHosting
-  hosting-replaced s r f e z = rw (f, ne-eqb (replacement p s) 0 (λ q. z (e ∙ q))) (and-last (not (isHosting p s)))
 
   -- 13
   module _ (x s d : ℕ) (es : s ≡ transition p x .source) (ed : d ≡ transition p x .destination) where

@@ -3,9 +3,10 @@ pub mod ChainLaws
 pub mod FieldLaws
 pub mod Searches
 pub mod HeightLaws
-pub mod RootHeights
 pub mod Hosting
 pub mod Judging
+pub mod PassLaws
+pub mod PassTurns
 pub mod KindTables
 pub mod Reader
 pub mod RecordTable

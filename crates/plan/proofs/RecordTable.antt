@@ -1,5 +1,5 @@
 -- The table of refusals 2 to 7 over the numbers that a record's judging reads: which of them is the first that applies. Assumes nothing.
-use mathlib.Core.Path.{_≡_}
+use mathlib.Core.Path.{_≡_, sym, _∙_}
 use mathlib.Core.Bool.{Bool, true, false, cond, not, _&&_, _||_}
 use mathlib.Core.List.{List, [], _∷_}
 use Prim.Native.Nat.{ℕ, _+_, _<_, _≤_}
@@ -11,12 +11,12 @@ use Rattle.rules.specs.declared.Counts.{Counts}
 use Rattle.rules.specs.Fold.{firstRefusal}
 use Rattle.rules.specs.Record.{sizeAt, kindAt, lengthOf, mostOf, countOf, endKind, judgeRecord}
 
-module _ (n at last kind len size most count : ℕ) where
+module _ (n at : ℕ) (unfit : Bool) (kind len size most count : ℕ) where
   unfoldable pub table : ℕ
   table =
       firstRefusal
       ((2, ltb n (at + 4))
-      ∷ (3, eqb len 0 || ltb kind last)
+      ∷ (3, unfit)
       ∷ (4, not (eqb size len))
       ∷ (5, ltb n (at + size))
       ∷ (6, leb most count)
@@ -27,18 +27,14 @@ module _ (n at last kind len size most count : ℕ) where
   unfolding table firstRefusal
   table-2 h = rw (lt-ltb n (at + 4) h)
 
-  pub table-3 : (at + 4 ≤ n) × (len ≡ 0) → table ≡ 3
+  pub table-3 : at + 4 ≤ n → unfit ≡ true → table ≡ 3
   unfolding table firstRefusal
-  table-3 h = rw (le-ltb n (at + 4) (h .0), eq-eqb len 0 (h .1))
+  table-3 h e = rw (le-ltb n (at + 4) h, e)
 
-  pub table-3-falls : (at + 4 ≤ n) × (0 < len) × (kind < last) → table ≡ 3
-  unfolding table firstRefusal
-  table-3-falls h = rw (le-ltb n (at + 4) (h .0), ne-eqb len 0 (λ (e : len ≡ 0). omega arith), lt-ltb kind last (h .2))
-
-  module _ (head : at + 4 ≤ n) (real : 0 < len) (rising : last ≤ kind) where
+  module _ (head : at + 4 ≤ n) (fit : unfit ≡ false) where
     known : (b : Bool) → eqb size len ≡ b → table ≡ cond (not b) 4 (cond (ltb n (at + size)) 5 (cond (leb most count) 6 (cond (eqb kind endKind && ltb (at + size) n) 7 0)))
     unfolding table firstRefusal
-    known b e = rw (le-ltb n (at + 4) head, ne-eqb len 0 (λ (e : len ≡ 0). omega arith), le-ltb kind last rising, e)
+    known b e = rw (le-ltb n (at + 4) head, fit, e)
 
     pub table-4 : (size ≡ len → ⊥) → table ≡ 4
     table-4 h = known false (ne-eqb size len h)
@@ -61,8 +57,17 @@ module _ (n at last kind len size most count : ℕ) where
         table-0-end h k l = rw (known true (eq-eqb size len e), le-ltb n (at + size) fits, lt-leb most count h, eq-eqb kind endKind k, le-ltb (at + size) n l)
 
 -- the table of a record, by the numbers read so far
-pub in-words : (bs : List ℕ) (at last : ℕ) (c : Counts) (kind len size most count : ℕ)
-    → kind ≡ kindAt bs at → len ≡ lengthOf kind → size ≡ sizeAt bs at → most ≡ mostOf kind → count ≡ countOf c kind
-    → judgeRecord bs at last c ≡ table (length bs) at last kind len size most count
+pub in-words : (bs : List ℕ) (at last : ℕ) (c : Counts) (unfit : Bool) (kind len size most count : ℕ)
+    → kind ≡ kindAt bs at → len ≡ lengthOf kind → unfit ≡ (eqb (lengthOf kind) 0 || ltb kind last) → size ≡ sizeAt bs at
+    → most ≡ mostOf kind → count ≡ countOf c kind
+    → judgeRecord bs at last c ≡ table (length bs) at unfit kind len size most count
 unfolding judgeRecord table
-in-words bs at last c kind len size most count ek el es em ec = rw (el, em, ec, es, ek)
+in-words bs at last c unfit kind len size most count ek el eu es em ec = rw (eu, el, em, ec, es, ek)
+
+-- "the kind is not 1 to 4, or falls"
+module _ (kind last len : ℕ) (e : len ≡ lengthOf kind) where
+  pub unfit-none : len ≡ 0 → true ≡ (eqb (lengthOf kind) 0 || ltb kind last)
+  unfit-none z = rw (eq-eqb (lengthOf kind) 0 (sym e ∙ z))
+
+  pub unfit-falls : (len ≡ 0 → ⊥) → ltb kind last ≡ (eqb (lengthOf kind) 0 || ltb kind last)
+  unfit-falls h = rw (ne-eqb (lengthOf kind) 0 (λ z. h (e ∙ z)))

@@ -2,3 +2,4 @@
 pub mod Holds
 pub mod Scanned
 pub mod Chain
+pub mod Passes

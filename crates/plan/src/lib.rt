@@ -2,6 +2,7 @@
 pub mod events;
 pub mod fields;
 pub mod heights;
+pub mod passes;
 pub mod records;
 pub mod refusals;
 

@@ -5,10 +5,11 @@ use crate::fields::TRANSITION_LENGTH;
 use crate::fields::word_at;
 use rules::Counts;
 ghost use mathlib.Core.Path.{_≡_};
-ghost use mathlib.Core.Bool.{cond};
+ghost use mathlib.Core.Bool.{cond, _||_};
 ghost use mathlib.Core.List.{[], _∷_};
 ghost use Prim.Native.Nat.{_+_, _<_, _≤_};
 ghost use lib.ListN.{length, getD};
+ghost use lib.Dec.{eqb, ltb};
 ghost use Rattle.rules.specs.Record.{lengthOf, mostOf, countOf, oneMore, judgeRecord, scan};
 ghost use Rattle.plan.specs.Scanned.{scanTold, Stands};
 
@@ -93,6 +94,16 @@ fn one_more(c: Counts, kind: u16) -> Counts
     }
 }
 
+// "the kind is not 1 to 4, or falls"
+fn is_unfit(kind: u16, last: u16) -> bool
+    ensures { λ r. ⌜ r ≡ (eqb (lengthOf kind) 0 || ltb kind last) ⌝ }
+{
+    if length_of(kind) == 0 {
+        return true;
+    }
+    kind < last
+}
+
 // The first refusal 2 to 7 of the record at a cursor, 0 where it has none.
 pub fn judge_record(plan: &[u8], k: Cursor) -> u8
     requires { ⌜ k .at ≤ length (now plan) ⌝ }
@@ -106,10 +117,8 @@ pub fn judge_record(plan: &[u8], k: Cursor) -> u8
     let size = word_at(plan, at) as usize;
     let kind = word_at(plan, at + 2);
     let length = length_of(kind);
-    if length == 0 {
-        return 3;
-    }
-    if kind < last {
+    let unfit = is_unfit(kind, last);
+    if unfit {
         return 3;
     }
     if size != length {

@@ -5,15 +5,15 @@ use crate::fields::destination_of;
 use crate::fields::deviation_of;
 use crate::fields::event_of;
 use crate::fields::final_field;
-use crate::fields::first_state;
 use crate::fields::host_word;
 use crate::fields::is_final;
-use crate::fields::is_hosting;
 use crate::fields::is_root;
 use crate::fields::is_state_of;
 use crate::fields::replacement_of;
 use crate::fields::source_of;
 use crate::fields::track_of;
+use crate::passes::first_states;
+use crate::passes::hosting_states;
 use rules::Counts;
 ghost use mathlib.Core.Path.{_≡_};
 ghost use mathlib.Core.Bool.{false};
@@ -99,14 +99,16 @@ pub fn bad_first(plan: &[u8], c: Counts, t: usize, first: u16) -> bool
     is_final(plan, c, s)
 }
 
+// Every state's track exists, as 9 has it.
 pub fn some_bad_first(plan: &[u8], c: Counts) -> bool
-    requires { ⌜ Holds (now plan) c ⌝ }
+    requires { ⌜ Holds (now plan) c × (someBelow (c .states) (badState (planOf (now plan) c)) ≡ false) ⌝ }
     ensures { λ r. ⌜ r ≡ someBelow (c .tracks) (badFirst (planOf (now (plan .entry)) c)) ⌝ }
 {
+    let firsts = first_states(plan, c);
     let tracks = c.tracks;
     let mut t: usize = 0;
     while t < tracks {
-        let first = first_state(plan, c, t);
+        let first = firsts[t];
         if bad_first(plan, c, t, first) {
             return true;
         }
@@ -116,31 +118,27 @@ pub fn some_bad_first(plan: &[u8], c: Counts) -> bool
 }
 
 // 12: a final state hosts a track, or a state that hosts none has a replacement.
-// No track is looked at for a state that is not final and has no replacement.
-pub fn bad_hosting(plan: &[u8], c: Counts, s: usize) -> bool
-    requires { ⌜ Holds (now plan) c × (s < c .states) ⌝ }
+pub fn bad_hosting(plan: &[u8], c: Counts, s: usize, hosting: bool) -> bool
+    requires { ⌜ Holds (now plan) c × (s < c .states) × (hosting ≡ isHosting (planOf (now plan) c) s) ⌝ }
     ensures { λ r. ⌜ r ≡ badHosting (planOf (now (plan .entry)) c) s ⌝ }
 {
-    if is_final(plan, c, s) {
-        if is_hosting(plan, c, s) {
-            return true;
-        }
-        return replacement_of(plan, c, s) != 0;
+    if hosting {
+        return is_final(plan, c, s);
     }
-    if replacement_of(plan, c, s) == 0 {
-        return false;
-    }
-    !is_hosting(plan, c, s)
+    replacement_of(plan, c, s) != 0
 }
 
+// Every host is a state, as 10 has it.
 pub fn some_bad_hosting(plan: &[u8], c: Counts) -> bool
-    requires { ⌜ Holds (now plan) c ⌝ }
+    requires { ⌜ Holds (now plan) c × (someBelow (c .tracks) (badHost (planOf (now plan) c)) ≡ false) ⌝ }
     ensures { λ r. ⌜ r ≡ someBelow (c .states) (badHosting (planOf (now (plan .entry)) c)) ⌝ }
 {
+    let marks = hosting_states(plan, c);
     let states = c.states;
     let mut s: usize = 0;
     while s < states {
-        if bad_hosting(plan, c, s) {
+        let hosting = marks[s];
+        if bad_hosting(plan, c, s, hosting) {
             return true;
         }
         s += 1;

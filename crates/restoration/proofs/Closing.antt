@@ -5,22 +5,22 @@ use mathlib.Core.Logic.{inl, inr}
 use mathlib.Core.Bool.{true, false, _&&_}
 use mathlib.Core.Option.{some}
 use Prim.Native.Nat.{ℕ}
-use Rattle.rules.specs.Plan.{Plan, host, owner, isStateOf, isFinal, isAbove, everyIn}
-use Rattle.rules.specs.Ledger.{Ledger, isAwake, isForward, isUndoing, sleeping}
+use Rattle.rules.specs.Plan.{Plan, noState, replacement, host, owner, isStateOf, isFinal, isAbove, everyIn}
+use Rattle.rules.specs.Ledger.{Ledger, isAwake, isForward, isUndoing}
 use Rattle.rules.specs.Scope.{isOpen, hasOpenScope}
-use Rattle.rules.specs.Event.{isClosing, isClosed, closesScope, closed}
+use Rattle.rules.specs.Event.{isClosing, isClosed, closesScope}
 use Rattle.rules.proofs.Tests.{look, look-option, clash, refuted, and-true, and-both, strong}
 use Rattle.rules.proofs.Acceptance.{Accepted}
 use Rattle.rules.proofs.Forest.{above-hosted}
 use Rattle.rules.proofs.Scopes.{in-host, every-in-of, open-find, busy-find}
-use Rattle.rules.proofs.Closing.{closing-final, closed-host, closed-root, closed-asleep, closed-kept, closed-alike}
-use Rattle.restoration.proofs.Modes.{forward-awake, undoing-forward}
+use Rattle.rules.proofs.Closing.{Alike, closing-alike, closing-asleep, closing-final, closed-host, closed-root}
 use Rattle.rules.proofs.Abandoning.{undoing-awake}
+use Rattle.restoration.specs.Seams.{Seams}
+use Rattle.restoration.proofs.Modes.{forward-awake, undoing-forward}
 use Rattle.restoration.proofs.Nesting.{Awake, Sleeps, Nested, state-of, host-awake, host-busy, open-host}
-
-pub sleeping-asleep : isAwake (sleeping .mode) ≡ false
-unfolding sleeping isAwake
-sleeping-asleep = refl
+use Rattle.restoration.proofs.Soundness.{sleeping-asleep}
+use Rattle.restoration.proofs.Laws.{Laws}
+use Rattle.restoration.proofs.Installing.{installed-mode, installed-state}
 
 module _ (p : Plan) (l : Ledger) where
   -- closing is due: the scope is open, and each of its tracks is forward in a final state
@@ -54,11 +54,32 @@ module _ (p : Plan) (l : Ledger) where
   unfolding closesScope
   closes-of t a c = and-both (isAwake (l t .mode)) (isClosing p l (l t .state)) a c
 
-  pub closed-awake : (t : ℕ) → Awake (closed p l) t → (isClosed p l t ≡ false) × Awake l t
+module _ {σ : Seams} (ω : Laws σ) (p : Plan) (l : Ledger) (e : σ .Event) where
+  open Seams σ using (entry, closed)
+
+  -- what is not put to sleep keeps its mode and state
+  pub closed-alike : (t : ℕ) → isClosed p l t ≡ false → Alike (closed p l e t) (l t)
+  closed-alike t c =
+      elim (look (closesScope p l t)) [
+        | inl o ↦
+            subst (λ x. Alike x (l t)) (sym (ω .closed-replaced p l e t c o))
+            (installed-mode (entry e) (replacement p (l t .state)) noState (l t), installed-state (entry e) (replacement p (l t .state)) noState (l t))
+        | inr o ↦ subst (λ x. Alike x (l t)) (sym (ω .closed-kept p l e t c o)) (refl, refl)
+      ]
+
+  pub closed-awake : (t : ℕ) → Awake (closed p l e) t → (isClosed p l t ≡ false) × Awake l t
   closed-awake t a =
       elim (look (isClosed p l t)) [
-        | inl c ↦ clash a (ap (λ k. isAwake (k .mode)) (closed-asleep p l t c) ∙ sleeping-asleep)
-        | inr c ↦ (c, ap isAwake (sym (closed-alike p l t c .0)) ∙ a)
+        | inl c ↦ clash a (ap (λ k. isAwake (k .mode)) (ω .closed-asleep p l e t c) ∙ sleeping-asleep)
+        | inr c ↦ (c, ap isAwake (sym (closed-alike t c .0)) ∙ a)
+      ]
+
+  -- one pass does all: no closing is due afterwards
+  pub closed-done : (s : ℕ) → isClosing p (closed p l e) s ≡ false
+  closed-done s =
+      elim (look (isClosing p l s)) [
+        | inl c ↦ closing-asleep p (closed p l e) s (λ t b h. ω .closed-asleep p l e t (closed-host p l t s h ∙ c))
+        | inr c ↦ closing-alike p (closed p l e) l s (λ t b h. closed-alike t (closed-host p l t s h ∙ c)) ∙ c
       ]
 
 module _ (p : Plan) (ok : Accepted p) (l : Ledger) (n : Nested p l) where
@@ -118,49 +139,52 @@ module _ (p : Plan) (ok : Accepted p) (l : Ledger) (n : Nested p l) where
   pub closed-together : (t u h : ℕ) → host p t ≡ some h → host p u ≡ some h → isClosed p l t ≡ isClosed p l u
   closed-together t u h e f = closed-host p l t h e ∙ sym (closed-host p l u h f)
 
-  asleep-after : (t : ℕ) → isClosed p l t ≡ true → Sleeps (closed p l) t
-  asleep-after t c = ap (λ k. isAwake (k .mode)) (closed-asleep p l t c) ∙ sleeping-asleep
+module _ {σ : Seams} (ω : Laws σ) (p : Plan) (ok : Accepted p) (l : Ledger) (n : Nested p l) (x : σ .Event) where
+  open Seams σ using (closed)
 
-  awake-after : (t : ℕ) → isClosed p l t ≡ false → isAwake (closed p l t .mode) ≡ isAwake (l t .mode)
-  awake-after t c = ap isAwake (closed-alike p l t c .0)
+  asleep-after : (t : ℕ) → isClosed p l t ≡ true → Sleeps (closed p l x) t
+  asleep-after t c = ap (λ k. isAwake (k .mode)) (ω .closed-asleep p l x t c) ∙ sleeping-asleep
 
-  pub closed-nested : Nested p (closed p l)
+  awake-after : (t : ℕ) → isClosed p l t ≡ false → isAwake (closed p l x t .mode) ≡ isAwake (l t .mode)
+  awake-after t c = ap isAwake (closed-alike ω p l x t c .0)
+
+  pub closed-nested : Nested p (closed p l x)
   closed-nested =
       record {
-        below = λ t a. n .below t (closed-awake p l t a .1);
+        below = λ t a. n .below t (closed-awake ω p l x t a .1);
         own =
             λ t a.
-            let (c, b) = closed-awake p l t a in
-            ap (isStateOf p t) (closed-alike p l t c .1) ∙ n .own t b;
+            let (c, b) = closed-awake ω p l x t a in
+            ap (isStateOf p t) (closed-alike ω p l x t c .1) ∙ n .own t b;
         hosted =
             λ t h a e.
-            let (c, b) = closed-awake p l t a in
+            let (c, b) = closed-awake ω p l x t a in
             let u = n .hosted t h b e in
-            let q = closed-alike p l (owner p h) (closed-host-stays t h b e) in
-            (q .1 ∙ u .0, q .0 ∙ u .1 ∙ sym (closed-alike p l t c .0));
+            let q = closed-alike ω p l x (owner p h) (closed-host-stays p ok l n t h b e) in
+            (q .1 ∙ u .0, q .0 ∙ u .1 ∙ sym (closed-alike ω p l x t c .0));
         whole =
             λ t u h e f.
             elim (look (isClosed p l t)) [
-              | inl c ↦ asleep-after t c ∙ sym (asleep-after u (sym (closed-together t u h e f) ∙ c))
-              | inr c ↦ awake-after t c ∙ n .whole t u h e f ∙ sym (awake-after u (sym (closed-together t u h e f) ∙ c))
+              | inl c ↦ asleep-after t c ∙ sym (asleep-after u (sym (closed-together p ok l n t u h e f) ∙ c))
+              | inr c ↦ awake-after t c ∙ n .whole t u h e f ∙ sym (awake-after u (sym (closed-together p ok l n t u h e f) ∙ c))
             ];
         blank =
             λ t a.
             elim (look (isClosed p l t)) [
-              | inl c ↦ closed-asleep p l t c
+              | inl c ↦ ω .closed-asleep p l x t c
               | inr c ↦
                   let b = sym (awake-after t c) ∙ a in
                   elim (look (closesScope p l t)) [
                     | inl d ↦ clash (closes-known p l t d .0) b
-                    | inr d ↦ closed-kept p l t c d ∙ n .blank t b
+                    | inr d ↦ ω .closed-kept p l x t c d ∙ n .blank t b
                   ]
             ];
       }
 
   -- what is undoing stays as it is
-  pub closed-undoing : (t : ℕ) → isUndoing (l t .mode) ≡ true → closed p l t ≡ l t
+  pub closed-undoing : (t : ℕ) → isUndoing (l t .mode) ≡ true → closed p l x t ≡ l t
   closed-undoing t u =
-      closed-kept p l t
+      ω .closed-kept p l x t
       (refuted (isClosed p l t)
       (λ c. let (h, e, d) = closed-in p l t c in clash (closing-final p l h t d (ok .hosted t h e) e .0) (undoing-forward (l t .mode) u)))
       (refuted (closesScope p l t)
@@ -171,7 +195,7 @@ module _ (p : Plan) (ok : Accepted p) (l : Ledger) (n : Nested p l) where
       let m : l t .mode ≡ l v .mode = ap (λ y. l y .mode) (sym own) ∙ n .hosted v (l t .state) w e .1 in
       clash (ap isForward m ∙ closing-final p l (l t .state) v c b e .0) (undoing-forward (l t .mode) u)))
 
-  pub closed-undoing-back : (t : ℕ) → isUndoing (closed p l t .mode) ≡ true → closed p l t ≡ l t
+  pub closed-undoing-back : (t : ℕ) → isUndoing (closed p l x t .mode) ≡ true → closed p l x t ≡ l t
   closed-undoing-back t u =
-      let (c, a) = closed-awake p l t (undoing-awake (closed p l t .mode) u) in
-      closed-undoing t (ap isUndoing (sym (closed-alike p l t c .0)) ∙ u)
+      let (c, a) = closed-awake ω p l x t (undoing-awake (closed p l x t .mode) u) in
+      closed-undoing t (ap isUndoing (sym (closed-alike ω p l x t c .0)) ∙ u)

@@ -10,64 +10,64 @@ use native.Mathlib.Omega.{arith}
 use native.Mathlib.Nat.{not-suc-le-zero}
 use lib.Dec.{eqb, ltb}
 use borrow.Author.Tests.{eqb-true, eqb-false, lt-ltb, le-ltb, ltb-true}
-use Rattle.rules.specs.Books.{act}
 use Rattle.rules.proofs.Tests.{look, clash}
+use Rattle.restoration.specs.Runs.{act}
 
--- a word of changes, each a transition
+-- a word of changes, each named by its transition
 abbrev pub Word : Type 0
 Word = List ℕ
 
 -- the word, if the test passes
-abbrev pub when : Bool → Word → Word
+abbrev pub when : {C : Type 0} → Bool → List C → List C
 when b w = cond b w []
 
 -- the words of the tracks below n, one after another
-unfoldable pub join : ℕ → (ℕ → Word) → Word
+unfoldable pub join : {C : Type 0} → ℕ → (ℕ → List C) → List C
 join zero A = []
 join (suc n) A = join n A ++ A n
 
 -- every letter of a word
-pub data All (P : ℕ → Type 0) : Word → Type 0 where
+pub data All {C : Type 0} (P : C → Type 0) : List C → Type 0 where
   none : All P []
-  one : {x : ℕ} {w : Word} → P x → All P w → All P (x ∷ w)
+  one : {x : C} {w : List C} → P x → All P w → All P (x ∷ w)
 
-pub all-append : {P : ℕ → Type 0} {v w : Word} → All P v → All P w → All P (v ++ w)
+pub all-append : {C : Type 0} {P : C → Type 0} {v w : List C} → All P v → All P w → All P (v ++ w)
 all-append none k = k
 all-append (one h hs) k = one h (all-append hs k)
 
-pub all-map : {P Q : ℕ → Type 0} → ((x : ℕ) → P x → Q x) → {w : Word} → All P w → All Q w
+pub all-map : {C : Type 0} {P Q : C → Type 0} → ((x : C) → P x → Q x) → {w : List C} → All P w → All Q w
 all-map f none = none
 all-map f (one {x} h hs) = one (f x h) (all-map f hs)
 
-pub all-when : {P : ℕ → Type 0} (b : Bool) {w : Word} → (b ≡ true → All P w) → All P (when b w)
+pub all-when : {C : Type 0} {P : C → Type 0} (b : Bool) {w : List C} → (b ≡ true → All P w) → All P (when b w)
 all-when true h = h refl
 all-when false h = none
 
-pub all-join : {P : ℕ → Type 0} (n : ℕ) (A : ℕ → Word) → ((t : ℕ) → t < n → All P (A t)) → All P (join n A)
+pub all-join : {C : Type 0} {P : C → Type 0} (n : ℕ) (A : ℕ → List C) → ((t : ℕ) → t < n → All P (A t)) → All P (join n A)
 unfolding join
 all-join zero A h = none
 all-join (suc n) A h = all-append (all-join n A (λ t l. h t (omega arith))) (h n (omega arith))
 
-pub when-nil : (b : Bool) → when b [] ≡ []
+pub when-nil : {C : Type 0} (b : Bool) → when {C = C} b [] ≡ []
 when-nil true = refl
 when-nil false = refl
 
-pub when-append : (b : Bool) (v w : Word) → when b (v ++ w) ≡ when b v ++ when b w
+pub when-append : {C : Type 0} (b : Bool) (v w : List C) → when b (v ++ w) ≡ when b v ++ when b w
 when-append true v w = refl
 when-append false v w = refl
 
-pub join-same : (n : ℕ) (A M : ℕ → Word) → ((t : ℕ) → t < n → A t ≡ M t) → join n A ≡ join n M
+pub join-same : {C : Type 0} (n : ℕ) (A M : ℕ → List C) → ((t : ℕ) → t < n → A t ≡ M t) → join n A ≡ join n M
 unfolding join
 join-same zero A M h = refl
 join-same (suc n) A M h = cc (join-same n A M (λ t l. h t (omega arith)), h n (omega arith))
 
-pub join-nil : (n : ℕ) (A : ℕ → Word) → ((t : ℕ) → t < n → A t ≡ []) → join n A ≡ []
+pub join-nil : {C : Type 0} (n : ℕ) (A : ℕ → List C) → ((t : ℕ) → t < n → A t ≡ []) → join n A ≡ []
 unfolding join
-join-nil zero A h = refl
-join-nil (suc n) A h = cc (join-nil n A (λ t l. h t (omega arith)), h n (omega arith), append-nil {A = ℕ} [])
+join-nil {C} zero A h = refl
+join-nil {C} (suc n) A h = cc (join-nil n A (λ t l. h t (omega arith)), h n (omega arith), append-nil {A = C} [])
 
 -- where one track alone has a word
-pub join-single : (n t : ℕ) (A : ℕ → Word) → t < n → ((u : ℕ) → u < n → (u ≡ t → ⊥) → A u ≡ []) → join n A ≡ A t
+pub join-single : {C : Type 0} (n t : ℕ) (A : ℕ → List C) → t < n → ((u : ℕ) → u < n → (u ≡ t → ⊥) → A u ≡ []) → join n A ≡ A t
 unfolding join
 join-single zero t A l h = absurd (not-suc-le-zero l)
 join-single (suc n) t A l h =
@@ -80,58 +80,58 @@ join-single (suc n) t A l h =
           rw (h n (omega arith) f, append-nil (join n A)) (join-single n t A (omega arith) (λ u m. h u (omega arith)))
     ]
 
-module _ {B : Type 0} (changed : ℕ → B → B) where
+module _ {C B : Type 0} (changed : C → B → B) where
   -- two words that lead from every state to the same one, and two that commute
-  abbrev pub Same : Word → Word → Type 0
+  abbrev pub Same : List C → List C → Type 0
   Same v w = (b : B) → act changed v b ≡ act changed w b
 
-  abbrev pub Swap : Word → Word → Type 0
+  abbrev pub Swap : List C → List C → Type 0
   Swap v w = (b : B) → act changed w (act changed v b) ≡ act changed v (act changed w b)
 
-  abbrev pub Commute : ℕ → ℕ → Type 0
+  abbrev pub Commute : C → C → Type 0
   Commute x y = (b : B) → changed y (changed x b) ≡ changed x (changed y b)
 
-  pub act-append : (v w : Word) (b : B) → act changed (v ++ w) b ≡ act changed w (act changed v b)
+  pub act-append : (v w : List C) (b : B) → act changed (v ++ w) b ≡ act changed w (act changed v b)
   unfolding act
   act-append [] w b = refl
   act-append (x ∷ v) w b = act-append v w (changed x b)
 
-  swap-letter : (x : ℕ) (w : Word) → All (Commute x) w → (b : B) → act changed w (changed x b) ≡ changed x (act changed w b)
+  swap-letter : (x : C) (w : List C) → All (Commute x) w → (b : B) → act changed w (changed x b) ≡ changed x (act changed w b)
   unfolding act
   swap-letter x [] none b = refl
   swap-letter x (y ∷ w) (one h hs) b = rw (h b) (swap-letter x w hs (changed y b))
 
-  pub swap-words : (v w : Word) → All (λ x. All (Commute x) w) v → Swap v w
+  pub swap-words : (v w : List C) → All (λ x. All (Commute x) w) v → Swap v w
   unfolding act
   swap-words [] w none b = refl
   swap-words (x ∷ v) w (one h hs) b = rw (swap-words v w hs (changed x b)) (ap (act changed v) (swap-letter x w h b))
 
-  pub swap-nil : (v : Word) → Swap v []
+  pub swap-nil : (v : List C) → Swap v []
   unfolding act
   swap-nil v b = refl
 
-  pub nil-swap : (w : Word) → Swap [] w
+  pub nil-swap : (w : List C) → Swap [] w
   unfolding act
   nil-swap w b = refl
 
-  pub swap-back : (v w : Word) → Swap v w → Swap w v
+  pub swap-back : (v w : List C) → Swap v w → Swap w v
   swap-back v w h b = sym (h b)
 
-  pub swap-append : (u v w : Word) → Swap u w → Swap v w → Swap (u ++ v) w
+  pub swap-append : (u v w : List C) → Swap u w → Swap v w → Swap (u ++ v) w
   swap-append u v w h k b = rw (act-append u v b, act-append u v (act changed w b), k (act changed u b), h b)
 
-  pub swap-when : (c d : Bool) (v w : Word) → (c ≡ true → d ≡ true → Swap v w) → Swap (when c v) (when d w)
+  pub swap-when : (c d : Bool) (v w : List C) → (c ≡ true → d ≡ true → Swap v w) → Swap (when c v) (when d w)
   swap-when true true v w h = h refl refl
   swap-when true false v w h = swap-nil v
   swap-when false true v w h = nil-swap w
   swap-when false false v w h = nil-swap []
 
-  swap-join : (n : ℕ) (M : ℕ → Word) (w : Word) → ((t : ℕ) → t < n → Swap (M t) w) → Swap (join n M) w
+  swap-join : (n : ℕ) (M : ℕ → List C) (w : List C) → ((t : ℕ) → t < n → Swap (M t) w) → Swap (join n M) w
   unfolding join
   swap-join zero M w h = nil-swap w
   swap-join (suc n) M w h = swap-append (join n M) (M n) w (swap-join n M w (λ t l. h t (omega arith))) (h n (omega arith))
 
-  pub same-join : (n : ℕ) (A M : ℕ → Word) → ((t : ℕ) → t < n → Same (A t) (M t)) → Same (join n A) (join n M)
+  pub same-join : (n : ℕ) (A M : ℕ → List C) → ((t : ℕ) → t < n → Same (A t) (M t)) → Same (join n A) (join n M)
   unfolding join
   same-join zero A M h b = refl
   same-join (suc n) A M h b =
@@ -142,12 +142,12 @@ module _ {B : Type 0} (changed : ℕ → B → B) where
         h n (omega arith) (act changed (join n M) b),
       )
 
-  pub same-when : (c : Bool) (v w : Word) → Same v w → Same (when c v) (when c w)
+  pub same-when : (c : Bool) (v w : List C) → Same v w → Same (when c v) (when c w)
   same-when true v w h = h
   same-when false v w h = λ b. refl
 
   -- words put behind each track's own may as well be put behind all, if each commutes with what the higher tracks have
-  pub put-behind : (n : ℕ) (A M : ℕ → Word) → ((t k : ℕ) → t < k → k < n → Swap (M t) (A k)) → (b : B)
+  pub put-behind : (n : ℕ) (A M : ℕ → List C) → ((t k : ℕ) → t < k → k < n → Swap (M t) (A k)) → (b : B)
       → act changed (join n (λ t. A t ++ M t)) b ≡ act changed (join n M) (act changed (join n A) b)
   unfolding join act
   put-behind zero A M h b = refl
@@ -162,7 +162,7 @@ module _ {B : Type 0} (changed : ℕ → B → B) where
       ))
 
   -- the same of the tracks that pass a test
-  pub put-behind-of : (S : ℕ → Bool) (n : ℕ) (A M : ℕ → Word) → ((t k : ℕ) → t < k → k < n → Swap (M t) (A k)) → (b : B)
+  pub put-behind-of : (S : ℕ → Bool) (n : ℕ) (A M : ℕ → List C) → ((t k : ℕ) → t < k → k < n → Swap (M t) (A k)) → (b : B)
       → act changed (join n (λ t. when (S t) (A t ++ M t))) b
       ≡ act changed (join n (λ t. when (S t) (M t))) (act changed (join n (λ t. when (S t) (A t))) b)
   put-behind-of S n A M h b =
@@ -171,12 +171,12 @@ module _ {B : Type 0} (changed : ℕ → B → B) where
       ∙ put-behind n (λ t. when (S t) (A t)) (λ t. when (S t) (M t))
       (λ t k l m. swap-when (S t) (S k) (M t) (A k) (λ c d. h t k l m)) b
 
-  -- Words gathered: where all words commute, they may be taken in groups, those of group t (the tracks u with `of u` t) together.
-  module _ (n : ℕ) (of : ℕ → ℕ) (M : ℕ → Word) (swaps : (t k : ℕ) → t < k → k < n → Swap (M t) (M k)) where
-    abbrev group : ℕ → Word
+  -- List Cs gathered: where all words commute, they may be taken in groups, those of group t (the tracks u with `of u` t) together.
+  module _ (n : ℕ) (of : ℕ → ℕ) (M : ℕ → List C) (swaps : (t k : ℕ) → t < k → k < n → Swap (M t) (M k)) where
+    abbrev group : ℕ → List C
     group t = join n (λ u. when (eqb (of u) t) (M u))
 
-    grow : (b c : Bool) (w : Word) (d : Bool) → (b ≡ true → d ≡ true) → (c ≡ true → d ≡ true) → (d ≡ true → c ≡ false → b ≡ true)
+    grow : (b c : Bool) (w : List C) (d : Bool) → (b ≡ true → d ≡ true) → (c ≡ true → d ≡ true) → (d ≡ true → c ≡ false → b ≡ true)
         → (c ≡ true → b ≡ false) → when b w ++ when c w ≡ when d w
     grow true true w d f g h k = clash refl (k refl)
     grow true false w d f g h k = rw (f refl, append-nil)
@@ -188,8 +188,8 @@ module _ {B : Type 0} (changed : ℕ → B → B) where
     unfolding join
     gathered zero b = ap (λ w. act changed w b) (sym (join-nil n (λ u. when (ltb (of u) 0) (M u)) (λ u l. rw (le-ltb (of u) 0 (omega arith)))))
     gathered (suc k) b =
-        let A : ℕ → Word = λ u. when (ltb (of u) k) (M u) in
-        let G : ℕ → Word = λ u. when (eqb (of u) k) (M u) in
+        let A : ℕ → List C = λ u. when (ltb (of u) k) (M u) in
+        let G : ℕ → List C = λ u. when (eqb (of u) k) (M u) in
         act-append (join k group) (group k) b
         ∙ ap (act changed (group k)) (gathered k b)
         ∙ sym (put-behind n A G (λ t j l m. swap-when (eqb (of t) k) (ltb (of j) k) (M t) (M j) (λ c d. swaps t j l m)) b)

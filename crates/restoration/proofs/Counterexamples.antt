@@ -1,13 +1,13 @@
--- What would be false: if nothing were asked of transitions with code 0, or of hosting states with replacement 0, the books need not be
--- given back. One small plan for each, computed. Assumes nothing.
+-- Each condition is needed: without it, or without it for code 0, there are a small plan, books that meet the others, and a list of calls
+-- after which the books are not given back. Computed. Assumes nothing.
 use mathlib.Core.Path.{_≡_, refl, sym, ap, _∙_, subst}
 use mathlib.Core.Logic.{_⊎_, inl, inr}
-use mathlib.Core.Bool.{Bool, true, false, cond, not}
+use mathlib.Core.Bool.{Bool, true, false, cond}
 use mathlib.Core.List.{List, [], _∷_}
 use mathlib.Core.Option.{some}
-use Prim.Native.Nat.{ℕ, zero, suc, _-_, _<_}
+use Prim.Native.Nat.{ℕ, zero, suc, _+_, _-_, _<_}
 use native.Mathlib.Omega.{arith}
-use lib.ListN.{replicate}
+use lib.ListN.{length, replicate}
 use lib.Dec.{eqb}
 use Rattle.rules.specs.declared.Counts.{Counts}
 use Rattle.rules.specs.Plan.{Plan, planOf, trackCount, transition, host, owner, replacement, isAbove}
@@ -21,7 +21,7 @@ use Rattle.rules.proofs.Tests.{clash, none-some}
 use Rattle.rules.proofs.Acceptance.{accepts}
 use Rattle.runs.specs.SamplePlan.{bytesOf}
 use Rattle.runs.specs.Computing.{computing}
-use Rattle.restoration.specs.LenientBooks.{Lenient, freelyCall, freelyBooked, freely, Claim}
+use Rattle.restoration.specs.LenientBooks.{Lenient, freelyCall, freelyBooked, freely, Claim, noneOf, onlyReal, allAsked, withoutNothing, undoneWhere, replacedWhere, withoutCommuting}
 use Rattle.restoration.proofs.Restoration.{restored}
 
 -- it is the reference run's where the changes are those of books
@@ -48,7 +48,7 @@ module _ (limit : ℕ) (bs : List ℕ) (p : Plan) (k : Books p limit) where
       (same-booked (ledgerAt limit ws (trackCount p)) c (callOutcome limit bs ws c .answer) b)
 
 -- asked of every code it is true
-pub asked-of-all : Claim (λ c. true) (λ c. true)
+pub asked-of-all : Claim allAsked
 unfolding booksAfter
 asked-of-all bs c read k lent cs h w b =
     let books : Books (planOf bs c) entryLimit =
@@ -56,20 +56,20 @@ asked-of-all bs c read k lent cs h w b =
       State = k .State;
       changed = k .changed;
       retracted = k .retracted;
-      nothing = k .nothing;
+      nothing = k .nothing refl;
       undo = λ x l b. k .undo x l refl b;
       undo-run = λ s t e w f b. k .undo-run s t e refl w f b;
-      commute = k .commute;
+      commute = k .commute refl;
     } in
     same-books entryLimit bs (planOf bs c) books cs (beginOutcome entryLimit bs lent .words) b
     ∙ restored entryLimit bs c read books lent cs h b w
 
-abbrev isReal : ℕ → Bool
-isReal c = not (eqb c 0)
-
 -- one event and a signal
 abbrev calls : List Call
 calls = event (record { event = 1 }) ∷ signal nothing ∷ []
+
+contrary : {A : Type 0} → false ≡ true → A
+contrary h = clash h refl
 
 -- A root with one state and a transition of code 0 from it to itself: the event changes the books and installs nothing.
 planC : List ℕ
@@ -98,31 +98,63 @@ one-track (retraction zero l) = refl
 one-track (retraction (suc x) l) = absurd (omega arith)
 one-track (replacing s t e) = hostless t s e
 
-counted : Lenient C entryLimit isReal (λ c. true)
+apart-C : {A : Type 0} (t u : ℕ) → Apart C t u → Deed C t → Deed C u → A
+apart-C t u a d e = absurd (a .two (one-track d ∙ sym (one-track e)))
+
+-- the changes are counted, and nothing is taken off
+counted : (f : ℕ → Bool) → f 0 ≡ false → Lenient C entryLimit (undoneWhere f)
 unfolding computing planC
-counted =
+counted f z =
     record {
       State = ℕ;
       changed = λ x b. suc b;
       retracted = λ c b. b;
-      nothing = λ b. refl;
+      nothing = λ h b. refl;
       undo = λ x l h b. codeless x l h;
       undo-run = λ s t e h w f b. hostless t s e;
-      commute = λ t u a d e b. absurd (a .two (one-track d ∙ sym (one-track e)));
+      commute = λ h t u a d e b. apart-C t u a d e;
     }
   where
-    codeless : {A : Type 0} (x : ℕ) → x < 1 → isReal (transition C x .code) ≡ true → A
-    codeless zero l h = clash h refl
+    codeless : {A : Type 0} (x : ℕ) → x < 1 → f (transition C x .code) ≡ true → A
+    codeless zero l h = clash h z
     codeless (suc x) l h = absurd (omega arith)
 
-pub code-zero-needed : Claim isReal (λ c. true) → ⊥
+-- the changes are counted, and code 0 takes one off
+uncounted : Lenient C entryLimit withoutNothing
+unfolding computing planC
+uncounted =
+    record {
+      State = ℕ;
+      changed = λ x b. suc b;
+      retracted = λ c b. b - 1;
+      nothing = λ h b. contrary h;
+      undo = λ x l h b. omega arith;
+      undo-run = λ s t e h w f b. hostless t s e;
+      commute = λ h t u a d e b. apart-C t u a d e;
+    }
+
+withdrawn-C : AllWithdrawn C (ledgerAfter entryLimit planC C (replicate 67 0) calls)
+unfolding computing planC
+withdrawn-C zero l r = record { undoing = refl; empty = refl; shut = refl }
+withdrawn-C (suc t) l r = absurd (omega arith)
+
+-- "code 0 changing none"
+pub nothing-needed : Claim withoutNothing → ⊥
+unfolding computing planC uncounted freely freelyBooked freelyCall act
+nothing-needed claim =
+    let z : _≡_ {A = ℕ} 1 0 = claim planC countsC reads-C uncounted (replicate 67 0) calls refl withdrawn-C 0 in omega arith
+
+-- "each transition's code undo its change": where it is asked of no code 0, and so where it is not asked at all
+undo-asked : (f : ℕ → Bool) → f 0 ≡ false → Claim (undoneWhere f) → ⊥
 unfolding computing planC counted freely freelyBooked freelyCall act
-code-zero-needed claim =
-    let z : _≡_ {A = ℕ} 1 0 = claim planC countsC reads-C counted (replicate 67 0) calls refl withdrawn 0 in omega arith
-  where
-    withdrawn : AllWithdrawn C (ledgerAfter entryLimit planC C (replicate 67 0) calls)
-    withdrawn zero l r = record { undoing = refl; empty = refl; shut = refl }
-    withdrawn (suc t) l r = absurd (omega arith)
+undo-asked f e claim =
+    let z : _≡_ {A = ℕ} 1 0 = claim planC countsC reads-C (counted f e) (replicate 67 0) calls refl withdrawn-C 0 in omega arith
+
+pub code-zero-needed : Claim (undoneWhere onlyReal) → ⊥
+code-zero-needed = undo-asked onlyReal refl
+
+pub undo-needed : Claim (undoneWhere noneOf) → ⊥
+undo-needed = undo-asked noneOf refl
 
 -- A root whose only state hosts a track, with replacement 0: the event closes the scope, and the hosted entry is dropped for nothing.
 planR : List ℕ
@@ -157,17 +189,18 @@ two-tracks (retraction zero l) = inr refl
 two-tracks (retraction (suc x) l) = absurd (omega arith)
 two-tracks (replacing s t e) = inl (ap (owner R) (one-host t s e))
 
-dropped : Lenient R entryLimit (λ c. true) isReal
+-- the changes are counted, and code 5 takes one off
+dropped : (f : ℕ → Bool) → f 0 ≡ false → Lenient R entryLimit (replacedWhere f)
 unfolding computing planR
-dropped =
+dropped f z =
     record {
       State = ℕ;
       changed = λ x b. suc b;
       retracted = λ c b. cond (eqb c 5) (b - 1) b;
-      nothing = λ b. refl;
+      nothing = λ h b. refl;
       undo = undone;
-      undo-run = λ s t e h w f b. clash (subst (λ x. isReal (replacement R x) ≡ true) (one-host t s e) h) refl;
-      commute = λ t u a d e b. absurd (related t u a (two-tracks d) (two-tracks e));
+      undo-run = λ s t e h w g b. clash (subst (λ x. f (replacement R x) ≡ true) (one-host t s e) h) z;
+      commute = λ h t u a d e b. absurd (related t u a (two-tracks d) (two-tracks e));
     }
   where
     undone : (x : ℕ) → x < 1 → true ≡ true → (b : ℕ) → cond (eqb (transition R x .code) 5) (suc b - 1) (suc b) ≡ b
@@ -180,12 +213,83 @@ dropped =
     related t u a (inl x) (inr y) = clash refl (subst (λ v. isAbove R 0 v ≡ false) y (subst (λ v. isAbove R v u ≡ false) x (a .not-above)))
     related t u a (inr x) (inl y) = clash refl (subst (λ v. isAbove R 0 v ≡ false) x (subst (λ v. isAbove R v t ≡ false) y (a .not-below)))
 
-pub replacement-zero-needed : Claim (λ c. true) isReal → ⊥
+-- "each hosting state's replacement undo every finished run": where it is asked of no replacement 0, and so where it is not asked at all
+undo-run-asked : (f : ℕ → Bool) → f 0 ≡ false → Claim (replacedWhere f) → ⊥
 unfolding computing planR dropped freely freelyBooked freelyCall act
-replacement-zero-needed claim =
-    let z : _≡_ {A = ℕ} 1 0 = claim planR countsR reads-R dropped (replicate 134 0) calls refl withdrawn 0 in omega arith
+undo-run-asked f e claim =
+    let z : _≡_ {A = ℕ} 1 0 = claim planR countsR reads-R (dropped f e) (replicate 134 0) calls refl withdrawn 0 in omega arith
   where
     withdrawn : AllWithdrawn R (ledgerAfter entryLimit planR R (replicate 134 0) calls)
     withdrawn zero l r = record { undoing = refl; empty = refl; shut = refl }
     withdrawn (suc zero) l r = clash r refl
+    withdrawn (suc (suc t)) l r = absurd (omega arith)
+
+pub replacement-zero-needed : Claim (replacedWhere onlyReal) → ⊥
+replacement-zero-needed = undo-run-asked onlyReal refl
+
+pub undo-run-needed : Claim (replacedWhere noneOf) → ⊥
+undo-run-needed = undo-run-asked noneOf refl
+
+-- Two roots, each with one state and a transition from it to itself: both move on one event, and then the first is fired first.
+planW : List ℕ
+planW =
+    bytesOf
+    (6 ∷ 1 ∷ 65535 ∷ 6 ∷ 1 ∷ 65535
+    ∷ 10 ∷ 2 ∷ 0 ∷ 0 ∷ 0 ∷ 10 ∷ 2 ∷ 1 ∷ 0 ∷ 0
+    ∷ 14 ∷ 3 ∷ 0 ∷ 1 ∷ 5 ∷ 65535 ∷ 0 ∷ 14 ∷ 3 ∷ 1 ∷ 1 ∷ 6 ∷ 65535 ∷ 1
+    ∷ 4 ∷ 4 ∷ [])
+
+abbrev countsW : Counts
+countsW = record { tracks = 2; states = 2; transitions = 2 }
+
+abbrev W : Plan
+W = planOf planW countsW
+
+reads-W : readPlan planW ≡ accepted countsW
+unfolding computing planW
+reads-W = refl
+
+unhosted : {A : Type 0} (t s : ℕ) → host W t ≡ some s → A
+unfolding computing planW
+unhosted zero s e = none-some refl e
+unhosted (suc zero) s e = none-some refl e
+unhosted (suc (suc t)) s e = let l : suc (suc t) < 2 = accepts planW countsW reads-W .hosted (suc (suc t)) s e in absurd (omega arith)
+
+-- a pile: a change puts its transition on top, and its code takes it off where it lies on top
+unfoldable unpiled : ℕ → List ℕ → List ℕ
+unpiled zero b = b
+unpiled (suc c) [] = []
+unpiled (suc c) (x ∷ b) = cond (eqb c (4 + x)) b (x ∷ b)
+
+piled : Lenient W entryLimit withoutCommuting
+unfolding computing planW unpiled
+piled =
+    record {
+      State = List ℕ;
+      changed = λ x b. x ∷ b;
+      retracted = unpiled;
+      nothing = λ h b. refl;
+      undo = undone;
+      undo-run = λ s t e h w f b. unhosted t s e;
+      commute = λ h t u a d e b. contrary h;
+    }
+  where
+    undone : (x : ℕ) → x < 2 → true ≡ true → (b : List ℕ) → unpiled (transition W x .code) (x ∷ b) ≡ b
+    undone zero l h b = refl
+    undone (suc zero) l h b = refl
+    undone (suc (suc x)) l h b = absurd (omega arith)
+
+-- "changes and retractions of two tracks commute where neither hosts the other"
+pub commute-needed : Claim withoutCommuting → ⊥
+unfolding computing planW piled unpiled freely freelyBooked freelyCall act
+commute-needed claim =
+    let z : _≡_ {A = List ℕ} (0 ∷ []) [] = claim planW countsW reads-W piled (replicate 134 0) made refl withdrawn [] in
+    let y : _≡_ {A = ℕ} 1 0 = ap length z in omega arith
+  where
+    made : List Call
+    made = event (record { event = 1 }) ∷ signal nothing ∷ fire (record { track = 0 }) ∷ fire (record { track = 1 }) ∷ []
+
+    withdrawn : AllWithdrawn W (ledgerAfter entryLimit planW W (replicate 134 0) made)
+    withdrawn zero l r = record { undoing = refl; empty = refl; shut = refl }
+    withdrawn (suc zero) l r = record { undoing = refl; empty = refl; shut = refl }
     withdrawn (suc (suc t)) l r = absurd (omega arith)

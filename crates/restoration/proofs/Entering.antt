@@ -123,7 +123,7 @@ module _ (p : Plan) (ok : Accepted p) (l : Ledger) (to : ℕ → Option ℕ) whe
         go (stays f w q) = clash (ap (λ c. isAwake (c .mode)) (sym q) ∙ b) a
 
     -- a hosted track is awake if it was or wakes
-    awake-or : (t h : ℕ) → host p t ≡ some h → isAwake (enter p to l t .mode) ≡ (isAwake (l t .mode) || wakes p to t)
+    pub awake-or : (t h : ℕ) → host p t ≡ some h → isAwake (enter p to l t .mode) ≡ (isAwake (l t .mode) || wakes p to t)
     awake-or t h e = go (fate t)
       where
         right : (b c : Bool) → c ≡ false → (b || c) ≡ b

@@ -1,6 +1,6 @@
 -- The entries that a track of a sound ledger may hold: a code other than 0, and a deviation, if any, to a non-final state of that root.
--- Installing and removing keep them so. Assumes nothing.
-use mathlib.Core.Path.{_≡_, refl, ap, _∙_, subst}
+-- Removing keeps them so. Assumes nothing.
+use mathlib.Core.Path.{_≡_, refl, subst}
 use mathlib.Core.Logic.{inl, inr}
 use mathlib.Core.Bool.{Bool, true, false, not, _&&_, _||_}
 use mathlib.Core.List.{List, [], _∷_}
@@ -12,13 +12,11 @@ use lib.Dec.{eqb}
 use borrow.Author.Tests.{not-true, eq-eqb}
 use Rattle.rules.specs.Plan.{Plan, transitionCount, noState, optional, host, transition, mover, isRoot, isStateOf, isFinal}
 use Rattle.rules.specs.Ledger.{Entry, Ledger, isEmpty}
-use Rattle.rules.specs.Event.{install}
 use Rattle.rules.specs.Fire.{newest, older}
 use Rattle.rules.specs.Soundness.{everyHeld, goodDeviation}
 use Rattle.rules.proofs.Tests.{look, look-option, clash, and-true, or-right}
 use Rattle.rules.proofs.Acceptance.{Accepted, optional-some}
 use Rattle.rules.proofs.Scopes.{root-none}
-use Rattle.restoration.proofs.Seams.{install-cases}
 
 module _ (p : Plan) where
   abbrev pub isReal : Entry → Bool
@@ -40,18 +38,9 @@ module _ (p : Plan) where
   unfolding everyHeld
   good-nil t = record { codes = refl; deviations = refl }
 
-  good-more : (t : ℕ) (x : Entry) (es : List Entry) → eqb (x .code) 0 ≡ false → mayDeviate t (x .deviation) ≡ true → Good t es → Good t (x ∷ es)
+  pub good-more : (t : ℕ) (x : Entry) (es : List Entry) → eqb (x .code) 0 ≡ false → mayDeviate t (x .deviation) ≡ true → Good t es → Good t (x ∷ es)
   unfolding everyHeld
   good-more t x es h k g = record { codes = rw h (g .codes); deviations = rw k (g .deviations) }
-
-  pub good-install : (t c d : ℕ) (es : List Entry) → (eqb c 0 ≡ false → mayDeviate t d ≡ true) → Good t es → Good t (install c d es)
-  good-install t c d es k g =
-      elim (install-cases c d es) [
-        | inl h ↦ rw (h .1) g
-        | inr h ↦
-            rw (h .held)
-            (good-more t (h .entry) es (ap (λ (y : ℕ). eqb y 0) (h .code) ∙ h .real) (ap (mayDeviate t) (h .deviation) ∙ k (h .real)) g)
-      ]
 
   pub good-older : (t : ℕ) (es : List Entry) → Good t es → Good t (older es)
   unfolding older everyHeld
@@ -103,18 +92,6 @@ module _ (p : Plan) where
       (root-none p t r, o, not-true (isFinal p d) f)
 
 -- how many entries
-pub install-length : (c d : ℕ) (es : List Entry) → length (install c d es) ≤ suc (length es)
-install-length c d es =
-    elim (install-cases c d es) [ inl h ↦ rw (h .1) (omega arith) | inr h ↦ rw (h .held) (omega arith) ]
-
--- an entry more fits where there is room for it
-pub install-fits : (limit c d : ℕ) (es : List Entry) → length es ≤ limit → (eqb c 0 ≡ false → length es < limit) → length (install c d es) ≤ limit
-install-fits limit c d es f r =
-    elim (install-cases c d es) [
-      | inl h ↦ rw (h .1) f
-      | inr h ↦ let a = install-length c d es in let b = r (h .real) in omega arith
-    ]
-
 pub older-length : (es : List Entry) → length (older es) ≤ length es
 unfolding older
 older-length [] = omega arith

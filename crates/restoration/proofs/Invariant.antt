@@ -12,60 +12,62 @@ use Rattle.rules.specs.Plan.{Plan, trackCount, transitionCount, owner, mover, i
 use Rattle.rules.specs.Ledger.{Entry, Configuration, Ledger, isForward}
 use Rattle.rules.specs.Scope.{isOpen, hasOpenScope}
 use Rattle.rules.specs.Opening.{enter}
-use Rattle.rules.specs.Books.{Apart, change, does, act, Books}
+use Rattle.rules.specs.Books.{Apart}
 use Rattle.rules.proofs.Tests.{look}
 use Rattle.rules.proofs.Acceptance.{Accepted}
 use Rattle.rules.proofs.Forest.{Reaches, apart}
-use Rattle.restoration.proofs.Composition.{Word, when, join, All, none, all-append, all-map, Same, Swap, Commute, swap-words, swap-nil, join-nil}
+use Rattle.restoration.specs.Seams.{Seams}
+use Rattle.restoration.specs.Runs.{act, changing, does, Books}
+use Rattle.restoration.proofs.Composition.{when, join, All, none, all-append, all-map, Same, Swap, Commute, swap-words, swap-nil, join-nil}
 use Rattle.restoration.proofs.Nesting.{Sleeps, Nested, free-below, shut-inside, open-host}
-use Rattle.restoration.proofs.Soundness.{sleeping-held}
 use Rattle.restoration.proofs.Entering.{Enterable, Fate, enters, wakens, stays, fate, fresh-held, woken-asleep, kept-busy}
+use Rattle.restoration.proofs.Soundness.{sleeping-held}
 
-module _ (limit : ℕ) (p : Plan) (ok : Accepted p) (k : Books p limit) where
-  -- done right after the word, the code gives the state back
-  abbrev pub Undoes : ℕ → Word → Type 0
+module _ {σ : Seams} (limit : ℕ) (p : Plan) (ok : Accepted p) (k : Books σ p limit) where
+  open Seams σ using (Event, Change, change, Retraction, retraction)
+
+  -- done right after the word, the retraction gives the state back
+  abbrev pub Undoes : Retraction → List Change → Type 0
   Undoes c w = (b : k .State) → k .retracted c (act (k .changed) w b) ≡ b
 
   -- a change of t, or of a track that t hosts
-  abbrev pub Below : ℕ → ℕ → Type 0
-  Below t x = Reaches p ok t (mover p x) × (x < transitionCount p)
+  pub data Below (t : ℕ) : Change → Type 0 where
+    below : (a : Event) (x : ℕ) → Reaches p ok t (mover p x) → x < transitionCount p → Below t (change a x)
 
   -- a word in blocks, one for each entry
-  abbrev pub Held : ℕ → List Entry → Word → Type 0
+  abbrev pub Held : ℕ → List Entry → List Change → Type 0
   Held t [] w = w ≡ []
-  Held t (e ∷ es) w = (old : Word) × (new : Word) × Held t es old × All (Below t) new × Undoes (e .code) new × (w ≡ old ++ new)
+  Held t (e ∷ es) w = (old : List Change) × (new : List Change) × Held t es old × All (Below t) new × Undoes (retraction e) new × (w ≡ old ++ new)
 
-  pub held-below : (t : ℕ) (es : List Entry) (w : Word) → Held t es w → All (Below t) w
+  pub held-below : (t : ℕ) (es : List Entry) (w : List Change) → Held t es w → All (Below t) w
   held-below t [] w h = rw h none
   held-below t (e ∷ es) w h =
       let (old, new, i, a, u, q) = h in
       rw q (all-append (held-below t es old i) a)
 
   -- the words of the tracks inside a scope, in rising order
-  abbrev pub inner : (ℕ → Word) → ℕ → Word
+  abbrev pub inner : (ℕ → List Change) → ℕ → List Change
   inner W s = join (trackCount p) (λ t. when (isInside p s t) (W t))
 
-  pub record Blocks (l : Ledger) (W R : ℕ → Word) : Type 0 where
+  pub record Blocks (l : Ledger) (W R : ℕ → List Change) : Type 0 where
     pub held : (t : ℕ) → Held t (l t .held) (W t)
     pub runs : (s : ℕ) → isOpen p l s ≡ true → isForward (l (owner p s) .mode) ≡ true
         → All (Below (owner p s)) (R s) × Same (k .changed) (R s) (inner W s)
 
   -- changes below two tracks commute where the lower does not host the higher
-  pub swap-below : (t u : ℕ) (v w : Word) → t < u → isAbove p t u ≡ false → All (Below t) v → All (Below u) w → Swap (k .changed) v w
-  swap-below t u v w l n a b =
-      swap-words (k .changed) v w
-      (all-map
-      (λ x i.
-      all-map
-      (λ y j.
-      commutes x y (i .1) (j .1) (apart p ok t u (mover p x) (mover p y) l n (i .0) (j .0)))
-      b)
-      a)
+  below-commute : (t u : ℕ) → t < u → isAbove p t u ≡ false → (x y : Change) → Below t x → Below u y → Commute (k .changed) x y
+  below-commute t u l n x y (below a v i r) (below c w j q) b =
+      commutes a c v w r q (apart p ok t u (mover p v) (mover p w) l n i j) b
     where
-      commutes : (x y : ℕ) → x < transitionCount p → y < transitionCount p → Apart p (mover p x) (mover p y) → Commute (k .changed) x y
-      commutes x y i j d b = unfold does in sym (k .commute (mover p x) (mover p y) d (change x i) (change y j) b)
+      commutes : (a c : Event) (v w : ℕ) → v < transitionCount p → w < transitionCount p → Apart p (mover p v) (mover p w)
+          → Commute (k .changed) (change a v) (change c w)
+      commutes a c v w r q d b = unfold does in sym (k .commute (mover p v) (mover p w) d (changing a v r) (changing c w q) b)
 
-  module _ (l : Ledger) (n : Nested p l) (W R : ℕ → Word) (g : Blocks l W R) where
+  pub swap-below : (t u : ℕ) (v w : List Change) → t < u → isAbove p t u ≡ false → All (Below t) v → All (Below u) w → Swap (k .changed) v w
+  swap-below t u v w l n a b =
+      swap-words (k .changed) v w (all-map (λ x i. all-map (λ y j. below-commute t u l n x y i j) b) a)
+
+  module _ (l : Ledger) (n : Nested p l) (W R : ℕ → List Change) (g : Blocks l W R) where
     -- what sleeps has no word
     pub quiet : (t : ℕ) → Sleeps l t → W t ≡ []
     quiet t a = subst (λ es. Held t es (W t)) (ap (λ (c : Configuration). c .held) (n .blank t a) ∙ sleeping-held) (g .held t)
@@ -74,7 +76,7 @@ module _ (limit : ℕ) (p : Plan) (ok : Accepted p) (k : Books p limit) where
     word-below t = held-below t (l t .held) (W t) (g .held t)
 
     -- changes below a track without an open scope commute with every higher track's word
-    pub swap-free : (t u : ℕ) (v : Word) → hasOpenScope p l t ≡ false → t < u → All (Below t) v → Swap (k .changed) v (W u)
+    pub swap-free : (t u : ℕ) (v : List Change) → hasOpenScope p l t ≡ false → t < u → All (Below t) v → Swap (k .changed) v (W u)
     swap-free t u v f b a =
         elim (look (isAbove p t u)) [
           | inl i ↦ rw (quiet u (free-below p ok l n t f u i)) (swap-nil (k .changed) v)

@@ -3,126 +3,126 @@
 use mathlib.Core.Path.{_≡_, refl, sym, ap, _∙_, subst}
 use mathlib.Core.Logic.{_⊎_, inl, inr}
 use mathlib.Core.Bool.{Bool, true}
-use mathlib.Core.List.{[], _++_}
+use mathlib.Core.List.{List, [], _++_}
 use mathlib.Core.Option.{none}
 use Prim.Native.Nat.{ℕ}
-use Rattle.rules.specs.Plan.{Plan, trackCount, host, owner, replacement, isInside}
+use Rattle.rules.specs.Plan.{Plan, trackCount, host, owner, isInside}
 use Rattle.rules.specs.Ledger.{Configuration, Ledger, isAwake, isForward}
 use Rattle.rules.specs.Scope.{isOpen}
 use Rattle.rules.specs.Opening.{begun}
-use Rattle.rules.specs.Event.{moved, isClosing, closed}
+use Rattle.rules.specs.Event.{isClosing}
 use Rattle.rules.specs.Signal.{abandoned}
 use Rattle.rules.specs.Fire.{newest, mayFire, fired}
-use Rattle.rules.specs.Call.{EventArguments, SignalArguments, FireArguments, Call, event, signal, fire, callRefusal, next}
-use Rattle.rules.specs.FinishedRun.{movesOf, Reached, Running, by-begin, by-call, over-event, over-signal, over-fire}
-use Rattle.rules.specs.FinishedRun as run
-use Rattle.rules.specs.Books.{act, Books}
 use Rattle.rules.specs.ReferenceRun.{AllWithdrawn}
 use Rattle.rules.proofs.Tests.{look, look-option, clash}
 use Rattle.rules.proofs.Acceptance.{Accepted}
 use Rattle.rules.proofs.Scopes.{root-of, open-at, open-find}
-use Rattle.rules.proofs.Closing.{closing-final, closed-alike}
+use Rattle.rules.proofs.Closing.{closing-final}
 use Rattle.rules.proofs.Abandoning.{awake-kept}
+use Rattle.restoration.specs.Seams.{Seams, Call, event, signal, fire, turned}
+use Rattle.restoration.specs.Runs as run
+use Rattle.restoration.specs.Runs.{act, replacementOf, Reached, Running, by-begin, by-call, over-event, over-signal, over-fire, Books, bookedCall}
 use Rattle.restoration.proofs.Composition as all
-use Rattle.restoration.proofs.Composition.{Word, when, join, when-nil, join-nil}
+use Rattle.restoration.proofs.Composition.{when, join, when-nil, join-nil}
 use Rattle.restoration.proofs.Modes.{forward-awake}
 use Rattle.restoration.proofs.Nesting.{Nested, open-host, hosted-asleep}
-use Rattle.restoration.proofs.Seams.{Ask, ask, turns, turned-awake, spared, fire-accepted, may-fire, next-cases}
-use Rattle.restoration.proofs.Moving.{moved-nested, moved-busy}
-use Rattle.restoration.proofs.Closing.{sleeping-asleep, closing-open, closed-awake}
-use Rattle.restoration.proofs.Firing.{removed-mode, fired-busy}
-use Rattle.restoration.proofs.Leaving.{turned-nested}
 use Rattle.restoration.proofs.Entering.{fresh-held}
-use Rattle.restoration.proofs.Soundness.{Sound, sleeping-held}
+use Rattle.restoration.proofs.Firing.{may-fire, removed-mode, fired-busy}
+use Rattle.restoration.proofs.Soundness.{Sound, Over, sleeping-asleep, sleeping-held}
+use Rattle.restoration.proofs.Laws.{Laws, Unfinished}
+use Rattle.restoration.proofs.Settling.{next-cases, over-refused}
+use Rattle.restoration.proofs.Turning.{turned-awake, spared}
+use Rattle.restoration.proofs.Moving.{moved-nested, moved-busy}
+use Rattle.restoration.proofs.Closing.{closing-open, closed-alike, closed-awake}
+use Rattle.restoration.proofs.Leaving.{turned-nested}
 use Rattle.restoration.proofs.SoundBegin.{root-zero, begun-sound, begun-fresh}
 use Rattle.restoration.proofs.SoundEvent.{was-open}
 use Rattle.restoration.proofs.SoundRetraction.{fired-awake, fired-formed}
-use Rattle.restoration.proofs.SoundKept.{Over}
-use Rattle.restoration.proofs.SoundWords.{kept-next}
+use Rattle.restoration.proofs.SoundKept.{over-is, kept-next}
 use Rattle.restoration.proofs.Invariant.{Undoes, Held, Blocks, quiet}
 use Rattle.restoration.proofs.InvariantMoving.{grown, fresher, moves-last, moved-blocks}
 use Rattle.restoration.proofs.InvariantClosing.{settled, closed-blocks, closed-whole}
 use Rattle.restoration.proofs.InvariantRetraction.{turned-blocks, abandoned-blocks, shorter, fired-books, fired-blocks}
 
-module _ (limit : ℕ) (p : Plan) (ok : Accepted p) (k : Books p limit) where
+module _ {σ : Seams} (ω : Laws σ) (υ : Unfinished σ) (limit : ℕ) (p : Plan) (ok : Accepted p) (k : Books σ p limit) where
+  open Seams σ using (Event, Signal, Firing, Head, Change, track, moved, closed, movesOf, retraction, isTurned, firstHead, nextHead, refusal, next)
+
   -- the words, the runs, and the books' states at the begin and now
-  pub record Booked (l : Ledger) (first now : k .State) : Type 0 where
-    pub W : ℕ → Word
-    pub R : ℕ → Word
+  pub record Booked (h : Head) (l : Ledger) (first now : k .State) : Type 0 where
+    pub W : ℕ → List Change
+    pub R : ℕ → List Change
     pub blocks : Blocks limit p ok k l W R
-    pub running : (s : ℕ) → isOpen p l s ≡ true → isForward (l (owner p s) .mode) ≡ true → Running p limit s l (R s)
+    pub running : (s : ℕ) → isOpen p l s ≡ true → isForward (l (owner p s) .mode) ≡ true → Running σ p limit s h l (R s)
     pub books : now ≡ act (k .changed) (join (trackCount p) W) first
 
   -- over, or sound and booked
-  abbrev pub Invariant : Ledger → k .State → k .State → Type 0
-  Invariant l first now = Over l ⊎ (Sound limit p l × Booked l first now)
+  abbrev pub Invariant : Head → Ledger → k .State → k .State → Type 0
+  Invariant h l first now = Over l ⊎ (Sound σ limit p l × Booked h l first now)
 
   -- what the call did to the books: on the next ledger, which is sound or over
-  carry : (l : Ledger) → Sound limit p l → (c : Call) (first now : k .State) → Booked (next limit p l c) first now → Invariant (next limit p l c) first now
-  carry l s c first now b =
-      elim (kept-next limit p ok l (inr s) c) [ inl o ↦ inl o | inr s′ ↦ inr (s′, b) ]
+  carry : (h : Head) (l : Ledger) → Sound σ limit p l → (c : Call σ) (first now : k .State)
+      → Booked (nextHead limit p h l c) (next limit p h l c) first now → Invariant (nextHead limit p h l c) (next limit p h l c) first now
+  carry h l s c first now b =
+      elim (kept-next ω υ limit p ok h l (inr s) c) [ inl o ↦ inl o | inr s′ ↦ inr (s′, b) ]
 
-  module _ (l : Ledger) (first now : k .State) (reach : Reached p limit l) (s : Sound limit p l) (v : Booked l first now) where
+  module _ (h : Head) (l : Ledger) (first now : k .State) (reach : Reached σ p limit h l) (s : Sound σ limit p l) (v : Booked h l first now) where
     abbrev n : Nested p l
     n = s .formed .nested
 
-    abbrev W : ℕ → Word
+    abbrev W : ℕ → List Change
     W = v .W
 
-    abbrev R : ℕ → Word
+    abbrev R : ℕ → List Change
     R = v .R
 
-    module _ (a : EventArguments) (acc : callRefusal limit p l (event a) ≡ 0) where
-      abbrev e : Ask
-      e = ask a
-
+    module _ (a : Event) (acc : refusal limit p h l (event a) ≡ 0) where
       abbrev m : Ledger
-      m = moved p l e
+      m = moved p l a
 
       abbrev x : Ledger
-      x = next limit p l (event a)
+      x = next limit p h l (event a)
 
       m-nested : Nested p m
-      m-nested = moved-nested p l e ok n
+      m-nested = moved-nested ω p l a ok n
 
       -- words and runs after the moves
-      abbrev W₁ : ℕ → Word
-      W₁ = grown limit p ok k l n W R (v .blocks) e
+      abbrev W₁ : ℕ → List Change
+      W₁ = grown ω limit p ok k l n W R (v .blocks) a
 
-      abbrev R₁ : ℕ → Word
-      R₁ = fresher limit p ok k l n W R (v .blocks) e
+      abbrev R₁ : ℕ → List Change
+      R₁ = fresher ω limit p ok k l n W R (v .blocks) a
 
       after-moves : Blocks limit p ok k m W₁ R₁
-      after-moves = moved-blocks limit p ok k l n W R (v .blocks) e
+      after-moves = moved-blocks ω limit p ok k l n W R (v .blocks) a
 
       -- the host of a scope that was open did not move
       host-still : (z : ℕ) → isOpen p l z ≡ true → m (owner p z) ≡ l (owner p z)
-      host-still z o = let (w, b, q) = open-host p ok l n z o in moved-busy p l e ok n (owner p z) w b
+      host-still z o = let (w, b, q) = open-host p ok l n z o in moved-busy ω p l a ok n (owner p z) w b
 
       -- the run of a scope that closes is finished, so its replacement undoes it
-      closing-undone : (z : ℕ) → isClosing p m z ≡ true → Undoes limit p ok k (replacement p z) (R₁ z)
+      closing-undone : (z : ℕ) → isClosing p m z ≡ true → Undoes limit p ok k (replacementOf σ p a z) (R₁ z)
       closing-undone z c =
-          let o = was-open limit p ok l (s .formed) e z c in
-          let (u, b, h, w) = open-find p m z (closing-open p m z c) in
+          let o = was-open ω limit p ok l (s .formed) a z c in
+          let (u, b, i, w) = open-find p m z (closing-open p m z c) in
           let f : isForward (l (owner p z) .mode) ≡ true =
           ap (λ (y : Configuration). isForward (y .mode)) (sym (host-still z o))
-          ∙ ap isForward (m-nested .hosted u z w h .1) ∙ closing-final p m z u c b h .0 in
-          rw o (k .undo-run z u h (R z ++ movesOf p (isInside p z) l e) (run.closed (v .running z o f) a acc c))
+          ∙ ap isForward (m-nested .hosted u z w i .1) ∙ closing-final p m z u c b i .0 in
+          rw o (k .undo-run z u i a (R z ++ movesOf p (isInside p z) l a) (run.closed (v .running z o f) a acc c))
 
       -- words after the closings
-      abbrev W₂ : ℕ → Word
-      W₂ = settled limit p ok k m m-nested W₁ R₁ after-moves closing-undone
+      abbrev W₂ : ℕ → List Change
+      W₂ = settled ω limit p ok k m m-nested W₁ R₁ after-moves a closing-undone
 
-      after-closings : Blocks limit p ok k (closed p m) W₂ R₁
-      after-closings = closed-blocks limit p ok k m m-nested W₁ R₁ after-moves closing-undone
+      after-closings : Blocks limit p ok k (closed p m a) W₂ R₁
+      after-closings = closed-blocks ω limit p ok k m m-nested W₁ R₁ after-moves a closing-undone
 
       -- a scope that was open and is forward after the closings was forward before
-      was-forward : (z : ℕ) → isOpen p l z ≡ true → isForward (closed p m (owner p z) .mode) ≡ true → isForward (l (owner p z) .mode) ≡ true
+      was-forward : (z : ℕ) → isOpen p l z ≡ true → isForward (closed p m a (owner p z) .mode) ≡ true → isForward (l (owner p z) .mode) ≡ true
       was-forward z o f =
-          let (c, w) = closed-awake p m (owner p z) (forward-awake (closed p m (owner p z) .mode) f) in
-          ap (λ (y : Configuration). isForward (y .mode)) (sym (host-still z o)) ∙ ap isForward (sym (closed-alike p m (owner p z) c .0)) ∙ f
+          let (c, w) = closed-awake ω p m a (owner p z) (forward-awake (closed p m a (owner p z) .mode) f) in
+          ap (λ (y : Configuration). isForward (y .mode)) (sym (host-still z o)) ∙ ap isForward (sym (closed-alike ω p m a (owner p z) c .0)) ∙ f
 
-      event-booked : x ≡ closed p m → Booked x first (act (k .changed) (movesOf p (λ t. true) l e) now)
+      event-booked : x ≡ closed p m a → Booked (nextHead limit p h l (event a)) x first (act (k .changed) (movesOf p (λ t. true) l a) now)
       event-booked q =
           record {
             W = W₂;
@@ -136,76 +136,76 @@ module _ (limit : ℕ) (p : Plan) (ok : Accepted p) (k : Books p limit) where
                   | inr w ↦ rw w (by-call reach (event a) w o)
                 ];
             books =
-                ap (act (k .changed) (movesOf p (λ t. true) l e)) (v .books)
-                ∙ sym (moves-last limit p ok k l n W R (v .blocks) e (λ t. true) first)
-                ∙ sym (closed-whole limit p ok k m m-nested W₁ R₁ after-moves closing-undone first);
+                ap (act (k .changed) (movesOf p (λ t. true) l a)) (v .books)
+                ∙ sym (moves-last ω limit p ok k l n W R (v .blocks) a (λ t. true) first)
+                ∙ sym (closed-whole ω limit p ok k m m-nested W₁ R₁ after-moves a closing-undone first);
           }
 
-      pub event-keeps : Invariant x first (act (k .changed) (movesOf p (λ t. true) l e) now)
+      pub event-keeps : Invariant (nextHead limit p h l (event a)) x first (act (k .changed) (movesOf p (λ t. true) l a) now)
       event-keeps =
-          elim (next-cases limit p l (event a) acc) [ inr o ↦ inl o | inl q ↦ carry l s (event a) first _ (event-booked q) ]
+          elim (next-cases ω limit p h l (event a) acc) [ inr o ↦ inl o | inl q ↦ carry h l s (event a) first _ (event-booked q) ]
 
-    module _ (a : SignalArguments) (acc : callRefusal limit p l (signal a) ≡ 0) where
+    module _ (a : Signal) (acc : refusal limit p h l (signal a) ≡ 0) where
       -- a scope that is open after a signal was open before
-      signal-open : (z : ℕ) → isOpen p (abandoned p (turns p a l)) z ≡ true → isOpen p l z ≡ true
+      signal-open : (z : ℕ) → isOpen p (abandoned p (turned σ p l a)) z ≡ true → isOpen p l z ≡ true
       signal-open z o =
-          let (u, b, h, w) = open-find p (abandoned p (turns p a l)) z o in
-          let (c, r) = awake-kept p ok (turns p a l) u w in
-          open-at p l z u b h (sym (turned-awake p ok a l u) ∙ ap (λ (y : Configuration). isAwake (y .mode)) (sym r) ∙ w)
+          let (u, b, i, w) = open-find p (abandoned p (turned σ p l a)) z o in
+          let (c, r) = awake-kept p ok (turned σ p l a) u w in
+          open-at p l z u b i (sym (turned-awake ω p l a u) ∙ ap (λ (y : Configuration). isAwake (y .mode)) (sym r) ∙ w)
 
-      signal-booked : next limit p l (signal a) ≡ abandoned p (turns p a l) → Booked (next limit p l (signal a)) first now
+      signal-booked : next limit p h l (signal a) ≡ abandoned p (turned σ p l a) → Booked (nextHead limit p h l (signal a)) (next limit p h l (signal a)) first now
       signal-booked q =
           record {
             W = W;
             R = R;
             blocks =
                 subst (λ y. Blocks limit p ok k y W R) (sym q)
-                (abandoned-blocks limit p ok k (turns p a l) (turned-nested p ok l n a) W R (turned-blocks limit p ok k l n W R (v .blocks) a));
+                (abandoned-blocks ω limit p ok k (turned σ p l a) (turned-nested ω p ok l n a) W R (turned-blocks ω limit p ok k l n W R (v .blocks) a));
             running =
                 λ z o f.
                 let f′ = subst (λ y. isForward (y (owner p z) .mode) ≡ true) q f in
-                let (c, r) = awake-kept p ok (turns p a l) (owner p z) (forward-awake (abandoned p (turns p a l) (owner p z) .mode) f′) in
-                let (w, i) = spared p ok a l z (ap (λ (y : Configuration). isForward (y .mode)) (sym r) ∙ f′) in
+                let (c, r) = awake-kept p ok (turned σ p l a) (owner p z) (forward-awake (abandoned p (turned σ p l a) (owner p z) .mode) f′) in
+                let (w, i) = spared ω p l a ok z (ap (λ (y : Configuration). isForward (y .mode)) (sym r) ∙ f′) in
                 over-signal (v .running z (signal-open z (subst (λ y. isOpen p y z ≡ true) q o)) w) a acc i o;
             books = v .books;
           }
 
-      pub signal-keeps : Invariant (next limit p l (signal a)) first now
+      pub signal-keeps : Invariant (nextHead limit p h l (signal a)) (next limit p h l (signal a)) first now
       signal-keeps =
-          elim (next-cases limit p l (signal a) acc) [ inr o ↦ inl o | inl q ↦ carry l s (signal a) first now (signal-booked q) ]
+          elim (next-cases ω limit p h l (signal a) acc) [ inr o ↦ inl o | inl q ↦ carry h l s (signal a) first now (signal-booked q) ]
 
-    module _ (a : FireArguments) (acc : callRefusal limit p l (fire a) ≡ 0) where
+    module _ (a : Firing) (acc : refusal limit p h l (fire a) ≡ 0) where
       abbrev t : ℕ
-      t = a .track
+      t = track a
 
       may : mayFire p l t ≡ true
-      may = fire-accepted limit p l a acc .1
+      may = ω .fire-accepted limit p h l a acc .1
 
       -- words and runs without the newest block
-      abbrev W₃ : ℕ → Word
-      W₃ = shorter limit p ok k l s W R (v .blocks) t may
+      abbrev W₃ : ℕ → List Change
+      W₃ = shorter ω limit p ok k l s W R (v .blocks) t may
 
-      abbrev R₃ : ℕ → Word
+      abbrev R₃ : ℕ → List Change
       R₃ z = when (isOpen p l z) (R z)
 
       -- the host of a scope that was open is left in its mode
       fire-host : (z : ℕ) → isOpen p l z ≡ true → isForward (abandoned p (fired p l t) (owner p z) .mode) ≡ true → isForward (l (owner p z) .mode) ≡ true
       fire-host z w f =
           let (c, r) = awake-kept p ok (fired p l t) (owner p z) (forward-awake (abandoned p (fired p l t) (owner p z) .mode) f) in
-          let (i, j, h) = open-host p ok l n z w in
-          let y = fired-busy p l t ok n (s .formed .good t) (may-fire limit p l t may .3) (fired-awake limit p ok l s t may) (owner p z) i j in
+          let (i, j, d) = open-host p ok l n z w in
+          let y = fired-busy p l t ok n (s .formed .good t) (may-fire p l t may .3) (fired-awake ω limit p ok l s t may) (owner p z) i j in
           ap isForward (sym (ap (λ (y : Configuration). y .mode) (r ∙ y) ∙ removed-mode p l t (owner p z))) ∙ f
 
-      fire-booked : next limit p l (fire a) ≡ abandoned p (fired p l t)
-          → Booked (next limit p l (fire a)) first (k .retracted (newest (l t .held) .code) now)
+      fire-booked : next limit p h l (fire a) ≡ abandoned p (fired p l t)
+          → Booked (nextHead limit p h l (fire a)) (next limit p h l (fire a)) first (k .retracted (retraction (newest (l t .held))) now)
       fire-booked q =
           record {
             W = W₃;
             R = R₃;
             blocks =
                 subst (λ y. Blocks limit p ok k y W₃ R₃) (sym q)
-                (abandoned-blocks limit p ok k (fired p l t) (fired-formed limit p ok l s t may .nested) W₃ R₃
-                (fired-blocks limit p ok k l s W R (v .blocks) t may));
+                (abandoned-blocks ω limit p ok k (fired p l t) (fired-formed ω limit p ok l s t may .nested) W₃ R₃
+                (fired-blocks ω limit p ok k l s W R (v .blocks) t may));
             running =
                 λ z o f.
                 let f′ = subst (λ y. isForward (y (owner p z) .mode) ≡ true) q f in
@@ -214,19 +214,28 @@ module _ (limit : ℕ) (p : Plan) (ok : Accepted p) (k : Books p limit) where
                   | inl w ↦ rw w (over-fire (v .running z w (fire-host z w f′)) a acc o)
                 ];
             books =
-                ap (k .retracted (newest (l t .held) .code)) (v .books) ∙ fired-books limit p ok k l s W R (v .blocks) t may first;
+                ap (k .retracted (retraction (newest (l t .held)))) (v .books) ∙ fired-books ω limit p ok k l s W R (v .blocks) t may first;
           }
 
-      pub fire-keeps : Invariant (next limit p l (fire a)) first (k .retracted (newest (l t .held) .code) now)
+      pub fire-keeps : Invariant (nextHead limit p h l (fire a)) (next limit p h l (fire a)) first (k .retracted (retraction (newest (l t .held))) now)
       fire-keeps =
-          elim (next-cases limit p l (fire a) acc) [ inr o ↦ inl o | inl q ↦ carry l s (fire a) first _ (fire-booked q) ]
+          elim (next-cases ω limit p h l (fire a) acc) [ inr o ↦ inl o | inl q ↦ carry h l s (fire a) first _ (fire-booked q) ]
+
+  -- every accepted call keeps the invariant
+  pub accepted-keeps : (h : Head) (l : Ledger) (first now : k .State) → Reached σ p limit h l → Invariant h l first now → (c : Call σ)
+      → refusal limit p h l c ≡ 0 → Invariant (nextHead limit p h l c) (next limit p h l c) first (bookedCall σ p limit k l c now)
+  unfolding bookedCall
+  accepted-keeps h l first now r (inl o) c z = absurd (over-refused ω limit p h l (over-is p l o) c z)
+  accepted-keeps h l first now r (inr i) (event a) z = event-keeps h l first now r (i .0) (i .1) a z
+  accepted-keeps h l first now r (inr i) (signal a) z = signal-keeps h l first now r (i .0) (i .1) a z
+  accepted-keeps h l first now r (inr i) (fire a) z = fire-keeps h l first now r (i .0) (i .1) a z
 
   -- begin: no words, no runs
-  pub begun-keeps : (b : k .State) → Invariant (begun p) b b
+  pub begun-keeps : (b : k .State) → Invariant (firstHead p) (begun p) b b
   unfolding act
   begun-keeps b =
       inr (
-        begun-sound limit p ok,
+        begun-sound ω limit p ok,
         record {
           W = λ t. [];
           R = λ z. [];
@@ -236,7 +245,7 @@ module _ (limit : ℕ) (p : Plan) (ok : Accepted p) (k : Books p limit) where
         },
       )
     where
-      nil : (S : ℕ → Bool) → join (trackCount p) (λ t. when (S t) []) ≡ []
+      nil : (S : ℕ → Bool) → join {C = Change} (trackCount p) (λ t. when (S t) []) ≡ []
       nil S = join-nil (trackCount p) (λ t. when (S t) []) (λ t i. when-nil (S t))
 
       held : (t : ℕ) → Held limit p ok k t (begun p t .held) []
@@ -245,18 +254,18 @@ module _ (limit : ℕ) (p : Plan) (ok : Accepted p) (k : Books p limit) where
             | inl a ↦ subst (λ es. Held limit p ok k t es []) (sym (ap (λ (c : Configuration). c .held) (begun-fresh limit p ok t a) ∙ fresh-held p t)) refl
             | inr a ↦
                 subst (λ es. Held limit p ok k t es [])
-                (sym (ap (λ (c : Configuration). c .held) (begun-sound limit p ok .formed .nested .blank t a) ∙ sleeping-held)) refl
+                (sym (ap (λ (c : Configuration). c .held) (begun-sound ω limit p ok .formed .nested .blank t a) ∙ sleeping-held)) refl
           ]
 
   -- where every root is withdrawn, nothing hosted is awake and no track has a word
-  pub withdrawn-books : (l : Ledger) (first now : k .State) → Invariant l first now → AllWithdrawn p l → now ≡ first
+  pub withdrawn-books : (h : Head) (l : Ledger) (first now : k .State) → Invariant h l first now → AllWithdrawn p l → now ≡ first
   unfolding isAwake act
-  withdrawn-books l first now (inl o) w =
+  withdrawn-books h l first now (inl o) w =
       let z = root-zero p ok in
       let u = w 0 (ok .some-track) (root-of p 0 z) .undoing in
       let a : isAwake (l 0 .mode) ≡ true = rw u in
       clash a (ap (λ (c : Configuration). isAwake (c .mode)) (o 0) ∙ sleeping-asleep)
-  withdrawn-books l first now (inr i) w =
+  withdrawn-books h l first now (inr i) w =
       let s = i .0 in
       let v = i .1 in
       let n = s .formed .nested in

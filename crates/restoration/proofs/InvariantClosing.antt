@@ -4,7 +4,7 @@
 use mathlib.Core.Path.{_≡_, refl, sym, ap, _∙_, subst}
 use mathlib.Core.Logic.{_⊎_, inl, inr}
 use mathlib.Core.Bool.{Bool, true, false, not}
-use mathlib.Core.List.{[], _++_, append-nil}
+use mathlib.Core.List.{List, [], _++_, append-nil}
 use mathlib.Core.Option.{none, some}
 use Prim.Native.Nat.{ℕ, _<_}
 use native.Mathlib.Omega.{arith}
@@ -12,18 +12,20 @@ use lib.Dec.{eqb}
 use borrow.Author.Tests.{eqb-true, eq-eqb, ne-eqb}
 use Rattle.rules.specs.Plan.{Plan, trackCount, noState, host, owner, replacement, isInside, isAbove}
 use Rattle.rules.specs.Ledger.{Configuration, Ledger, isAwake, isForward}
-use Rattle.rules.specs.Event.{isClosing, isClosed, closesScope, closed}
-use Rattle.rules.specs.Books.{act, Books}
+use Rattle.rules.specs.Event.{isClosing, isClosed, closesScope}
 use Rattle.rules.proofs.Tests.{look, clash, refuted}
 use Rattle.rules.proofs.Acceptance.{Accepted}
 use Rattle.rules.proofs.Forest.{inside-host, inside-above, above-up}
 use Rattle.rules.proofs.Scopes.{open-at, open-find}
-use Rattle.rules.proofs.Closing.{closing-final, closed-host, closed-asleep, closed-replaced, closed-kept, closed-alike}
-use Rattle.restoration.proofs.Composition.{Word, when, join, All, all-when, Same, Swap, when-nil, join-same, join-nil, swap-when, swap-nil, nil-swap, same-join, put-behind-of, gather}
+use Rattle.rules.proofs.Closing.{closing-final, closed-host}
+use Rattle.restoration.specs.Seams.{Seams}
+use Rattle.restoration.specs.Runs.{act, replacementOf, Books}
+use Rattle.restoration.proofs.Composition.{when, join, All, all-when, Same, Swap, when-nil, join-same, join-nil, swap-when, swap-nil, nil-swap, same-join, put-behind-of, gather}
 use Rattle.restoration.proofs.Nesting.{Nested, state-of, open-host}
-use Rattle.restoration.proofs.Seams.{installed-held}
-use Rattle.restoration.proofs.Closing.{closing-open, closed-in, closes-known, closed-awake, closed-free, closed-was-awake, closed-closes, closing-open-track, closing-direct, closed-host-stays}
 use Rattle.restoration.proofs.Soundness.{sleeping-held}
+use Rattle.restoration.proofs.Laws.{Laws}
+use Rattle.restoration.proofs.Installing.{installed-held}
+use Rattle.restoration.proofs.Closing.{closing-open, closed-in, closes-known, closed-alike, closed-awake, closed-free, closed-was-awake, closed-closes, closing-open-track, closing-direct, closed-host-stays}
 use Rattle.restoration.proofs.Invariant.{Undoes, Below, Held, inner, Blocks, quiet, word-below, swap-below, swap-free}
 use Rattle.restoration.proofs.InvariantMoving.{keep, keep-all, keep-same, held-install}
 
@@ -35,25 +37,28 @@ host-track : (p : Plan) (t h : ℕ) → host p t ≡ some h → hostTrack p t �
 unfolding hostTrack
 host-track p t h e = rw (e, hostTrack)
 
-module _ (limit : ℕ) (p : Plan) (ok : Accepted p) (k : Books p limit) (l : Ledger) (n : Nested p l) (W R : ℕ → Word)
-    (g : Blocks limit p ok k l W R) (und : (s : ℕ) → isClosing p l s ≡ true → Undoes limit p ok k (replacement p s) (R s)) where
+module _ {σ : Seams} (ω : Laws σ) (limit : ℕ) (p : Plan) (ok : Accepted p) (k : Books σ p limit) (l : Ledger) (n : Nested p l)
+    (W R : ℕ → List (σ .Change)) (g : Blocks limit p ok k l W R) (v : σ .Event)
+    (und : (s : ℕ) → isClosing p l s ≡ true → Undoes limit p ok k (replacementOf σ p v s) (R s)) where
+  open Seams σ using (Change, entry, closed)
+
   abbrev N : ℕ
   N = trackCount p
 
-  abbrev B : ℕ → ℕ → Type 0
+  abbrev B : ℕ → Change → Type 0
   B = Below limit p ok k
 
   -- what stays of a track's word, what goes, and the block that its closing scope leaves it
-  abbrev rest : ℕ → Word
+  abbrev rest : ℕ → List Change
   rest t = when (not (isClosed p l t)) (W t)
 
-  abbrev gone : ℕ → Word
+  abbrev gone : ℕ → List Change
   gone t = when (isClosed p l t) (W t)
 
-  abbrev left : ℕ → Word
+  abbrev left : ℕ → List Change
   left t = when (closesScope p l t) (keep (replacement p (l t .state)) (R (l t .state)))
 
-  abbrev pub settled : ℕ → Word
+  abbrev pub settled : ℕ → List Change
   settled t = rest t ++ left t
 
   parts : (t : ℕ) → W t ≡ rest t ++ gone t
@@ -81,7 +86,7 @@ module _ (limit : ℕ) (p : Plan) (ok : Accepted p) (k : Books p limit) (l : Led
   left-same t d =
       rw d
       (λ b.
-      keep-same limit p ok k (replacement p (l t .state)) (R (l t .state)) (und (l t .state) (closes-known p l t d .1)) b
+      keep-same limit p ok k v (replacement p (l t .state)) noState (R (l t .state)) (und (l t .state) (closes-known p l t d .1)) b
       ∙ closing-run t d .2 b)
 
   -- below a track whose scope closes, only what closes with it has a word
@@ -115,10 +120,10 @@ module _ (limit : ℕ) (p : Plan) (ok : Accepted p) (k : Books p limit) (l : Led
 
   -- a test on tracks that does not tell a closing track from its host's
   module _ (S : ℕ → Bool) (agree : (u h : ℕ) → isClosed p l u ≡ true → host p u ≡ some h → S u ≡ S (owner p h)) where
-    abbrev going : ℕ → Word
+    abbrev going : ℕ → List Change
     going u = when (S u) (gone u)
 
-    abbrev group : ℕ → Word
+    abbrev group : ℕ → List Change
     group t = join N (λ u. when (eqb (hostTrack p u) t) (going u))
 
     stays-nil : (u : ℕ) → isClosed p l u ≡ false → going u ≡ []
@@ -225,37 +230,37 @@ module _ (limit : ℕ) (p : Plan) (ok : Accepted p) (k : Books p limit) (l : Led
   not-closing : (t : ℕ) → isClosed p l t ≡ true → closesScope p l t ≡ false
   not-closing t c = refuted (closesScope p l t) (λ d. clash c (closing-open-track p ok l n t d))
 
-  closed-held : (t : ℕ) → Held limit p ok k t (closed p l t .held) (settled t)
+  closed-held : (t : ℕ) → Held limit p ok k t (closed p l v t .held) (settled t)
   closed-held t =
       elim (look (isClosed p l t)) [
         | inl c ↦
-            subst (λ es. Held limit p ok k t es (settled t)) (sym (ap (λ (x : Configuration). x .held) (closed-asleep p l t c) ∙ sleeping-held))
+            subst (λ es. Held limit p ok k t es (settled t)) (sym (ap (λ (x : Configuration). x .held) (ω .closed-asleep p l v t c) ∙ sleeping-held))
             (rw (c, not-closing t c))
         | inr c ↦
             elim (look (closesScope p l t)) [
               | inr d ↦
-                  subst (λ (x : Configuration). Held limit p ok k t (x .held) (settled t)) (sym (closed-kept p l t c d))
+                  subst (λ (x : Configuration). Held limit p ok k t (x .held) (settled t)) (sym (ω .closed-kept p l v t c d))
                   (rw (c, d, append-nil (W t)) (g .held t))
               | inl d ↦
                   let s = l t .state in
                   subst (λ es. Held limit p ok k t es (settled t))
-                  (sym (ap (λ (x : Configuration). x .held) (closed-replaced p l t c d) ∙ installed-held (replacement p s) noState (l t)))
+                  (sym (ap (λ (x : Configuration). x .held) (ω .closed-replaced p l v t c d) ∙ installed-held (entry v) (replacement p s) noState (l t)))
                   (rw (c, d)
-                  (held-install limit p ok k t (replacement p s) noState (l t .held) (W t) (R s) (g .held t) (closing-run t d .1)
+                  (held-install limit p ok k v t (replacement p s) noState (l t .held) (W t) (R s) (g .held t) (closing-run t d .1)
                   (und s (closes-known p l t d .1))))
             ]
       ]
 
-  pub closed-blocks : Blocks limit p ok k (closed p l) settled R
+  pub closed-blocks : Blocks limit p ok k (closed p l v) settled R
   closed-blocks =
       record {
         held = closed-held;
         runs =
             λ z o f.
-            let (u, b, e, a) = open-find p (closed p l) z o in
-            let (c, w) = closed-awake p l u a in
+            let (u, b, e, a) = open-find p (closed p l v) z o in
+            let (c, w) = closed-awake ω p l v u a in
             let nz : isClosing p l z ≡ false = sym (closed-host p l u z e) ∙ c in
-            let q = closed-alike p l (owner p z) (closed-host-stays p ok l n u z w e) .0 in
+            let q = closed-alike ω p l v (owner p z) (closed-host-stays p ok l n u z w e) .0 in
             let (x, y) = g .runs z (open-at p l z u b e w) (ap isForward (sym q) ∙ f) in (
               x,
               λ b.

@@ -12,21 +12,22 @@ use Rattle.rules.specs.Plan.{Plan, trackCount, host, owner, isInside}
 use Rattle.rules.specs.Ledger.{Entry, Configuration, Ledger, isForward, isEmpty}
 use Rattle.rules.specs.Scope.{isOpen, hasOpenScope}
 use Rattle.rules.specs.Opening.{enter}
-use Rattle.rules.specs.Call.{SignalArguments}
 use Rattle.rules.specs.Signal.{isAbandoned, abandoned}
 use Rattle.rules.specs.Fire.{newest, older, mayFire, removed, deviatesTo, fired}
-use Rattle.rules.specs.Books.{act, Books}
 use Rattle.rules.proofs.Tests.{look, look-option, clash}
 use Rattle.rules.proofs.Acceptance.{Accepted}
 use Rattle.rules.proofs.Scopes.{open-at, open-find}
 use Rattle.rules.proofs.Abandoning.{spent-parts, abandoned-root, abandoned-spent, left-asleep, left-kept}
-use Rattle.restoration.proofs.Composition.{Word, when, join, All, Swap, nil-swap, join-same, join-single, put-behind}
+use Rattle.restoration.specs.Seams.{Seams, turned}
+use Rattle.restoration.specs.Runs.{act, Books}
+use Rattle.restoration.proofs.Composition.{when, join, All, Swap, nil-swap, join-same, join-single, put-behind}
 use Rattle.restoration.proofs.Modes.{undoing-forward}
 use Rattle.restoration.proofs.Nesting.{Awake, Nested, open-same, mode-inside}
-use Rattle.restoration.proofs.Seams.{turns, turned-awake, turned-held, spared, may-fire}
-use Rattle.restoration.proofs.Leaving.{left-awake, left-host-stays}
-use Rattle.restoration.proofs.Firing.{fired-is, removed-mode, removed-awake, removed-here, removed-other, removed-nested, deviates-free}
+use Rattle.restoration.proofs.Firing.{may-fire, fired-is, removed-mode, removed-awake, removed-here, removed-other, removed-nested, deviates-free}
 use Rattle.restoration.proofs.Soundness.{Sound, sleeping-held}
+use Rattle.restoration.proofs.Laws.{Laws}
+use Rattle.restoration.proofs.Turning.{turned-awake, turned-held, spared}
+use Rattle.restoration.proofs.Leaving.{left-awake, left-host-stays}
 use Rattle.restoration.proofs.SoundRetraction.{fired-awake}
 use Rattle.restoration.proofs.Invariant.{Undoes, Below, Held, inner, Blocks, swap-free, enter-blocks}
 
@@ -35,13 +36,13 @@ unfolding isEmpty
 empty-nil [] h = refl
 empty-nil (e ∷ es) h = clash h refl
 
-module _ (limit : ℕ) (p : Plan) (ok : Accepted p) (k : Books p limit) (l : Ledger) (n : Nested p l) (W R : ℕ → Word)
-    (g : Blocks limit p ok k l W R) where
-  pub turned-blocks : (a : SignalArguments) → Blocks limit p ok k (turns p a l) W R
+module _ {σ : Seams} (ω : Laws σ) (limit : ℕ) (p : Plan) (ok : Accepted p) (k : Books σ p limit) (l : Ledger) (n : Nested p l)
+    (W R : ℕ → List (σ .Change)) (g : Blocks limit p ok k l W R) where
+  pub turned-blocks : (a : σ .Signal) → Blocks limit p ok k (turned σ p l a) W R
   turned-blocks a =
       record {
-        held = λ t. rw (turned-held p ok a l t) (g .held t);
-        runs = λ s o f. g .runs s (sym (open-same p (turns p a l) l (turned-awake p ok a l) s) ∙ o) (spared p ok a l s f .0);
+        held = λ t. rw (turned-held ω p l a t) (g .held t);
+        runs = λ s o f. g .runs s (sym (open-same p (turned σ p l a) l (turned-awake ω p l a) s) ∙ o) (spared ω p l a ok s f .0);
       }
 
   -- an abandoned track held nothing
@@ -73,8 +74,10 @@ module _ (limit : ℕ) (p : Plan) (ok : Accepted p) (k : Books p limit) (l : Led
             g .runs s (open-at p l s u b e w) (ap (λ (x : Configuration). isForward (x .mode)) (sym q) ∙ f);
       }
 
-module _ (limit : ℕ) (p : Plan) (ok : Accepted p) (k : Books p limit) (l : Ledger) (s : Sound limit p l) (W R : ℕ → Word)
-    (g : Blocks limit p ok k l W R) (t : ℕ) (may : mayFire p l t ≡ true) where
+module _ {σ : Seams} (ω : Laws σ) (limit : ℕ) (p : Plan) (ok : Accepted p) (k : Books σ p limit) (l : Ledger) (s : Sound σ limit p l)
+    (W R : ℕ → List (σ .Change)) (g : Blocks limit p ok k l W R) (t : ℕ) (may : mayFire p l t ≡ true) where
+  open Seams σ using (Change, retraction)
+
   abbrev N : ℕ
   N = trackCount p
 
@@ -82,23 +85,23 @@ module _ (limit : ℕ) (p : Plan) (ok : Accepted p) (k : Books p limit) (l : Led
   n = s .formed .nested
 
   free : hasOpenScope p l t ≡ false
-  free = may-fire limit p l t may .3
+  free = may-fire p l t may .3
 
   awake : Awake l t
-  awake = fired-awake limit p ok l s t may
+  awake = fired-awake ω limit p ok l s t may
 
   -- the word without the newest block, and that block
   pub record Split : Type 0 where
-    pub old : Word
-    pub new : Word
+    pub old : List Change
+    pub new : List Change
     pub held : Held limit p ok k t (older (l t .held)) old
     pub below : All (Below limit p ok k t) new
-    pub undone : Undoes limit p ok k (newest (l t .held) .code) new
+    pub undone : Undoes limit p ok k (retraction (newest (l t .held))) new
     pub whole : W t ≡ old ++ new
 
   pub split : Split
   unfolding isEmpty older newest
-  split = go (l t .held) refl (may-fire limit p l t may .2) (g .held t)
+  split = go (l t .held) refl (may-fire p l t may .2) (g .held t)
     where
       go : (es : List Entry) → l t .held ≡ es → isEmpty es ≡ false → Held limit p ok k t es (W t) → Split
       go [] q e h = clash refl e
@@ -113,10 +116,10 @@ module _ (limit : ℕ) (p : Plan) (ok : Accepted p) (k : Books p limit) (l : Led
             whole = w;
           }
 
-  abbrev pub shorter : ℕ → Word
+  abbrev pub shorter : ℕ → List Change
   shorter u = cond (eqb u t) (split .old) (W u)
 
-  abbrev last : ℕ → Word
+  abbrev last : ℕ → List Change
   last u = when (eqb u t) (split .new)
 
   parts : (u : ℕ) → W u ≡ shorter u ++ last u
@@ -136,9 +139,9 @@ module _ (limit : ℕ) (p : Plan) (ok : Accepted p) (k : Books p limit) (l : Led
       ]
 
   -- the retraction takes the newest block off the whole word
-  pub fired-books : (b : k .State) → k .retracted (newest (l t .held) .code) (act (k .changed) (join N W) b) ≡ act (k .changed) (join N shorter) b
+  pub fired-books : (b : k .State) → k .retracted (retraction (newest (l t .held))) (act (k .changed) (join N W) b) ≡ act (k .changed) (join N shorter) b
   fired-books b =
-      ap (k .retracted (newest (l t .held) .code))
+      ap (k .retracted (retraction (newest (l t .held))))
       (ap (λ w. act (k .changed) w b) (join-same N W (λ u. shorter u ++ last u) (λ u c. parts u))
       ∙ put-behind (k .changed) N shorter last last-swaps b
       ∙ ap (λ w. act (k .changed) w (act (k .changed) (join N shorter) b)) only)
@@ -180,7 +183,7 @@ module _ (limit : ℕ) (p : Plan) (ok : Accepted p) (k : Books p limit) (l : Led
                   | inr i ↦ rw i
                   | inl i ↦
                       let i′ = subst (λ x. isInside p z x ≡ true) (eqb-true u t e) i in
-                      clash f (ap isForward (mode-inside p ok l n z t i′ awake) ∙ undoing-forward (l t .mode) (may-fire limit p l t may .1))
+                      clash f (ap isForward (mode-inside p ok l n z t i′ awake) ∙ undoing-forward (l t .mode) (may-fire p l t may .1))
                 ]
           ])
 

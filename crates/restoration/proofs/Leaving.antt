@@ -8,30 +8,32 @@ use Prim.Native.Nat.{ℕ}
 use Rattle.rules.specs.Plan.{Plan, host, owner, isStateOf, everyIn}
 use Rattle.rules.specs.Ledger.{Ledger, isAwake}
 use Rattle.rules.specs.Scope.{isOpen}
-use Rattle.rules.specs.Call.{SignalArguments}
 use Rattle.rules.specs.Signal.{isSpent, isLeft, isAbandoned, abandoned}
 use Rattle.rules.proofs.Tests.{look, clash, refuted, and-both}
 use Rattle.rules.proofs.Acceptance.{Accepted}
 use Rattle.rules.proofs.Scopes.{in-host, host-by, every-in-of}
 use Rattle.rules.proofs.Abandoning.{spent-parts, abandoned-host, abandoned-root, abandoned-spent, left-asleep, left-kept, awake-kept}
+use Rattle.restoration.specs.Seams.{Seams, turned}
 use Rattle.restoration.proofs.Nesting.{Awake, Sleeps, Nested, host-awake, scope-open}
-use Rattle.restoration.proofs.Seams.{turns, turned-awake, turned-state, turned-blank, turned-alike}
-use Rattle.restoration.proofs.Closing.{sleeping-asleep}
+use Rattle.restoration.proofs.Soundness.{sleeping-asleep}
+use Rattle.restoration.proofs.Laws.{Laws}
+use Rattle.restoration.proofs.Turning.{turned-awake, turned-state, turned-blank, turned-alike}
 
-module _ (p : Plan) (ok : Accepted p) (l : Ledger) (n : Nested p l) where
-  pub turned-nested : (a : SignalArguments) → Nested p (turns p a l)
+module _ {σ : Seams} (ω : Laws σ) (p : Plan) (ok : Accepted p) (l : Ledger) (n : Nested p l) where
+  pub turned-nested : (a : σ .Signal) → Nested p (turned σ p l a)
   turned-nested a =
       record {
-        below = λ t w. n .below t (sym (turned-awake p ok a l t) ∙ w);
-        own = λ t w. ap (isStateOf p t) (turned-state p ok a l t) ∙ n .own t (sym (turned-awake p ok a l t) ∙ w);
+        below = λ t w. n .below t (sym (turned-awake ω p l a t) ∙ w);
+        own = λ t w. ap (isStateOf p t) (turned-state ω p l a t) ∙ n .own t (sym (turned-awake ω p l a t) ∙ w);
         hosted =
             λ t h w e.
-            let u = n .hosted t h (sym (turned-awake p ok a l t) ∙ w) e in
-            (turned-state p ok a l (owner p h) ∙ u .0, turned-alike p ok a l t h e (u .1));
-        whole = λ t u h e f. turned-awake p ok a l t ∙ n .whole t u h e f ∙ sym (turned-awake p ok a l u);
-        blank = λ t w. turned-blank p ok a l t (n .blank t (sym (turned-awake p ok a l t) ∙ w));
+            let u = n .hosted t h (sym (turned-awake ω p l a t) ∙ w) e in
+            (turned-state ω p l a (owner p h) ∙ u .0, turned-alike ω p l a ok t h e (u .1));
+        whole = λ t u h e f. turned-awake ω p l a t ∙ n .whole t u h e f ∙ sym (turned-awake ω p l a u);
+        blank = λ t w. turned-blank ω p l a t (n .blank t (sym (turned-awake ω p l a t) ∙ w));
       }
 
+module _ (p : Plan) (ok : Accepted p) (l : Ledger) (n : Nested p l) where
   -- the tracks of a scope are abandoned together
   pub left-together : (t u h : ℕ) → host p t ≡ some h → host p u ≡ some h → isAbandoned p l t ≡ isAbandoned p l u
   left-together t u h e f = abandoned-host p ok l t h e ∙ sym (abandoned-host p ok l u h f)

@@ -1,37 +1,49 @@
--- Property 3's mathematics: theorems in the terms of the rules.
--- Changes composed, and what the theorems know of the rules that may change.
+-- Property 3's mathematics, over the seams: theorems that know of the rules of calls only the laws of Laws.antt; and document 01 as an instance.
+-- Changes composed; ledgers nested, and what they hold; the laws.
 pub mod Composition
 pub mod Modes
-pub mod Seams
--- Nested ledgers: each part of a call keeps a ledger nested.
+pub mod Roots
 pub mod Nesting
 pub mod Entering
+pub mod Entries
+pub mod Firing
+pub mod Soundness
+pub mod Laws
+-- What the laws give: each part of a call keeps a ledger nested and formed.
+pub mod Settling
+pub mod Installing
+pub mod Turning
 pub mod Moving
 pub mod Closing
 pub mod Leaving
-pub mod Entries
-pub mod Firing
--- Soundness is kept by every call, on ledgers and on words.
-pub mod Soundness
+pub mod Forming
+-- Soundness is kept by every call; progress; firings fall.
 pub mod SoundBegin
 pub mod SoundEvent
 pub mod SoundRetraction
-pub mod Unfinished
 pub mod SoundKept
-pub mod SoundWords
--- Progress, and the bound on firings.
 pub mod Progress
-pub mod Bound
--- Restoration: the invariant, each part of a call, whole calls, lists of calls; property 3.
+pub mod FiringsFall
+-- Restoration: the invariant, each part of a call, whole calls, lists of calls.
 pub mod Invariant
 pub mod InvariantMoving
 pub mod InvariantClosing
 pub mod InvariantRetraction
 pub mod InvariantCalls
-pub mod Restoration
--- Runs of a scope; books for the sample plan; what would be false.
+pub mod Histories
+-- Runs of a scope, and what they weigh.
 pub mod ScopeRuns
+pub mod Weights
+-- Document 01: the instance, and the theorems in its own terms, on words.
+pub mod Document01
+pub mod Theorems01
+pub mod Runs01
+pub mod SoundLive
+pub mod SoundWords
+pub mod Restoration
+pub mod Bound
 pub mod LiteralRuns
+-- Books for the sample plan; what would be false.
 pub mod Potential
 pub mod SampleBooks
 pub mod SampleRun

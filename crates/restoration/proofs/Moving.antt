@@ -1,54 +1,87 @@
 -- The moves of an event keep a ledger nested: the movers' entries change no mode and no state, and the movers, forward and without an open
 -- scope, enter states of their own. Assumes nothing.
 use mathlib.Core.Path.{_≡_, refl, sym, ap, _∙_, subst}
-use mathlib.Core.Logic.{inl, inr}
-use mathlib.Core.Bool.{true}
+use mathlib.Core.Logic.{_⊎_, inl, inr}
+use mathlib.Core.Bool.{true, false, not}
 use mathlib.Core.Option.{Option, none, some}
 use Prim.Native.Nat.{ℕ}
+use lib.Dec.{eqb}
 use Rattle.rules.specs.declared.Mode.the-variants.{Forward}
 use Rattle.rules.specs.Plan.{Plan, transition, owner, mover, isStateOf}
-use Rattle.rules.specs.Ledger.{Ledger, isAwake, isUndoing}
+use Rattle.rules.specs.Ledger.{Ledger, isAwake, isForward, isUndoing}
 use Rattle.rules.specs.Scope.{hasOpenScope}
 use Rattle.rules.specs.Opening.{fresh, enter}
-use Rattle.rules.specs.Event.{destinationOf, installedBy, move, moved}
-use Rattle.rules.proofs.Tests.{look-option, clash}
+use Rattle.rules.specs.Event.{destinationOf, hasCode}
+use Rattle.rules.proofs.Tests.{look-option, clash, none-some}
 use Rattle.rules.proofs.Acceptance.{Accepted}
 use Rattle.rules.proofs.Abandoning.{undoing-awake}
+use Rattle.restoration.specs.Seams as seam
+use Rattle.restoration.specs.Seams.{Seams}
 use Rattle.restoration.proofs.Modes.{forward-awake, forward-is, undoing-forward, is-forward}
 use Rattle.restoration.proofs.Nesting.{Awake, Sleeps, Nested, state-of, busy-same}
-use Rattle.restoration.proofs.Seams.{Ask, move-takes, still, by-mode, by-state, by-none, to-none, to-some}
 use Rattle.restoration.proofs.Entering.{Enterable, Fate, enters, wakens, stays, fate, fresh-mode, kept, new-fresh, enter-nested}
+use Rattle.restoration.proofs.Laws.{Laws}
+use Rattle.restoration.proofs.Installing.{by-mode, by-state, by-none}
 
-module _ (p : Plan) (l : Ledger) (e : Ask) where
-  -- the ledger with the movers' entries installed, and where the movers go
-  abbrev pub recorded : Ledger
-  recorded t = installedBy p (move p l e t) (l t)
+-- where a move goes, and whether it has a code
+module _ (p : Plan) where
+  pub to-none : (o : Option ℕ) → o ≡ none → destinationOf p o ≡ none
+  unfolding destinationOf
+  to-none o h = rw (h, destinationOf)
 
-  abbrev pub goes : ℕ → Option ℕ
-  goes t = destinationOf p (move p l e t)
+  pub to-destination : (o : Option ℕ) (x : ℕ) → o ≡ some x → destinationOf p o ≡ some (transition p x .destination)
+  unfolding destinationOf
+  to-destination o x h = rw (h, destinationOf)
+
+  pub to-some : (o : Option ℕ) (d : ℕ) → destinationOf p o ≡ some d → (x : ℕ) × (o ≡ some x) × (transition p x .destination ≡ d)
+  unfolding destinationOf
+  to-some none d h = none-some refl h
+  to-some (some x) d h = (x, refl, cc)
+
+  pub has-code : (o : Option ℕ) (x : ℕ) → o ≡ some x → hasCode p o ≡ not (eqb (transition p x .code) 0)
+  unfolding hasCode
+  has-code o x h = rw (h, hasCode)
+
+module _ {σ : Seams} (ω : Laws σ) (p : Plan) (l : Ledger) (e : σ .Event) where
+  open Seams σ using (move, moved, entry)
+
+  abbrev recorded : Ledger
+  recorded = seam.recorded σ p l e
+
+  abbrev goes : ℕ → Option ℕ
+  goes = seam.goes σ p l e
 
   pub moved-is : moved p l e ≡ enter p goes recorded
-  unfolding moved
-  moved-is = refl
+  moved-is = ω .moved-is p l e
+
+  -- who is not forward, or has an open scope, does not move
+  pub still : (t : ℕ) → (isForward (l t .mode) ≡ false) ⊎ (hasOpenScope p l t ≡ true) → move p l e t ≡ none
+  still t h =
+      elim (look-option (move p l e t)) [
+        | inl k ↦ k
+        | inr k ↦
+            let m = ω .move-takes p l e t (k .0) (k .1) in
+            elim h [ inl f ↦ clash (m .forward) f | inr b ↦ clash b (m .free) ]
+      ]
 
   pub recorded-mode : (t : ℕ) → recorded t .mode ≡ l t .mode
-  recorded-mode t = by-mode p (move p l e t) (l t)
+  recorded-mode t = by-mode (entry e) p (move p l e t) (l t)
 
   pub recorded-state : (t : ℕ) → recorded t .state ≡ l t .state
-  recorded-state t = by-state p (move p l e t) (l t)
+  recorded-state t = by-state (entry e) p (move p l e t) (l t)
 
   pub recorded-awake : (t : ℕ) → isAwake (recorded t .mode) ≡ isAwake (l t .mode)
   recorded-awake t = ap isAwake (recorded-mode t)
 
   pub mover-awake : (t x : ℕ) → move p l e t ≡ some x → Awake l t
-  mover-awake t x h = forward-awake (l t .mode) (move-takes p l e t x h .forward)
+  mover-awake t x h = forward-awake (l t .mode) (ω .move-takes p l e t x h .forward)
 
   module _ (ok : Accepted p) (n : Nested p l) where
     -- the transition is one of the track that it moves
     pub mover-is : (t x : ℕ) → move p l e t ≡ some x → mover p x ≡ t
     unfolding mover
     mover-is t x h =
-        ap (owner p) (move-takes p l e t x h .from) ∙ state-of p t (l t .state) (n .own t (mover-awake t x h)) .1
+        ap (owner p) (ω .move-takes p l e t x h .from) ∙ state-of p t (l t .state) (n .own t (mover-awake t x h)) .1
 
     pub recorded-nested : Nested p recorded
     recorded-nested =
@@ -64,7 +97,7 @@ module _ (p : Plan) (l : Ledger) (e : Ask) where
               λ t a.
               let a′ = sym (recorded-awake t) ∙ a in
               elim (look-option (move p l e t)) [
-                | inl h ↦ by-none p (move p l e t) (l t) h ∙ n .blank t a′
+                | inl h ↦ by-none (entry e) p (move p l e t) (l t) h ∙ n .blank t a′
                 | inr h ↦ clash (mover-awake t (h .0) (h .1)) a′
               ];
         }
@@ -75,16 +108,16 @@ module _ (p : Plan) (l : Ledger) (e : Ask) where
           free =
               λ t s h.
               let (x, f, q) = to-some p (move p l e t) s h in
-              busy-same p recorded l recorded-awake t ∙ move-takes p l e t x f .free;
+              busy-same p recorded l recorded-awake t ∙ ω .move-takes p l e t x f .free;
           own =
               λ t s h.
               let (x, f, q) = to-some p (move p l e t) s h in
-              let d = ok .destination-own x (move-takes p l e t x f .real) in
+              let d = ok .destination-own x (ω .move-takes p l e t x f .real) in
               subst (λ y. isStateOf p t y ≡ true) q (subst (λ y. isStateOf p y (transition p x .destination) ≡ true) (mover-is t x f) d);
           forward =
               λ t s h k f.
               let (x, g, q) = to-some p (move p l e t) s k in
-              recorded-mode t ∙ forward-is (l t .mode) (move-takes p l e t x g .forward);
+              recorded-mode t ∙ forward-is (l t .mode) (ω .move-takes p l e t x g .forward);
         }
 
     pub moved-nested : Nested p (moved p l e)
@@ -95,13 +128,13 @@ module _ (p : Plan) (l : Ledger) (e : Ask) where
     moved-still t a h =
         ap (λ m. m t) moved-is
         ∙ kept p ok recorded goes recorded-nested goes-free t (recorded-awake t ∙ a) (to-none p (move p l e t) h)
-        ∙ by-none p (move p l e t) (l t) h
+        ∙ by-none (entry e) p (move p l e t) (l t) h
 
     pub moved-busy : (t : ℕ) → Awake l t → hasOpenScope p l t ≡ true → moved p l e t ≡ l t
-    moved-busy t a b = moved-still t a (still p l e t (inr b))
+    moved-busy t a b = moved-still t a (still t (inr b))
 
     pub moved-undoing : (t : ℕ) → isUndoing (l t .mode) ≡ true → moved p l e t ≡ l t
-    moved-undoing t u = moved-still t (undoing-awake (l t .mode) u) (still p l e t (inl (undoing-forward (l t .mode) u)))
+    moved-undoing t u = moved-still t (undoing-awake (l t .mode) u) (still t (inl (undoing-forward (l t .mode) u)))
 
     -- what was asleep and is awake is fresh
     pub moved-new : (t : ℕ) → Sleeps l t → Awake (moved p l e) t → moved p l e t ≡ fresh p t
@@ -125,8 +158,8 @@ module _ (p : Plan) (l : Ledger) (e : Ask) where
         go (stays f w q) =
             let r : moved p l e t ≡ recorded t = ap (λ m. m t) moved-is ∙ q in
             elim (look-option (move p l e t)) [
-              | inl h ↦ r ∙ by-none p (move p l e t) (l t) h
+              | inl h ↦ r ∙ by-none (entry e) p (move p l e t) (l t) h
               | inr h ↦
-                  clash (move-takes p l e t (h .0) (h .1) .forward)
+                  clash (ω .move-takes p l e t (h .0) (h .1) .forward)
                   (undoing-forward (l t .mode) (ap isUndoing (sym (ap (λ c. c .mode) r ∙ recorded-mode t)) ∙ u))
             ]

@@ -16,6 +16,8 @@ use Rattle.rules.proofs.Folds.{some-same}
 use Rattle.rules.proofs.Acceptance.{Accepted}
 use Rattle.rules.proofs.Forest.{above-hosted, inside-hosted}
 use Rattle.rules.proofs.Scopes.{some-in-same, open-at, open-find, busy-at}
+use Rattle.restoration.specs.Roots.{rootOf}
+use Rattle.restoration.proofs.Roots.{root-self, root-up}
 
 abbrev pub Awake : Ledger → ℕ → Type 0
 Awake l t = isAwake (l t .mode) ≡ true
@@ -113,15 +115,15 @@ module _ (p : Plan) (ok : Accepted p) (l : Ledger) (n : Nested p l) where
       ])
 
   -- the root above an awake track is in its mode
-  pub root-above : (t : ℕ) → Awake l t → (r : ℕ) × (r < trackCount p) × (host p r ≡ none) × (l r .mode ≡ l t .mode)
+  pub root-above : (t : ℕ) → Awake l t → (rootOf p t < trackCount p) × (host p (rootOf p t) ≡ none) × (l (rootOf p t) .mode ≡ l t .mode)
   root-above =
-      strong (λ t. Awake l t → (r : ℕ) × (r < trackCount p) × (host p r ≡ none) × (l r .mode ≡ l t .mode))
+      strong (λ t. Awake l t → (rootOf p t < trackCount p) × (host p (rootOf p t) ≡ none) × (l (rootOf p t) .mode ≡ l t .mode))
       (λ t ih a.
       elim (look-option (host p t)) [
-        | inl e ↦ (t, n .below t a, e, refl)
+        | inl e ↦ rw (root-self p ok t e) (n .below t a, e, refl)
         | inr e ↦
-            let (r, b, q, m) = ih (owner p (e .0)) (ok .lower t (e .0) (e .1)) (host-awake t (e .0) a (e .1)) in
-            (r, b, q, m ∙ n .hosted t (e .0) a (e .1) .1)
+            let (b, q, m) = ih (owner p (e .0)) (ok .lower t (e .0) (e .1)) (host-awake t (e .0) a (e .1)) in
+            rw (root-up p ok t (e .0) (e .1)) (b, q, m ∙ n .hosted t (e .0) a (e .1) .1)
       ])
 
   -- where no root has an open scope nothing hosted is awake

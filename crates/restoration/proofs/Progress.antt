@@ -3,29 +3,25 @@
 use mathlib.Core.Path.{_≡_, refl, sym, ap, _∙_, subst}
 use mathlib.Core.Logic.{_⊎_, inl, inr}
 use mathlib.Core.Bool.{Bool, true, false, not, _||_}
-use mathlib.Core.List.{List}
 use Prim.Native.Nat.{ℕ, zero, suc, _+_, _<_, _≤_}
 use native.Mathlib.Omega.{arith}
-use lib.Dec.{eqb, ltb}
-use borrow.Author.Tests.{eqb-true, eqb-false, ltb-true, ltb-false, not-true}
+use lib.Dec.{eqb}
+use borrow.Author.Tests.{eqb-true, eqb-false}
 use Rattle.rules.specs.declared.Mode.the-variants.{Undoing}
 use Rattle.rules.specs.Plan.{Plan, trackCount, isIn}
-use Rattle.rules.specs.Ledger.{Configuration, Ledger, isAwake, isUndoing, isEmpty, ledgerAt}
-use Rattle.rules.specs.Scope.{hasOpenScope, isOver}
+use Rattle.rules.specs.Ledger.{Ledger, isUndoing, isEmpty}
+use Rattle.rules.specs.Scope.{hasOpenScope}
 use Rattle.rules.specs.Signal.{isBare}
 use Rattle.rules.specs.Fire.{mayFire}
-use Rattle.rules.specs.Soundness.{areTidy, isLive, isSound}
-use Rattle.rules.proofs.Tests.{look, clash, implies, and-true, or-true}
-use Rattle.rules.proofs.Folds.{every-at}
+use Rattle.rules.proofs.Tests.{look, clash, implies}
 use Rattle.rules.proofs.Acceptance.{Accepted}
 use Rattle.rules.proofs.Scopes.{in-host, host-in, open-at, busy-find}
 use Rattle.rules.proofs.Abandoning.{undoing-awake}
-use Rattle.rules.proofs.Stored.{Storable, storable-read}
+use Rattle.restoration.specs.Seams.{Seams}
 use Rattle.restoration.proofs.Modes.{is-undoing}
 use Rattle.restoration.proofs.Nesting.{Awake, Nested}
-use Rattle.restoration.proofs.Seams.{fire-may}
-use Rattle.restoration.proofs.Closing.{sleeping-asleep}
-use Rattle.restoration.proofs.Soundness.{Sound, sound-of}
+use Rattle.restoration.proofs.Firing.{fire-may}
+use Rattle.restoration.proofs.Soundness.{Sound}
 use Rattle.restoration.proofs.SoundEvent.{bare-of, abandoning-of}
 
 -- a test fails somewhere below n, or holds everywhere
@@ -51,7 +47,7 @@ not-implied : (a b : Bool) → (not a || b) ≡ false → (a ≡ true) × (b ≡
 not-implied true b h = (refl, h)
 not-implied false b h = clash refl h
 
-module _ (limit : ℕ) (p : Plan) (ok : Accepted p) (l : Ledger) (s : Sound limit p l) where
+module _ {σ : Seams} (limit : ℕ) (p : Plan) (ok : Accepted p) (l : Ledger) (s : Sound σ limit p l) where
   abbrev n : Nested p l
   n = s .formed .nested
 
@@ -88,36 +84,10 @@ module _ (limit : ℕ) (p : Plan) (ok : Accepted p) (l : Ledger) (s : Sound limi
   hunt zero t b d h = let c = n .below t (undoing-awake (l t .mode) d) in absurd (omega arith)
   hunt (suc k) t b d h =
       elim (look (hasOpenScope p l t)) [
-        | inr f ↦ elim h [ inl e ↦ (t, fire-may limit p l t (n .below t (undoing-awake (l t .mode) d)) d e f) | inr o ↦ clash o f ]
+        | inr f ↦ elim h [ inl e ↦ (t, fire-may p l t (n .below t (undoing-awake (l t .mode) d)) d e f) | inr o ↦ clash o f ]
         | inl o ↦ let (u, c, m, r) = loaded t d o in hunt k u (omega arith) m r
       ]
 
   -- "if any track is undoing and holds an entry, some firing is allowed"
   pub progress : (t : ℕ) → l t .mode ≡ Undoing → isEmpty (l t .held) ≡ false → (u : ℕ) × (mayFire p l u ≡ true)
   progress t d h = hunt (trackCount p) t (omega arith) (is-undoing (l t .mode) d) (inl h)
-
--- The same in the rules' own terms: of a live ledger that words can hold, and of sound words.
-module _ (limit : ℕ) (p : Plan) (ok : Accepted p) where
-  pub progress-live : (l : Ledger) → Storable limit (trackCount p) l → isLive p l ≡ true
-      → (t : ℕ) → l t .mode ≡ Undoing → isEmpty (l t .held) ≡ false → (u : ℕ) × (mayFire p l u ≡ true)
-  progress-live l st h = progress limit p ok l (sound-of limit p ok l st h)
-
-  pub progress-words : (ws : List ℕ) → isSound limit p ws ≡ true
-      → (t : ℕ) → ledgerAt limit ws (trackCount p) t .mode ≡ Undoing → isEmpty (ledgerAt limit ws (trackCount p) t .held) ≡ false
-      → (u : ℕ) × (mayFire p (ledgerAt limit ws (trackCount p)) u ≡ true)
-  unfolding isSound isOver
-  progress-words ws s t d e =
-      let l = ledgerAt limit ws (trackCount p) in
-      let (tidy, v) = and-true (areTidy limit ws (trackCount p)) (isOver p l || isLive p l) s in
-      let st = storable-read limit (trackCount p) ws tidy in
-      elim (or-true (isOver p l) (isLive p l) v) [
-        | inr h ↦ progress-live l st h t d e
-        | inl o ↦
-            let a = undoing-awake (l t .mode) (is-undoing (l t .mode) d) in
-            elim (look (ltb t (trackCount p))) [
-              | inl b ↦
-                  clash a (not-true (isAwake (l t .mode)) (every-at (trackCount p) (λ t. not (isAwake (l t .mode))) o t (ltb-true t (trackCount p) b)))
-              | inr b ↦
-                  clash a (ap (λ (c : Configuration). isAwake (c .mode)) (st .beyond t (ltb-false t (trackCount p) b)) ∙ sleeping-asleep)
-            ]
-      ]

@@ -1,31 +1,36 @@
--- Restoration and progress for the reference run, on words: the words hold the ledger of the rules, on which each call keeps the invariant.
--- Assumes nothing.
+-- Restoration and progress for the reference run, on words: the words hold the ledger of the rules, call by call, and the clerk's books are
+-- the theory's; so both are the theory's theorems. Assumes nothing.
+use Prim.{tt}
 use mathlib.Core.Path.{_≡_, refl, sym, ap, _∙_, subst}
-use mathlib.Core.Logic.{inl, inr}
-use mathlib.Core.Bool.{true, false}
+use mathlib.Core.Bool.{true, false, cond}
 use mathlib.Core.List.{List, [], _∷_}
 use Prim.Native.Nat.{ℕ, zero, suc}
 use native.Mathlib.Omega.{arith}
+use lib.Dec.{eqb}
+use borrow.Author.Tests.{ne-eqb}
 use Rattle.rules.specs.declared.Counts.{Counts}
 use Rattle.rules.specs.declared.Mode.the-variants.{Undoing}
 use Rattle.rules.specs.Plan.{Plan, trackCount, planOf}
 use Rattle.rules.specs.Acceptance.{accepted, readPlan}
-use Rattle.rules.specs.Ledger.{Configuration, Ledger, isAwake, isEmpty, ledgerAt}
+use Rattle.rules.specs.Ledger.{Ledger, isEmpty, ledgerAt}
 use Rattle.rules.specs.Opening.{begun}
 use Rattle.rules.specs.Fire.{mayFire}
-use Rattle.rules.specs.Call.{done, Call, event, signal, fire, callRefusal, next, callOutcome, beginOutcome}
-use Rattle.rules.specs.FinishedRun.{Reached}
-use Rattle.rules.specs.FinishedRun as run
+use Rattle.rules.specs.Call.{EventArguments, SignalArguments, FireArguments, done, Call, callRefusal, next, callOutcome, beginOutcome}
 use Rattle.rules.specs.Books.{Books}
-use Rattle.rules.specs.ReferenceRun.{wordsFrom, wordsAfter, bookedCall, booked, booksFrom, booksAfter, ledgerAfter, AllWithdrawn}
-use Rattle.rules.proofs.Tests.{clash}
+use Rattle.rules.specs.ReferenceRun.{wordsFrom, wordsAfter, booked, booksFrom, booksAfter, ledgerAfter, AllWithdrawn}
 use Rattle.rules.proofs.Acceptance.{Accepted, accepts}
-use Rattle.restoration.proofs.Seams.{over-refused, next-refused}
-use Rattle.restoration.proofs.Closing.{sleeping-asleep}
-use Rattle.restoration.proofs.SoundKept.{Kept, over-is}
+use Rattle.restoration.specs.Seams.{CallOf}
+use Rattle.restoration.specs.Runs as theory
+use Rattle.restoration.specs.Runs.{ledgerFrom}
+use Rattle.restoration.proofs.Histories as theorem
+use Rattle.restoration.proofs.Document01.{document01, asRules, asTheory, there-and-back, laws01, unfinished01}
+use Rattle.restoration.proofs.Runs01.{books01, same-call}
 use Rattle.restoration.proofs.SoundWords.{Holds, call-accepted, call-refused, call-holds, begin-holds}
-use Rattle.restoration.proofs.Progress.{progress}
-use Rattle.restoration.proofs.InvariantCalls.{Invariant, event-keeps, signal-keeps, fire-keeps, begun-keeps, withdrawn-books}
+
+-- the calls of a list, as the theory's
+unfoldable pub listed : List Call → List (CallOf EventArguments SignalArguments FireArguments)
+listed [] = []
+listed (c ∷ cs) = asTheory c ∷ listed cs
 
 module _ (limit : ℕ) (bs : List ℕ) (c : Counts) (read : readPlan bs ≡ accepted c) where
   abbrev p : Plan
@@ -40,71 +45,73 @@ module _ (limit : ℕ) (bs : List ℕ) (c : Counts) (read : readPlan bs ≡ acce
   abbrev Hold : List ℕ → Ledger → Type 0
   Hold ws l = Holds limit bs c read ws l
 
+  -- the theory's ledger after a list of calls
+  abbrev ledgerBy : Ledger → List Call → Ledger
+  ledgerBy l cs = ledgerFrom document01 p limit tt l (listed cs)
+
+  -- words along a list hold it
+  list-follows : (cs : List Call) (ws : List ℕ) (l : Ledger) → Hold ws l → Hold (wordsFrom limit bs ws cs) (ledgerBy l cs)
+  unfolding wordsFrom ledgerFrom listed
+  list-follows [] ws l h = h
+  list-follows (d ∷ cs) ws l h =
+      list-follows cs (callOutcome limit bs ws d .words) (next limit p l (asRules (asTheory d)))
+      (subst (λ e. Hold (callOutcome limit bs ws d .words) (next limit p l e)) (sym (there-and-back d)) (call-holds limit bs c read ws l h d))
+
+  pub list-holds : (cs : List Call) (ws : List ℕ) (l : Ledger) → Hold ws l → (m : Ledger) × Hold (wordsFrom limit bs ws cs) m
+  list-holds cs ws l h = (ledgerBy l cs, list-follows cs ws l h)
+
+  abbrev begun-by : List Call → Ledger
+  begun-by cs = ledgerBy (begun p) cs
+
+  begin-list : (lent : List ℕ) (cs : List Call) → beginOutcome limit bs lent .answer ≡ done [] → ledgerAfter limit bs p lent cs ≡ begun-by cs
+  unfolding ledgerAfter wordsAfter
+  begin-list lent cs h = list-follows cs (beginOutcome limit bs lent .words) (begun p) (begin-holds limit bs c read lent h) .reads
+
   module _ (k : Books p limit) where
-    abbrev Inv : Ledger → k .State → k .State → Type 0
-    Inv = Invariant limit p ok k
+    abbrev books : theory.Books document01 p limit
+    books = books01 p limit k
 
-    -- an accepted call, by the ledger that the words hold
-    accepted-keeps : (l : Ledger) (first now : k .State) → Reached p limit l → Inv l first now → (d : Call) → callRefusal limit p l d ≡ 0
-        → Inv (next limit p l d) first (bookedCall limit bs p k l d now)
-    unfolding bookedCall
-    accepted-keeps l first now r (inl o) d z = absurd (over-refused limit p l (over-is p l o) d z)
-    accepted-keeps l first now r (inr i) (event a) z = event-keeps limit p ok k l first now r (i .0) (i .1) a z
-    accepted-keeps l first now r (inr i) (signal a) z = signal-keeps limit p ok k l first now r (i .0) (i .1) a z
-    accepted-keeps l first now r (inr i) (fire a) z = fire-keeps limit p ok k l first now r (i .0) (i .1) a z
-
-    -- any call, by the words
-    keeps : (ws : List ℕ) (l : Ledger) (first now : k .State) → Hold ws l → Reached p limit l → Inv l first now → (d : Call)
-        → Inv (next limit p l d) first (booked limit bs p k (ledgerAt limit ws n) d (callOutcome limit bs ws d .answer) now)
-    unfolding booked
-    keeps ws l first now h r i d = go (callRefusal limit p l d) refl
+    -- what a call does to the clerk's books
+    same-booked : (ws : List ℕ) (l : Ledger) → Hold ws l → (d : Call) (b : k .State)
+        → booked limit bs p k (ledgerAt limit ws n) d (callOutcome limit bs ws d .answer) b ≡ theory.booked document01 p limit books tt l (asTheory d) b
+    unfolding booked theory.booked
+    same-booked ws l h d b = go (callRefusal limit p l d) refl
       where
-        go : (x : ℕ) → callRefusal limit p l d ≡ x
-            → Inv (next limit p l d) first (booked limit bs p k (ledgerAt limit ws n) d (callOutcome limit bs ws d .answer) now)
-        go zero e = rw (call-accepted limit bs c read ws l h d e, h .reads) (accepted-keeps l first now r i d e)
-        go (suc x) e =
-            rw (
-              call-refused limit bs c read ws l h d x e,
-              next-refused limit p l d (λ z. let w : suc x ≡ 0 = sym e ∙ z in omega arith),
-            )
-            i
+        back : callRefusal limit p l (asRules (asTheory d)) ≡ callRefusal limit p l d
+        back = ap (callRefusal limit p l) (there-and-back d)
 
-    through : (cs : List Call) (ws : List ℕ) (l : Ledger) (first now : k .State) → Hold ws l → Reached p limit l → Inv l first now
-        → AllWithdrawn p (ledgerAt limit (wordsFrom limit bs ws cs) n) → booksFrom limit bs p k ws cs now ≡ first
-    unfolding wordsFrom booksFrom
-    through [] ws l first now h r i w = withdrawn-books limit p ok k l first now i (subst (AllWithdrawn p) (h .reads) w)
-    through (d ∷ cs) ws l first now h r i w =
-        through cs (callOutcome limit bs ws d .words) (next limit p l d) first
-        (booked limit bs p k (ledgerAt limit ws n) d (callOutcome limit bs ws d .answer) now)
-        (call-holds limit bs c read ws l h d) (run.then r d) (keeps ws l first now h r i d) w
+        go : (x : ℕ) → callRefusal limit p l d ≡ x
+            → booked limit bs p k (ledgerAt limit ws n) d (callOutcome limit bs ws d .answer) b
+            ≡ cond (eqb (callRefusal limit p l (asRules (asTheory d))) 0) (theory.bookedCall document01 p limit books l (asTheory d) b) b
+        go zero e = rw (call-accepted limit bs c read ws l h d e, h .reads, back, e) (same-call p limit k bs l d b)
+        go (suc x) e =
+            let no : eqb (callRefusal limit p l (asRules (asTheory d))) 0 ≡ false =
+            ne-eqb (callRefusal limit p l (asRules (asTheory d))) 0 (λ z. let w : suc x ≡ 0 = sym e ∙ sym back ∙ z in omega arith) in
+            rw (call-refused limit bs c read ws l h d x e, no)
+
+    same-books : (cs : List Call) (ws : List ℕ) (l : Ledger) → Hold ws l → (b : k .State)
+        → booksFrom limit bs p k ws cs b ≡ theory.booksFrom document01 p limit books tt l (listed cs) b
+    unfolding booksFrom theory.booksFrom listed
+    same-books [] ws l h b = refl
+    same-books (d ∷ cs) ws l h b =
+        ap (booksFrom limit bs p k (callOutcome limit bs ws d .words) cs) (same-booked ws l h d b)
+        ∙ same-books cs (callOutcome limit bs ws d .words) (next limit p l (asRules (asTheory d)))
+        (subst (λ e. Hold (callOutcome limit bs ws d .words) (next limit p l e)) (sym (there-and-back d)) (call-holds limit bs c read ws l h d))
+        (theory.booked document01 p limit books tt l (asTheory d) b)
 
     -- "if every root is undoing, holds nothing and has no open scope, her books stand exactly as at that begin"
     pub restored : (lent : List ℕ) (cs : List Call) → beginOutcome limit bs lent .answer ≡ done [] → (b : k .State)
         → AllWithdrawn p (ledgerAfter limit bs p lent cs) → booksAfter limit bs p k lent cs b ≡ b
-    unfolding ledgerAfter wordsAfter booksAfter
+    unfolding booksAfter
     restored lent cs h b w =
-        through cs (beginOutcome limit bs lent .words) (begun p) b b (begin-holds limit bs c read lent h) run.start
-        (begun-keeps limit p ok k b) w
-
-  -- words along a list hold ledgers of the rules
-  pub list-holds : (cs : List Call) (ws : List ℕ) (l : Ledger) → Hold ws l → (m : Ledger) × Hold (wordsFrom limit bs ws cs) m
-  unfolding wordsFrom
-  list-holds [] ws l h = (l, h)
-  list-holds (d ∷ cs) ws l h = list-holds cs (callOutcome limit bs ws d .words) (next limit p l d) (call-holds limit bs c read ws l h d)
+        same-books cs (beginOutcome limit bs lent .words) (begun p) (begin-holds limit bs c read lent h) b
+        ∙ theorem.restored laws01 unfinished01 limit p ok books (listed cs) b (subst (AllWithdrawn p) (begin-list lent cs h) w)
 
   -- "if any track is undoing and holds an entry, some firing is allowed"
   pub goes-on : (lent : List ℕ) (cs : List Call) → beginOutcome limit bs lent .answer ≡ done []
       → (t : ℕ) → ledgerAfter limit bs p lent cs t .mode ≡ Undoing → isEmpty (ledgerAfter limit bs p lent cs t .held) ≡ false
       → (u : ℕ) × (mayFire p (ledgerAfter limit bs p lent cs) u ≡ true)
-  unfolding ledgerAfter wordsAfter isAwake
-  goes-on lent cs h t u e =
-      let (m, g) = list-holds cs (beginOutcome limit bs lent .words) (begun p) (begin-holds limit bs c read lent h) in
-      let q = g .reads in
-      subst (λ l. (v : ℕ) × (mayFire p l v ≡ true)) (sym q)
-      (go m (g .kept) (ap (λ (l : Ledger). l t .mode) (sym q) ∙ u) (ap (λ (l : Ledger). isEmpty (l t .held)) (sym q) ∙ e))
-    where
-      go : (m : Ledger) → Kept limit p m → m t .mode ≡ Undoing → isEmpty (m t .held) ≡ false → (v : ℕ) × (mayFire p m v ≡ true)
-      go m (inl o) d f =
-          let a : isAwake (m t .mode) ≡ true = rw d in
-          clash a (ap (λ (x : Configuration). isAwake (x .mode)) (o t) ∙ sleeping-asleep)
-      go m (inr s) d f = progress limit p ok m s t d f
+  goes-on lent cs h =
+      subst
+      (λ (l : Ledger). (t : ℕ) → l t .mode ≡ Undoing → isEmpty (l t .held) ≡ false → (u : ℕ) × (mayFire p l u ≡ true))
+      (sym (begin-list lent cs h)) (theorem.goes-on laws01 unfinished01 limit p ok (listed cs))

@@ -19,12 +19,14 @@ use Rattle.rules.proofs.Scopes.{root-none, host-in, every-in-at, open-find, bus
 use Rattle.rules.proofs.Closing.{closing-final}
 use Rattle.rules.proofs.Abandoning.{bare-parts}
 use Rattle.rules.proofs.Opening.{begun-root, begun-woken, begun-asleep}
+use Rattle.restoration.specs.Seams.{Seams}
 use Rattle.restoration.proofs.Modes.{is-forward, undoing-forward}
 use Rattle.restoration.proofs.Nesting.{Awake}
-use Rattle.restoration.proofs.Seams.{ended, goes-on}
 use Rattle.restoration.proofs.Entering.{Enterable, fresh-awake, fresh-mode, fresh-state}
-use Rattle.restoration.proofs.Closing.{sleeping-asleep, closing-open}
-use Rattle.restoration.proofs.Soundness.{Formed, RootsAwake, Sound, sleeping-held, sleeping-few, sleeping-good, enter-formed}
+use Rattle.restoration.proofs.Soundness.{Formed, RootsAwake, Sound, sleeping-held, sleeping-few, sleeping-good, sleeping-asleep}
+use Rattle.restoration.proofs.Laws.{Laws, ended}
+use Rattle.restoration.proofs.Closing.{closing-open}
+use Rattle.restoration.proofs.Forming.{enter-formed}
 
 -- abandoning is due: the scope is open, and each of its tracks is bare
 pub abandoning-open : (p : Plan) (l : Ledger) (s : ℕ) → isAbandoning p l s ≡ true → isOpen p l s ≡ true
@@ -45,7 +47,7 @@ module _ (limit : ℕ) (p : Plan) (ok : Accepted p) where
   abbrev pub all-asleep : Ledger
   all-asleep t = sleeping
 
-  asleep-formed : Formed limit p all-asleep
+  pub asleep-formed : Formed limit p all-asleep
   asleep-formed =
       record {
         nested =
@@ -72,7 +74,7 @@ module _ (limit : ℕ) (p : Plan) (ok : Accepted p) where
         | inr k ↦ let q : none ≡ some s = rw k at h in none-some refl q
       ]
 
-  roots-free : Enterable p all-asleep (rootsFirst p)
+  pub roots-free : Enterable p all-asleep (rootsFirst p)
   roots-free =
       record {
         free =
@@ -125,24 +127,25 @@ module _ (limit : ℕ) (p : Plan) (ok : Accepted p) where
   begun-going t a =
       rw (both-false (isForward (begun p t .mode)) (isFinal p (begun p t .state)) (begun-open t a)) (begun-not-bare t a)
 
-  pub begun-sound : Sound limit p (begun p)
+module _ {σ : Seams} (ω : Laws σ) (limit : ℕ) (p : Plan) (ok : Accepted p) where
+  pub begun-sound : Sound σ limit p (begun p)
   begun-sound =
       record {
-        formed = begun-formed;
-        roots = begun-roots;
+        formed = begun-formed limit p ok;
+        roots = begun-roots limit p ok;
         closing =
             λ s.
             refuted (isClosing p (begun p) s)
             (λ c.
             let (t, b, e, a) = open-find p (begun p) s (closing-open p (begun p) s c) in
-            clash (closing-final p (begun p) s t c b e .1) (begun-open t a));
+            clash (closing-final p (begun p) s t c b e .1) (begun-open limit p ok t a));
         finish =
             let z = root-zero p ok in
-            goes-on p (begun p) 0 (ok .some-track) z (begun-going 0 (begun-roots 0 (ok .some-track) z));
+            ω .goes-on p (begun p) 0 (ok .some-track) z (begun-going limit p ok 0 (begun-roots limit p ok 0 (ok .some-track) z));
         abandoning =
             λ s.
             refuted (isAbandoning p (begun p) s)
             (λ c.
             let (t, b, e, a) = open-find p (begun p) s (abandoning-open p (begun p) s c) in
-            clash (abandoning-bare p ok (begun p) s t c e) (begun-not-bare t a));
+            clash (abandoning-bare p ok (begun p) s t c e) (begun-not-bare limit p ok t a));
       }

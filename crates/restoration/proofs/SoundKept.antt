@@ -1,36 +1,27 @@
--- Every accepted call takes every sound ledger, a crafted one too, to a sound one: on ledgers, and on words. Assumes nothing.
+-- Every accepted call takes every sound ledger, a crafted one too, to a sound one or to all asleep. Assumes nothing.
 use mathlib.Core.Path.{_≡_, sym, ap, _∙_, subst}
 use mathlib.Core.Logic.{_⊎_, inl, inr}
-use mathlib.Core.Bool.{true, false, not, _||_}
-use mathlib.Core.List.{List}
+use mathlib.Core.Bool.{true, false, not}
 use Prim.Native.Nat.{ℕ}
+use lib.Dec.{eqb}
+use borrow.Author.Tests.{eqb-true, eqb-false}
 use Rattle.rules.specs.Plan.{Plan, trackCount}
-use Rattle.rules.specs.Ledger.{Configuration, Ledger, isAwake, sleeping, ledgerAt, written}
+use Rattle.rules.specs.Ledger.{Configuration, Ledger, isAwake}
 use Rattle.rules.specs.Scope.{isOver}
-use Rattle.rules.specs.Opening.{begun}
-use Rattle.rules.specs.Event.{moved, isFinishing}
-use Rattle.rules.specs.Soundness.{areTidy, isLive, isSound}
-use Rattle.rules.specs.Call.{Call, event, signal, fire, callRefusal, after}
-use Rattle.rules.proofs.Tests.{look, and-both, or-right}
+use Rattle.rules.proofs.Tests.{look}
 use Rattle.rules.proofs.Folds.{every-of}
 use Rattle.rules.proofs.Acceptance.{Accepted}
-use Rattle.rules.proofs.Closing.{closed-done}
-use Rattle.rules.proofs.Stored.{Storable, read-written, tidy-written}
-use Rattle.restoration.proofs.Seams.{ask, work, looksForFinish, settle-cases, event-accepted, fire-accepted}
-use Rattle.restoration.proofs.Closing.{sleeping-asleep}
-use Rattle.restoration.proofs.Soundness.{Sound, sound-of, sound-live, formed-storable, sleeping-held, sleeping-few}
-use Rattle.restoration.proofs.SoundBegin.{begun-sound}
+use Rattle.restoration.specs.Seams.{Seams, Call, event, signal, fire, work}
+use Rattle.restoration.proofs.Soundness.{Sound, Over, sleeping-asleep}
+use Rattle.restoration.proofs.Laws.{Laws, Unfinished}
+use Rattle.restoration.proofs.Settling.{over-refused}
+use Rattle.restoration.proofs.Closing.{closed-done}
 use Rattle.restoration.proofs.SoundEvent.{event-formed, event-roots, event-abandoning}
 use Rattle.restoration.proofs.SoundRetraction.{signal-sound, fire-sound}
-use Rattle.restoration.proofs.Unfinished.{unfinished}
-
--- all asleep
-abbrev pub Over : Ledger → Type 0
-Over l = (t : ℕ) → l t ≡ sleeping
 
 -- over, or sound
-abbrev pub Kept : ℕ → Plan → Ledger → Type 0
-Kept limit p l = Over l ⊎ Sound limit p l
+abbrev pub Kept : Seams → ℕ → Plan → Ledger → Type 0
+Kept σ limit p l = Over l ⊎ Sound σ limit p l
 
 pub over-is : (p : Plan) (l : Ledger) → Over l → isOver p l ≡ true
 unfolding isOver
@@ -38,64 +29,41 @@ over-is p l o =
     every-of (trackCount p) (λ t. not (isAwake (l t .mode)))
     (λ t b. ap (λ (c : Configuration). not (isAwake (c .mode))) (o t) ∙ ap not sleeping-asleep)
 
-module _ (limit : ℕ) (p : Plan) (ok : Accepted p) (l : Ledger) (s : Sound limit p l) where
-  -- a call's work keeps a ledger sound, if finish is not due after it
-  work-sound : (c : Call) → callRefusal limit p l c ≡ 0 → isFinishing p (work p l c) ≡ false → Sound limit p (work p l c)
-  work-sound (event a) h f =
-      record {
-        formed = event-formed limit p ok l (s .formed) (ask a) (event-accepted limit p l a h .1);
-        roots = event-roots limit p ok l (s .formed) (ask a) (s .roots);
-        closing = closed-done p (moved p l (ask a));
-        finish = f;
-        abandoning = event-abandoning limit p ok l (s .formed) (ask a) (s .abandoning);
-      }
-  work-sound (signal a) h f = signal-sound limit p ok l s a f
-  work-sound (fire a) h f = fire-sound limit p ok l s (a .track) (fire-accepted limit p l a h .1) f
+module _ {σ : Seams} (ω : Laws σ) (υ : Unfinished σ) (limit : ℕ) (p : Plan) (ok : Accepted p) (h : σ .Head) (l : Ledger) where
+  open Seams σ using (moved, isFinishing, looksForFinish, refusal, next)
 
-  pub kept-after : (c : Call) → callRefusal limit p l c ≡ 0 → Kept limit p (after limit p l c)
-  kept-after c h =
-      elim (settle-cases limit p l c) [
-        | inr o ↦ inl o
-        | inl q ↦
-            inr
-            (subst (Sound limit p) (sym (q .0))
-            (work-sound c h (elim (look (looksForFinish c)) [ inl y ↦ q .1 y | inr y ↦ unfinished limit p ok l s c h y ])))
+  module _ (s : Sound σ limit p l) where
+    -- a call's work keeps a ledger sound, if finish is not due after it
+    work-sound : (c : Call σ) → refusal limit p h l c ≡ 0 → isFinishing p (work σ p l c) ≡ false → Sound σ limit p (work σ p l c)
+    work-sound (event a) z f =
+        record {
+          formed = event-formed ω limit p ok l (s .formed) a (ω .event-accepted limit p h l a z .1);
+          roots = event-roots ω limit p ok l (s .formed) a (s .roots);
+          closing = closed-done ω p (moved p l a) a;
+          finish = f;
+          abandoning = event-abandoning ω limit p ok l (s .formed) a (s .abandoning);
+        }
+    work-sound (signal a) z f = signal-sound ω limit p ok l s a f
+    work-sound (fire a) z f = fire-sound ω limit p ok l s (σ .track a) (ω .fire-accepted limit p h l a z .1) f
+
+    pub kept-accepted : (c : Call σ) → refusal limit p h l c ≡ 0 → Kept σ limit p (next limit p h l c)
+    kept-accepted c z =
+        elim (ω .settled limit p h l c z) [
+          | inr o ↦ inl o
+          | inl q ↦
+              inr
+              (subst (Sound σ limit p) (sym (q .0))
+              (work-sound c z (elim (look (looksForFinish c)) [ inl y ↦ q .1 y | inr y ↦ υ limit p ok h l s c z y ])))
+        ]
+
+  -- any call, refused or not
+  pub kept-next : Kept σ limit p l → (c : Call σ) → Kept σ limit p (next limit p h l c)
+  kept-next k c =
+      elim (look (eqb (refusal limit p h l c) 0)) [
+        | inl z ↦ go k (eqb-true (refusal limit p h l c) 0 z)
+        | inr z ↦ subst (Kept σ limit p) (sym (ω .refused limit p h l c (eqb-false (refusal limit p h l c) 0 z) .0)) k
       ]
-
-module _ (limit : ℕ) (p : Plan) (ok : Accepted p) where
-  over-storable : (l : Ledger) → Over l → Storable limit (trackCount p) l
-  over-storable l o =
-      record {
-        fits = λ t. sleeping-few limit p (l t) (ap (λ (c : Configuration). c .held) (o t) ∙ sleeping-held);
-        beyond = λ t b. o t;
-        blank = λ t a. o t;
-      }
-
-  pub kept-storable : (l : Ledger) → Kept limit p l → Storable limit (trackCount p) l
-  kept-storable l (inl o) = over-storable l o
-  kept-storable l (inr s) = formed-storable limit p ok l (s .formed)
-
-  pub kept-is : (l : Ledger) → Kept limit p l → (isOver p l || isLive p l) ≡ true
-  kept-is l (inl o) = rw (over-is p l o)
-  kept-is l (inr s) = or-right (isOver p l) (isLive p l) (sound-live limit p ok l s)
-
-  -- "begin" leaves a live ledger
-  pub begun-live : isLive p (begun p) ≡ true
-  begun-live = sound-live limit p ok (begun p) (begun-sound limit p ok)
-
-  -- a call takes a live ledger to one that is live or over, and that words can hold
-  pub sound-kept : (l : Ledger) → Storable limit (trackCount p) l → isLive p l ≡ true → (c : Call) → callRefusal limit p l c ≡ 0
-      → Storable limit (trackCount p) (after limit p l c) × ((isOver p (after limit p l c) || isLive p (after limit p l c)) ≡ true)
-  sound-kept l st h c a =
-      let k = kept-after limit p ok l (sound-of limit p ok l st h) c a in
-      (kept-storable (after limit p l c) k, kept-is (after limit p l c) k)
-
-  -- The same on words.
-  pub words-sound : (l : Ledger) (ws : List ℕ) → Kept limit p l → isSound limit p (written limit (trackCount p) l ws) ≡ true
-  unfolding isSound
-  words-sound l ws k =
-      let st = kept-storable l k in
-      let q = read-written limit (trackCount p) l ws (st .fits) (st .beyond) in
-      and-both (areTidy limit (written limit (trackCount p) l ws) (trackCount p))
-      (isOver p (ledgerAt limit (written limit (trackCount p) l ws) (trackCount p)) || isLive p (ledgerAt limit (written limit (trackCount p) l ws) (trackCount p)))
-      (tidy-written limit (trackCount p) l ws st) (rw q (kept-is l k))
+    where
+      go : Kept σ limit p l → refusal limit p h l c ≡ 0 → Kept σ limit p (next limit p h l c)
+      go (inl o) z = absurd (over-refused ω limit p h l (over-is p l o) c z)
+      go (inr s) z = kept-accepted s c z

@@ -12,8 +12,7 @@ use Rattle.rules.specs.Plan.{Plan, host, isFinal}
 use Rattle.rules.specs.Ledger.{Configuration, Ledger, isAwake, isForward, isUndoing}
 use Rattle.rules.specs.Scope.{hasOpenScope}
 use Rattle.rules.specs.Opening.{enter}
-use Rattle.rules.specs.Event.{isClosing, isFinishing}
-use Rattle.rules.specs.Call.{SignalArguments}
+use Rattle.rules.specs.Event.{isClosing}
 use Rattle.rules.specs.Signal.{abandoned}
 use Rattle.rules.specs.Fire.{mayFire, removed, deviatesTo, fired}
 use Rattle.rules.proofs.Tests.{look, clash, refuted}
@@ -21,26 +20,31 @@ use Rattle.rules.proofs.Acceptance.{Accepted}
 use Rattle.rules.proofs.Scopes.{open-at, open-find}
 use Rattle.rules.proofs.Closing.{closing-final}
 use Rattle.rules.proofs.Abandoning.{undoing-awake, awake-kept, left-kept, abandoned-done}
+use Rattle.restoration.specs.Seams.{Seams, turned}
 use Rattle.restoration.proofs.Modes.{forward-awake}
 use Rattle.restoration.proofs.Nesting.{Awake, Nested}
-use Rattle.restoration.proofs.Seams.{turns, turned-awake, unturned, may-fire}
-use Rattle.restoration.proofs.Entries.{Good, good-older, older-length}
 use Rattle.restoration.proofs.Entering.{Fate, enters, wakens, stays, fate, arrived-awake, fresh-awake, fresh-state}
+use Rattle.restoration.proofs.Entries.{Good, good-older, older-length}
+use Rattle.restoration.proofs.Firing.{may-fire, fired-is, removed-mode, removed-state, removed-here, removed-other, removed-awake, deviates-hosted, deviates-free, removed-nested, fired-still, fired-new}
+use Rattle.restoration.proofs.Soundness.{Formed, Sound}
+use Rattle.restoration.proofs.Laws.{Laws}
+use Rattle.restoration.proofs.Turning.{turned-awake, unturned}
 use Rattle.restoration.proofs.Closing.{closing-open, closing-of}
 use Rattle.restoration.proofs.Leaving.{left-together, left-awake, left-root}
-use Rattle.restoration.proofs.Firing.{fired-is, removed-mode, removed-state, removed-here, removed-other, removed-awake, deviates-hosted, deviates-free, removed-nested, fired-still, fired-new}
-use Rattle.restoration.proofs.Soundness.{Formed, Sound, enter-formed, turned-formed, abandoned-formed}
+use Rattle.restoration.proofs.Forming.{enter-formed, turned-formed, abandoned-formed}
 
-module _ (limit : ℕ) (p : Plan) (ok : Accepted p) (l : Ledger) (s : Sound limit p l) where
+module _ {σ : Seams} (ω : Laws σ) (limit : ℕ) (p : Plan) (ok : Accepted p) (l : Ledger) (s : Sound σ limit p l) where
+  open Seams σ using (isFinishing)
+
   abbrev n : Nested p l
   n = s .formed .nested
 
-  module _ (a : SignalArguments) where
+  module _ (a : σ .Signal) where
     abbrev T : Ledger
-    T = turns p a l
+    T = turned σ p l a
 
     turned-first : Formed limit p T
-    turned-first = turned-formed limit p ok l (s .formed) a
+    turned-first = turned-formed ω limit p ok l (s .formed) a
 
     turned-root : (t : ℕ) → host p t ≡ none → abandoned p T t ≡ T t
     turned-root t e = left-root p ok T (turned-first .nested) t e
@@ -49,13 +53,13 @@ module _ (limit : ℕ) (p : Plan) (ok : Accepted p) (l : Ledger) (s : Sound limi
     pub spared-track : (t : ℕ) → isForward (abandoned p T t .mode) ≡ true → abandoned p T t ≡ l t
     spared-track t f =
         let q = awake-kept p ok T t (forward-awake (abandoned p T t .mode) f) .1 in
-        q ∙ unturned p ok a l t (ap (λ (c : Configuration). isForward (c .mode)) (sym q) ∙ f)
+        q ∙ unturned ω p l a t (ap (λ (c : Configuration). isForward (c .mode)) (sym q) ∙ f)
 
-    pub signal-sound : isFinishing p (abandoned p T) ≡ false → Sound limit p (abandoned p T)
+    pub signal-sound : isFinishing p (abandoned p T) ≡ false → Sound σ limit p (abandoned p T)
     signal-sound unfinished =
         record {
           formed = abandoned-formed limit p ok T turned-first;
-          roots = λ t b e. ap (λ (c : Configuration). isAwake (c .mode)) (turned-root t e) ∙ turned-awake p ok a l t ∙ s .roots t b e;
+          roots = λ t b e. ap (λ (c : Configuration). isAwake (c .mode)) (turned-root t e) ∙ turned-awake ω p l a t ∙ s .roots t b e;
           closing =
               λ z.
               refuted (isClosing p (abandoned p T) z)
@@ -72,10 +76,10 @@ module _ (limit : ℕ) (p : Plan) (ok : Accepted p) (l : Ledger) (s : Sound limi
 
   module _ (t : ℕ) (may : mayFire p l t ≡ true) where
     undoing : isUndoing (l t .mode) ≡ true
-    undoing = may-fire limit p l t may .1
+    undoing = may-fire p l t may .1
 
     free : hasOpenScope p l t ≡ false
-    free = may-fire limit p l t may .3
+    free = may-fire p l t may .3
 
     pub fired-awake : Awake l t
     fired-awake = undoing-awake (l t .mode) undoing
@@ -153,7 +157,7 @@ module _ (limit : ℕ) (p : Plan) (ok : Accepted p) (l : Ledger) (s : Sound limi
               (s .closing z)
         ])
 
-    pub fire-sound : isFinishing p (abandoned p X) ≡ false → Sound limit p (abandoned p X)
+    pub fire-sound : isFinishing p (abandoned p X) ≡ false → Sound σ limit p (abandoned p X)
     fire-sound unfinished =
         record {
           formed = after;

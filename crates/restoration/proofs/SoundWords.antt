@@ -7,8 +7,8 @@ use mathlib.Core.List.{List, [], _++_}
 use Prim.Native.Nat.{ℕ, zero, suc, _≤_}
 use native.Mathlib.Omega.{arith}
 use lib.ListN.{length}
-use lib.Dec.{eqb, ltb}
-use borrow.Author.Tests.{not-true, not-false, ltb-true, ltb-false, le-ltb, eqb-true, eqb-false}
+use lib.Dec.{ltb}
+use borrow.Author.Tests.{not-true, not-false, ltb-true, ltb-false, le-ltb}
 use Rattle.rules.specs.declared.Counts.{Counts}
 use Rattle.rules.specs.Fold.{firstRefusal}
 use Rattle.rules.specs.Plan.{Plan, trackCount, planOf}
@@ -23,24 +23,11 @@ use Rattle.rules.proofs.Tests.{look, and-true, or-true, passed}
 use Rattle.rules.proofs.Folds.{every-at}
 use Rattle.rules.proofs.Acceptance.{Accepted, accepts}
 use Rattle.rules.proofs.Stored.{Storable, read-written, length-written, storable-read}
-use Rattle.restoration.proofs.Seams.{next-accepted, next-refused, over-refused}
-use Rattle.restoration.proofs.Soundness.{sound-of}
+use Rattle.restoration.proofs.Soundness.{Over}
 use Rattle.restoration.proofs.SoundBegin.{begun-sound}
-use Rattle.restoration.proofs.SoundKept.{Over, Kept, over-is, kept-after, kept-storable, words-sound}
-
--- a call goes on over the list from ledger to ledger
-pub kept-next : (limit : ℕ) (p : Plan) → Accepted p → (l : Ledger) → Kept limit p l → (c : Call) → Kept limit p (next limit p l c)
-kept-next limit p ok l k c =
-    elim (look (eqb (callRefusal limit p l c) 0)) [
-      | inl h ↦
-          let z = eqb-true (callRefusal limit p l c) 0 h in
-          subst (Kept limit p) (sym (next-accepted limit p l c z)) (go k z)
-      | inr h ↦ subst (Kept limit p) (sym (next-refused limit p l c (eqb-false (callRefusal limit p l c) 0 h))) k
-    ]
-  where
-    go : Kept limit p l → callRefusal limit p l c ≡ 0 → Kept limit p (after limit p l c)
-    go (inl o) z = absurd (over-refused limit p l (over-is p l o) c z)
-    go (inr s) z = kept-after limit p ok l s c z
+use Rattle.restoration.proofs.SoundKept.{Kept}
+use Rattle.restoration.proofs.Document01.{document01, next-accepted, next-refused, laws01}
+use Rattle.restoration.proofs.SoundLive.{sound-of, kept-storable, kept-next, words-sound}
 
 module _ (limit : ℕ) (bs : List ℕ) (k : Counts) (read : readPlan bs ≡ accepted k) where
   abbrev pub thePlan : Plan
@@ -62,10 +49,10 @@ module _ (limit : ℕ) (bs : List ℕ) (k : Counts) (read : readPlan bs ≡ acce
     pub long : wordCount limit n ≤ length ws
     pub sound : isSound limit thePlan ws ≡ true
     pub reads : ledgerAt limit ws n ≡ l
-    pub kept : Kept limit thePlan l
+    pub kept : Kept document01 limit thePlan l
 
   -- written words hold what was written
-  written-holds : (l : Ledger) (ws : List ℕ) → wordCount limit n ≤ length ws → Kept limit thePlan l → Holds (written limit n l ws) l
+  written-holds : (l : Ledger) (ws : List ℕ) → wordCount limit n ≤ length ws → Kept document01 limit thePlan l → Holds (written limit n l ws) l
   written-holds l ws b s =
       let st = kept-storable limit thePlan ok l s in
       record {
@@ -144,7 +131,7 @@ module _ (limit : ℕ) (bs : List ℕ) (k : Counts) (read : readPlan bs ≡ acce
           rw (call-accepted ws l h c e)
           (subst (Holds (written limit n (after limit thePlan l c) ws)) (sym (next-accepted limit thePlan l c e))
           (written-holds (after limit thePlan l c) ws (h .long)
-          (subst (Kept limit thePlan) (next-accepted limit thePlan l c e) (kept-next limit thePlan ok l (h .kept) c))))
+          (subst (Kept document01 limit thePlan) (next-accepted limit thePlan l c e) (kept-next limit thePlan ok l (h .kept) c))))
       go (suc r) e =
           rw (call-refused ws l h c r e)
           (subst (Holds ws) (sym (next-refused limit thePlan l c (λ z. let w : suc r ≡ 0 = sym e ∙ z in omega arith))) h)
@@ -165,7 +152,7 @@ module _ (limit : ℕ) (bs : List ℕ) (k : Counts) (read : readPlan bs ≡ acce
         | inl b ↦ let e = begin-refused ws b in let z : _≡_ {A = ℕ} 0 1 = cc in absurd (omega arith)
         | inr b ↦
             rw (begin-accepted ws b)
-            (written-holds (begun thePlan) ws (ltb-false (length ws) (wordCount limit n) b) (inr (begun-sound limit thePlan ok)))
+            (written-holds (begun thePlan) ws (ltb-false (length ws) (wordCount limit n) b) (inr (begun-sound laws01 limit thePlan ok)))
       ]
 
   -- Soundness is kept, on words: an accepted begin leaves sound words, and so does every call that is accepted.
@@ -173,7 +160,7 @@ module _ (limit : ℕ) (bs : List ℕ) (k : Counts) (read : readPlan bs ≡ acce
   begin-sound ws h = begin-holds ws h .sound
 
   -- an accepted call got long and sound words
-  not-refused : (ws : List ℕ) (c : Call) (fs : List ℕ) → callOutcome limit bs ws c .answer ≡ done fs → (r : ℕ)
+  pub not-refused : (ws : List ℕ) (c : Call) (fs : List ℕ) → callOutcome limit bs ws c .answer ≡ done fs → (r : ℕ)
       → firstRefusal (ledgerRefusals limit thePlan ws ++ callRefusals limit thePlan (theLedger ws) c) ≡ r → r ≡ 0
   unfolding refusedOr
   not-refused ws c fs h zero e = refl

@@ -1,9 +1,10 @@
--- Property 3's claim about the books under conditions that ask less: of some codes and replacements only. Assumes nothing.
+-- Property 3's claim about the books under conditions that ask less: some of them dropped, or asked of some codes only. Assumes nothing.
 use mathlib.Core.Path.{_≡_}
-use mathlib.Core.Bool.{Bool, true}
+use mathlib.Core.Bool.{Bool, true, false, not}
 use mathlib.Core.List.{List, [], _∷_}
 use mathlib.Core.Option.{some}
 use Prim.Native.Nat.{ℕ, _<_}
+use lib.Dec.{eqb}
 use Rattle.rules.specs.declared.Counts.{Counts}
 use Rattle.rules.specs.Plan.{Plan, planOf, trackCount, transitionCount, transition, host, replacement}
 use Rattle.rules.specs.Acceptance.{accepted, readPlan}
@@ -15,16 +16,24 @@ use Rattle.rules.specs.FinishedRun.{movesOf, Finished}
 use Rattle.rules.specs.Books.{Apart, Deed, does, act}
 use Rattle.rules.specs.ReferenceRun.{ledgerAfter, AllWithdrawn}
 
--- The conditions of property 3, asked of a transition only if its code passes a test, and of a hosting state if its replacement does.
-pub record Lenient (p : Plan) (limit : ℕ) (ofCode ofReplacement : ℕ → Bool) : Type 1 where
+-- What is asked of books: that code 0 changes nothing, of which transitions' codes and which hosting states' replacements that they undo,
+-- and that tracks that are apart commute.
+pub record Asked : Type 0 where
+  pub ofNothing : Bool
+  pub ofCode : ℕ → Bool
+  pub ofReplacement : ℕ → Bool
+  pub ofTracks : Bool
+
+-- The conditions of property 3, as far as they are asked.
+pub record Lenient (p : Plan) (limit : ℕ) (asked : Asked) : Type 1 where
   pub State : Type 0
   pub changed : ℕ → State → State
   pub retracted : ℕ → State → State
-  pub nothing : (b : State) → retracted 0 b ≡ b
-  pub undo : (x : ℕ) → x < transitionCount p → ofCode (transition p x .code) ≡ true → (b : State) → retracted (transition p x .code) (changed x b) ≡ b
-  pub undo-run : (s t : ℕ) → host p t ≡ some s → ofReplacement (replacement p s) ≡ true → (w : List ℕ) → Finished p limit s w
+  pub nothing : asked .ofNothing ≡ true → (b : State) → retracted 0 b ≡ b
+  pub undo : (x : ℕ) → x < transitionCount p → asked .ofCode (transition p x .code) ≡ true → (b : State) → retracted (transition p x .code) (changed x b) ≡ b
+  pub undo-run : (s t : ℕ) → host p t ≡ some s → asked .ofReplacement (replacement p s) ≡ true → (w : List ℕ) → Finished p limit s w
       → (b : State) → retracted (replacement p s) (act changed w b) ≡ b
-  pub commute : (t u : ℕ) → Apart p t u → (d : Deed p t) (e : Deed p u)
+  pub commute : asked .ofTracks ≡ true → (t u : ℕ) → Apart p t u → (d : Deed p t) (e : Deed p u)
       → (b : State) → does p changed retracted d (does p changed retracted e b) ≡ does p changed retracted e (does p changed retracted d b)
 
 -- The reference run's books, with no condition on the changes.
@@ -44,12 +53,38 @@ module _ (limit : ℕ) (bs : List ℕ) (p : Plan) {S : Type 0} (changed retracte
       freely (callOutcome limit bs ws c .words) cs
       (freelyBooked (ledgerAt limit ws (trackCount p)) c (callOutcome limit bs ws c .answer) b)
 
--- the claim, under such conditions
-abbrev pub Claim : (ℕ → Bool) → (ℕ → Bool) → Type 1
-Claim ofCode ofReplacement =
+-- the claim, with so much asked
+abbrev pub Claim : Asked → Type 1
+Claim asked =
     (bs : List ℕ) (c : Counts) → readPlan bs ≡ accepted c
-    → (k : Lenient (planOf bs c) entryLimit ofCode ofReplacement) (lent : List ℕ) (cs : List Call)
+    → (k : Lenient (planOf bs c) entryLimit asked) (lent : List ℕ) (cs : List Call)
     → beginOutcome entryLimit bs lent .answer ≡ done []
     → AllWithdrawn (planOf bs c) (ledgerAfter entryLimit bs (planOf bs c) lent cs)
     → (b : k .State)
     → freely entryLimit bs (planOf bs c) (k .changed) (k .retracted) (beginOutcome entryLimit bs lent .words) cs b ≡ b
+
+-- all conditions, and all but one
+abbrev pub every : ℕ → Bool
+every c = true
+
+abbrev pub noneOf : ℕ → Bool
+noneOf c = false
+
+abbrev pub onlyReal : ℕ → Bool
+onlyReal c = not (eqb c 0)
+
+abbrev pub allAsked : Asked
+allAsked = record { ofNothing = true; ofCode = every; ofReplacement = every; ofTracks = true }
+
+abbrev pub withoutNothing : Asked
+withoutNothing = record { ofNothing = false; ofCode = every; ofReplacement = every; ofTracks = true }
+
+-- of the codes that pass a test alone
+abbrev pub undoneWhere : (ℕ → Bool) → Asked
+undoneWhere f = record { ofNothing = true; ofCode = f; ofReplacement = every; ofTracks = true }
+
+abbrev pub replacedWhere : (ℕ → Bool) → Asked
+replacedWhere f = record { ofNothing = true; ofCode = every; ofReplacement = f; ofTracks = true }
+
+abbrev pub withoutCommuting : Asked
+withoutCommuting = record { ofNothing = true; ofCode = every; ofReplacement = every; ofTracks = false }

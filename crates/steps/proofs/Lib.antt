@@ -1,4 +1,6 @@
 -- Laws of the steps' figures.
 pub mod Marks
+pub mod Setting
 pub mod Facts
+pub mod FirstStates
 pub mod Turns

@@ -1,26 +1,27 @@
--- What the passes work out: a figure after n turns is a test over the tracks below n, since a turn sets one track's figure and leaves
--- those of the others. Assumes nothing.
+-- Who wakes: the figure of a track is worked out at its own turn, when its host's track has its figure, and stays. Who has an open
+-- scope: an awake track marks its host's. Assumes nothing.
 use mathlib.Core.Path.{_≡_, refl, sym, ap, _∙_, subst}
-use mathlib.Core.Logic.{_⊎_, inl, inr, ⊎-elim}
-use mathlib.Core.Bool.{Bool, true, false, cond, _&&_, _||_}
+use mathlib.Core.Logic.{inl, inr}
+use mathlib.Core.Bool.{Bool, false, cond, _&&_}
 use mathlib.Core.List.{List}
 use mathlib.Core.Option.{Option, none, some}
 use Prim.Native.Nat.{ℕ, zero, suc, _<_, _≤_}
 use native.Mathlib.Nat.{not-suc-le-zero}
 use native.Mathlib.Omega.{arith}
-use lib.Dec.{eqb, ltb}
-use lib.ListN.{length, getD, set, replicate, length-set, length-replicate, getD-replicate, List·getD-eq-default}
+use lib.Dec.{eqb}
+use lib.ListN.{length, getD, set, replicate, length-set, length-replicate}
 use lib.Seq.{getD-set-same, getD-set-other}
-use borrow.Author.Tests.{eqb-true, eqb-false, ltb-true, ltb-false}
-use Rattle.rules.specs.Fold.{someBelow}
-use Rattle.rules.specs.Plan.{Plan, trackCount, noState, optional, host, owner, isHostedBy, firstState}
+use borrow.Author.Tests.{eqb-true, eqb-false}
+use Rattle.rules.specs.Plan.{Plan, trackCount, optional, host, owner, isHostedBy, firstState}
 use Rattle.rules.specs.Ledger.{Ledger, isAwake}
 use Rattle.rules.specs.Scope.{hasOpenScope}
 use Rattle.rules.specs.Opening.{wakes, wakesIn}
-use Rattle.rules.proofs.Tests.{look, look-option, or-right}
+use Rattle.rules.proofs.Tests.{look, look-option, none-some}
+use Rattle.rules.proofs.Folds.{some-same}
 use Rattle.rules.proofs.Acceptance.{Accepted}
 use Rattle.rules.proofs.Opening.{wakes-root, wakes-host}
-use Rattle.steps.specs.Marks.{slots, Marks, setHost, wakesAt, wakeMarks, openMark, openMarks}
+use Rattle.steps.specs.Marks.{slots, Marks, setHost, wakesAt, wakeMarks, hostOwner, openMarks}
+use Rattle.steps.proofs.Setting.{isPlace, length-marks, marks-fresh}
 
 module _ (p : Plan) (ok : Accepted p) (few : trackCount p ≤ slots) where
   pub length-setHost : (o : Option ℕ) (b : Bool) (ms : List Bool) → length (setHost p o b ms) ≡ length ms
@@ -84,49 +85,29 @@ module _ (p : Plan) (ok : Accepted p) (few : trackCount p ≤ slots) where
   module _ (l : Ledger) where
     -- Who has an open scope.
     pub length-open : (n : ℕ) → length (openMarks p l n) ≡ slots
-    unfolding openMarks openMark
-    length-open zero = length-replicate slots false
-    length-open (suc n) =
-        elim (look (isAwake (l n .mode)))
-        [ inl a ↦ rw a (length-setHost (host p n) true (openMarks p l n) ∙ length-open n) | inr a ↦ rw a (length-open n) ]
+    unfolding openMarks
+    length-open n = length-marks (replicate slots false) (hostOwner p) (λ t. isAwake (l t .mode)) n ∙ length-replicate slots false
 
-    open-marks : (n u : ℕ) → getD (openMarks p l n) u false ≡ someBelow n (λ t. isHostedBy p u t && isAwake (l t .mode))
-    unfolding openMarks openMark someBelow
-    open-marks zero u = none-set u
-      where
-        none-set : (u : ℕ) → getD (replicate slots false) u false ≡ false
-        none-set u =
-            ⊎-elim (λ b. getD-replicate slots u false false (ltb-true u slots b))
-            (λ b. let r : length (replicate slots false) ≤ u = let q = ltb-false u slots b in omega (arith, length-replicate slots false) in List·getD-eq-default (replicate slots false) false r)
-            (look (ltb u slots))
-    open-marks (suc n) u =
-        elim (look (isAwake (l n .mode))) [
-          | inr a ↦ rw a (open-marks n u ∙ sym (ap (λ z. someBelow n (λ t. isHostedBy p u t && isAwake (l t .mode)) || z) (no-and (isHostedBy p u n)) ∙ no-or (someBelow n (λ t. isHostedBy p u t && isAwake (l t .mode)))))
-          | inl a ↦
-              elim (look-option (host p n)) [
-                | inl e ↦ rw (a, by-none u n e) (setHost-none e ∙ open-marks n u ∙ sym (no-or (someBelow n (λ t. isHostedBy p u t && isAwake (l t .mode)))))
-                | inr e ↦
-                    rw (a, by-eqb u n (e .0) (e .1))
-                    (set-host n u (e .0) true (openMarks p l n) (length-open n) (e .1)
-                    ∙ turn (eqb (owner p (e .0)) u) (open-marks n u))
-              ]
+    by-owner : (u t : ℕ) → isPlace (hostOwner p t) u ≡ isHostedBy p u t
+    unfolding isHostedBy hostOwner isPlace
+    by-owner u t =
+        elim (look-option (host p t)) [ inl e ↦ rw (e, isHostedBy, hostOwner, isPlace) | inr e ↦ rw (e .1, isHostedBy, hostOwner, isPlace) ]
+
+    owner-slot : (t i : ℕ) → hostOwner p t ≡ some i → i < slots
+    unfolding hostOwner
+    owner-slot t i e =
+        elim (look-option (host p t)) [
+          | inl z ↦ let q : none ≡ some i = rw (z, hostOwner) at e in none-some refl q
+          | inr z ↦
+              let q : some (owner p (z .0)) ≡ some i = rw (z .1, hostOwner) at e in
+              let r : owner p (z .0) ≡ i = cc in
+              let b = ok .owned (z .0) (ok .host-state t (z .0) (z .1)) in
+              omega arith
         ]
-      where
-        no-and : (b : Bool) → (b && false) ≡ false
-        no-and true = refl
-        no-and false = refl
-
-        no-or : (b : Bool) → (b || false) ≡ b
-        no-or true = refl
-        no-or false = refl
-
-        setHost-none : host p n ≡ none → getD (setHost p (host p n) true (openMarks p l n)) u false ≡ getD (openMarks p l n) u false
-        setHost-none e = unfold setHost in rw (e, setHost)
-
-        turn : (b : Bool) {x y : Bool} → x ≡ y → cond b true x ≡ (y || (b && true))
-        turn true {x} {y} e = sym (or-right y true refl)
-        turn false {x} {y} e = e ∙ sym (no-or y)
 
     pub open-scopes : Marks false (openMarks p l (trackCount p)) (trackCount p) (hasOpenScope p l)
-    unfolding hasOpenScope
-    open-scopes t b = open-marks (trackCount p) t
+    unfolding openMarks hasOpenScope
+    open-scopes t b =
+        marks-fresh slots (hostOwner p) (λ u. isAwake (l u .mode)) owner-slot (trackCount p) t
+        ∙ some-same (trackCount p) (λ u. isPlace (hostOwner p u) t && isAwake (l u .mode)) (λ u. isHostedBy p t u && isAwake (l u .mode))
+        (λ u k. ap (λ z. z && isAwake (l u .mode)) (by-owner t u))

@@ -1,5 +1,5 @@
--- Figures kept for each track while a step is worked out, each by one pass up the tracks: who wakes, and who has an open scope.
--- Assumes nothing.
+-- Figures kept for each track or state while a step is worked out, each by one pass up the tracks: who wakes, who has an open scope,
+-- and which scopes have a marked track. Assumes nothing.
 use mathlib.Core.Path.{_≡_}
 use mathlib.Core.Bool.{Bool, true, false, cond}
 use mathlib.Core.List.{List}
@@ -14,11 +14,41 @@ use Rattle.rules.specs.Opening.{wakesIn}
 abbrev pub slots : ℕ
 slots = 32
 
+-- a figure for each of the 128 states that there can be
+abbrev pub stateSlots : ℕ
+stateSlots = 128
+
 -- figures below n are as f says
 abbrev pub Marks : {A : Type 0} → A → List A → ℕ → (ℕ → A) → Type 0
 Marks d ms n f = (t : ℕ) → t < n → getD ms t d ≡ f t
 
+-- a mark set at a place, if there is one
+unfoldable pub setAt : Option ℕ → List Bool → List Bool
+setAt none ms = ms
+setAt (some i) ms = set ms i true
+
+-- a track's turn: if it passes the test, the mark at its place is set
+unfoldable pub markTurn : (ℕ → Option ℕ) → (ℕ → Bool) → ℕ → List Bool → List Bool
+markTurn place test t ms = cond (test t) (setAt (place t) ms) ms
+
+-- the turns of the tracks below n, from the marks at the start
+unfoldable pub marksFrom : List Bool → (ℕ → Option ℕ) → (ℕ → Bool) → ℕ → List Bool
+marksFrom ms place test zero = ms
+marksFrom ms place test (suc t) = markTurn place test t (marksFrom ms place test t)
+
 module _ (p : Plan) where
+  -- the scopes that have a marked track: a track's place is the state that hosts it
+  module _ (ms : List Bool) where
+    unfoldable pub scopeMark : ℕ → List Bool → List Bool
+    scopeMark = markTurn (host p) (λ t. getD ms t false)
+
+    unfoldable pub scopeMarks : ℕ → List Bool
+    scopeMarks = marksFrom (replicate stateSlots false) (host p) (λ t. getD ms t false)
+
+  -- the track of a track's host, if it has one
+  unfoldable pub hostOwner : ℕ → Option ℕ
+  hostOwner t = elim (host p t) [ none ↦ none | some h ↦ some (owner p h) ]
+
   -- the mark of the host's track set, if there is one
   unfoldable pub setHost : Option ℕ → Bool → List Bool → List Bool
   setHost none b ms = ms
@@ -33,11 +63,10 @@ module _ (p : Plan) where
   wakeMarks to zero = replicate slots false
   wakeMarks to (suc t) = set (wakeMarks to t) t (wakesAt to (wakeMarks to t) (host p t))
 
+  -- an awake track is the open scope of its host's track
   module _ (l : Ledger) where
-    -- an awake track is the open scope of its host's track
     unfoldable pub openMark : ℕ → List Bool → List Bool
-    openMark t ms = cond (isAwake (l t .mode)) (setHost (host p t) true ms) ms
+    openMark = markTurn hostOwner (λ t. isAwake (l t .mode))
 
     unfoldable pub openMarks : ℕ → List Bool
-    openMarks zero = replicate slots false
-    openMarks (suc t) = openMark t (openMarks t)
+    openMarks = marksFrom (replicate slots false) hostOwner (λ t. isAwake (l t .mode))

@@ -1,4 +1,7 @@
-// What the steps of accepted calls share: reading a track, who has an open scope, and who wakes.
+// What the steps of accepted calls share: reading a track, each track's first state, who has an open scope, which scopes have a marked
+// track, and who wakes.
+pub mod firsts;
 pub mod opens;
 pub mod reading;
+pub mod scopes;
 pub mod waking;

@@ -1,11 +1,11 @@
 // The tracks that have an open scope, by one pass over the tracks.
 use crate::reading;
-use ledger::track;
 use plan::fields::NO_STATE;
 use rules::Counts;
 ghost use mathlib.Core.Path.{_≡_};
 ghost use Prim.Native.Nat.{_<_};
 ghost use Rattle.rules.specs.Plan.{planOf};
+ghost use Rattle.rules.specs.Scope.{hasOpenScope};
 ghost use Rattle.steps.specs.Going.{Accepts, Roomy, ledgerOf};
 ghost use Rattle.steps.specs.Marks.{openMark, openMarks};
 
@@ -14,9 +14,7 @@ fn mark_open(plan: &[u8], c: Counts, ledger: &[u16], opens: [bool; 32], t: usize
     requires { ⌜ Accepts (now plan) c × Roomy c (now ledger) × (t < c .tracks) ⌝ }
     ensures { λ r. ⌜ r ≡ openMark (planOf (now (plan .entry)) c) (ledgerOf c (now (ledger .entry))) t opens ⌝ }
 {
-    let k = reading::track(c, ledger, t);
-    let m = k.mode;
-    if !track::is_awake(m) {
+    if !reading::is_awake(c, ledger, t) {
         return opens;
     }
     let u = reading::host_track(plan, c, t);
@@ -42,4 +40,13 @@ pub fn open_scopes(plan: &[u8], c: Counts, ledger: &[u16]) -> [bool; 32]
         t += 1;
     }
     opens
+}
+
+// Whether a track has an open scope.
+pub fn has_open_scope(plan: &[u8], c: Counts, ledger: &[u16], t: usize) -> bool
+    requires { ⌜ Accepts (now plan) c × Roomy c (now ledger) × (t < c .tracks) ⌝ }
+    ensures { λ r. ⌜ r ≡ hasOpenScope (planOf (now (plan .entry)) c) (ledgerOf c (now (ledger .entry))) t ⌝ }
+{
+    let opens = open_scopes(plan, c, ledger);
+    opens[t]
 }

@@ -1,12 +1,15 @@
-// A track's configuration and its host, as every step reads them.
+// A track's configuration and its host, as every step reads them, and whether the ledger is over.
 use ledger::track;
 use plan::fields;
 use plan::fields::NO_STATE;
 use rules::Counts;
 use rules::Track;
 ghost use mathlib.Core.Path.{_≡_};
+ghost use mathlib.Core.Bool.{not};
 ghost use Prim.Native.Nat.{_<_};
+ghost use Rattle.rules.specs.Fold.{everyBelow};
 ghost use Rattle.rules.specs.Plan.{planOf};
+ghost use Rattle.rules.specs.Ledger.{isAwake};
 ghost use Rattle.ledger.specs.Words.{trackOf};
 ghost use Rattle.steps.specs.Going.{Accepts, Roomy, ledgerOf, hostTrack};
 
@@ -16,6 +19,32 @@ pub fn track(c: Counts, ledger: &[u16], t: usize) -> Track
     ensures { λ r. ⌜ r ≡ trackOf (ledgerOf c (now (ledger .entry)) t) ⌝ }
 {
     track::track_at(ledger, t)
+}
+
+// Whether a track is awake.
+pub fn is_awake(c: Counts, ledger: &[u16], t: usize) -> bool
+    requires { ⌜ Roomy c (now ledger) × (t < c .tracks) ⌝ }
+    ensures { λ r. ⌜ r ≡ isAwake (ledgerOf c (now (ledger .entry)) t .mode) ⌝ }
+{
+    let k = track(c, ledger, t);
+    let m = k.mode;
+    track::is_awake(m)
+}
+
+// "all asleep ("over")"
+pub fn is_over(c: Counts, ledger: &[u16]) -> bool
+    requires { ⌜ Roomy c (now ledger) ⌝ }
+    ensures { λ r. ⌜ r ≡ everyBelow (c .tracks) (λ t. not (isAwake (ledgerOf c (now (ledger .entry)) t .mode))) ⌝ }
+{
+    let tracks = c.tracks;
+    let mut t: usize = 0;
+    while t < tracks {
+        if is_awake(c, ledger, t) {
+            return false;
+        }
+        t += 1;
+    }
+    true
 }
 
 // The track of a track's host, 65535 for a root.

@@ -6,11 +6,19 @@ ghost use mathlib.Core.Path.{_≡_};
 ghost use Prim.Native.Nat.{_<_};
 ghost use Rattle.rules.specs.Plan.{planOf, host};
 ghost use Rattle.steps.specs.Going.{Accepts};
+ghost use Rattle.plan.specs.Passes.{firstMarks};
 ghost use Rattle.steps.specs.Marks.{wakesAt, wakeMarks};
 
 // Whether a track wakes, given which of the lower tracks do.
-fn wakes(plan: &[u8], c: Counts, to: [u16; 32], woken: [bool; 32], t: usize) -> bool
-    requires { ⌜ Accepts (now plan) c × (t < c .tracks) ⌝ }
+fn wakes(
+    plan: &[u8],
+    c: Counts,
+    firsts: [u16; 32],
+    to: [u16; 32],
+    woken: [bool; 32],
+    t: usize,
+) -> bool
+    requires { ⌜ Accepts (now plan) c × (firsts ≡ firstMarks (planOf (now plan) c) (c .states)) × (t < c .tracks) ⌝ }
     ensures { λ r. ⌜ r ≡ wakesAt (planOf (now (plan .entry)) c) to woken (host (planOf (now (plan .entry)) c) t) ⌝ }
 {
     let h = fields::host_word(plan, c, t);
@@ -25,19 +33,19 @@ fn wakes(plan: &[u8], c: Counts, to: [u16; 32], woken: [bool; 32], t: usize) -> 
     if !woken[u] {
         return false;
     }
-    h == fields::first_state(plan, c, u)
+    h == firsts[u]
 }
 
-// The tracks that wake where each track with a state in `to`, 65535 for none, enters it.
-pub fn woken_by(plan: &[u8], c: Counts, to: [u16; 32]) -> [bool; 32]
-    requires { ⌜ Accepts (now plan) c ⌝ }
+// The tracks that wake where each track with a state in `to`, 65535 for none, enters it, given the first state of each track.
+pub fn woken_by(plan: &[u8], c: Counts, firsts: [u16; 32], to: [u16; 32]) -> [bool; 32]
+    requires { ⌜ Accepts (now plan) c × (firsts ≡ firstMarks (planOf (now plan) c) (c .states)) ⌝ }
     ensures { λ r. ⌜ r ≡ wakeMarks (planOf (now (plan .entry)) c) to (c .tracks) ⌝ }
 {
     let mut woken = [false; 32];
     let tracks = c.tracks;
     let mut t: usize = 0;
     while t < tracks {
-        woken[t] = wakes(plan, c, to, woken, t);
+        woken[t] = wakes(plan, c, firsts, to, woken, t);
         t += 1;
     }
     woken

@@ -4,7 +4,7 @@ use native.Mathlib.Omega.{arith}
 use Rattle.rules.specs.Layout.{entryLimit, entryWidth, headWords, trackWidth, leadingWords, trackPlace, entriesPlace}
 use Rattle.rules.specs.Answers.{planTold}
 use Rattle.ledger.proofs.Words.{room-within}
-use Rattle.ledger.proofs.ScopeLaws.{count-as}
+use Rattle.ledger.proofs.ReadTracks.{count-as}
 use Rattle.steps.proofs.Facts.{track-read}
 use Rattle.manager.proofs.Checks.{lent-room, checked-facts, span-at, span-refused, span-absent, span-held}
 use borrow.Author.Needs.{needs}

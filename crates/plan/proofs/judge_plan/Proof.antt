@@ -35,7 +35,7 @@ returns-3 c =
     ))
 
 some-bad-first-requires : tie.Need-some-bad-first-requires
-some-bad-first-requires c κs = search needs
+some-bad-first-requires c κs = (search needs, sym (c .before .before .before .some-bad-state .ensures) ∙ c .before .before .if2 .left)
 
 returns-4 : tie.Need-returns-4
 returns-4 c =
@@ -47,7 +47,7 @@ returns-4 c =
     ))
 
 some-bad-hosting-requires : tie.Need-some-bad-hosting-requires
-some-bad-hosting-requires c κs = search needs
+some-bad-hosting-requires c κs = (search needs, sym (c .before .before .before .some-bad-host .ensures) ∙ c .before .before .if3 .left)
 
 returns-5 : tie.Need-returns-5
 returns-5 c =

@@ -20,17 +20,20 @@ same-length c = search needs
 
 returns : tie.Need-returns
 unfolding noState
-returns c = enter-state _ _ (c .before .before .before .before .before .before .before .pre .1) _ _ _ _ (c .before .before .before .before .if1 .taken) (c .before .before .put-mode .ensures)
+returns c = enter-state _ _ (c .before .before .before .before .before .before .pre .0) _ _ _ _ (c .before .before .before .before .if1 .taken) (c .before .before .put-mode .ensures)
 
 array-read-if2 : tie.Need-array-read-if2
 array-read-if2 c = search needs
 
 returns-2 : tie.Need-returns-2
 unfolding noState
-returns-2 c = enter-not _ _ (c .before .before .before .before .pre .1) _ _ _ _ (c .before .if1 .left) (not-true _ (c .if2 .taken))
+returns-2 c = enter-not _ _ (c .before .before .before .pre .0) _ _ _ _ (c .before .if1 .left) (not-true _ (c .if2 .taken))
 
-first-state-requires : tie.Need-first-state-requires
-first-state-requires c κs = search needs
+mul-put-mode : tie.Need-mul-put-mode
+mul-put-mode c = search needs
+
+array-read-put-mode : tie.Need-array-read-put-mode
+array-read-put-mode c = search needs
 
 put-mode-requires-2 : tie.Need-put-mode-requires-2
 put-mode-requires-2 c κs = search needs
@@ -40,7 +43,7 @@ same-length-2 c = search needs
 
 returns-3 : tie.Need-returns-3
 unfolding noState
-returns-3 c = let w = not-false _ (c .before .before .before .before .before .if2 .left) in enter-first _ _ (c .before .before .before .before .before .before .before .before .before .pre .1) _ _ _ _ (c .before .before .before .before .before .before .if1 .left) w (c .before .before .before .before .before .before .before .before .before .pre .3 w) (c .before .before .before .before .first-state .ensures) (c .before .before .put-mode2 .ensures)
+returns-3 c = let w = not-false _ (c .before .before .before .before .if2 .left) in enter-first _ _ (c .before .before .before .before .before .before .before .pre .0) _ _ _ _ (c .before .before .before .before .before .if1 .left) w (c .before .before .before .before .before .before .before .pre .2 w) (c .before .before .put-mode2 .ensures)
 
 pub enter-track-spec : {M : Type 1} → statement M
 enter-track-spec =
@@ -53,7 +56,8 @@ enter-track-spec =
     returns
     array-read-if2
     returns-2
-    first-state-requires
+    mul-put-mode
+    array-read-put-mode
     put-mode-requires-2
     same-length-2
     returns-3)

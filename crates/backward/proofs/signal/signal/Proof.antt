@@ -19,15 +19,15 @@ returns c = signal-over _ _ _ (c .before .before .before .before .before .pre) (
 turn-all-requires : tie.Need-turn-all-requires
 turn-all-requires c κs = orderly _ _ _ (c .before .before .before .before .before .before .pre)
 
-abandon-all-requires : tie.Need-abandon-all-requires
-abandon-all-requires c κs = (c .before .before .before .before .before .before .before .before .before .before .pre .accepts, turned-orderly _ _ _ (c .before .before .before .before .before .before .before .before .before .before .pre) (c .before .before .before .turn-all .ensures .1))
+abandon-requires : tie.Need-abandon-requires
+abandon-requires c κs = (c .before .before .before .before .before .before .before .before .before .before .pre .accepts, turned-orderly _ _ _ (c .before .before .before .before .before .before .before .before .before .before .pre) (c .before .before .before .turn-all .ensures .1))
 
 same-length-2 : tie.Need-same-length-2
 same-length-2 c = search needs
 
 returns-2 : tie.Need-returns-2
 unfolding signalTold
-returns-2 c = signal-done _ _ _ (c .before .before .before .before .before .before .before .before .before .before .before .before .before .pre) (sym (over-as _ _ _ (c .before .before .before .before .before .before .before .before .before .before .before .before .before .pre) (c .before .before .before .before .before .before .before .before .before .is-over .ensures)) ∙ c .before .before .before .before .before .before .before .before .if1 .left) (c .before .before .before .before .before .before .turn-all .ensures .0) (c .before .before .before .before .before .before .turn-all .ensures .1) (c .before .before .abandon-all .ensures)
+returns-2 c = signal-done _ _ _ (c .before .before .before .before .before .before .before .before .before .before .before .before .before .pre) (sym (over-as _ _ _ (c .before .before .before .before .before .before .before .before .before .before .before .before .before .pre) (c .before .before .before .before .before .before .before .before .before .is-over .ensures)) ∙ c .before .before .before .before .before .before .before .before .if1 .left) (c .before .before .before .before .before .before .turn-all .ensures .0) (c .before .before .before .before .before .before .turn-all .ensures .1) (c .before .before .abandon .ensures)
 
 pub signal-spec : {M : Type 1} → statement M
 signal-spec =
@@ -37,6 +37,6 @@ signal-spec =
     same-length
     returns
     turn-all-requires
-    abandon-all-requires
+    abandon-requires
     same-length-2
     returns-2)

@@ -2,7 +2,7 @@
 use mathlib.Core.Path.{ap, _∙_}
 use Rattle.rules.specs.Ledger.{isUndoing}
 use Rattle.ledger.proofs.Branches.{holds, fails}
-use Rattle.ledger.proofs.ScopeLaws.{mode-as, empty-as, held-as}
+use Rattle.ledger.proofs.ReadTracks.{mode-as, empty-as, held-as}
 use borrow.Author.Needs.{needs}
 use Rattle.manager.proofs.bits.may_fire.Statement.{statement}
 use Rattle.manager.proofs.bits.may_fire.Tie as tie

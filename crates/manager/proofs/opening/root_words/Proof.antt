@@ -10,10 +10,10 @@ use Rattle.manager.proofs.opening.root_words.Statement.{statement}
 use Rattle.manager.proofs.opening.root_words.Tie as tie
 
 abbrev Inv-loop : tie.InvT-loop
-Inv-loop plan c to₀ tracks t₀ to t = (t ≤ c .tracks) × (to ≡ rootWords (planOf plan c) t)
+Inv-loop plan c firsts to₀ tracks t₀ to t = (t ≤ c .tracks) × (to ≡ rootWords (planOf plan c) t)
 
 abbrev μ-loop : tie.MeasureT-loop
-μ-loop plan c to₀ tracks t₀ to t = c .tracks - t
+μ-loop plan c firsts to₀ tracks t₀ to t = c .tracks - t
 
 loop-holds : tie.Need-loop-holds Inv-loop μ-loop
 unfolding rootWords noState
@@ -26,7 +26,7 @@ mul-to : tie.Need-mul-to Inv-loop μ-loop
 mul-to c = search needs
 
 array-write-to : tie.Need-array-write-to Inv-loop μ-loop
-array-write-to c = let n = c .before .before .before .before .pre .holds .tracks in omega arith
+array-write-to c = let n = c .before .before .before .before .pre .0 .holds .tracks in omega arith
 
 add-t : tie.Need-add-t Inv-loop μ-loop
 add-t c = search needs

@@ -5,7 +5,7 @@ use native.Mathlib.Omega.{arith}
 use borrow.Author.Needs.{needs}
 use Rattle.rules.specs.Plan.{planOf}
 use Rattle.steps.specs.Going.{ledgerOf}
-use Rattle.steps.specs.Marks.{openMarks}
+use Rattle.steps.specs.Marks.{openMarks, marksFrom}
 use Rattle.steps.proofs.Turns.{open-more}
 use Rattle.steps.proofs.opens.open_scopes.Statement.{statement}
 use Rattle.steps.proofs.opens.open_scopes.Tie as tie
@@ -17,7 +17,7 @@ abbrev μ-loop : tie.MeasureT-loop
 μ-loop plan c ledger opens₀ tracks t₀ opens t = c .tracks - t
 
 loop-holds : tie.Need-loop-holds Inv-loop μ-loop
-unfolding openMarks
+unfolding openMarks marksFrom
 loop-holds c = (omega arith, refl)
 
 mark-open-requires : tie.Need-mark-open-requires Inv-loop μ-loop

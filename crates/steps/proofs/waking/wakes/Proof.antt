@@ -3,6 +3,7 @@ use native.Mathlib.Omega.{arith}
 use borrow.Author.Tests.{not-true, not-false}
 use Rattle.rules.specs.Plan.{noState}
 use Rattle.steps.proofs.Facts.{host-low, owner-low}
+use Rattle.steps.proofs.FirstStates.{first-at}
 use Rattle.steps.proofs.Turns.{wakes-root, wakes-entered, wakes-not, wakes-first}
 use borrow.Author.Needs.{needs}
 use Rattle.steps.proofs.waking.wakes.Statement.{statement}
@@ -44,12 +45,16 @@ returns-3 : tie.Need-returns-3
 unfolding noState
 returns-3 c = wakes-not _ _ _ _ _ _ (c .before .before .before .before .host-word .ensures) (c .before .before .before .if1 .left) (c .before .before .track-of .ensures) (c .before .if2 .left) (not-true _ (c .if3 .taken))
 
-first-state-requires : tie.Need-first-state-requires
-first-state-requires c κs = search needs
+mul-result : tie.Need-mul-result
+mul-result c = search needs
+
+array-read-result : tie.Need-array-read-result
+unfolding noState
+array-read-result c = let b = owner-low _ _ _ (c .before .before .before .before .before .before .pre .0) (host-low _ _ _ _ (c .before .before .before .before .before .before .pre .0) (c .before .before .before .before .host-word .ensures) (c .before .before .before .if1 .left)) in let e = c .before .before .track-of .ensures in let n = c .before .before .before .before .before .before .pre .0 .holds .tracks in omega arith
 
 returns-4 : tie.Need-returns-4
 unfolding noState
-returns-4 c = wakes-first _ _ _ _ _ _ (c .before .before .before .before .before .host-word .ensures) (c .before .before .before .before .if1 .left) (c .before .before .before .track-of .ensures) _ (c .before .before .if2 .left) (not-false _ (c .before .if3 .left)) (c .first-state .ensures)
+returns-4 c = let b = owner-low _ _ _ (c .before .before .before .before .before .before .pre .0) (host-low _ _ _ _ (c .before .before .before .before .before .before .pre .0) (c .before .before .before .before .host-word .ensures) (c .before .before .before .if1 .left)) in let e = c .before .before .track-of .ensures in let n = c .before .before .before .before .before .before .pre .0 .holds .tracks in wakes-first _ _ _ _ _ _ (c .before .before .before .before .host-word .ensures) (c .before .before .before .if1 .left) (c .before .before .track-of .ensures) _ (c .before .if2 .left) (not-false _ (c .if3 .left)) (first-at _ _ (c .before .before .before .before .before .before .pre .0) _ (omega arith) (c .before .before .before .before .before .before .pre .1))
 
 pub wakes-spec : {M : Type 1} → statement M
 wakes-spec =
@@ -65,5 +70,6 @@ wakes-spec =
     returns-2
     array-read-if3
     returns-3
-    first-state-requires
+    mul-result
+    array-read-result
     returns-4)

@@ -10,10 +10,10 @@ use Rattle.steps.proofs.waking.woken_by.Statement.{statement}
 use Rattle.steps.proofs.waking.woken_by.Tie as tie
 
 abbrev Inv-loop : tie.InvT-loop
-Inv-loop plan c to woken₀ tracks t₀ woken t = (t ≤ c .tracks) × (woken ≡ wakeMarks (planOf plan c) to t)
+Inv-loop plan c firsts to woken₀ tracks t₀ woken t = (t ≤ c .tracks) × (woken ≡ wakeMarks (planOf plan c) to t)
 
 abbrev μ-loop : tie.MeasureT-loop
-μ-loop plan c to woken₀ tracks t₀ woken t = c .tracks - t
+μ-loop plan c firsts to woken₀ tracks t₀ woken t = c .tracks - t
 
 loop-holds : tie.Need-loop-holds Inv-loop μ-loop
 unfolding wakeMarks
@@ -23,7 +23,7 @@ wakes-requires : tie.Need-wakes-requires Inv-loop μ-loop
 wakes-requires c κs = search needs
 
 array-write-woken : tie.Need-array-write-woken Inv-loop μ-loop
-array-write-woken c = let n = c .before .before .before .before .pre .holds .tracks in omega arith
+array-write-woken c = let n = c .before .before .before .before .pre .0 .holds .tracks in omega arith
 
 add-t : tie.Need-add-t Inv-loop μ-loop
 add-t c = search needs

@@ -1,0 +1,246 @@
+-- Abandoning is NESTFAIL once for each scope abandoned, from the highest host down: a host's nested vector has compensated once the scopes
+-- inside it are gone, since what it has in it was spent; and what is left is the view of the ledger after abandoning. Assumes nothing.
+use mathlib.Core.Path.{_≡_, sym, ap, _∙_, subst}
+use mathlib.Core.Logic.{inl, inr}
+use mathlib.Core.Bool.{true, false, cond, _&&_}
+use mathlib.Core.Option.{Option, none, some}
+use Prim.Native.Nat.{ℕ, suc, _<_, _≤_}
+use native.Mathlib.Omega.{arith}
+use lib.Dec.{eqb, leb}
+use borrow.Author.Tests.{eqb-true, eqb-false, leb-true, leb-false, le-leb}
+use Rattle.rules.specs.Plan.{Plan, trackCount, host, owner, isHostedBy, everyIn}
+use Rattle.rules.specs.Ledger.{Configuration, Ledger, isAwake, isForward, isUndoing, isEmpty}
+use Rattle.rules.specs.Scope.{isOpen, hasOpenScope}
+use Rattle.rules.specs.Signal.{isSpent, isLeft, isAbandoned, abandoned}
+use Rattle.rules.proofs.Tests.{look, clash, none-some, refuted, and-true, and-both}
+use Rattle.rules.proofs.Acceptance.{Accepted}
+use Rattle.rules.proofs.Scopes.{in-host, host-in, host-by, by-host, every-in-at, every-in-of, open-find, busy-find}
+use Rattle.rules.proofs.Forest.{above-lower}
+use Rattle.rules.proofs.Abandoning.{spent-parts, abandoned-host, left-kept}
+use Rattle.restoration.proofs.Modes.{undoing-forward}
+use Rattle.restoration.proofs.Nesting.{Awake, Nested, state-of, host-busy}
+use Rattle.restoration.proofs.Leaving.{left-awake, left-root}
+use Rattle.automaton.specs.Listing.{listed, listedDown}
+use Rattle.automaton.specs.Configuration.{backward, NConf, Basic, Vect, isBackwards, isCompensated}
+use Rattle.automaton.specs.Semantics.{nestfailAt, Step, NESTFAIL, VStep, Run}
+use Rattle.automaton.specs.View.{stackOf, directionOf, isWithin, basic, nested, shown, viewOf, isOnTop, view, leavesScope, abandonings}
+use Rattle.automaton.proofs.Listings.{alike, run-down, run-same}
+use Rattle.automaton.proofs.Frames.{same-conf, frame, frames, instead-none, instead-some, within-parts, within-of, top-parts, top-of, shown-free, shown-busy, view-frames, view-law, frame-law, frames-same, replaced}
+use Rattle.automaton.proofs.Replacing.{frames-view}
+use Rattle.automaton.proofs.Terminated.{busy-open, bare-stack, basic-compensated, within-host, compensated-of}
+
+module _ (p : Plan) (ok : Accepted p) (l : Ledger) (n : Nested p l) where
+  abbrev m : Ledger
+  m = abandoned p l
+
+  -- a host whose scope is gone
+  turnedBack : ℕ → NConf
+  turnedBack t = Basic t (l t .state) backward (stackOf (l t .held))
+
+  -- the hosts from k on whose scopes are gone
+  gone : ℕ → ℕ → Option NConf
+  gone k t = cond (leb k t && leavesScope p l t) (some (turnedBack t)) none
+
+  leaves-parts : (t : ℕ) → leavesScope p l t ≡ true → Awake l t × (isLeft p l (l t .state) ≡ true)
+  unfolding leavesScope
+  leaves-parts t h = and-true (isAwake (l t .mode)) (isLeft p l (l t .state)) h
+
+  leaves-of : (t : ℕ) → Awake l t → isLeft p l (l t .state) ≡ true → leavesScope p l t ≡ true
+  unfolding leavesScope
+  leaves-of t a h = and-both (isAwake (l t .mode)) (isLeft p l (l t .state)) a h
+
+  left-parts : (s : ℕ) → isLeft p l s ≡ true → (isOpen p l s ≡ true) × ((u : ℕ) → host p u ≡ some s → isSpent p l u ≡ true)
+  unfolding isLeft
+  left-parts s h =
+      let (o, q) = and-true (isOpen p l s) (everyIn p s (isSpent p l)) h in
+      (o, λ u e. every-in-at p s (isSpent p l) q u (ok .hosted u s e) (host-in p s u e))
+
+  left-of : (s : ℕ) → isOpen p l s ≡ true → ((u : ℕ) → host p u ≡ some s → isSpent p l u ≡ true) → isLeft p l s ≡ true
+  unfolding isLeft
+  left-of s o h = and-both (isOpen p l s) (everyIn p s (isSpent p l)) o (every-in-of p s (isSpent p l) (λ u b i. h u (in-host p s u i)))
+
+  own : (t : ℕ) → Awake l t → owner p (l t .state) ≡ t
+  own t a = state-of p t (l t .state) (n .own t a) .1
+
+  leaves-busy : (t : ℕ) → leavesScope p l t ≡ true → hasOpenScope p l t ≡ true
+  leaves-busy t h =
+      let (a, q) = leaves-parts t h in
+      let (o, s) = left-parts (l t .state) q in
+      let (u, b, e, w) = open-find p l (l t .state) o in
+      subst (λ x. hasOpenScope p l x ≡ true) (own t a) (host-busy p ok l n u (l t .state) w e)
+
+  -- a spent track with an open scope leaves it
+  spent-leaves : (t : ℕ) → Awake l t → isSpent p l t ≡ true → hasOpenScope p l t ≡ true → leavesScope p l t ≡ true
+  spent-leaves t a s b =
+      let o = busy-open p ok l n t b in
+      let q = spent-parts p ok l t (n .below t a) s in
+      let (u, c, e, w) = open-find p l (l t .state) o in
+      leaves-of t a
+      (left-of (l t .state) o
+      (λ v f. q .hosted v (ok .hosted v (l t .state) f) (subst (λ x. isHostedBy p x v ≡ true) (own t a) (host-by p v (l t .state) f)) (n .whole v u (l t .state) f e ∙ w)))
+
+  gone-some : (k t : ℕ) → k ≤ t → leavesScope p l t ≡ true → gone k t ≡ some (turnedBack t)
+  unfolding gone
+  gone-some k t b h = rw (le-leb k t b, h)
+
+  gone-none : (k t : ℕ) → leavesScope p l t ≡ false → gone k t ≡ none
+  unfolding gone
+  gone-none k t h = elim (look (leb k t)) [ inl e ↦ rw (e, h) | inr e ↦ rw e ]
+
+  gone-low : (k t : ℕ) → t < k → gone k t ≡ none
+  unfolding gone
+  gone-low k t b = elim (look (leb k t)) [ inl e ↦ let c = leb-true k t e in absurd (omega arith) | inr e ↦ rw e ]
+
+  gone-same : (k t : ℕ) → (t ≡ k → ⊥) → gone (suc k) t ≡ gone k t
+  gone-same k t d =
+      elim (look (leavesScope p l t)) [
+        | inr h ↦ gone-none (suc k) t h ∙ sym (gone-none k t h)
+        | inl h ↦
+            elim (look (leb k t)) [
+              | inl e ↦ let c = leb-true k t e in gone-some (suc k) t (omega arith) h ∙ sym (gone-some k t c h)
+              | inr e ↦ let c = leb-false k t e in gone-low (suc k) t (omega arith) ∙ sym (gone-low k t c)
+            ]
+      ]
+
+  -- spent, and its scope gone if it had one: compensated
+  back-compensated : (t : ℕ) → isEmpty (l t .held) ≡ true → isCompensated p (turnedBack t) ≡ true
+  unfolding turnedBack isCompensated isBackwards
+  back-compensated t e = rw (bare-stack (l t .held) ∙ e)
+
+  spent-compensated : (k u : ℕ) → k < u → Awake l u → isSpent p l u ≡ true → isCompensated p (frame p l (gone (suc k)) u) ≡ true
+  spent-compensated k u b a s =
+      let q = spent-parts p ok l u (n .below u a) s in
+      ap (isCompensated p) (frame-law p l ok (gone (suc k)) u (n .below u a))
+      ∙ elim (look (hasOpenScope p l u)) [
+        | inl h ↦
+            ap (isCompensated p)
+            (instead-some p l (gone (suc k) u) (shown p l u (frame p l (gone (suc k)))) (turnedBack u) (gone-some (suc k) u b (spent-leaves u a s h)))
+            ∙ back-compensated u (q .empty)
+        | inr h ↦
+            ap (isCompensated p)
+            (instead-none p l (gone (suc k) u) (shown p l u (frame p l (gone (suc k))))
+            (gone-none (suc k) u (refuted (leavesScope p l u) (λ z. clash (leaves-busy u z) h)))
+            ∙ shown-free p l u (frame p l (gone (suc k))) h)
+            ∙ basic-compensated p l u a ∙ and-both (isUndoing (l u .mode)) (isEmpty (l u .held)) (q .undoing) (q .empty)
+      ]
+
+  -- NESTFAIL at a host
+  leave-step : (k : ℕ) → k < trackCount p → leavesScope p l k ≡ true → VStep p (frames p l (gone (suc k))) (nestfailAt k) (frames p l (gone k))
+  unfolding nested turnedBack
+  leave-step k b h =
+      let (a, q) = leaves-parts k h in
+      let (o, s) = left-parts (l k .state) q in
+      let w = own k a in
+      let one : frame p l (gone (suc k)) k ≡ nested p l k (Vect (listed (trackCount p) (isWithin p l k) (frame p l (gone (suc k))))) =
+      frame-law p l ok (gone (suc k)) k b
+      ∙ instead-none p l (gone (suc k) k) (shown p l k (frame p l (gone (suc k)))) (gone-low (suc k) k (omega arith))
+      ∙ shown-busy p l k (frame p l (gone (suc k))) (leaves-busy k h) in
+      let two : frame p l (gone k) k ≡ turnedBack k =
+      frame-law p l ok (gone k) k b
+      ∙ instead-some p l (gone k k) (shown p l k (frame p l (gone k))) (turnedBack k) (gone-some k k (omega arith) h) in
+      replaced p l ok n (gone (suc k)) (gone k) k (λ t d. gone-same k t d)
+      (λ t z. let c = above-lower p ok t k z in gone-low (suc k) t (omega arith)) (nestfailAt k) a
+      (subst (λ z. Step p z (nestfailAt k) (frame p l (gone k) k)) (sym one)
+      (subst (λ z. Step p (nested p l k (Vect (listed (trackCount p) (isWithin p l k) (frame p l (gone (suc k)))))) (nestfailAt k) z) (sym two)
+      (NESTFAIL k (l k .state) (stackOf (l k .held)) _
+      (compensated-of p (isWithin p l k) (frame p l (gone (suc k)))
+      (λ u c y.
+      let (e, v) = within-host p ok l n (l k .state) o u (subst (λ x. isWithin p l x u ≡ true) (sym w) y) in
+      spent-compensated k u (subst (λ x. x < u) w (ok .lower u (l k .state) e)) v (s u e))))))
+
+  same-frames : (k : ℕ) → leavesScope p l k ≡ false → frames p l (gone (suc k)) ≡ frames p l (gone k)
+  same-frames k h =
+      frames-same p l ok (gone (suc k)) (gone k)
+      (λ t.
+      elim (look (eqb t k)) [
+        | inl e ↦ let z : leavesScope p l t ≡ false = ap (leavesScope p l) (eqb-true t k e) ∙ h in gone-none (suc k) t z ∙ sym (gone-none k t z)
+        | inr e ↦ gone-same k t (eqb-false t k e)
+      ])
+
+  -- at first none is gone
+  at-first : frames p l (gone (trackCount p)) ≡ view p l
+  at-first =
+      frames-same p l ok (gone (trackCount p)) (λ t. none)
+      (λ t.
+      elim (look (leavesScope p l t)) [
+        | inl h ↦ gone-low (trackCount p) t (n .below t (leaves-parts t h .0))
+        | inr h ↦ gone-none (trackCount p) t h
+      ])
+      ∙ sym (view-frames p l)
+
+  -- and in the end all: the ledger after abandoning
+  kept : (t : ℕ) → Awake m t → m t ≡ l t
+  kept t a = left-kept p ok l t (left-awake p ok l n t a .0)
+
+  undoing-host : (t : ℕ) → leavesScope p l t ≡ true → isForward (l t .mode) ≡ false
+  undoing-host t h =
+      let (a, q) = leaves-parts t h in
+      let (o, s) = left-parts (l t .state) q in
+      let (u, b, e, w) = open-find p l (l t .state) o in
+      let same : l t .mode ≡ l u .mode = ap (λ x. l x .mode) (sym (own t a)) ∙ n .hosted u (l t .state) w e .1 in
+      ap isForward same ∙ undoing-forward (l u .mode) (spent-parts p ok l u b (s u e) .undoing)
+
+  gone-free : (t : ℕ) → leavesScope p l t ≡ true → hasOpenScope p m t ≡ false
+  gone-free t h =
+      refuted (hasOpenScope p m t)
+      (λ b.
+      let (u, k, c, e, o, a) = busy-find p m t b in
+      let (d, w) = left-awake p ok l n u a in
+      let st : k ≡ l t .state = sym (n .hosted u k w e .0) ∙ ap (λ x. l x .state) o in
+      clash (abandoned-host p ok l u k e ∙ ap (isLeft p l) st ∙ leaves-parts t h .1) d)
+
+  within-same : (t : ℕ) → Awake l t → leavesScope p l t ≡ false → (u : ℕ) → u < trackCount p → isWithin p l t u ≡ isWithin p m t u
+  within-same t a h u b =
+      alike (isWithin p l t u) (isWithin p m t u)
+      (λ y.
+      let (i, w) = within-parts p l t u y in
+      let (k, e, o) = by-host p t u i in
+      let st : k ≡ l t .state = sym (n .hosted u k w e .0) ∙ ap (λ x. l x .state) o in
+      let z : isAbandoned p l u ≡ false =
+      refuted (isAbandoned p l u) (λ c. clash (leaves-of t a (ap (isLeft p l) (sym st) ∙ sym (abandoned-host p ok l u k e) ∙ c)) h) in
+      within-of p m t u i (ap (λ (c : Configuration). isAwake (c .mode)) (left-kept p ok l u z) ∙ w))
+      (λ y. let (i, w) = within-parts p m t u y in within-of p l t u i (left-awake p ok l n u w .1))
+
+  back-view : (t : ℕ) → t < trackCount p → Awake m t → leavesScope p l t ≡ true → turnedBack t ≡ viewOf p m t
+  unfolding turnedBack basic directionOf
+  back-view t b a h =
+      ap (λ x. Basic t (l t .state) (directionOf x) (stackOf (l t .held))) (sym (undoing-host t h))
+      ∙ ap (λ (c : Configuration). Basic t (c .state) (directionOf (isForward (c .mode))) (stackOf (c .held))) (sym (kept t a))
+      ∙ sym (shown-free p m t (viewOf p m) (gone-free t h))
+      ∙ sym (view-law p m ok t b)
+
+  root-awake : (t : ℕ) → host p t ≡ none → isAwake (m t .mode) ≡ isAwake (l t .mode)
+  root-awake t e = ap (λ (c : Configuration). isAwake (c .mode)) (left-root p ok l n t e)
+
+  at-last : frames p l (gone 0) ≡ view p m
+  at-last =
+      frames-view p ok l (gone 0) m
+      (λ t b.
+      alike (isOnTop p l t) (isOnTop p m t)
+      (λ y. let (e, a) = top-parts p l t y in top-of p m t e (root-awake t e ∙ a))
+      (λ y. let (e, a) = top-parts p m t y in top-of p l t e (sym (root-awake t e) ∙ a)))
+      (λ t d b a w e.
+      elim (look (leavesScope p l t)) [
+        | inl h ↦ same-conf d (turnedBack t) (sym e ∙ gone-some 0 t (omega arith) h) ∙ back-view t b w h
+        | inr h ↦ none-some (gone-none 0 t h) e
+      ])
+      (λ t b a w e.
+      elim (look (leavesScope p l t)) [
+        | inl h ↦ none-some e (gone-some 0 t (omega arith) h)
+        | inr h ↦
+            let z = sym (kept t w) in
+            record {
+              within = within-same t a h;
+              state = ap (λ (c : Configuration). c .state) z;
+              held = ap (λ (c : Configuration). c .held) z;
+              way = λ f. ap (λ (c : Configuration). isForward (c .mode)) z;
+            }
+      ])
+
+  -- "the abandoning rule for each abandoned scope"
+  pub abandoning-run : Run p (view p l) (abandonings p l) (view p m)
+  unfolding abandonings
+  abandoning-run =
+      subst (λ c. Run p c (listedDown (trackCount p) (leavesScope p l) nestfailAt) (view p m)) at-first
+      (run-same p
+      (run-down p (trackCount p) (leavesScope p l) nestfailAt (λ k. frames p l (gone k)) leave-step (λ k b h. same-frames k h)) at-last)

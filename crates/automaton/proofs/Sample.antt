@@ -1,0 +1,89 @@
+-- The sample run on plan P, call by call, as configurations: both sides compute to the same value. Assumes nothing.
+use mathlib.Core.Path.{_≡_, refl}
+use mathlib.Core.List.{List, [], _∷_}
+use Prim.Native.Nat.{ℕ}
+use lib.ListN.{replicate}
+use Rattle.rules.specs.Plan.{Plan, planOf, isRoot}
+use Rattle.rules.specs.Layout.{entryLimit}
+use Rattle.rules.specs.Ledger.{Ledger}
+use Rattle.rules.specs.Call.{Call, event, signal, fire, nothing}
+use Rattle.rules.specs.ReferenceRun.{ledgerAfter}
+use Rattle.runs.specs.SamplePlan.{planP}
+use Rattle.runs.specs.Computing.{computing}
+use Rattle.automaton.specs.Listing.{listedFrom, listed, listedDown}
+use Rattle.automaton.specs.Configuration.{forward, backward, Comp, Basic, Nest, Vect, pushComp, pushDev, initBy, gotoTo, goto, init}
+use Rattle.automaton.specs.Semantics.{sucAt, failAt, compAt, nestsucAt, nestfailAt}
+use Rattle.automaton.specs.View.{stackOf, directionOf, isWithin, basic, nested, shown, viewTo, viewOf, isOnTop, view, leavesScope, isGoing, abandonings, deviating, movings, closers, turners, actsOf}
+
+abbrev P : Plan
+P = planOf planP (record { tracks = 3; states = 8; transitions = 5 })
+
+abbrev e : ℕ → Call
+e n = event (record { event = n })
+
+abbrev f : ℕ → Call
+f t = fire (record { track = t })
+
+abbrev s : Call
+s = signal nothing
+
+-- the ledger after begin and a list of calls
+abbrev ledger : List Call → Ledger
+ledger cs = ledgerAfter entryLimit planP P (replicate 203 7) cs
+
+-- Begin: the root in its first state.
+pub begun-view : view P (ledger []) ≡ Vect (Basic 0 0 forward [] ∷ [])
+unfolding computing listedFrom listed Vect pushComp pushDev stackOf directionOf isWithin basic nested shown viewTo viewOf isOnTop view
+begun-view = refl
+
+pub begun-init : view P (ledger []) ≡ init P (isRoot P)
+unfolding computing listedFrom listed Vect pushComp pushDev stackOf directionOf isWithin basic nested shown viewTo viewOf isOnTop view initBy gotoTo goto init
+begun-init = refl
+
+-- Event 10: SUC at the root, whose destination is nested.
+pub opened-view :
+    view P (ledger (e 10 ∷ []))
+    ≡ Vect (Nest 0 1 forward (Comp 50 ∷ []) (Vect (Basic 1 3 forward [] ∷ Basic 2 5 forward [] ∷ [])) ∷ [])
+unfolding computing listedFrom listed Vect pushComp pushDev stackOf directionOf isWithin basic nested shown viewTo viewOf isOnTop view
+opened-view = refl
+
+-- Events 11 and 12: SUC inside.
+pub inside-view :
+    view P (ledger (e 10 ∷ e 11 ∷ e 12 ∷ []))
+    ≡ Vect (Nest 0 1 forward (Comp 50 ∷ []) (Vect (Basic 1 4 forward (Comp 51 ∷ []) ∷ Basic 2 6 forward (Comp 52 ∷ []) ∷ [])) ∷ [])
+unfolding computing listedFrom listed Vect pushComp pushDev stackOf directionOf isWithin basic nested shown viewTo viewOf isOnTop view
+inside-view = refl
+
+-- The signal: FAIL at the two basic configurations; the root stays as it is until its nested vector has compensated.
+pub turned-view :
+    view P (ledger (e 10 ∷ e 11 ∷ e 12 ∷ s ∷ []))
+    ≡ Vect (Nest 0 1 forward (Comp 50 ∷ []) (Vect (Basic 1 4 backward (Comp 51 ∷ []) ∷ Basic 2 6 backward (Comp 52 ∷ []) ∷ [])) ∷ [])
+unfolding computing listedFrom listed Vect pushComp pushDev stackOf directionOf isWithin basic nested shown viewTo viewOf isOnTop view
+turned-view = refl
+
+pub turned-acts : actsOf P (ledger (e 10 ∷ e 11 ∷ e 12 ∷ [])) s ≡ failAt 1 ∷ failAt 2 ∷ []
+unfolding computing listedFrom listed listedDown isWithin leavesScope isGoing abandonings turners actsOf
+turned-acts = refl
+
+-- The second firing: COMP, and the vector has compensated: NESTFAIL.
+pub left-acts : actsOf P (ledger (e 10 ∷ e 11 ∷ e 12 ∷ s ∷ f 1 ∷ [])) (f 2) ≡ compAt 2 52 ∷ nestfailAt 0 ∷ []
+unfolding computing listedFrom listed listedDown isWithin leavesScope isGoing abandonings deviating actsOf
+left-acts = refl
+
+pub left-view : view P (ledger (e 10 ∷ e 11 ∷ e 12 ∷ s ∷ f 1 ∷ f 2 ∷ [])) ≡ Vect (Basic 0 1 backward (Comp 50 ∷ []) ∷ [])
+unfolding computing listedFrom listed Vect pushComp pushDev stackOf directionOf isWithin basic nested shown viewTo viewOf isOnTop view
+left-view = refl
+
+-- Event 14 instead: the vector has terminated, and NESTSUC installs the replacement.
+pub closed-acts : actsOf P (ledger (e 10 ∷ e 11 ∷ e 12 ∷ [])) (e 14) ≡ sucAt 2 14 ∷ nestsucAt 0 ∷ []
+unfolding computing listedFrom listed listedDown isWithin movings closers actsOf
+closed-acts = refl
+
+pub closed-view : view P (ledger (e 10 ∷ e 11 ∷ e 12 ∷ e 14 ∷ [])) ≡ Vect (Basic 0 1 forward (Comp 90 ∷ Comp 50 ∷ []) ∷ [])
+unfolding computing listedFrom listed Vect pushComp pushDev stackOf directionOf isWithin basic nested shown viewTo viewOf isOnTop view
+closed-view = refl
+
+-- Event 13 then: finish, which the report has no rule for. Nothing is left.
+pub over-view : view P (ledger (e 10 ∷ e 11 ∷ e 12 ∷ e 14 ∷ e 13 ∷ [])) ≡ Vect []
+unfolding computing listedFrom listed Vect pushComp pushDev stackOf directionOf isWithin basic nested shown viewTo viewOf isOnTop view
+over-view = refl

@@ -1,0 +1,2 @@
+-- Laws of the passes that choose.
+pub mod Turns

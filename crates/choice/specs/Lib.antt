@@ -1,0 +1,2 @@
+-- What an event chooses, as a figure for each track.
+pub mod Marks

@@ -1,0 +1,295 @@
+-- Document 01's rules are an instance of the seams: the parameters are the rules' own functions, and each law follows from their text. Only
+-- here does the theory of restoration unfold what a later request may change. Assumes nothing.
+use Prim.{Unit, tt}
+use mathlib.Core.Path.{_≡_, refl, sym, ap, _∙_, fun-ext}
+use mathlib.Core.Logic.{_⊎_, inl, inr}
+use mathlib.Core.Bool.{Bool, true, false, not, _&&_, _||_}
+use mathlib.Core.List.{_++_}
+use mathlib.Core.Option.{Option, none, some}
+use Prim.Native.Nat.{ℕ, zero, suc, _<_}
+use lib.ListN.{length}
+use lib.Dec.{eqb, leb}
+use borrow.Author.Tests.{ne-eqb, not-true, not-false, leb-false}
+use Rattle.rules.specs.Fold.{firstRefusal}
+use Rattle.rules.specs.Plan.{Plan, trackCount, noState, optional, host, replacement, isRoot, isFinal, transitionFor}
+use Rattle.rules.specs.Ledger.{Configuration, Ledger, isForward, sleeping}
+use Rattle.rules.specs.Scope.{hasOpenScope, isOver}
+use Rattle.rules.specs.Opening.{enter}
+use Rattle.rules.specs.Event as rule-event
+use Rattle.rules.specs.Event.{hasCode, move, moved, closed, isFinishing, finished, isReplaced, isFull, afterEvent}
+use Rattle.rules.specs.Signal as rule-signal
+use Rattle.rules.specs.Signal.{isBare, abandoned, afterSignal}
+use Rattle.rules.specs.Fire.{newest, mayFire, removed, deviatesTo, fired, afterFire}
+use Rattle.rules.specs.Call as call
+use Rattle.rules.specs.Call.{EventArguments, SignalArguments, FireArguments, callRefusals, callRefusal, after, next}
+use Rattle.rules.specs.FinishedRun.{taken, movesBelow, movesOf}
+use Rattle.rules.proofs.Tests.{look, look-option, clash, none-some, and-true, or-false, passed, implies, implied}
+use Rattle.rules.proofs.Folds.{some-not, every-at, every-of}
+use Rattle.rules.proofs.Acceptance.{Accepted, transition-for}
+use Rattle.rules.proofs.Scopes.{root-of, root-none}
+use Rattle.rules.proofs.Opening.{enter-to}
+use Rattle.rules.proofs.Closing as closing
+use Rattle.restoration.specs.Roots.{rootOf}
+use Rattle.restoration.specs.Seams.{Seams, CallOf, event, signal, fire, isEvent, installed, installedBy, install, recorded, goes, changeOf, turned, work}
+use Rattle.restoration.proofs.Composition.{when, join}
+use Rattle.restoration.proofs.Modes.{undoing-forward}
+use Rattle.restoration.proofs.Nesting.{Nested, root-above}
+use Rattle.restoration.proofs.Entries.{deviates}
+use Rattle.restoration.proofs.Firing.{may-fire, fired-is, removed-mode, deviates-here, deviates-not, fired-still}
+use Rattle.restoration.proofs.Soundness.{Sound}
+use Rattle.restoration.proofs.Laws.{Takes, ended, Settled, Roomy, Laws, Unfinished}
+use Rattle.restoration.proofs.SoundRetraction.{spared-track, fired-awake, fired-root}
+
+-- The rules' calls, as the theory's.
+abbrev Calls : Type 0
+Calls = CallOf EventArguments SignalArguments FireArguments
+
+abbrev pub asRules : CallOf EventArguments SignalArguments FireArguments → call.Call
+asRules (event a) = call.event a
+asRules (signal a) = call.signal a
+asRules (fire a) = call.fire a
+
+abbrev pub asTheory : call.Call → CallOf EventArguments SignalArguments FireArguments
+asTheory (call.event a) = event a
+asTheory (call.signal a) = signal a
+asTheory (call.fire a) = fire a
+
+pub there-and-back : (c : call.Call) → asRules (asTheory c) ≡ c
+there-and-back (call.event a) = refl
+there-and-back (call.signal a) = refl
+there-and-back (call.fire a) = refl
+
+-- A change is named by its transition, a retraction by its code; a signal turns every forward track; finish is looked for after an event;
+-- there are no leading words.
+abbrev pub document01 : Seams
+document01 =
+    record {
+      Event = EventArguments;
+      Signal = SignalArguments;
+      Firing = FireArguments;
+      track = λ a. a .track;
+      move = λ p l a. move p l (a .event);
+      moved = λ p l a. moved p l (a .event);
+      entry = λ a c d. record { code = c; deviation = d };
+      closed = λ p l a. closed p l;
+      Change = ℕ;
+      change = λ a x. x;
+      movesOf = λ p S l a. movesOf p S l (a .event);
+      Retraction = ℕ;
+      retraction = λ e. e .code;
+      isTurned = λ p a t. true;
+      isFinishing = isFinishing;
+      looksForFinish = isEvent;
+      Head = Unit {0};
+      firstHead = λ p. tt;
+      nextHead = λ limit p h l c. tt;
+      refusal = λ limit p h l c. callRefusal limit p l (asRules c);
+      next = λ limit p h l c. next limit p l (asRules c);
+    }
+
+-- Moves.
+module _ (p : Plan) (l : Ledger) (e : ℕ) where
+  pub move-takes : (t x : ℕ) → move p l e t ≡ some x → Takes p l t x
+  unfolding move
+  move-takes t x h = go (isForward (l t .mode) && not (hasOpenScope p l t)) refl
+    where
+      go : (b : Bool) → (isForward (l t .mode) && not (hasOpenScope p l t)) ≡ b → Takes p l t x
+      go true k =
+          let (f, n) = and-true (isForward (l t .mode)) (not (hasOpenScope p l t)) k in
+          let q : transitionFor p (l t .state) e ≡ some x = rw k at h in
+          let (r, s, v) = transition-for p (l t .state) e x q in
+          record { forward = f; free = not-true (hasOpenScope p l t) n; real = r; from = s }
+      go false k = let q : none ≡ some x = rw k at h in none-some refl q
+
+-- Entries are those of the rules.
+same-installed : (a : EventArguments) (c d : ℕ) (k : Configuration) → rule-event.installed c d k ≡ installed (document01 .entry a) c d k
+unfolding rule-event.installed rule-event.install installed install
+same-installed a c d k = refl
+
+pub same-by : (a : EventArguments) (p : Plan) (o : Option ℕ) (k : Configuration) → rule-event.installedBy p o k ≡ installedBy (document01 .entry a) p o k
+unfolding rule-event.installedBy installedBy
+same-by a p none k = refl
+same-by a p (some x) k = same-installed a _ _ k
+
+moved-is : (p : Plan) (l : Ledger) (a : EventArguments) → moved p l (a .event) ≡ enter p (goes document01 p l a) (recorded document01 p l a)
+unfolding moved
+moved-is p l a = ap (enter p (goes document01 p l a)) (fun-ext (λ t. same-by a p (move p l (a .event) t) (l t)))
+
+-- The changes of an event, as a word for each track.
+moves-below-join : (p : Plan) (S : ℕ → Bool) (l : Ledger) (e n : ℕ) → movesBelow p n S l e ≡ join n (λ t. when (S t) (taken (move p l e t)))
+unfolding movesBelow join
+moves-below-join p S l e zero = refl
+moves-below-join p S l e (suc n) = ap (λ w. w ++ when (S n) (taken (move p l e n))) (moves-below-join p S l e n)
+
+same-taken : (a : EventArguments) (o : Option ℕ) → taken o ≡ changeOf document01 a o
+unfolding taken changeOf
+same-taken a none = refl
+same-taken a (some x) = refl
+
+moves-are : (p : Plan) (S : ℕ → Bool) (l : Ledger) (a : EventArguments)
+    → movesOf p S l (a .event) ≡ join (trackCount p) (λ t. when (S t) (changeOf document01 a (move p l (a .event) t)))
+unfolding movesOf
+moves-are p S l a =
+    moves-below-join p S l (a .event) (trackCount p)
+    ∙ ap (join (trackCount p)) (fun-ext (λ t. ap (when (S t)) (same-taken a (move p l (a .event) t))))
+
+-- Finish: it is due where every root has ended.
+module _ (p : Plan) where
+  -- a root that has not ended keeps the ledger going
+  not-ended : (l : Ledger) (t : ℕ) → t < trackCount p → host p t ≡ none → ended p l t ≡ false → isFinishing p l ≡ false
+  unfolding isFinishing
+  not-ended l t b e n =
+      elim (look (isFinishing p l)) [
+        | inr h ↦ h
+        | inl h ↦
+            let q = every-at (trackCount p) (λ t. not (isRoot p t) || ended p l t) h t b in
+            let r : ended p l t ≡ true = rw (root-of p t e) at q in
+            clash r n
+      ]
+
+  -- finish is due only where it was, if no root ended meanwhile
+  finish-back : (l m : Ledger) → ((t : ℕ) → host p t ≡ none → ended p m t ≡ true → ended p l t ≡ true) → isFinishing p l ≡ false
+      → isFinishing p m ≡ false
+  unfolding isFinishing
+  finish-back l m f n =
+      elim (look (isFinishing p m)) [
+        | inr h ↦ h
+        | inl h ↦
+            clash
+            (every-of (trackCount p) (λ t. not (isRoot p t) || ended p l t)
+            (λ t b.
+            implied (isRoot p t) (ended p l t)
+            (λ r. f t (root-none p t r) (implies (isRoot p t) (ended p m t) (every-at (trackCount p) (λ t. not (isRoot p t) || ended p m t) h t b) r))))
+            n
+      ]
+
+finish-cases : (p : Plan) (l : Ledger) → ((finished p l ≡ l) × (isFinishing p l ≡ false)) ⊎ ((t : ℕ) → finished p l t ≡ sleeping)
+unfolding finished
+finish-cases p l =
+    elim (look (isFinishing p l)) [ inl h ↦ inr (λ t. rw h) | inr h ↦ inl (fun-ext (λ t. rw h), h) ]
+
+-- Settling and refusals.
+module _ (limit : ℕ) (p : Plan) (l : Ledger) where
+  pub next-accepted : (c : call.Call) → callRefusal limit p l c ≡ 0 → next limit p l c ≡ after limit p l c
+  unfolding next
+  next-accepted c h = rw h
+
+  pub next-refused : (c : call.Call) → (callRefusal limit p l c ≡ 0 → ⊥) → next limit p l c ≡ l
+  unfolding next
+  next-refused c h = rw (ne-eqb (callRefusal limit p l c) 0 h)
+
+  pub turned-is : (a : SignalArguments) → rule-signal.turned l ≡ turned document01 p l a
+  unfolding rule-signal.turned
+  turned-is a = refl
+
+  settled : (c : Calls) → callRefusal limit p l (asRules c) ≡ 0
+      → Settled document01 p (isEvent c) (work document01 p l c) (next limit p l (asRules c))
+  unfolding after afterEvent afterSignal afterFire
+  settled (event a) z =
+      let q = next-accepted (call.event a) z in
+      elim (finish-cases p (closed p (moved p l (a .event)))) [
+        | inl f ↦ inl (q ∙ f .0, λ h. f .1)
+        | inr o ↦ inr (λ t. ap (λ (m : Ledger). m t) q ∙ o t)
+      ]
+  settled (signal a) z = inl (next-accepted (call.signal a) z ∙ ap (abandoned p) (turned-is a), λ h. clash h refl)
+  settled (fire a) z = inl (next-accepted (call.fire a) z, λ h. clash h refl)
+
+  -- 21 leaves room
+  has-room : (a : EventArguments) → isFull p limit l (a .event) ≡ false → Roomy document01 limit p l a
+  unfolding isFull
+  has-room a r t b h =
+      let f : ℕ → Bool = λ t. (hasCode p (move p l (a .event) t) || isReplaced p (moved p l (a .event)) t) in
+      let q = some-not (trackCount p) (λ t. f t && leb limit (length (l t .held))) r t b in
+      let y : leb limit (length (l t .held)) ≡ false = rw h at q in
+      leb-false limit (length (l t .held)) y
+
+  pub event-accepted : (a : EventArguments) → callRefusal limit p l (call.event a) ≡ 0
+      → (isOver p l ≡ false) × (isFull p limit l (a .event) ≡ false)
+  unfolding callRefusal callRefusals firstRefusal
+  event-accepted a h =
+      let (x, y) = passed (eqb (a .event) 0) 18 _ h in
+      let (o, z) = passed (isOver p l) 19 _ y in
+      (o, passed (isFull p limit l (a .event)) 20 _ z .0)
+
+  pub signal-accepted : (a : SignalArguments) → callRefusal limit p l (call.signal a) ≡ 0 → isOver p l ≡ false
+  unfolding callRefusal callRefusals firstRefusal
+  signal-accepted a h = passed (isOver p l) 19 _ h .0
+
+  pub fire-accepted : (a : FireArguments) → callRefusal limit p l (call.fire a) ≡ 0 → (isOver p l ≡ false) × (mayFire p l (a .track) ≡ true)
+  unfolding callRefusal callRefusals firstRefusal
+  fire-accepted a h =
+      let (o, z) = passed (isOver p l) 19 _ h in
+      (o, not-false (mayFire p l (a .track)) (passed (not (mayFire p l (a .track))) 21 _ z .0))
+
+pub laws01 : Laws document01
+laws01 =
+    record {
+      move-takes = λ p l a. move-takes p l (a .event);
+      moved-is = moved-is;
+      entry-code = λ a c d. refl;
+      entry-deviation = λ a c d. refl;
+      closed-asleep = λ p l a. closing.closed-asleep p l;
+      closed-replaced = λ p l a t c o. closing.closed-replaced p l t c o ∙ same-installed a (replacement p (l t .state)) noState (l t);
+      closed-kept = λ p l a. closing.closed-kept p l;
+      moves-are = moves-are;
+      turned-up = λ p ok a t h e. refl;
+      goes-on = λ p l t b e n. not-ended p l t b e (or-false (ended p l t) (isBare p l t) n .0);
+      settled = λ limit p h l c z. settled limit p l c z;
+      refused = λ limit p h l c n. (next-refused limit p l (asRules c) n, refl);
+      event-accepted = λ limit p h l a z. let (o, r) = event-accepted limit p l a z in (o, has-room limit p l a r);
+      signal-accepted = λ limit p h l. signal-accepted limit p l;
+      fire-accepted = λ limit p h l. fire-accepted limit p l;
+    }
+
+-- Where finish is not looked for after a call, it is not due: a signal ends no root, and after a firing the root above the fired track is
+-- undoing, or just went forward into a state that is not final.
+not-forward : (a b : Bool) → a ≡ false → (a && b) ≡ false
+not-forward a b h = rw h
+
+not-final : (a b : Bool) → b ≡ false → (a && b) ≡ false
+not-final true b h = h
+not-final false b h = refl
+
+module _ (limit : ℕ) (p : Plan) (ok : Accepted p) (l : Ledger) (s : Sound document01 limit p l) where
+  abbrev n : Nested p l
+  n = s .formed .nested
+
+  signal-unfinished : (a : SignalArguments) → isFinishing p (abandoned p (turned document01 p l a)) ≡ false
+  signal-unfinished a =
+      let T = turned document01 p l a in
+      finish-back p l (abandoned p T)
+      (λ t e h.
+      let f = and-true (isForward (abandoned p T t .mode)) (isFinal p (abandoned p T t .state)) h .0 in
+      ap (λ (c : Configuration). isForward (c .mode) && isFinal p (c .state)) (sym (spared-track laws01 limit p ok l s a t f)) ∙ h)
+      (s .finish)
+
+  fire-unfinished : (t : ℕ) → mayFire p l t ≡ true → isFinishing p (abandoned p (fired p l t)) ≡ false
+  fire-unfinished t may =
+      let X = fired p l t in
+      let a = fired-awake laws01 limit p ok l s t may in
+      let g = s .formed .good t in
+      let (b, u, e, free) = may-fire p l t may in
+      elim (look-option (optional (newest (l t .held) .deviation))) [
+        | inr d ↦
+            let (e, o, f) = deviates p t (d .0) (l t .held) g (d .1) in
+            let st : abandoned p X t .state ≡ d .0 =
+            ap (λ (c : Configuration). c .state)
+            (fired-root laws01 limit p ok l s t may t e ∙ ap (λ m. m t) (fired-is p l t)
+            ∙ enter-to p ok (deviatesTo p l t) (removed p l t) t (d .0) (deviates-here p l t ∙ d .1)) in
+            not-ended p (abandoned p X) t b e
+            (not-final (isForward (abandoned p X t .mode)) (isFinal p (abandoned p X t .state)) (ap (isFinal p) st ∙ f))
+        | inl d ↦
+            let r = rootOf p t in
+            let (c, e, m) = root-above p ok l n t a in
+            let q = fired-still p l t ok n g free a r (s .roots r c e) (deviates-not p l t d r) in
+            let md : abandoned p X r .mode ≡ l t .mode =
+            ap (λ (c : Configuration). c .mode) (fired-root laws01 limit p ok l s t may r e ∙ q) ∙ removed-mode p l t r ∙ m in
+            not-ended p (abandoned p X) r c e
+            (not-forward (isForward (abandoned p X r .mode)) (isFinal p (abandoned p X r .state))
+            (ap isForward md ∙ undoing-forward (l t .mode) u))
+      ]
+
+pub unfinished01 : Unfinished document01
+unfinished01 limit p ok h l s (event a) z n = clash refl n
+unfinished01 limit p ok h l s (signal a) z n = signal-unfinished limit p ok l s a
+unfinished01 limit p ok h l s (fire a) z n = fire-unfinished limit p ok l s (a .track) (fire-accepted limit p l a z .1)

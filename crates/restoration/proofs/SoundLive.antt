@@ -1,0 +1,183 @@
+-- Soundness as document 01 says it: on ledgers it is soundness as the theory says it, and the words of a sound ledger are sound. So begin
+-- leaves sound words, and every accepted call takes sound ledgers to sound ones; and on sound words progress holds. Assumes nothing.
+use Prim.{tt}
+use mathlib.Core.Path.{_≡_, refl, sym, ap, _∙_, subst}
+use mathlib.Core.Logic.{inl, inr}
+use mathlib.Core.Bool.{Bool, true, false, not, _||_}
+use mathlib.Core.List.{List}
+use Prim.Native.Nat.{ℕ, _<_}
+use native.Mathlib.Omega.{arith}
+use lib.Dec.{ltb}
+use borrow.Author.Tests.{ltb-true, ltb-false, not-true}
+use Rattle.rules.specs.declared.Mode.the-variants.{Undoing}
+use Rattle.rules.specs.Plan.{Plan, trackCount}
+use Rattle.rules.specs.Ledger.{Configuration, Ledger, isAwake, isEmpty, ledgerAt, written}
+use Rattle.rules.specs.Scope.{isOver}
+use Rattle.rules.specs.Opening.{begun}
+use Rattle.rules.specs.Fire.{mayFire}
+use Rattle.rules.specs.Soundness.{areTidy, isLive, isSound}
+use Rattle.rules.specs.Call.{Call, callRefusal, after, next}
+use Rattle.rules.proofs.Tests.{look, clash, and-true, and-both, or-true, or-right}
+use Rattle.rules.proofs.Folds.{every-at}
+use Rattle.rules.proofs.Acceptance.{Accepted}
+use Rattle.rules.proofs.Abandoning.{undoing-awake}
+use Rattle.rules.proofs.Soundness.{Live, live-facts, live-of}
+use Rattle.rules.proofs.Stored.{Storable, read-written, tidy-written, storable-read}
+use Rattle.restoration.proofs.Modes.{is-undoing}
+use Rattle.restoration.proofs.Nesting.{Awake, Nested}
+use Rattle.restoration.proofs.Entries.{Good, may-deviate}
+use Rattle.restoration.proofs.Soundness.{Formed, Sound, Over, sleeping-asleep, sleeping-held, sleeping-few, sleeping-good}
+use Rattle.restoration.proofs.SoundBegin.{begun-sound}
+use Rattle.restoration.proofs.SoundKept as theory
+use Rattle.restoration.proofs.SoundKept.{Kept, over-is, kept-accepted}
+use Rattle.restoration.proofs.Progress.{progress}
+use Rattle.restoration.proofs.Document01.{document01, asTheory, there-and-back, next-accepted, laws01, unfinished01}
+
+module _ (limit : ℕ) (p : Plan) (ok : Accepted p) (l : Ledger) where
+  pub sound-of : Storable limit (trackCount p) l → isLive p l ≡ true → Sound document01 limit p l
+  sound-of s h =
+      record {
+        formed = record { nested = nest; few = s .fits; good = good };
+        roots = v .roots;
+        closing = v .closing;
+        finish = v .finish;
+        abandoning = v .abandoning;
+      }
+    where
+      v : Live p l
+      v = live-facts p ok l h
+
+      low : (t : ℕ) → Awake l t → t < trackCount p
+      low t a =
+          elim (look (ltb t (trackCount p))) [
+            | inl b ↦ ltb-true t (trackCount p) b
+            | inr b ↦
+                clash a (ap (λ (c : Configuration). isAwake (c .mode)) (s .beyond t (ltb-false t (trackCount p) b)) ∙ sleeping-asleep)
+          ]
+
+      alike : (a b : Bool) → (a ≡ true → b ≡ true) → (b ≡ true → a ≡ true) → a ≡ b
+      alike true b f g = sym (f refl)
+      alike false true f g = g refl
+      alike false false f g = refl
+
+      nest : Nested p l
+      nest =
+          record {
+            below = low;
+            own = λ t a. v .own t (low t a) a;
+            hosted = λ t h a e. v .up t h e a;
+            whole = λ t u h e f. alike (isAwake (l t .mode)) (isAwake (l u .mode)) (v .whole h t u e f) (v .whole h u t f e);
+            blank = s .blank;
+          }
+
+      good : (t : ℕ) → Good p t (l t .held)
+      good t =
+          elim (look (ltb t (trackCount p))) [
+            | inl b ↦
+                let c = ltb-true t (trackCount p) b in
+                record { codes = v .codes t c; deviations = sym (may-deviate p l t (l t .held)) ∙ v .deviations t c }
+            | inr b ↦
+                sleeping-good limit p t (l t) (ap (λ (c : Configuration). c .held) (s .beyond t (ltb-false t (trackCount p) b)) ∙ sleeping-held)
+          ]
+
+  pub sound-live : Sound document01 limit p l → isLive p l ≡ true
+  sound-live s =
+      let f = s .formed in
+      live-of p ok l
+      (record {
+        roots = s .roots;
+        own = λ t b a. f .nested .own t a;
+        codes = λ t b. f .good t .codes;
+        deviations = λ t b. may-deviate p l t (l t .held) ∙ f .good t .deviations;
+        whole = λ s t u e g a. sym (f .nested .whole t u s e g) ∙ a;
+        up = λ t h e a. f .nested .hosted t h a e;
+        closing = s .closing;
+        finish = s .finish;
+        abandoning = s .abandoning;
+      })
+
+  pub formed-storable : Formed limit p l → Storable limit (trackCount p) l
+  formed-storable f =
+      record {
+        fits = f .few;
+        beyond =
+            λ t b.
+            f .nested .blank t
+            (elim (look (isAwake (l t .mode))) [ inr a ↦ a | inl a ↦ let c = f .nested .below t a in absurd (omega arith) ]);
+        blank = f .nested .blank;
+      }
+
+module _ (limit : ℕ) (p : Plan) (ok : Accepted p) where
+  over-storable : (l : Ledger) → Over l → Storable limit (trackCount p) l
+  over-storable l o =
+      record {
+        fits = λ t. sleeping-few limit p (l t) (ap (λ (c : Configuration). c .held) (o t) ∙ sleeping-held);
+        beyond = λ t b. o t;
+        blank = λ t a. o t;
+      }
+
+  pub kept-storable : (l : Ledger) → Kept document01 limit p l → Storable limit (trackCount p) l
+  kept-storable l (inl o) = over-storable l o
+  kept-storable l (inr s) = formed-storable limit p ok l (s .formed)
+
+  pub kept-is : (l : Ledger) → Kept document01 limit p l → (isOver p l || isLive p l) ≡ true
+  kept-is l (inl o) = rw (over-is p l o)
+  kept-is l (inr s) = or-right (isOver p l) (isLive p l) (sound-live limit p ok l s)
+
+  -- an accepted call takes a sound ledger to a sound one, or to one that is over
+  pub kept-after : (l : Ledger) → Sound document01 limit p l → (c : Call) → callRefusal limit p l c ≡ 0 → Kept document01 limit p (after limit p l c)
+  kept-after l s c z =
+      subst (Kept document01 limit p) (next-accepted limit p l c z)
+      (subst (λ d. callRefusal limit p l d ≡ 0 → Kept document01 limit p (next limit p l d)) (there-and-back c)
+      (kept-accepted laws01 unfinished01 limit p ok tt l s (asTheory c)) z)
+
+  -- any call, refused or not
+  pub kept-next : (l : Ledger) → Kept document01 limit p l → (c : Call) → Kept document01 limit p (next limit p l c)
+  kept-next l k c =
+      subst (λ d. Kept document01 limit p (next limit p l d)) (there-and-back c) (theory.kept-next laws01 unfinished01 limit p ok tt l k (asTheory c))
+
+  -- "begin" leaves a live ledger
+  pub begun-live : isLive p (begun p) ≡ true
+  begun-live = sound-live limit p ok (begun p) (begun-sound laws01 limit p ok)
+
+  -- a call takes a live ledger to one that is live or over, and that words can hold
+  pub sound-kept : (l : Ledger) → Storable limit (trackCount p) l → isLive p l ≡ true → (c : Call) → callRefusal limit p l c ≡ 0
+      → Storable limit (trackCount p) (after limit p l c) × ((isOver p (after limit p l c) || isLive p (after limit p l c)) ≡ true)
+  sound-kept l st h c a =
+      let k = kept-after l (sound-of limit p ok l st h) c a in
+      (kept-storable (after limit p l c) k, kept-is (after limit p l c) k)
+
+  -- The same on words.
+  pub words-sound : (l : Ledger) (ws : List ℕ) → Kept document01 limit p l → isSound limit p (written limit (trackCount p) l ws) ≡ true
+  unfolding isSound
+  words-sound l ws k =
+      let st = kept-storable l k in
+      let q = read-written limit (trackCount p) l ws (st .fits) (st .beyond) in
+      and-both (areTidy limit (written limit (trackCount p) l ws) (trackCount p))
+      (isOver p (ledgerAt limit (written limit (trackCount p) l ws) (trackCount p)) || isLive p (ledgerAt limit (written limit (trackCount p) l ws) (trackCount p)))
+      (tidy-written limit (trackCount p) l ws st) (rw q (kept-is l k))
+
+  -- Progress, of a live ledger that words can hold, and of sound words.
+  pub progress-live : (l : Ledger) → Storable limit (trackCount p) l → isLive p l ≡ true
+      → (t : ℕ) → l t .mode ≡ Undoing → isEmpty (l t .held) ≡ false → (u : ℕ) × (mayFire p l u ≡ true)
+  progress-live l st h = progress limit p ok l (sound-of limit p ok l st h)
+
+  pub progress-words : (ws : List ℕ) → isSound limit p ws ≡ true
+      → (t : ℕ) → ledgerAt limit ws (trackCount p) t .mode ≡ Undoing → isEmpty (ledgerAt limit ws (trackCount p) t .held) ≡ false
+      → (u : ℕ) × (mayFire p (ledgerAt limit ws (trackCount p)) u ≡ true)
+  unfolding isSound isOver
+  progress-words ws s t d e =
+      let l = ledgerAt limit ws (trackCount p) in
+      let (tidy, v) = and-true (areTidy limit ws (trackCount p)) (isOver p l || isLive p l) s in
+      let st = storable-read limit (trackCount p) ws tidy in
+      elim (or-true (isOver p l) (isLive p l) v) [
+        | inr h ↦ progress-live l st h t d e
+        | inl o ↦
+            let a = undoing-awake (l t .mode) (is-undoing (l t .mode) d) in
+            elim (look (ltb t (trackCount p))) [
+              | inl b ↦
+                  clash a (not-true (isAwake (l t .mode)) (every-at (trackCount p) (λ t. not (isAwake (l t .mode))) o t (ltb-true t (trackCount p) b)))
+              | inr b ↦
+                  clash a (ap (λ (c : Configuration). isAwake (c .mode)) (st .beyond t (ltb-false t (trackCount p) b)) ∙ sleeping-asleep)
+            ]
+      ]

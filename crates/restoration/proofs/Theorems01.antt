@@ -1,0 +1,221 @@
+-- The theory's theorems for document 01, about the rules' own functions: what is taken, recorded, closed, turned and kept there. Each is the
+-- theorem of that name at the instance. Assumes nothing.
+use Prim.{tt}
+use mathlib.Core.Path.{_≡_, refl, sym, ap, _∙_, subst, fun-ext}
+use mathlib.Core.Logic.{_⊎_, inl, inr}
+use mathlib.Core.Bool.{Bool, true, false}
+use mathlib.Core.List.{List, [], _∷_, _++_}
+use mathlib.Core.Option.{Option, none, some}
+use Prim.Native.Nat.{ℕ, _<_}
+use Rattle.rules.specs.Plan.{Plan, trackCount, transition, mover}
+use Rattle.rules.specs.Ledger.{Configuration, Ledger, isAwake, isForward, isUndoing, isEmpty}
+use Rattle.rules.specs.Scope.{hasOpenScope, isOver}
+use Rattle.rules.specs.Opening.{enter}
+use Rattle.rules.specs.Event.{install, installed, destinationOf, installedBy, move, moved, isClosed, closed, isFinishing}
+use Rattle.rules.specs.Signal.{turned, isAbandoning, abandoned}
+use Rattle.rules.specs.Fire.{mayFire, fired}
+use Rattle.rules.specs.Call.{EventArguments, SignalArguments, Call, event, signal, fire, callRefusal, next}
+use Rattle.rules.specs.Books.{act}
+use Rattle.rules.specs.FinishedRun.{Reached, start, then, Running, by-begin, by-call, over-event, over-signal, over-fire}
+use Rattle.rules.proofs.Tests.{clash}
+use Rattle.rules.proofs.Acceptance.{Accepted}
+use Rattle.restoration.specs.Seams as seam
+use Rattle.restoration.proofs.Nesting.{Awake, Nested}
+use Rattle.restoration.proofs.Entering.{Enterable}
+use Rattle.restoration.proofs.Firing as firing
+use Rattle.restoration.proofs.Soundness as theory
+use Rattle.restoration.proofs.Soundness.{Formed, RootsAwake}
+use Rattle.restoration.proofs.Settling as settling
+use Rattle.restoration.proofs.Turning as turning
+use Rattle.restoration.proofs.Moving as moving
+use Rattle.restoration.proofs.Closing as closing
+use Rattle.restoration.proofs.Leaving as leaving
+use Rattle.restoration.proofs.SoundEvent as sound-event
+use Rattle.restoration.proofs.SoundRetraction as sound-retraction
+use Rattle.restoration.proofs.SoundKept as kept
+use Rattle.restoration.proofs.Histories as histories
+use Rattle.restoration.proofs.Runs01.{from-reached}
+use Rattle.restoration.proofs.Document01.{document01, asTheory, there-and-back, same-by, laws01, unfinished01}
+pub use Rattle.restoration.proofs.Soundness.{Over, sleeping-asleep}
+pub use Rattle.restoration.proofs.Moving.{to-none, to-destination, to-some, has-code}
+pub use Rattle.restoration.proofs.SoundKept.{over-is}
+pub use Rattle.restoration.proofs.Document01.{move-takes, next-accepted, next-refused, event-accepted, signal-accepted, fire-accepted}
+
+-- sound, and sound or over
+abbrev pub Sound : ℕ → Plan → Ledger → Type 0
+Sound = theory.Sound document01
+
+abbrev pub Kept : ℕ → Plan → Ledger → Type 0
+Kept = kept.Kept document01
+
+-- Changes one after the other.
+pub act-append : {B : Type 0} (f : ℕ → B → B) (w v : List ℕ) (b : B) → act f (w ++ v) b ≡ act f v (act f w b)
+unfolding act
+act-append f [] v b = refl
+act-append f (x ∷ w) v b = act-append f w v (f x b)
+
+-- Installing.
+pub installed-mode : (c d : ℕ) (k : Configuration) → installed c d k .mode ≡ k .mode
+unfolding installed
+installed-mode c d k = refl
+
+pub installed-state : (c d : ℕ) (k : Configuration) → installed c d k .state ≡ k .state
+unfolding installed
+installed-state c d k = refl
+
+pub installed-held : (c d : ℕ) (k : Configuration) → installed c d k .held ≡ install c d (k .held)
+unfolding installed
+installed-held c d k = refl
+
+module _ (p : Plan) where
+  pub by-none : (o : Option ℕ) (k : Configuration) → o ≡ none → installedBy p o k ≡ k
+  unfolding installedBy
+  by-none o k h = rw (h, installedBy)
+
+  pub by-some : (o : Option ℕ) (k : Configuration) (x : ℕ) → o ≡ some x
+      → installedBy p o k .held ≡ install (transition p x .code) (transition p x .deviation) (k .held)
+  unfolding installedBy installed
+  by-some o k x h = rw (h, installedBy)
+
+-- Moves.
+module _ (p : Plan) (l : Ledger) (e : ℕ) where
+  abbrev a : EventArguments
+  a = record { event = e }
+
+  abbrev pub recorded : Ledger
+  recorded t = installedBy p (move p l e t) (l t)
+
+  abbrev pub goes : ℕ → Option ℕ
+  goes t = destinationOf p (move p l e t)
+
+  same-recorded : recorded ≡ seam.recorded document01 p l a
+  same-recorded = fun-ext (λ t. same-by a p (move p l e t) (l t))
+
+  pub moved-is : moved p l e ≡ enter p goes recorded
+  moved-is = moving.moved-is laws01 p l a ∙ ap (enter p goes) (sym same-recorded)
+
+  pub recorded-awake : (t : ℕ) → isAwake (recorded t .mode) ≡ isAwake (l t .mode)
+  recorded-awake t = ap (λ (m : Ledger). isAwake (m t .mode)) same-recorded ∙ moving.recorded-awake laws01 p l a t
+
+  pub mover-awake : (t x : ℕ) → move p l e t ≡ some x → Awake l t
+  mover-awake = moving.mover-awake laws01 p l a
+
+  module _ (ok : Accepted p) (n : Nested p l) where
+    pub mover-is : (t x : ℕ) → move p l e t ≡ some x → mover p x ≡ t
+    mover-is = moving.mover-is laws01 p l a ok n
+
+    pub recorded-nested : Nested p recorded
+    recorded-nested = subst (Nested p) (sym same-recorded) (moving.recorded-nested laws01 p l a ok n)
+
+    pub goes-free : Enterable p recorded goes
+    goes-free = subst (λ m. Enterable p m goes) (sym same-recorded) (moving.goes-free laws01 p l a ok n)
+
+    pub moved-nested : Nested p (moved p l e)
+    moved-nested = moving.moved-nested laws01 p l a ok n
+
+    pub moved-still : (t : ℕ) → Awake l t → move p l e t ≡ none → moved p l e t ≡ l t
+    moved-still = moving.moved-still laws01 p l a ok n
+
+    pub moved-busy : (t : ℕ) → Awake l t → hasOpenScope p l t ≡ true → moved p l e t ≡ l t
+    moved-busy = moving.moved-busy laws01 p l a ok n
+
+-- Closing: the event does not matter.
+module _ (p : Plan) (l : Ledger) where
+  abbrev any : EventArguments
+  any = record { event = 0 }
+
+  pub closed-awake : (t : ℕ) → Awake (closed p l) t → (isClosed p l t ≡ false) × Awake l t
+  closed-awake = closing.closed-awake laws01 p l any
+
+module _ (p : Plan) (ok : Accepted p) (l : Ledger) (n : Nested p l) where
+  pub closed-nested : Nested p (closed p l)
+  closed-nested = closing.closed-nested laws01 p ok l n (record { event = 0 })
+
+-- A signal turns every forward track.
+module _ (p : Plan) (ok : Accepted p) (a : SignalArguments) (l : Ledger) where
+  same-turned : turned l ≡ seam.turned document01 p l a
+  unfolding turned
+  same-turned = refl
+
+  pub turned-awake : (t : ℕ) → isAwake (turned l t .mode) ≡ isAwake (l t .mode)
+  turned-awake t = ap (λ (m : Ledger). isAwake (m t .mode)) same-turned ∙ turning.turned-awake laws01 p l a t
+
+  pub turned-state : (t : ℕ) → turned l t .state ≡ l t .state
+  turned-state t = ap (λ (m : Ledger). m t .state) same-turned ∙ turning.turned-state laws01 p l a t
+
+  pub turned-held : (t : ℕ) → turned l t .held ≡ l t .held
+  turned-held t = ap (λ (m : Ledger). m t .held) same-turned ∙ turning.turned-held laws01 p l a t
+
+  pub turned-forward : (t : ℕ) → isForward (turned l t .mode) ≡ false
+  turned-forward t = ap (λ (m : Ledger). isForward (m t .mode)) same-turned ∙ turning.turned-forward laws01 p l a t refl
+
+module _ (p : Plan) (ok : Accepted p) (l : Ledger) (n : Nested p l) where
+  pub turned-nested : (a : SignalArguments) → Nested p (turned l)
+  turned-nested a = subst (Nested p) (sym (same-turned p ok a l)) (leaving.turned-nested laws01 p ok l n a)
+
+-- Calls: who may be fired, what is over, what an accepted call does.
+pub may-fire : (limit : ℕ) (p : Plan) (l : Ledger) (t : ℕ) → mayFire p l t ≡ true
+    → (t < trackCount p) × (isUndoing (l t .mode) ≡ true) × (isEmpty (l t .held) ≡ false) × (hasOpenScope p l t ≡ false)
+may-fire limit p l t h = firing.may-fire p l t h
+
+pub over-refused : (limit : ℕ) (p : Plan) (l : Ledger) → isOver p l ≡ true → (c : Call) → callRefusal limit p l c ≡ 0 → ⊥
+over-refused limit p l o c =
+    subst (λ d. callRefusal limit p l d ≡ 0 → ⊥) (there-and-back c) (settling.over-refused laws01 limit p tt l o (asTheory c))
+
+module _ (limit : ℕ) (p : Plan) (ok : Accepted p) (l : Ledger) (f : Formed limit p l) (e : ℕ) where
+  pub event-roots : RootsAwake p l → RootsAwake p (closed p (moved p l e))
+  event-roots = sound-event.event-roots laws01 limit p ok l f (record { event = e })
+
+  pub event-abandoning : ((s : ℕ) → isAbandoning p l s ≡ false) → (s : ℕ) → isAbandoning p (closed p (moved p l e)) s ≡ false
+  event-abandoning = sound-event.event-abandoning laws01 limit p ok l f (record { event = e })
+
+abbrev pub looksForFinish : Call → Bool
+looksForFinish (event a) = true
+looksForFinish (signal a) = false
+looksForFinish (fire a) = false
+
+-- what a call does, finish apart
+abbrev pub work : Plan → Ledger → Call → Ledger
+work p l (event a) = closed p (moved p l (a .event))
+work p l (signal a) = abandoned p (turned l)
+work p l (fire a) = abandoned p (fired p l (a .track))
+
+module _ (limit : ℕ) (p : Plan) (ok : Accepted p) (l : Ledger) (s : Sound limit p l) where
+  pub signal-sound : (a : SignalArguments) → isFinishing p (abandoned p (turned l)) ≡ false → Sound limit p (abandoned p (turned l))
+  signal-sound a =
+      subst (λ m. isFinishing p (abandoned p m) ≡ false → Sound limit p (abandoned p m)) (sym (same-turned p ok a l))
+      (sound-retraction.signal-sound laws01 limit p ok l s a)
+
+  pub fired-formed : (t : ℕ) → mayFire p l t ≡ true → Formed limit p (fired p l t)
+  fired-formed = sound-retraction.fired-formed laws01 limit p ok l s
+
+  pub fire-sound : (t : ℕ) → mayFire p l t ≡ true → isFinishing p (abandoned p (fired p l t)) ≡ false → Sound limit p (abandoned p (fired p l t))
+  fire-sound = sound-retraction.fire-sound laws01 limit p ok l s
+
+  -- where finish is not looked for after a call, it is not due
+  pub unfinished : (c : Call) → callRefusal limit p l c ≡ 0 → looksForFinish c ≡ false → isFinishing p (work p l c) ≡ false
+  unfinished (event a) h n = clash refl n
+  unfinished (signal a) h n =
+      subst (λ m. isFinishing p (abandoned p m) ≡ false) (sym (same-turned p ok a l)) (unfinished01 limit p ok tt l s (seam.signal a) h refl)
+  unfinished (fire a) h n = unfinished01 limit p ok tt l s (seam.fire a) h refl
+
+-- an accepted call leaves its work, or all asleep
+pub next-cases : (limit : ℕ) (p : Plan) (ok : Accepted p) (l : Ledger) (c : Call) → callRefusal limit p l c ≡ 0
+    → (next limit p l c ≡ work p l c) ⊎ Over (next limit p l c)
+next-cases limit p ok l (event a) h = settling.next-cases laws01 limit p tt l (seam.event a) h
+next-cases limit p ok l (signal a) h =
+    subst (λ m. (next limit p l (signal a) ≡ abandoned p m) ⊎ Over (next limit p l (signal a))) (sym (same-turned p ok a l))
+    (settling.next-cases laws01 limit p tt l (seam.signal a) h)
+next-cases limit p ok l (fire a) h = settling.next-cases laws01 limit p tt l (seam.fire a) h
+
+-- Runs: what lists of calls reach is sound or over, and a run stands on what one reaches.
+module _ (limit : ℕ) (p : Plan) (ok : Accepted p) where
+  pub reached-kept : {l : Ledger} → Reached p limit l → Kept limit p l
+  reached-kept r = histories.reached-kept laws01 unfinished01 limit p ok (from-reached p limit r)
+
+  pub running-reached : {s : ℕ} {l : Ledger} {w : List ℕ} → Running p limit s l w → Reached p limit l
+  running-reached (by-begin o) = start
+  running-reached (by-call r c f o) = then r c
+  running-reached (over-event r a z o) = then (running-reached r) (event a)
+  running-reached (over-signal r a z f o) = then (running-reached r) (signal a)
+  running-reached (over-fire r a z o) = then (running-reached r) (fire a)

@@ -1,0 +1,3 @@
+-- Laws of an event's writing.
+pub mod Writing
+pub mod Writes

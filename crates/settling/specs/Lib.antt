@@ -1,0 +1,2 @@
+-- The ledger that an event's writing leaves.
+pub mod Settled

@@ -1,0 +1,25 @@
+-- An open scope is awake as a whole where no track in it is asleep. Assumes nothing.
+use Rattle.soundness.proofs.Scoping.{whole-asked}
+use mathlib.Core.Path.{refl}
+use Rattle.soundness.specs.Asked.{ofEntries}
+use Rattle.soundness.proofs.Asking.{no-entries}
+use borrow.Author.Needs.{needs}
+use Rattle.soundness.proofs.clauses.scopes_whole.Statement.{statement}
+use Rattle.soundness.proofs.clauses.scopes_whole.Tie as tie
+
+failing-requires : tie.Need-failing-requires
+unfolding ofEntries
+failing-requires c κs = no-entries _ _ _ _ (c .before .before .pre .0) (c .before .before .pre .1) refl
+
+scopes-with-requires : tie.Need-scopes-with-requires
+scopes-with-requires c κs = search needs
+
+every-open-requires : tie.Need-every-open-requires
+every-open-requires c κs = search needs
+
+returns : tie.Need-returns
+returns c = whole-asked _ _ (c .before .before .before .before .before .pre .0) _ _ _ _ (c .before .scopes-with .ensures) (c .before .before .failing .ensures) (c .every-open .ensures)
+
+pub scopes-whole-spec : {M : Type 1} → statement M
+scopes-whole-spec =
+    tie.close (tie.spec failing-requires scopes-with-requires every-open-requires returns)

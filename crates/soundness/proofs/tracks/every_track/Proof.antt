@@ -1,0 +1,55 @@
+-- The invariant: the tracks so far pass the test. The measure is the tracks left. Assumes nothing.
+use borrow.Author.Needs.{needs}
+use borrow.Author.Tests.{not-true, not-false}
+use mathlib.Core.Path.{_≡_, refl}
+use mathlib.Core.Bool.{true}
+use Prim.Native.Nat.{_-_, _≤_}
+use Rattle.rules.specs.Fold.{everyBelow}
+use Rattle.rules.specs.Plan.{planOf}
+use Rattle.ledger.proofs.Loops.{every-next, every-stops, every-ends}
+use Rattle.steps.specs.Going.{ledgerOf}
+use Rattle.soundness.specs.Asked.{passes}
+use Rattle.soundness.proofs.tracks.every_track.Statement.{statement}
+use Rattle.soundness.proofs.tracks.every_track.Tie as tie
+
+abbrev Inv-loop : tie.InvT-loop
+Inv-loop plan c ledger test tracks t₀ t = (t ≤ tracks) × (everyBelow t (passes (planOf plan c) (ledgerOf c ledger) test) ≡ true)
+
+abbrev μ-loop : tie.MeasureT-loop
+μ-loop plan c ledger test tracks t₀ t = tracks - t
+
+loop-holds : tie.Need-loop-holds Inv-loop μ-loop
+unfolding everyBelow
+loop-holds c = (search needs, refl)
+
+passes-requires : tie.Need-passes-requires Inv-loop μ-loop
+passes-requires c κs = search needs
+
+returns : tie.Need-returns Inv-loop μ-loop
+returns c = every-stops _ _ _ (c .before .passes .ensures) (not-true _ (c .if1 .taken)) (search needs)
+
+add-t : tie.Need-add-t Inv-loop μ-loop
+add-t c = search needs
+
+loop-less : tie.Need-loop-less Inv-loop μ-loop
+loop-less c = search needs
+
+loop-again : tie.Need-loop-again Inv-loop μ-loop
+loop-again c = (search needs, every-next _ _ (c .before .before .before .loop .inv .1) (c .before .passes .ensures) (not-false _ (c .if1 .left)))
+
+returns-2 : tie.Need-returns-2 Inv-loop μ-loop
+returns-2 c = every-ends _ _ _ (c .before .loop .inv .1) (search needs) (search needs)
+
+pub every-track-spec : {M : Type 1} → statement M
+every-track-spec =
+    tie.close
+    (tie.spec
+    Inv-loop
+    μ-loop
+    loop-holds
+    passes-requires
+    returns
+    add-t
+    loop-less
+    loop-again
+    returns-2)

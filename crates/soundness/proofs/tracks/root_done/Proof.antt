@@ -1,0 +1,23 @@
+-- Two tests, one after the other. Assumes nothing.
+use Rattle.ledger.proofs.Branches.{or-stops, or-goes}
+use Rattle.soundness.specs.Asked.{passes}
+use borrow.Author.Needs.{needs}
+use Rattle.soundness.proofs.tracks.root_done.Statement.{statement}
+use Rattle.soundness.proofs.tracks.root_done.Tie as tie
+
+is-root-requires : tie.Need-is-root-requires
+is-root-requires c κs = search needs
+
+returns : tie.Need-returns
+unfolding passes
+returns c = or-stops (c .before .is-root .ensures) _ (c .if1 .taken)
+
+is-done-requires : tie.Need-is-done-requires
+is-done-requires c κs = search needs
+
+returns-2 : tie.Need-returns-2
+unfolding passes
+returns-2 c = or-goes (c .before .before .is-root .ensures) (c .before .if1 .left) (c .is-done .ensures)
+
+pub root-done-spec : {M : Type 1} → statement M
+root-done-spec = tie.close (tie.spec is-root-requires returns is-done-requires returns-2)

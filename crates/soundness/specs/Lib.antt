@@ -1,0 +1,2 @@
+-- What the clauses of soundness ask of each track and each open scope.
+pub mod Asked
