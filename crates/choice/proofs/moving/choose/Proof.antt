@@ -35,8 +35,7 @@ loop-less c = search needs
 
 loop-again : tie.Need-loop-again Inv-loop μ-loop
 loop-again c =
-    let inv = c .before .before .before .loop .inv .1 in
-    (
+    let inv = c .before .before .before .loop .inv .1 in (
       omega arith,
       elim (c .if1 .came) [
         | inl w ↦ take-more _ _ _ _ _ _ _ inv (w .2 ∙ w .1 .ensures)
