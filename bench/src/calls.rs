@@ -8,10 +8,10 @@ use conformance::manager;
 use crate::cases::{median, Call, Given, Size};
 
 /// Rounds of each side.
-const ROUNDS: usize = 41;
+const ROUNDS: usize = 201;
 
 /// Ledgers of a round, each called on once.
-const LEDGERS: usize = 256;
+const LEDGERS: usize = 32;
 
 /// Makes the call by the proved library.
 fn proved(plan: &[u8], given: &mut Given, call: Call) {

@@ -134,14 +134,17 @@ impl Size {
         }
     }
 
-    /// A journal of so many bytes: events that move something for three
-    /// quarters of it, a signal, and then firings of the lowest ready track.
+    /// A journal of so many bytes: accepted events that move something, as
+    /// long as there are any, for three quarters of it, a signal, and then
+    /// firings of the lowest ready track.
     pub fn journal(&self, bytes: usize) -> Vec<u8> {
         let mut journal = Vec::new();
         let mut ledger = automaton::begin(&self.read);
         let mut rng = Rng::for_case(1, 23, 0);
         while journal.len() < bytes / 4 * 3 {
-            let events = journals::moving_events(&self.read, &ledger, |s| !self.read.is_final(s));
+            let mut events =
+                journals::moving_events(&self.read, &ledger, |s| !self.read.is_final(s));
+            events.retain(|&e| automaton::event(&self.read, &mut ledger.clone(), e).is_ok());
             let record = Record::Event(rng.pick(&events).unwrap_or(1));
             journal::perform(&self.read, &mut ledger, record);
             record.encode(&mut journal);

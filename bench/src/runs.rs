@@ -11,7 +11,7 @@ use conformance::journal::MAX_BYTES;
 use crate::cases::{median, Size};
 
 /// Runs of each side.
-const ROUNDS: usize = 41;
+const ROUNDS: usize = 101;
 
 /// The medians of both programs, in microseconds, from start to end.
 pub fn times(size: &Size, proved: &Path, second: &Path) -> io::Result<(f64, f64)> {

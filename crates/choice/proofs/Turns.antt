@@ -146,6 +146,10 @@ module _ (p : Plan) (l : Ledger) (event : ℕ) (opens : List Bool) (ts : List �
   unfolding takeMarks
   take-more r e f = rw (add-one, ← e) f
 
+  -- a transition for another event has none
+  pub take-none : (e : ℕ) → e ≡ transition p x .event → (e ≡ event → ⊥) → ts ≡ takeMarks p l event opens x → ts ≡ takeMarks p l event opens (x + 1)
+  take-none e q n h = take-more ts h (take-not false (not-event e q n) refl)
+
 -- the state after the move
 module _ (p : Plan) (l : Ledger) (ts : List ℕ) (t : ℕ) where
   pub after-none : (k : Track) → k ≡ trackOf (l t) → getD ts t 0 ≡ noState → k .state ≡ stateAfter p l ts t

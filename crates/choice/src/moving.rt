@@ -65,7 +65,7 @@ fn take(
     next
 }
 
-// The transition that each track takes for an event, 65535 for none.
+// The transition that each track takes for an event, 65535 for none. Only a transition for that event has its turn.
 pub fn choose(plan: &[u8], c: Counts, ledger: &[u16], event: u16, opens: [bool; 32]) -> [u16; 32]
     requires { ⌜ Going (now plan) c (now ledger) ⌝ }
     ensures { λ r. ⌜ r ≡ takeMarks (planOf (now (plan .entry)) c) (ledgerOf c (now (ledger .entry))) event opens (c .transitions) ⌝ }
@@ -74,8 +74,10 @@ pub fn choose(plan: &[u8], c: Counts, ledger: &[u16], event: u16, opens: [bool; 
     let transitions = c.transitions;
     let mut x: usize = 0;
     while x < transitions {
-        let next = take(plan, c, ledger, event, opens, taken, x);
-        taken = next;
+        if fields::event_of(plan, c, x) == event {
+            let next = take(plan, c, ledger, event, opens, taken, x);
+            taken = next;
+        }
         x += 1;
     }
     taken
