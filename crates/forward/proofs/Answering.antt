@@ -21,7 +21,7 @@ use Rattle.rules.specs.Call.{Answer, done, Outcome, event, Meets, refusedOr, un
 use Rattle.rules.specs.Answers.{eventTold}
 use Rattle.rules.proofs.Tests.{clash, and-true, or-true}
 use Rattle.rules.proofs.Folds.{some-not}
-use Rattle.rules.proofs.Stored.{written-same}
+use Rattle.rules.proofs.Stored.{written-same, written-read}
 use Rattle.plan.proofs.FieldLaws.{track-count, state-count, transition-count}
 use Rattle.steps.specs.Going.{Checked, Going, ledgerOf}
 use Rattle.steps.specs.Marks.{Marks, openMarks}
@@ -32,6 +32,7 @@ use Rattle.choice.specs.Marks.{wordOf, InRange, table, takes, codeGiven, endsAt
 use Rattle.settling.specs.Settled.{Spare, settledLedger}
 use Rattle.forward.specs.Outcome.{goingOutcome}
 use Rattle.forward.proofs.Passes.{take-moves, close-scopes}
+use Rattle.forward.proofs.Still.{no-moves, after-same, full-not, closings-none}
 use Rattle.forward.proofs.Leaving.{table-at, word-low, full-is, finish-is, moves-are, closings-are, settled-is}
 
 met : {o : Outcome} {a : Answer} {w : List ℕ} → o ≡ record { answer = a; words = w } → Meets o a w
@@ -155,6 +156,24 @@ module _ (bs : List ℕ) (c : Counts) (ws : List ℕ) (g : Going bs c ws) (e : �
           let i : countBelow (trackCount p) (moves p l e) ≡ a = sym (x ∙ moves-count) in
           let j : closings p (moved p l e) ≡ b = sym (y ∙ closings-count) in
           met (as-read ∙ (rw n (λ k. record { answer = done (i k ∷ j k ∷ []); words = left k })))
+
+  -- where no track moves nothing changes
+  pub still-met : (a : ℕ) → a ≡ countBelow (c .tracks) (takes taken) → a ≡ 0 → Meets (goingOutcome p ws e) (eventTold (Moved 0 0)) ws
+  unfolding refusedOr firstRefusal figures eventTold outcome
+  still-met a x z =
+      let closing : List Bool = closeMarks p l taken (forwardMarks l opens (c .tracks)) (c .tracks) in
+      let codes : List ℕ = table 0 (codeGiven p l taken closing) (c .tracks) in
+      let i : countBelow (trackCount p) (moves p l e) ≡ 0 = sym (x ∙ moves-count closing refl codes refl) ∙ z in
+      let still = no-moves p l e (beyond bs c ws) i in
+      let ok = plan-facts bs c (g .accepts) in
+      let live = live-of-going bs c ws g in
+      let j : closings p (moved p l e) ≡ 0 = closings-none p l e ok live still in
+      let left : written entryLimit (trackCount p) (afterEvent p l e) ws ≡ ws =
+      (λ k. written entryLimit (track-count bs c k) (after-same p l e ok live still k) ws) ∙ unchanged in
+      met (as-read closing refl codes refl ∙ (rw (full-not p l e ok live still entryLimit) (λ k. record { answer = done (i k ∷ j k ∷ []); words = left k })))
+    where
+      unchanged : written entryLimit (c .tracks) l ws ≡ ws
+      unchanged = unfold ledgerOf in written-read entryLimit (c .tracks) ws (g .tidy) (g .roomy .room)
 
   -- what the closing pass asks
   pub in-range : InRange c taken

@@ -3,4 +3,5 @@ pub mod Moves
 pub mod Settlings
 pub mod Passes
 pub mod Leaving
+pub mod Still
 pub mod Answering

@@ -13,20 +13,23 @@ ghost use Rattle.rules.specs.Answers.{eventTold};
 ghost use Rattle.steps.specs.Going.{Checked, Going};
 ghost use Rattle.forward.specs.Outcome.{goingOutcome};
 
-// An event other than 0 on a ledger that is not over.
+// An event other than 0 on a ledger that is not over. Where no track moves nothing changes.
 fn go_on(plan: &[u8], c: Counts, ledger: &mut [u16], event: u16) -> EventAnswer
     requires { ⌜ Going (now plan) c (now ledger) ⌝ }
     ensures { λ r. ⌜ Meets (goingOutcome (planOf (now (plan .entry)) c) (now (ledger .entry)) event) (eventTold r) (now (ledger .exit)) ⌝ }
 {
     let scopes = opens::open_scopes(plan, c, &ledger[..]);
     let taken = moving::choose(plan, c, &ledger[..], event, scopes);
+    let moved = judging::moves(c, taken);
+    if moved == 0 {
+        return EventAnswer::Moved(0, 0);
+    }
     let closing = closing::closing_scopes(plan, c, &ledger[..], scopes, taken);
     let codes = judging::codes_given(plan, c, &ledger[..], taken, closing);
     if judging::is_full(c, &ledger[..], codes) {
         return EventAnswer::Refused(21);
     }
     let finishing = judging::finishes(plan, c, &ledger[..], taken);
-    let moved = judging::moves(c, taken);
     let closed = judging::closings(c, closing);
     settling::settle(plan, c, &mut ledger[..], finishing, taken, closing, codes);
     EventAnswer::Moved(moved, closed)
