@@ -19,7 +19,7 @@ use Rattle.rules.specs.Call.{Answer, Outcome, Meets, tooShort, ledgerRefusals, 
 use Rattle.rules.proofs.Tests.{and-true}
 use Rattle.plan.proofs.FieldLaws.{track-count}
 use Rattle.plan.proofs.Reader.{accepted-holds}
-use Rattle.ledger.proofs.SoundLaws.{count-within}
+use Rattle.ledger.proofs.ReadTracks.{count-within}
 use Rattle.export.specs.Packed.{bit16, packedPart, Returns}
 
 pub packs : (pack : Answer → ℕ) (o : Outcome) (a : Answer) (n : ℕ) (ws : List ℕ) → Meets o a ws → n ≡ pack a → Returns pack o n ws
