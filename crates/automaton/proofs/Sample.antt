@@ -6,7 +6,7 @@ use lib.ListN.{replicate}
 use Rattle.rules.specs.Plan.{Plan, planOf, isRoot}
 use Rattle.rules.specs.Layout.{entryLimit}
 use Rattle.rules.specs.Ledger.{Ledger}
-use Rattle.rules.specs.Call.{Call, event, signal, fire, nothing}
+use Rattle.rules.specs.Call.{Call, event, signal, fire, nothing, figures}
 use Rattle.rules.specs.ReferenceRun.{ledgerAfter}
 use Rattle.runs.specs.SamplePlan.{planP}
 use Rattle.runs.specs.Computing.{computing}
@@ -64,6 +64,11 @@ turned-view = refl
 pub turned-acts : actsOf P (ledger (e 10 ∷ e 11 ∷ e 12 ∷ [])) s ≡ failAt 1 ∷ failAt 2 ∷ []
 unfolding computing listedFrom listed listedDown isWithin leavesScope isGoing abandonings turners actsOf
 turned-acts = refl
+
+-- but three tracks turn: the root too, which has no step of its own yet. So turned is not the number of FAIL
+pub turned-told : figures entryLimit P (ledger (e 10 ∷ e 11 ∷ e 12 ∷ [])) s ≡ 3 ∷ []
+unfolding computing
+turned-told = refl
 
 -- The second firing: COMP, and the vector has compensated: NESTFAIL.
 pub left-acts : actsOf P (ledger (e 10 ∷ e 11 ∷ e 12 ∷ s ∷ f 1 ∷ [])) (f 2) ≡ compAt 2 52 ∷ nestfailAt 0 ∷ []

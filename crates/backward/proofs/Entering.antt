@@ -22,8 +22,8 @@ use Rattle.rules.proofs.Stored.{written-same}
 use Rattle.rules.proofs.Passes.{upTo}
 use Rattle.plan.proofs.FieldLaws.{track-count}
 use Rattle.steps.specs.Going.{Accepts, ledgerOf}
-use Rattle.plan.specs.Passes.{firstMarks}
-use Rattle.steps.specs.Marks.{slots, wakeMarks}
+use Rattle.plan.specs.Passes.{slots, firstMarks}
+use Rattle.steps.specs.Marks.{wakeMarks}
 use Rattle.steps.proofs.Facts.{plan-facts, few-tracks}
 use Rattle.steps.proofs.FirstStates.{first-at}
 use Rattle.steps.proofs.Marks.{wake-marks}

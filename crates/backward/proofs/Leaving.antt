@@ -23,7 +23,8 @@ use Rattle.plan.proofs.FieldLaws.{track-count, state-count}
 use Rattle.ledger.specs.Words.{trackOf, withAsleep}
 use Rattle.ledger.proofs.ReadTracks.{mode-as, empty-as, held-as}
 use Rattle.steps.specs.Going.{Accepts, ledgerOf, hostTrack}
-use Rattle.steps.specs.Marks.{stateSlots, scopeMarks}
+use Rattle.plan.specs.Passes.{stateSlots}
+use Rattle.steps.specs.Marks.{scopeMarks}
 use Rattle.steps.proofs.Facts.{plan-facts, few-tracks, no-host-track, host-of-track}
 use Rattle.backward.specs.Orderly.{Orderly, withConfiguration}
 use Rattle.backward.specs.Staying.{isTakenBack, stayFrom, stayBy, stayMarks, leftBy}

@@ -21,7 +21,8 @@ use Rattle.rules.proofs.Tests.{look, look-option, clash, refuted, and-true, and
 use Rattle.rules.proofs.Acceptance.{Accepted}
 use Rattle.rules.proofs.Scopes.{host-in, by-host, host-by, every-in-at, every-in-of, some-in-at, some-in-find, open-at}
 use Rattle.rules.proofs.Abandoning.{undoing-awake, hosts-higher, spent-parts, spent-of, abandoned-host, abandoned-root, left-asleep, left-kept}
-use Rattle.steps.specs.Marks.{slots, stateSlots, Marks, scopeMarks}
+use Rattle.plan.specs.Passes.{slots, stateSlots}
+use Rattle.steps.specs.Marks.{Marks, scopeMarks}
 use Rattle.steps.proofs.Setting.{none-set, scope-marks}
 use Rattle.backward.specs.Staying.{isTakenBack, stayFrom, stayBy, stayMarks, leftBy}
 use Rattle.backward.proofs.Climbing.{by-staying, length-stay}

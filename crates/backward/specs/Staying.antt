@@ -7,7 +7,7 @@ use Prim.Native.Nat.{ℕ, zero, suc}
 use lib.ListN.{getD, set, replicate}
 use Rattle.rules.specs.Plan.{Plan, host, owner}
 use Rattle.rules.specs.Ledger.{Configuration, Ledger, isAwake, isUndoing, isEmpty, sleeping}
-use Rattle.steps.specs.Marks.{slots}
+use Rattle.plan.specs.Passes.{slots}
 
 -- undoing and holding nothing: all that the track did is taken back
 unfoldable pub isTakenBack : Configuration → Bool

@@ -10,7 +10,8 @@ use Rattle.rules.specs.declared.Counts.{Counts}
 use Rattle.rules.specs.Plan.{Plan, noState, host, transition, mover, replacement, isRoot, isFinal}
 use Rattle.rules.specs.Layout.{entryLimit}
 use Rattle.rules.specs.Ledger.{Ledger, isAwake, isForward}
-use Rattle.steps.specs.Marks.{slots, setHost}
+use Rattle.plan.specs.Passes.{slots}
+use Rattle.steps.specs.Marks.{setHost}
 
 -- a number that may be missing, as a word
 unfoldable pub wordOf : Option ℕ → ℕ

@@ -24,7 +24,8 @@ use Rattle.rules.proofs.Folds.{every-same, some-same, count-same}
 use Rattle.rules.proofs.Acceptance.{Accepted, transition-for}
 use Rattle.rules.proofs.Opening.{wakes-same}
 use Rattle.rules.proofs.Soundness.{Live}
-use Rattle.steps.specs.Marks.{slots, Marks, wakeMarks}
+use Rattle.plan.specs.Passes.{slots}
+use Rattle.steps.specs.Marks.{Marks, wakeMarks}
 use Rattle.steps.proofs.Marks.{wake-marks}
 use Rattle.forward.specs.Next.{nextState, closesNext, closedNext, finishesNext, givenNext, nextBy, nextLedger}
 use Rattle.choice.specs.Marks.{wordOf, table, takes, codeGiven, endsAt, isFullAt, stateAfter}

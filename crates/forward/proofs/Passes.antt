@@ -21,7 +21,8 @@ use Rattle.rules.proofs.Tests.{look, look-option, none-some, refuted, and-true}
 use Rattle.rules.proofs.Folds.{first-found}
 use Rattle.rules.proofs.Acceptance.{Accepted}
 use Rattle.rules.proofs.Soundness.{Live}
-use Rattle.steps.specs.Marks.{slots, Marks, setHost}
+use Rattle.plan.specs.Passes.{slots}
+use Rattle.steps.specs.Marks.{Marks, setHost}
 use Rattle.steps.proofs.Marks.{length-setHost, set-host, by-eqb, by-none}
 use Rattle.forward.specs.Next.{nextOf, nextState, allFinalNext, closesNext}
 use Rattle.choice.specs.Marks.{wordOf, isTaken, takeMark, takeMarks, stateAfter, isForwardOpen, forwardMarks, closeMark, closeMarks}

@@ -1,15 +1,12 @@
 // What the text tells of a ledger: the entries that it holds, and the lowest track that may be fired.
-use ledger::track;
 use rules::Counts;
 use steps::opens;
 use steps::reading;
+use steps::ready;
 ghost use mathlib.Core.Path.{_≡_};
-ghost use mathlib.Core.Bool.{false, not, _&&_};
-ghost use Prim.Native.Nat.{_<_};
-ghost use lib.ListN.{length, getD};
+ghost use lib.ListN.{length};
 ghost use Rattle.rules.specs.Fold.{sumBelow};
 ghost use Rattle.rules.specs.Plan.{planOf};
-ghost use Rattle.rules.specs.Ledger.{isUndoing, isEmpty};
 ghost use Rattle.rules.specs.Journal.{fireLowestCall};
 ghost use Rattle.rules.specs.Call.{fire};
 ghost use Rattle.steps.specs.Going.{Accepts, Roomy, ledgerOf};
@@ -30,22 +27,6 @@ pub fn held_total(c: Counts, ledger: &[u16]) -> u32
     sum
 }
 
-// Whether a track is undoing, holds an entry and has no open scope.
-fn is_ready(c: Counts, ledger: &[u16], opens: [bool; 32], t: usize) -> bool
-    requires { ⌜ Roomy c (now ledger) × (t < c .tracks) ⌝ }
-    ensures { λ r. ⌜ r ≡ (isUndoing (ledgerOf c (now (ledger .entry)) t .mode) && not (isEmpty (ledgerOf c (now (ledger .entry)) t .held)) && not (getD opens t false)) ⌝ }
-{
-    let k = reading::track(c, ledger, t);
-    let m = k.mode;
-    if !track::is_undoing(m) {
-        return false;
-    }
-    if k.count == 0 {
-        return false;
-    }
-    !opens[t]
-}
-
 // The lowest track that may be fired, or a number that no track has.
 pub fn lowest_ready(plan: &[u8], c: Counts, ledger: &[u16]) -> u16
     requires { ⌜ Accepts (now plan) c × Roomy c (now ledger) ⌝ }
@@ -55,7 +36,7 @@ pub fn lowest_ready(plan: &[u8], c: Counts, ledger: &[u16]) -> u16
     let tracks = c.tracks;
     let mut t: usize = 0;
     while t < tracks {
-        if is_ready(c, ledger, opens, t) {
+        if ready::is_ready(c, ledger, opens, t) {
             return t as u16;
         }
         t += 1;

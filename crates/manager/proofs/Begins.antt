@@ -29,7 +29,8 @@ use Rattle.plan.proofs.FieldLaws.{track-count, state-count}
 use Rattle.ledger.specs.Words.{Within, trackOf, withTrack, withAsleep}
 use Rattle.ledger.proofs.Words.{put-written}
 use Rattle.steps.specs.Going.{Accepts, Roomy}
-use Rattle.steps.specs.Marks.{slots, wakeMarks}
+use Rattle.plan.specs.Passes.{slots}
+use Rattle.steps.specs.Marks.{wakeMarks}
 use Rattle.steps.proofs.Marks.{wake-marks}
 use Rattle.steps.proofs.Facts.{plan-facts, few-tracks, in-room}
 use Rattle.manager.specs.Roots.{rootWord, rootWords}

@@ -1,26 +1,19 @@
 -- The number whose bits are the tracks that may be fired, bit by bit. Assumes nothing.
 use mathlib.Core.Path.{_≡_, refl, sym, ap, _∙_}
-use mathlib.Core.Bool.{Bool, true, false, cond, not, _&&_}
+use mathlib.Core.Bool.{Bool, true, false, cond, _&&_}
 use mathlib.Core.List.{List}
 use Prim.Native.Nat.{ℕ, zero, suc, _+_, _*_, _^_, _≤_, _<_}
 use native.Mathlib.Omega.{arith}
 use native.Mathlib.Numerals.{add-one}
 use native.Mathlib.Nat.{pow-suc}
 use lib.Pow.{pow-mono}
-use lib.ListN.{getD}
-use borrow.Author.Tests.{lt-ltb}
 use Rattle.rules.specs.Fold.{sumBelow}
 use Rattle.rules.specs.declared.Counts.{Counts}
-use Rattle.rules.specs.Plan.{Plan, planOf, trackCount}
-use Rattle.rules.specs.Ledger.{Ledger, isUndoing, isEmpty}
-use Rattle.rules.specs.Scope.{hasOpenScope}
+use Rattle.rules.specs.Plan.{planOf, trackCount}
 use Rattle.rules.specs.Fire.{mayFire, ready}
 use Rattle.rules.proofs.Folds.{sum-more}
 use Rattle.plan.proofs.FieldLaws.{track-count}
-use Rattle.steps.specs.Going.{Accepts, ledgerOf}
-use Rattle.steps.specs.Marks.{openMarks}
-use Rattle.steps.proofs.Marks.{open-scopes}
-use Rattle.steps.proofs.Facts.{plan-facts, few-tracks}
+use Rattle.steps.specs.Going.{ledgerOf}
 
 -- the bit of each number that passes
 unfoldable pub bitsBelow : ℕ → (ℕ → Bool) → ℕ
@@ -55,25 +48,6 @@ bits-yes t n b f e g i h = sym (sum-more t _ ∙ rw (sym i ∙ h, e, g))
 pub bits-no : (t n : ℕ) (f : ℕ → Bool) {r : Bool} → n ≡ bitsBelow t f → r ≡ f t → r ≡ false → n ≡ bitsBelow (t + 1) f
 unfolding bitsBelow
 bits-no t n f e i h = sym (sum-more t _ ∙ rw (sym i ∙ h, e) (omega arith))
-
--- whether a track may be fired, by the mark of its open scope
-pub fire-mark : (p : Plan) (l : Ledger) (t : ℕ) (ms : List Bool) → t < trackCount p → getD ms t false ≡ hasOpenScope p l t
-    → (isUndoing (l t .mode) && not (isEmpty (l t .held)) && not (getD ms t false)) ≡ mayFire p l t
-unfolding mayFire
-fire-mark p l t ms h e = rw (lt-ltb t (trackCount p) h, e)
-
--- in the code's terms
-pub fire-read : (bs : List ℕ) (c : Counts) (ws : List ℕ) (ms : List Bool) (t : ℕ) {r : Bool} → Accepts bs c
-    → ms ≡ openMarks (planOf bs c) (ledgerOf c ws) (c .tracks) → t < c .tracks
-    → r ≡ (isUndoing (ledgerOf c ws t .mode) && not (isEmpty (ledgerOf c ws t .held)) && not (getD ms t false))
-    → r ≡ mayFire (planOf bs c) (ledgerOf c ws) t
-fire-read bs c ws ms t a e h g =
-    let n = track-count bs c in
-    let l : t < trackCount (planOf bs c) = omega arith in
-    let f : ms ≡ openMarks (planOf bs c) (ledgerOf c ws) (trackCount (planOf bs c)) = e ∙ ap (openMarks (planOf bs c) (ledgerOf c ws)) (sym n) in
-    g
-    ∙ fire-mark (planOf bs c) (ledgerOf c ws) t ms l
-    (ap (λ (x : List Bool). getD x t false) f ∙ open-scopes (planOf bs c) (plan-facts bs c a) (few-tracks bs c a) (ledgerOf c ws) t l)
 
 pub bits-ready : (bs : List ℕ) (c : Counts) (ws : List ℕ) (t n : ℕ) → n ≡ bitsBelow t (mayFire (planOf bs c) (ledgerOf c ws)) → t ≤ c .tracks → c .tracks ≤ t
     → n ≡ ready (planOf bs c) (ledgerOf c ws)

@@ -4,7 +4,7 @@ use mathlib.Core.List.{List}
 use Prim.Native.Nat.{ℕ, zero, suc}
 use lib.ListN.{set, replicate}
 use Rattle.rules.specs.Plan.{Plan, noState, isRoot, firstState}
-use Rattle.steps.specs.Marks.{slots}
+use Rattle.plan.specs.Passes.{slots}
 
 unfoldable pub rootWord : Plan → ℕ → ℕ
 rootWord p t = cond (isRoot p t) (firstState p t) noState

@@ -1,32 +1,11 @@
 // The tracks that may be fired, as the bits of a number.
-use ledger::track;
 use rules::Counts;
 use steps::opens;
-use steps::reading;
+use steps::ready;
 ghost use mathlib.Core.Path.{_≡_};
-ghost use mathlib.Core.Bool.{false, not, _&&_};
-ghost use Prim.Native.Nat.{_<_};
-ghost use lib.ListN.{getD};
 ghost use Rattle.rules.specs.Plan.{planOf};
-ghost use Rattle.rules.specs.Ledger.{isUndoing, isEmpty};
 ghost use Rattle.rules.specs.Fire.{ready};
 ghost use Rattle.steps.specs.Going.{Accepts, Roomy, ledgerOf};
-
-// Whether a track may be fired, given which tracks have an open scope.
-fn may_fire(c: Counts, ledger: &[u16], opens: [bool; 32], t: usize) -> bool
-    requires { ⌜ Roomy c (now ledger) × (t < c .tracks) ⌝ }
-    ensures { λ r. ⌜ r ≡ (isUndoing (ledgerOf c (now (ledger .entry)) t .mode) && not (isEmpty (ledgerOf c (now (ledger .entry)) t .held)) && not (getD opens t false)) ⌝ }
-{
-    let k = reading::track(c, ledger, t);
-    let m = k.mode;
-    if !track::is_undoing(m) {
-        return false;
-    }
-    if k.count == 0 {
-        return false;
-    }
-    !opens[t]
-}
 
 // The number with bit n set exactly if track n may be fired.
 pub fn ready_bits(plan: &[u8], c: Counts, ledger: &[u16]) -> u32
@@ -39,7 +18,7 @@ pub fn ready_bits(plan: &[u8], c: Counts, ledger: &[u16]) -> u32
     let mut bit: u64 = 1;
     let mut t: usize = 0;
     while t < tracks {
-        if may_fire(c, ledger, open, t) {
+        if ready::is_ready(c, ledger, open, t) {
             bits += bit;
         }
         bit = bit * 2;

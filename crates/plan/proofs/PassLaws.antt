@@ -17,7 +17,7 @@ use Rattle.rules.specs.Plan.{Plan, trackCount, stateCount, noState, host, hostW
 use Rattle.rules.specs.Acceptance.{mostHeight, badHost, tooHigh}
 use Rattle.rules.proofs.Tests.{look, look-option, and-true, clash}
 use Rattle.rules.proofs.Folds.{first-found, some-not, greatest-le}
-use Rattle.plan.specs.Passes.{trackSlots, stateSlots, noteFirst, noteHost, firstMarks, hostingMarks, depthBy, depthMarks, isDeep}
+use Rattle.plan.specs.Passes.{slots, stateSlots, noteFirst, noteHost, firstMarks, hostingMarks, depthBy, depthMarks, isDeep}
 use Rattle.plan.proofs.Hosting.{within}
 
 -- one figure set
@@ -61,13 +61,13 @@ module _ (p : Plan) where
   length-note ms t s =
       elim (look (eqb (getD ms t 0) noState)) [ inl e ↦ rw e (length-set ms t s) | inr e ↦ rw e ]
 
-  length-firsts : (n : ℕ) → length (firstMarks p n) ≡ trackSlots
+  length-firsts : (n : ℕ) → length (firstMarks p n) ≡ slots
   unfolding firstMarks
-  length-firsts zero = length-replicate trackSlots noState
+  length-firsts zero = length-replicate slots noState
   length-firsts (suc n) = length-note (firstMarks p n) (owner p n) n ∙ length-firsts n
 
-  module _ (owned : (s : ℕ) → s < stateCount p → owner p s < trackSlots) (few : stateCount p ≤ stateSlots) where
-    first-step : (n t : ℕ) → suc n ≤ stateCount p → t < trackSlots → getD (firstMarks p n) t 0 ≡ firstWord (firstBelow n (isStateOf p t))
+  module _ (owned : (s : ℕ) → s < stateCount p → owner p s < slots) (few : stateCount p ≤ stateSlots) where
+    first-step : (n t : ℕ) → suc n ≤ stateCount p → t < slots → getD (firstMarks p n) t 0 ≡ firstWord (firstBelow n (isStateOf p t))
         → getD (firstMarks p (suc n)) t 0 ≡ firstWord (firstBelow (suc n) (isStateOf p t))
     unfolding firstMarks firstBelow noteFirst
     first-step n t b l before = go (look (eqb (owner p n) t))
@@ -112,12 +112,12 @@ module _ (p : Plan) where
             skip none = rw (own, e)
             skip (some i) = refl
 
-    first-marks : (n t : ℕ) → n ≤ stateCount p → t < trackSlots → getD (firstMarks p n) t 0 ≡ firstWord (firstBelow n (isStateOf p t))
+    first-marks : (n t : ℕ) → n ≤ stateCount p → t < slots → getD (firstMarks p n) t 0 ≡ firstWord (firstBelow n (isStateOf p t))
     unfolding firstMarks firstBelow
-    first-marks zero t b l = getD-replicate trackSlots t noState 0 l
+    first-marks zero t b l = getD-replicate slots t noState 0 l
     first-marks (suc n) t b l = first-step n t b l (first-marks n t (omega arith) l)
 
-    pub first-mark : (t : ℕ) → t < trackSlots → getD (firstMarks p (stateCount p)) t 0 ≡ firstState p t
+    pub first-mark : (t : ℕ) → t < slots → getD (firstMarks p (stateCount p)) t 0 ≡ firstState p t
     unfolding firstState first
     first-mark t l = first-marks (stateCount p) t (omega arith) l
 
@@ -162,16 +162,16 @@ module _ (p : Plan) where
     hosting-mark s l = hosting-marks (trackCount p) s (omega arith) l
 
   -- Depths.
-  pub length-depths : (n : ℕ) → length (depthMarks p n) ≡ trackSlots
+  pub length-depths : (n : ℕ) → length (depthMarks p n) ≡ slots
   unfolding depthMarks
-  length-depths zero = length-replicate {A = ℕ} trackSlots 0
+  length-depths zero = length-replicate {A = ℕ} slots 0
   length-depths (suc n) = length-set (depthMarks p n) n _ ∙ length-depths n
 
   abbrev depth : ℕ → ℕ
   depth t = depthBy p (depthMarks p t) (host p t)
 
   -- a track's figure stays as it was set
-  depth-marks : (n t : ℕ) → n ≤ trackSlots → t < n → getD (depthMarks p n) t 0 ≡ depth t
+  depth-marks : (n t : ℕ) → n ≤ slots → t < n → getD (depthMarks p n) t 0 ≡ depth t
   unfolding depthMarks
   depth-marks zero t b l = absurd (not-suc-le-zero l)
   depth-marks (suc n) t b l =
@@ -185,12 +185,12 @@ module _ (p : Plan) where
   -- and a figure that was not set is 0
   depth-unset : (n t : ℕ) → n ≤ t → getD (depthMarks p n) t 0 ≡ 0
   unfolding depthMarks
-  depth-unset zero t b = getD-zeros trackSlots t
+  depth-unset zero t b = getD-zeros slots t
   depth-unset (suc n) t b =
       getD-set-other (depthMarks p n) n t (depth n) 0 (λ (q : t ≡ n). omega arith) ∙ depth-unset n t (omega arith)
 
   -- where no track below n is deep, no figure is above 8
-  pub depths-most : (n t : ℕ) → n ≤ trackSlots → someBelow n (isDeep p) ≡ false → getD (depthMarks p n) t 0 ≤ mostHeight
+  pub depths-most : (n t : ℕ) → n ≤ slots → someBelow n (isDeep p) ≡ false → getD (depthMarks p n) t 0 ≤ mostHeight
   unfolding isDeep
   depths-most n t b h =
       elim (look (ltb t n)) [
@@ -202,7 +202,7 @@ module _ (p : Plan) where
         | inr e ↦ let q = depth-unset n t (ltb-false t n e) in omega arith
       ]
 
-  module _ (few : trackCount p ≤ trackSlots) (lower : (t h : ℕ) → t < trackCount p → host p t ≡ some h → owner p h < t)
+  module _ (few : trackCount p ≤ slots) (lower : (t h : ℕ) → t < trackCount p → host p t ≡ some h → owner p h < t)
       (shallow : someBelow (trackCount p) (isDeep p) ≡ false) where
     depth-hosted : (t h : ℕ) → t < trackCount p → host p t ≡ some h → depth t ≡ suc (depth (owner p h))
     unfolding depthBy

@@ -18,7 +18,7 @@ use Rattle.rules.specs.Acceptance.{mostHeight, badState, badHost, tooHigh}
 use Rattle.rules.proofs.Tests.{look, clash}
 use Rattle.rules.proofs.Folds.{some-not}
 use Rattle.rules.proofs.Acceptance.{optional-some}
-use Rattle.plan.specs.Passes.{trackSlots, stateSlots, noteFirst, noteHost, firstMarks, hostingMarks, depthBy, depthMarks, isDeep}
+use Rattle.plan.specs.Passes.{slots, stateSlots, noteFirst, noteHost, firstMarks, hostingMarks, depthBy, depthMarks, isDeep}
 use Rattle.plan.specs.Holds.{Holds}
 use Rattle.plan.proofs.FieldLaws.{track-count, state-count}
 use Rattle.plan.proofs.Hosting.{host-none, host-some}
@@ -88,7 +88,7 @@ module _ (p : Plan) where
 module _ (bs : List ℕ) (c : Counts) (holds : Holds bs c) where
   -- where 10 passed, in the counts
   pub host-low : (t h : ℕ) → t < c .tracks → h ≡ hostWord (planOf bs c) t → (h ≡ noState → ⊥) → badHost (planOf bs c) t ≡ false
-      → (h < c .states) × (h < stateSlots) × (owner (planOf bs c) h < trackSlots)
+      → (h < c .states) × (h < stateSlots) × (owner (planOf bs c) h < slots)
   host-low t h l e n f =
       let (a, b) = host-passed (planOf bs c) t h e n f in
       let z : h < c .states = rw state-count at a in
@@ -98,7 +98,7 @@ module _ (bs : List ℕ) (c : Counts) (holds : Holds bs c) where
 
   -- where 9 passed, each state's track is a track
   module _ (passed : someBelow (c .states) (badState (planOf bs c)) ≡ false) where
-    pub owner-low : (s : ℕ) → s < c .states → owner (planOf bs c) s < trackSlots
+    pub owner-low : (s : ℕ) → s < c .states → owner (planOf bs c) s < slots
     owner-low s l =
         let b = rw track-count at (owner-passed (planOf bs c) s (some-not (c .states) (badState (planOf bs c)) passed s l)) in
         let n = holds .tracks in

@@ -9,8 +9,8 @@ use Rattle.rules.specs.Plan.{Plan, noState, host, owner}
 use Rattle.rules.specs.Acceptance.{mostHeight}
 
 -- a figure for each of the 32 tracks and for each of the 128 states that there can be
-abbrev pub trackSlots : ℕ
-trackSlots = 32
+abbrev pub slots : ℕ
+slots = 32
 
 abbrev pub stateSlots : ℕ
 stateSlots = 128
@@ -27,7 +27,7 @@ noteHost (some h) ms = set ms h true
 module _ (p : Plan) where
   -- the first state of each track, 65535 where none was met
   unfoldable pub firstMarks : ℕ → List ℕ
-  firstMarks zero = replicate trackSlots noState
+  firstMarks zero = replicate slots noState
   firstMarks (suc s) = noteFirst (firstMarks s) (owner p s) s
 
   -- the states that host a track
@@ -41,7 +41,7 @@ module _ (p : Plan) where
   depthBy ds (some h) = suc (getD ds (owner p h) 0)
 
   unfoldable pub depthMarks : ℕ → List ℕ
-  depthMarks zero = replicate trackSlots 0
+  depthMarks zero = replicate slots 0
   depthMarks (suc t) = set (depthMarks t) t (depthBy (depthMarks t) (host p t))
 
   unfoldable pub isDeep : ℕ → Bool

@@ -26,7 +26,8 @@ use Rattle.rules.proofs.Scopes.{every-in-at, every-in-of, some-in-at, some-in-f
 use Rattle.plan.proofs.FieldLaws.{track-count, state-count}
 use Rattle.plan.proofs.Hosting.{host-none}
 use Rattle.steps.specs.Going.{Accepts}
-use Rattle.steps.specs.Marks.{slots, stateSlots, Marks, setAt, markTurn, marksFrom, openMarks, scopeMarks}
+use Rattle.plan.specs.Passes.{slots, stateSlots}
+use Rattle.steps.specs.Marks.{Marks, setAt, markTurn, marksFrom, openMarks, scopeMarks}
 use Rattle.steps.proofs.Facts.{plan-facts, few-tracks, host-is}
 use Rattle.steps.proofs.Marks.{length-open, open-scopes}
 use Rattle.steps.proofs.Setting.{isPlace, marks-set, none-set, scope-marks}

@@ -4,3 +4,4 @@ pub mod Setting
 pub mod Facts
 pub mod FirstStates
 pub mod Turns
+pub mod Readiness

@@ -20,7 +20,8 @@ use Rattle.rules.proofs.Tests.{look, look-option, none-some}
 use Rattle.rules.proofs.Folds.{some-same}
 use Rattle.rules.proofs.Acceptance.{Accepted}
 use Rattle.rules.proofs.Opening.{wakes-root, wakes-host}
-use Rattle.steps.specs.Marks.{slots, Marks, setHost, wakesAt, wakeMarks, hostOwner, openMarks}
+use Rattle.plan.specs.Passes.{slots}
+use Rattle.steps.specs.Marks.{Marks, setHost, wakesAt, wakeMarks, hostOwner, openMarks}
 use Rattle.steps.proofs.Setting.{isPlace, length-marks, marks-fresh}
 
 module _ (p : Plan) (ok : Accepted p) (few : trackCount p ≤ slots) where

@@ -16,7 +16,8 @@ use Rattle.rules.specs.Plan.{Plan, trackCount, stateCount, host, isIn, someIn}
 use Rattle.rules.proofs.Tests.{look, look-option, or-right}
 use Rattle.rules.proofs.Folds.{some-same}
 use Rattle.rules.proofs.Acceptance.{Accepted}
-use Rattle.steps.specs.Marks.{stateSlots, setAt, markTurn, marksFrom, scopeMarks}
+use Rattle.plan.specs.Passes.{stateSlots}
+use Rattle.steps.specs.Marks.{setAt, markTurn, marksFrom, scopeMarks}
 
 -- the track's place is i
 unfoldable pub isPlace : Option ℕ → ℕ → Bool

@@ -9,14 +9,7 @@ use lib.ListN.{getD, set, replicate}
 use Rattle.rules.specs.Plan.{Plan, noState, optional, host, owner, firstState}
 use Rattle.rules.specs.Ledger.{Ledger, isAwake}
 use Rattle.rules.specs.Opening.{wakesIn}
-
--- a figure for each of the 32 tracks that there can be
-abbrev pub slots : ℕ
-slots = 32
-
--- a figure for each of the 128 states that there can be
-abbrev pub stateSlots : ℕ
-stateSlots = 128
+use Rattle.plan.specs.Passes.{slots, stateSlots}
 
 -- figures below n are as f says
 abbrev pub Marks : {A : Type 0} → A → List A → ℕ → (ℕ → A) → Type 0

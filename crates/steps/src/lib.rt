@@ -3,5 +3,6 @@
 pub mod firsts;
 pub mod opens;
 pub mod reading;
+pub mod ready;
 pub mod scopes;
 pub mod waking;

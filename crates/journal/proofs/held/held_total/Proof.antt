@@ -1,5 +1,6 @@
-use Rattle.journal.proofs.Ready.{summed, same-count}
 -- The sum after t tracks is the definition's at t; a count is a 16-bit number, so the sum fits. Assumes nothing.
+use Rattle.ledger.proofs.ReadTracks.{count-as}
+use Rattle.journal.proofs.Ready.{summed}
 use borrow.Author.Needs.{needs}
 use mathlib.Core.Path.{_≡_, refl}
 use Prim.Native.Nat.{_≤_, _-_, _*_}
@@ -36,7 +37,7 @@ loop-less : tie.Need-loop-less Inv-loop μ-loop
 loop-less c = search needs
 
 loop-again : tie.Need-loop-again Inv-loop μ-loop
-loop-again c = (search needs, search needs, summed (λ u. length (ledgerOf (c .before .before .before .before .before .args .c) (c .before .before .before .before .before .args .ledger .now) u .held)) _ _ _ (c .before .before .before .loop .inv .2) (same-count _ _ (c .before .track .ensures)))
+loop-again c = (search needs, search needs, summed (λ u. length (ledgerOf (c .before .before .before .before .before .args .c) (c .before .before .before .before .before .args .ledger .now) u .held)) _ _ _ (c .before .before .before .loop .inv .2) (count-as _ (c .before .track .ensures)))
 
 returns : tie.Need-returns Inv-loop μ-loop
 returns c = let e : c .before .loop .t ≡ c .before .before .before .args .c .tracks = omega arith in rw e at (c .before .loop .inv .2)

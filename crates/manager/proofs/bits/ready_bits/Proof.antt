@@ -7,7 +7,8 @@ use native.Mathlib.Omega.{arith}
 use Rattle.rules.specs.Plan.{planOf}
 use Rattle.rules.specs.Fire.{mayFire}
 use Rattle.steps.specs.Going.{ledgerOf}
-use Rattle.manager.proofs.BitLaws.{bitsBelow, bits-none, twice, bit-small, bits-fit, bits-yes, bits-no, fire-read, bits-ready}
+use Rattle.steps.proofs.Readiness.{fire-read}
+use Rattle.manager.proofs.BitLaws.{bitsBelow, bits-none, twice, bit-small, bits-fit, bits-yes, bits-no, bits-ready}
 use Rattle.manager.proofs.bits.ready_bits.Statement.{statement}
 use Rattle.manager.proofs.bits.ready_bits.Tie as tie
 
@@ -23,8 +24,8 @@ open-scopes-requires c κs = search needs
 loop-holds : tie.Need-loop-holds Inv-loop μ-loop
 loop-holds c = (search needs, refl, bits-none _)
 
-may-fire-requires : tie.Need-may-fire-requires Inv-loop μ-loop
-may-fire-requires c κs = search needs
+is-ready-requires : tie.Need-is-ready-requires Inv-loop μ-loop
+is-ready-requires c κs = search needs
 
 add-bits : tie.Need-add-bits Inv-loop μ-loop
 add-bits c = let h : c .before .before .before .loop .t ≤ 32 = omega (arith, c .before .before .before .before .before .before .before .pre .1 .few) in omega (arith, bit-small _ _ (c .before .before .before .loop .inv .1) h, bits-fit _ _ _ (c .before .before .before .loop .inv .2) h)
@@ -39,7 +40,7 @@ loop-less : tie.Need-loop-less Inv-loop μ-loop
 loop-less c = search needs
 
 loop-again : tie.Need-loop-again Inv-loop μ-loop
-loop-again c = (search needs, twice _ _ (c .before .before .before .loop .inv .1), ⊎-elim (λ w. w .1 ∙ bits-yes _ _ _ _ (c .before .before .before .loop .inv .2) (c .before .before .before .loop .inv .1) (fire-read _ _ _ _ _ (c .before .before .before .before .before .before .before .pre .0) (c .before .before .before .before .open-scopes .ensures) (search needs) (c .before .may-fire .ensures)) (w .0 .taken)) (λ w. w .1 ∙ bits-no _ _ _ (c .before .before .before .loop .inv .2) (fire-read _ _ _ _ _ (c .before .before .before .before .before .before .before .pre .0) (c .before .before .before .before .open-scopes .ensures) (search needs) (c .before .may-fire .ensures)) (w .0 .left)) (c .if1 .came))
+loop-again c = (search needs, twice _ _ (c .before .before .before .loop .inv .1), ⊎-elim (λ w. w .1 ∙ bits-yes _ _ _ _ (c .before .before .before .loop .inv .2) (c .before .before .before .loop .inv .1) (fire-read _ _ _ _ _ (c .before .before .before .before .before .before .before .pre .0) (c .before .before .before .before .open-scopes .ensures) (search needs) (c .before .is-ready .ensures)) (w .0 .taken)) (λ w. w .1 ∙ bits-no _ _ _ (c .before .before .before .loop .inv .2) (fire-read _ _ _ _ _ (c .before .before .before .before .before .before .before .pre .0) (c .before .before .before .before .open-scopes .ensures) (search needs) (c .before .is-ready .ensures)) (w .0 .left)) (c .if1 .came))
 
 cast-result : tie.Need-cast-result Inv-loop μ-loop
 cast-result c = let h : c .before .loop .t ≤ 32 = omega (arith, c .before .before .before .before .before .pre .1 .few) in omega (arith, bits-fit _ _ _ (c .before .loop .inv .2) h)
@@ -55,7 +56,7 @@ ready-bits-spec =
     μ-loop
     open-scopes-requires
     loop-holds
-    may-fire-requires
+    is-ready-requires
     add-bits
     mul-bit
     add-t

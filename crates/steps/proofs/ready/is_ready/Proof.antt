@@ -4,8 +4,8 @@ use Rattle.rules.specs.Ledger.{isUndoing}
 use Rattle.ledger.proofs.Branches.{holds, fails}
 use Rattle.ledger.proofs.ReadTracks.{mode-as, empty-as, held-as}
 use borrow.Author.Needs.{needs}
-use Rattle.manager.proofs.bits.may_fire.Statement.{statement}
-use Rattle.manager.proofs.bits.may_fire.Tie as tie
+use Rattle.steps.proofs.ready.is_ready.Statement.{statement}
+use Rattle.steps.proofs.ready.is_ready.Tie as tie
 
 track-requires : tie.Need-track-requires
 track-requires c κs = search needs
@@ -25,7 +25,7 @@ array-read-result c = search needs
 returns-3 : tie.Need-returns-3
 returns-3 c = rw (holds (c .before .before .before .is-undoing .ensures ∙ ap isUndoing (mode-as _ (c .before .before .before .before .track .ensures))) (c .before .before .if1 .left), held-as _ (c .before .before .before .before .track .ensures) (c .if2 .left))
 
-pub may-fire-spec : {M : Type 1} → statement M
-may-fire-spec =
+pub is-ready-spec : {M : Type 1} → statement M
+is-ready-spec =
     tie.close
     (tie.spec track-requires is-undoing-requires returns returns-2 array-read-result returns-3)
