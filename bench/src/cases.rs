@@ -63,7 +63,8 @@ impl Size {
     }
 
     /// The first generated plan whose counts of tracks, states and
-    /// transitions lie in the ranges, and whose histories do all the calls.
+    /// transitions lie in the ranges, whose histories do all the calls, and
+    /// that does not run dry.
     fn found(
         name: &'static str,
         tracks: (usize, usize),
@@ -81,6 +82,7 @@ impl Size {
                 && within(size.read.state_count(), states)
                 && within(size.read.transition_count(), transitions)
                 && Call::ALL.iter().all(|&call| size.given(call, 4).len() == 4)
+                && size.stays_lively()
         };
         let mut fitting = sizes.filter(fits);
         fitting.next().expect("plans go on for ever")
@@ -134,20 +136,16 @@ impl Size {
         }
     }
 
-    /// A journal of so many bytes: accepted events that move something, as
-    /// long as there are any, for three quarters of it, a signal, and then
-    /// firings of the lowest ready track.
+    /// A journal of so many bytes: events for three quarters of it, a signal,
+    /// and then firings of the lowest ready track.
     pub fn journal(&self, bytes: usize) -> Vec<u8> {
         let mut journal = Vec::new();
         let mut ledger = automaton::begin(&self.read);
         let mut rng = Rng::for_case(1, 23, 0);
         while journal.len() < bytes / 4 * 3 {
-            let mut events =
-                journals::moving_events(&self.read, &ledger, |s| !self.read.is_final(s));
-            events.retain(|&e| automaton::event(&self.read, &mut ledger.clone(), e).is_ok());
-            let record = Record::Event(rng.pick(&events).unwrap_or(1));
-            journal::perform(&self.read, &mut ledger, record);
-            record.encode(&mut journal);
+            let event = self.lively_event(&mut rng, &ledger);
+            journal::perform(&self.read, &mut ledger, Record::Event(event));
+            Record::Event(event).encode(&mut journal);
         }
         if journal.len() % 4 == 2 {
             Record::Event(1).encode(&mut journal);
@@ -157,6 +155,34 @@ impl Size {
             Record::FireLowest.encode(&mut journal);
         }
         journal
+    }
+
+    /// Whether events still move something after many.
+    fn stays_lively(&self) -> bool {
+        let mut ledger = automaton::begin(&self.read);
+        let mut rng = Rng::for_case(1, 24, 0);
+        (0..400).all(|_| {
+            let event = self.lively_event(&mut rng, &ledger);
+            let done = automaton::event(&self.read, &mut ledger, event);
+            done.is_ok_and(|figures| figures.moved > 0)
+        })
+    }
+
+    /// An event that moves something and is accepted, most often one that
+    /// leaves no more entries held, so that a journal does not run dry soon.
+    fn lively_event(&self, rng: &mut Rng, ledger: &Ledger) -> u16 {
+        let held_after = |event: u16| {
+            let mut after = ledger.clone();
+            let done = automaton::event(&self.read, &mut after, event);
+            (done.is_ok() && !after.is_over()).then(|| after.total_held())
+        };
+        let mut events = journals::moving_events(&self.read, ledger, |_| true);
+        events.retain(|&event| held_after(event).is_some());
+        let held = ledger.total_held();
+        let light = |&event: &u16| held_after(event).is_some_and(|after| after <= held);
+        let light: Vec<u16> = events.iter().copied().filter(light).collect();
+        let light = rng.pick(&light).filter(|_| rng.chance(95));
+        light.or_else(|| rng.pick(&events)).unwrap_or(1)
     }
 }
 
