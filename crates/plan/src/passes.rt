@@ -10,22 +10,10 @@ ghost use Rattle.rules.specs.Fold.{someBelow};
 ghost use Rattle.rules.specs.Plan.{planOf, host};
 ghost use Rattle.rules.specs.Acceptance.{badState, badHost};
 ghost use Rattle.plan.specs.Holds.{Holds};
-ghost use Rattle.plan.specs.Passes.{noteFirst, firstMarks, noteHost, hostingMarks};
+ghost use Rattle.plan.specs.Passes.{firstMarks, noteHost, hostingMarks};
 
-// A state is its track's first if none was met before it.
-fn note_first(firsts: [u16; 32], t: usize, s: usize) -> [u16; 32]
-    requires { ⌜ (t < 32) × (s < 128) ⌝ }
-    ensures { λ r. ⌜ r ≡ noteFirst firsts t s ⌝ }
-{
-    if firsts[t] != NO_STATE {
-        return firsts;
-    }
-    let mut next = firsts;
-    next[t] = s as u16;
-    next
-}
-
-// The first state of each track, 65535 where it has none. Every state's track exists, as 9 has it.
+// The first state of each track, 65535 where it has none: a state is its track's first if none was met before it. Every state's track
+// exists, as 9 has it.
 pub fn first_states(plan: &[u8], c: Counts) -> [u16; 32]
     requires { ⌜ Holds (now plan) c × (someBelow (c .states) (badState (planOf (now plan) c)) ≡ false) ⌝ }
     ensures { λ r. ⌜ r ≡ firstMarks (planOf (now (plan .entry)) c) (c .states) ⌝ }
@@ -35,8 +23,9 @@ pub fn first_states(plan: &[u8], c: Counts) -> [u16; 32]
     let mut s: usize = 0;
     while s < states {
         let t = track_of(plan, c, s) as usize;
-        let next = note_first(firsts, t, s);
-        firsts = next;
+        if firsts[t] == NO_STATE {
+            firsts[t] = s as u16;
+        }
         s += 1;
     }
     firsts

@@ -1,10 +1,11 @@
--- The figures after s turns are the definition's at s. Assumes nothing.
-use mathlib.Core.Path.{_≡_, refl}
+-- The figures after s turns are the definition's at s: a track has its first state already, or this is it. Assumes nothing.
+use mathlib.Core.Path.{_≡_, refl, _∙_}
+use mathlib.Core.Logic.{inl, inr}
 use Prim.Native.Nat.{_≤_, _-_}
 use native.Mathlib.Omega.{arith}
 use Rattle.rules.specs.Plan.{planOf, noState}
 use Rattle.plan.specs.Passes.{firstMarks}
-use Rattle.plan.proofs.PassTurns.{first-more, owner-low}
+use Rattle.plan.proofs.PassTurns.{first-more, owner-low, note-kept, note-set}
 use borrow.Author.Needs.{needs}
 use Rattle.plan.proofs.passes.first_states.Statement.{statement}
 use Rattle.plan.proofs.passes.first_states.Tie as tie
@@ -25,8 +26,20 @@ track-of-requires c κs = search needs
 cast-t : tie.Need-cast-t Inv-loop μ-loop
 cast-t c = search needs
 
-note-first-requires : tie.Need-note-first-requires Inv-loop μ-loop
-note-first-requires c κs = let b = owner-low _ _ (c .before .before .before .before .pre .0) (c .before .before .before .before .pre .1) _ (c .before .loop-test .taken) in let n = c .before .before .before .before .pre .0 .states in (omega arith, omega arith)
+mul-if1 : tie.Need-mul-if1 Inv-loop μ-loop
+mul-if1 c = search needs
+
+array-read-if1 : tie.Need-array-read-if1 Inv-loop μ-loop
+array-read-if1 c = let b = owner-low _ _ (c .before .before .before .before .pre .0) (c .before .before .before .before .pre .1) _ (c .before .loop-test .taken) in omega (arith, b, c .track-of .ensures)
+
+cast-firsts : tie.Need-cast-firsts Inv-loop μ-loop
+cast-firsts c = search needs
+
+mul-firsts : tie.Need-mul-firsts Inv-loop μ-loop
+mul-firsts c = search needs
+
+array-write-firsts : tie.Need-array-write-firsts Inv-loop μ-loop
+array-write-firsts c = let b = owner-low _ _ (c .before .before .before .before .before .pre .0) (c .before .before .before .before .before .pre .1) _ (c .before .before .loop-test .taken) in omega (arith, b, c .before .track-of .ensures)
 
 add-s : tie.Need-add-s Inv-loop μ-loop
 add-s c = search needs
@@ -35,7 +48,15 @@ loop-less : tie.Need-loop-less Inv-loop μ-loop
 loop-less c = search needs
 
 loop-again : tie.Need-loop-again Inv-loop μ-loop
-loop-again c = (search needs, first-more _ _ _ _ _ (c .before .before .before .loop .inv .1) (search needs) (c .note-first .ensures))
+unfolding noState
+loop-again c =
+    let inv = c .before .before .before .loop .inv .1 in (
+      search needs,
+      elim (c .if1 .came) [
+        | inl w ↦ first-more _ _ _ _ _ inv (c .before .track-of .ensures) (w .1 ∙ note-set _ _ _ (w .0 .taken))
+        | inr w ↦ first-more _ _ _ _ _ inv (c .before .track-of .ensures) (w .1 ∙ note-kept _ _ _ (w .0 .left))
+      ],
+    )
 
 returns : tie.Need-returns Inv-loop μ-loop
 returns c = let e : c .before .loop .s ≡ c .before .before .before .args .c .states = omega arith in rw e at (c .before .loop .inv .1)
@@ -49,7 +70,11 @@ first-states-spec =
     loop-holds
     track-of-requires
     cast-t
-    note-first-requires
+    mul-if1
+    array-read-if1
+    cast-firsts
+    mul-firsts
+    array-write-firsts
     add-s
     loop-less
     loop-again
