@@ -17,8 +17,8 @@ use Rattle.rules.specs.Plan.{Plan, planOf, noState, optional, firstState}
 use Rattle.rules.specs.Ledger.{Configuration, Ledger, isAwake, sleeping, written}
 use Rattle.rules.specs.Opening.{fresh, wakes, entered, enter}
 use Rattle.rules.proofs.Tests.{look, clash}
-use Rattle.rules.proofs.Opening.{wakes-same}
-use Rattle.rules.proofs.Stored.{written-same}
+use Rattle.rules.proofs.Opening.{wakes-same, enter-none}
+use Rattle.rules.proofs.Stored.{written-same, written-read}
 use Rattle.rules.proofs.Passes.{upTo}
 use Rattle.plan.proofs.FieldLaws.{track-count}
 use Rattle.steps.specs.Going.{Accepts, ledgerOf}
@@ -151,3 +151,16 @@ module _ (bs : List ℕ) (c : Counts) (acc : Accepts bs c) (t : ℕ) (b : t < c 
             pass-end c ws o turn (entering-fits c ws o firsts to woken) i h e k
             ∙ ap (λ (ms : List Bool). written entryLimit (c .tracks) (λ u. enteredBy firsts to ms u (ledgerOf c ws u)) ws) m
             ∙ deviates ws
+
+-- a firing without a deviation enters nothing, and opens nothing
+pub deviates-not : (bs : List ℕ) (c : Counts) → Accepts bs c → (t s : ℕ) (ws : List ℕ) → Orderly c ws → s ≡ noState
+    → ws ≡ written entryLimit (c .tracks) (enter (planOf bs c) (deviating t s) (ledgerOf c ws)) ws
+deviates-not bs c acc t s ws o e =
+    sym (ap (λ (m : Ledger). written entryLimit (c .tracks) m ws) (enter-none (planOf bs c) (plan-facts bs c acc) (deviating t s) (ledgerOf c ws) to-none)
+    ∙ unchanged)
+  where
+    to-none : (u : ℕ) → deviating t s u ≡ none
+    to-none u = unfold deviating optional in elim (look (eqb u t)) [ inl q ↦ rw (q, eq-eqb s noState e) | inr q ↦ rw q ]
+
+    unchanged : written entryLimit (c .tracks) (ledgerOf c ws) ws ≡ ws
+    unchanged = unfold ledgerOf in written-read entryLimit (c .tracks) ws (o .tidy) (o .roomy .room)

@@ -72,6 +72,9 @@ fn deviate(plan: &[u8], c: Counts, ledger: &mut [u16], t: usize, s: u16)
     requires { ⌜ Accepts (now plan) c × Orderly c (now ledger) × (t < c .tracks) × Sleepers (planOf (now plan) c) (deviating t s) (ledgerOf c (now ledger)) ⌝ }
     ensures { λ _. ⌜ now (ledger .exit) ≡ written entryLimit (c .tracks) (enter (planOf (now (plan .entry)) c) (deviating t s) (ledgerOf c (now (ledger .entry)))) (now (ledger .entry)) ⌝ }
 {
+    if s == NO_STATE {
+        return;
+    }
     let firsts = firsts::first_states(plan, c);
     let mut to = [NO_STATE; 32];
     to[t] = s;

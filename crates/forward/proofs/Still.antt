@@ -10,14 +10,13 @@ use native.Mathlib.Omega.{arith}
 use lib.Dec.{ltb, eqb}
 use borrow.Author.Tests.{ltb-true, ltb-false, eqb-true, eqb-false}
 use Rattle.rules.specs.Fold.{someBelow, countBelow}
-use Rattle.rules.specs.Plan.{Plan, trackCount, stateCount, host, owner}
+use Rattle.rules.specs.Plan.{Plan, trackCount, stateCount}
 use Rattle.rules.specs.Ledger.{Ledger, isAwake, isForward, sleeping}
-use Rattle.rules.specs.Opening.{wakes, enter}
 use Rattle.rules.specs.Event.{destinationOf, installedBy, hasCode, isMove, move, moves, moved, isClosing, closesScope, closed, closings, finished, isReplaced, isFull, afterEvent}
-use Rattle.rules.proofs.Tests.{look, look-option, clash}
+use Rattle.rules.proofs.Tests.{look, clash}
 use Rattle.rules.proofs.Folds.{some-none}
 use Rattle.rules.proofs.Acceptance.{Accepted}
-use Rattle.rules.proofs.Opening.{wakes-root, wakes-woken, enter-kept}
+use Rattle.rules.proofs.Opening.{enter-none}
 use Rattle.rules.proofs.Closing.{closed-steady}
 use Rattle.rules.proofs.Soundness.{Live}
 
@@ -65,23 +64,11 @@ module _ (p : Plan) (l : Ledger) (e : ℕ) where
     unfolding destinationOf
     goes t = rw (still t, destinationOf)
 
-    wakes-none : (n t : ℕ) → t < n → wakes p (λ t. destinationOf p (move p l e t)) t ≡ false
-    wakes-none zero t k = absurd (not-suc-le-zero k)
-    wakes-none (suc n) t k =
-        elim (look-option (host p t)) [
-          | inl q ↦ wakes-root p ok (λ t. destinationOf p (move p l e t)) t q
-          | inr q ↦
-              let d = ok .lower t (q .0) (q .1) in
-              wakes-woken p ok (λ t. destinationOf p (move p l e t)) t (q .0) (q .1) (goes (owner p (q .0)))
-              ∙ rw (wakes-none n (owner p (q .0)) (omega arith))
-        ]
-
     pub moved-same : moved p l e ≡ l
     unfolding moved installedBy
     moved-same =
-        fun-ext (λ t.
-        enter-kept p ok (λ t. destinationOf p (move p l e t)) (λ t. installedBy p (move p l e t) (l t)) t (goes t) (wakes-none (suc t) t (omega arith))
-        ∙ rw (still t, installedBy))
+        enter-none p ok (λ t. destinationOf p (move p l e t)) (λ t. installedBy p (move p l e t) (l t)) goes
+        ∙ fun-ext (λ t. rw (still t, installedBy))
 
     closes-not : (t : ℕ) → closesScope p l t ≡ false
     unfolding closesScope

@@ -1,6 +1,6 @@
 -- Opening, one level at a time: whether a track wakes follows from its host and from whether its host's track wakes, whose number is
 -- lower; so one pass up the tracks opens everything, and the tracks of a scope wake together. Assumes nothing.
-use mathlib.Core.Path.{_≡_, refl, sym, ap, ap₂, _∙_, subst}
+use mathlib.Core.Path.{_≡_, refl, sym, ap, ap₂, _∙_, subst, fun-ext}
 use mathlib.Core.Logic.{inl, inr}
 use mathlib.Core.Bool.{Bool, true, false, cond, _&&_}
 use mathlib.Core.Option.{Option, none, some}
@@ -43,6 +43,16 @@ module _ (p : Plan) (ok : Accepted p) where
     unfolding wakesIn
     wakes-woken t h e f = wakes-host t h e ∙ (rw (f, wakesIn))
 
+    -- where no track enters a state none wakes
+    wakes-none : ((u : ℕ) → to u ≡ none) → (t : ℕ) → wakes p to t ≡ false
+    wakes-none h =
+        strong (λ t. wakes p to t ≡ false)
+        (λ t below.
+        elim (look-option (host p t)) [
+          | inl e ↦ wakes-root t e
+          | inr e ↦ wakes-woken t (e .0) (e .1) (h (owner p (e .0))) ∙ rw (below (owner p (e .0)) (ok .lower t (e .0) (e .1)))
+        ])
+
     module _ (l : Ledger) where
       -- a track that enters a state, one that wakes, and one that does neither
       pub enter-to : (t s : ℕ) → to t ≡ some s → enter p to l t ≡ record { mode = Forward; state = s; held = l t .held }
@@ -56,6 +66,10 @@ module _ (p : Plan) (ok : Accepted p) where
       pub enter-kept : (t : ℕ) → to t ≡ none → wakes p to t ≡ false → enter p to l t ≡ l t
       unfolding enter entered
       enter-kept t e w = rw (e, entered, w)
+
+      -- where no track enters a state nothing changes
+      pub enter-none : ((u : ℕ) → to u ≡ none) → enter p to l ≡ l
+      enter-none h = fun-ext (λ t. enter-kept t (h t) (wakes-none h t))
 
   -- what wakes depends on the states that tracks of the plan enter alone
   pub wakes-same : (to at : ℕ → Option ℕ) → ((u : ℕ) → u < trackCount p → to u ≡ at u) → (t : ℕ) → wakes p to t ≡ wakes p at t
