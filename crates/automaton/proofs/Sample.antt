@@ -2,13 +2,12 @@
 use mathlib.Core.Path.{_≡_, refl}
 use mathlib.Core.List.{List, [], _∷_}
 use Prim.Native.Nat.{ℕ}
-use lib.ListN.{replicate}
 use Rattle.rules.specs.Plan.{Plan, planOf, isRoot}
 use Rattle.rules.specs.Layout.{entryLimit}
 use Rattle.rules.specs.Ledger.{Ledger}
 use Rattle.rules.specs.Call.{Call, event, signal, fire, nothing, figures}
 use Rattle.rules.specs.ReferenceRun.{ledgerAfter}
-use Rattle.runs.specs.SamplePlan.{planP}
+use Rattle.runs.specs.SamplePlan.{planP, lentFor}
 use Rattle.runs.specs.Computing.{computing}
 use Rattle.automaton.specs.Listing.{listedFrom, listed, listedDown}
 use Rattle.automaton.specs.Configuration.{forward, backward, Comp, Basic, Nest, Vect, pushComp, pushDev, initBy, gotoTo, goto, init}
@@ -29,7 +28,7 @@ s = signal nothing
 
 -- the ledger after begin and a list of calls
 abbrev ledger : List Call → Ledger
-ledger cs = ledgerAfter entryLimit planP P (replicate 203 7) cs
+ledger cs = ledgerAfter entryLimit planP P (lentFor 3) cs
 
 -- Begin: the root in its first state.
 pub begun-view : view P (ledger []) ≡ Vect (Basic 0 0 forward [] ∷ [])

@@ -6,7 +6,7 @@ use mathlib.Core.Bool.{true, not, _||_}
 use mathlib.Core.List.{List, [], _∷_}
 use Prim.Native.Nat.{ℕ, _+_, _<_}
 use native.Mathlib.Omega.{arith}
-use lib.ListN.{replicate, List·getD-eq-default}
+use lib.ListN.{List·getD-eq-default}
 use lib.Dec.{eqb, ltb}
 use borrow.Author.Tests.{eqb-true, eq-eqb, ltb-true, ltb-false}
 use Rattle.rules.specs.Fold.{everyBelow}
@@ -15,7 +15,7 @@ use Rattle.rules.specs.Layout.{entryLimit}
 use Rattle.rules.specs.Call.{Call, event, signal, fire, nothing}
 use Rattle.rules.proofs.Tests.{look, implies}
 use Rattle.rules.proofs.Folds.{every-at}
-use Rattle.runs.specs.SamplePlan.{bytesOf}
+use Rattle.runs.specs.SamplePlan.{bytesOf, lentFor}
 use Rattle.runs.specs.Computing.{computing}
 use Rattle.automaton.specs.Listing.{listedFrom, listed, listedDown}
 use Rattle.automaton.specs.Semantics.{trace}
@@ -110,10 +110,10 @@ f t = fire (record { track = t })
 abbrev calls : List Call
 calls = e 10 ∷ e 11 ∷ e 12 ∷ signal nothing ∷ f 1 ∷ f 2 ∷ f 0 ∷ []
 
-pub stringQ : projected 0 (actsAfter entryLimit planQ Q (replicate 203 7) calls) ≡ activity 10 ∷ action 50 ∷ []
+pub stringQ : projected 0 (actsAfter entryLimit planQ Q (lentFor 3) calls) ≡ activity 10 ∷ action 50 ∷ []
 unfolding computing listedFrom listed listedDown isWithin leavesScope isGoing abandonings deviating movings closers turners actsOf made actsFrom actsAfter trace symbol projected
 stringQ = refl
 
-pub cancelledQ : cancOut comp (projected 0 (actsAfter entryLimit planQ Q (replicate 203 7) calls)) ≡ []
+pub cancelledQ : cancOut comp (projected 0 (actsAfter entryLimit planQ Q (lentFor 3) calls)) ≡ []
 unfolding leftOf leftAfter isPair onto cancOut
 cancelledQ = ap (cancOut comp) stringQ

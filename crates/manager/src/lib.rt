@@ -1,8 +1,8 @@
 // The manager's calls. Each is given the plan's bytes and the lent ledger; none has a `requires`. An answer is the result with its figures
 // or a refusal with its number, and a refused call changes no word.
-pub mod bits;
+mod bits;
 pub mod opening;
-pub mod verify;
+mod verify;
 
 use ledger::layout;
 use ledger::layout::ENTRY_WIDTH;

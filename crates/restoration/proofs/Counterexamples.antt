@@ -7,7 +7,7 @@ use mathlib.Core.List.{List, [], _∷_}
 use mathlib.Core.Option.{some}
 use Prim.Native.Nat.{ℕ, zero, suc, _+_, _-_, _<_}
 use native.Mathlib.Omega.{arith}
-use lib.ListN.{length, replicate}
+use lib.ListN.{length}
 use lib.Dec.{eqb}
 use Rattle.rules.specs.declared.Counts.{Counts}
 use Rattle.rules.specs.Plan.{Plan, planOf, trackCount, transition, host, owner, replacement, isAbove}
@@ -19,7 +19,7 @@ use Rattle.rules.specs.Books.{Apart, Deed, change, retraction, replacing, act, 
 use Rattle.rules.specs.ReferenceRun.{bookedCall, booked, booksFrom, booksAfter, ledgerAfter, AllWithdrawn}
 use Rattle.rules.proofs.Tests.{clash, none-some}
 use Rattle.rules.proofs.Acceptance.{accepts}
-use Rattle.runs.specs.SamplePlan.{bytesOf}
+use Rattle.runs.specs.SamplePlan.{bytesOf, lentFor}
 use Rattle.runs.specs.Computing.{computing}
 use Rattle.restoration.specs.LenientBooks.{Lenient, freelyCall, freelyBooked, freely, Claim, noneOf, onlyReal, allAsked, withoutNothing, undoneWhere, replacedWhere, withoutCommuting}
 use Rattle.restoration.proofs.Restoration.{restored}
@@ -133,7 +133,7 @@ uncounted =
       commute = λ h t u a d e b. apart-C t u a d e;
     }
 
-withdrawn-C : AllWithdrawn C (ledgerAfter entryLimit planC C (replicate 67 0) calls)
+withdrawn-C : AllWithdrawn C (ledgerAfter entryLimit planC C (lentFor 1) calls)
 unfolding computing planC
 withdrawn-C zero l r = record { undoing = refl; empty = refl; shut = refl }
 withdrawn-C (suc t) l r = absurd (omega arith)
@@ -142,13 +142,13 @@ withdrawn-C (suc t) l r = absurd (omega arith)
 pub nothing-needed : Claim withoutNothing → ⊥
 unfolding computing planC uncounted freely freelyBooked freelyCall act
 nothing-needed claim =
-    let z : _≡_ {A = ℕ} 1 0 = claim planC countsC reads-C uncounted (replicate 67 0) calls refl withdrawn-C 0 in omega arith
+    let z : _≡_ {A = ℕ} 1 0 = claim planC countsC reads-C uncounted (lentFor 1) calls refl withdrawn-C 0 in omega arith
 
 -- "each transition's code undo its change": where it is asked of no code 0, and so where it is not asked at all
 undo-asked : (f : ℕ → Bool) → f 0 ≡ false → Claim (undoneWhere f) → ⊥
 unfolding computing planC counted freely freelyBooked freelyCall act
 undo-asked f e claim =
-    let z : _≡_ {A = ℕ} 1 0 = claim planC countsC reads-C (counted f e) (replicate 67 0) calls refl withdrawn-C 0 in omega arith
+    let z : _≡_ {A = ℕ} 1 0 = claim planC countsC reads-C (counted f e) (lentFor 1) calls refl withdrawn-C 0 in omega arith
 
 pub code-zero-needed : Claim (undoneWhere onlyReal) → ⊥
 code-zero-needed = undo-asked onlyReal refl
@@ -217,9 +217,9 @@ dropped f z =
 undo-run-asked : (f : ℕ → Bool) → f 0 ≡ false → Claim (replacedWhere f) → ⊥
 unfolding computing planR dropped freely freelyBooked freelyCall act
 undo-run-asked f e claim =
-    let z : _≡_ {A = ℕ} 1 0 = claim planR countsR reads-R (dropped f e) (replicate 134 0) calls refl withdrawn 0 in omega arith
+    let z : _≡_ {A = ℕ} 1 0 = claim planR countsR reads-R (dropped f e) (lentFor 2) calls refl withdrawn 0 in omega arith
   where
-    withdrawn : AllWithdrawn R (ledgerAfter entryLimit planR R (replicate 134 0) calls)
+    withdrawn : AllWithdrawn R (ledgerAfter entryLimit planR R (lentFor 2) calls)
     withdrawn zero l r = record { undoing = refl; empty = refl; shut = refl }
     withdrawn (suc zero) l r = clash r refl
     withdrawn (suc (suc t)) l r = absurd (omega arith)
@@ -283,13 +283,13 @@ piled =
 pub commute-needed : Claim withoutCommuting → ⊥
 unfolding computing planW piled unpiled freely freelyBooked freelyCall act
 commute-needed claim =
-    let z : _≡_ {A = List ℕ} (0 ∷ []) [] = claim planW countsW reads-W piled (replicate 134 0) made refl withdrawn [] in
+    let z : _≡_ {A = List ℕ} (0 ∷ []) [] = claim planW countsW reads-W piled (lentFor 2) made refl withdrawn [] in
     let y : _≡_ {A = ℕ} 1 0 = ap length z in omega arith
   where
     made : List Call
     made = event (record { event = 1 }) ∷ signal nothing ∷ fire (record { track = 0 }) ∷ fire (record { track = 1 }) ∷ []
 
-    withdrawn : AllWithdrawn W (ledgerAfter entryLimit planW W (replicate 134 0) made)
+    withdrawn : AllWithdrawn W (ledgerAfter entryLimit planW W (lentFor 2) made)
     withdrawn zero l r = record { undoing = refl; empty = refl; shut = refl }
     withdrawn (suc zero) l r = record { undoing = refl; empty = refl; shut = refl }
     withdrawn (suc (suc t)) l r = absurd (omega arith)

@@ -4,14 +4,13 @@ use mathlib.Core.Path.{_≡_, refl, sym, ap, _∙_, subst}
 use mathlib.Core.List.{List, [], _∷_}
 use Prim.Native.Nat.{ℕ, zero, suc, _+_, _-_}
 use native.Mathlib.Omega.{arith}
-use lib.ListN.{replicate}
 use Rattle.rules.specs.Plan.{transition, owner, mover}
 use Rattle.rules.specs.Layout.{entryLimit}
 use Rattle.rules.specs.Call.{Call, event, signal, fire, nothing, done, beginOutcome}
 use Rattle.rules.specs.Books.{Apart, Deed, change, retraction, replacing, does, act, Books}
 use Rattle.rules.specs.ReferenceRun.{bookedCall, booked, booksFrom, booksAfter, ledgerAfter, AllWithdrawn}
 use Rattle.rules.proofs.Tests.{clash}
-use Rattle.runs.specs.SamplePlan.{planP}
+use Rattle.runs.specs.SamplePlan.{planP, lentFor}
 use Rattle.runs.specs.Computing.{computing}
 use Rattle.restoration.specs.SampleAccount.{countsP, P, Account, raised, lowered}
 use Rattle.restoration.proofs.SampleBooks.{accepts-P, same, five, hosts-P, undo-P, undo-run-P}
@@ -109,7 +108,7 @@ booksP limit =
 
 -- The run.
 abbrev lent : List ℕ
-lent = replicate 203 7
+lent = lentFor 3
 
 abbrev e : ℕ → Call
 e n = event (record { event = n })

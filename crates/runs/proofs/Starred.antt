@@ -4,7 +4,6 @@ use mathlib.Core.Path.{_≡_, refl}
 use mathlib.Core.Bool.{true, false}
 use mathlib.Core.List.{List, [], _∷_, _++_}
 use Prim.Native.Nat.{ℕ}
-use lib.ListN.{replicate}
 use Rattle.rules.specs.declared.Counts.{Counts}
 use Rattle.rules.specs.Plan.{Plan, planOf}
 use Rattle.rules.specs.Acceptance.{accepted, readPlan}
@@ -15,12 +14,11 @@ use Rattle.rules.specs.Text.{ascii}
 use Rattle.rules.specs.Transcript.{transcript}
 use Rattle.rules.specs.Call.{Answer, refusal, done, Call, event, signal, fire, nothing, beginOutcome, readyOutcome, entriesPart}
 use Rattle.rules.specs.ReferenceRun.{wordsAfter, answersAfter, ledgerAfter}
-use Rattle.runs.specs.SamplePlan.{bytesOf, planP, journalP}
+use Rattle.runs.specs.SamplePlan.{bytesOf, planP, journalP, lentFor}
 use Rattle.runs.specs.Computing.{computing}
 
--- a lent ledger with two words more than three tracks need, whatever it held
 abbrev lent : List ℕ
-lent = replicate 203 7
+lent = lentFor 3
 
 abbrev countsP : Counts
 countsP = record { tracks = 3; states = 8; transitions = 5 }

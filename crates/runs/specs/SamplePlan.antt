@@ -1,6 +1,8 @@
--- The paper's sample plan P and its journal, as bytes. Assumes nothing.
+-- The paper's sample plan P and its journal, as bytes, and a ledger to lend. Assumes nothing.
 use mathlib.Core.List.{List, [], _∷_}
-use Prim.Native.Nat.{ℕ, _/_, _%_}
+use Prim.Native.Nat.{ℕ, _+_, _/_, _%_}
+use lib.ListN.{replicate}
+use Rattle.rules.specs.Layout.{entryLimit, wordCount}
 
 -- the bytes of 16-bit little-endian numbers
 unfoldable pub bytesOf : List ℕ → List ℕ
@@ -37,3 +39,7 @@ journalP =
     ∷ 4 ∷ 17
     ∷ 4 ∷ 19 ∷ 4 ∷ 19 ∷ 4 ∷ 19 ∷ 4 ∷ 19
     ∷ [])
+
+-- a lent ledger with two words more than so many tracks need, whatever it held
+unfoldable pub lentFor : ℕ → List ℕ
+lentFor tracks = replicate (wordCount entryLimit tracks + 2) 7
