@@ -1,28 +1,26 @@
 -- An event read off the ledger before the call. A mover has no open scope, so what wakes was asleep and what closes was open before; a
 -- scope therefore closes exactly if its tracks are forward and each one's next state is final. Assumes nothing.
-use mathlib.Core.Path.{_≡_, refl, sym, ap, ap₂, _∙_, subst}
+use mathlib.Core.Path.{_≡_, refl, sym, ap, _∙_, subst}
 use mathlib.Core.Logic.{_⊎_, inl, inr, ⊎-elim}
-use mathlib.Core.Bool.{Bool, true, false, cond, not, _&&_, _||_}
+use mathlib.Core.Bool.{true, false, not, _&&_, _||_}
 use mathlib.Core.Option.{Option, none, some}
-use mathlib.Core.List.{List, []}
 use Prim.Native.Nat.{ℕ, _<_, _≤_}
 use lib.Dec.{eqb, ltb}
 use borrow.Author.Tests.{eqb-true, not-true, ltb-true, ltb-false}
 use Rattle.rules.specs.declared.Mode.{Mode}
 use Rattle.rules.specs.declared.Mode.the-variants.{Asleep, Forward, Undoing}
 use Rattle.rules.specs.Fold.{everyBelow}
-use Rattle.rules.specs.Plan.{Plan, trackCount, stateCount, noState, host, owner, transition, mover, replacement, isRoot, isFinal, isStateOf, isIn, isHostedBy, everyIn, firstState, transitionFor}
+use Rattle.rules.specs.Plan.{Plan, trackCount, stateCount, host, owner, transition, mover, isFinal, isStateOf, isHostedBy, everyIn, firstState, transitionFor}
 use Rattle.rules.specs.Ledger.{Configuration, Ledger, isAwake, isForward, sleeping}
 use Rattle.rules.specs.Scope.{isOpen, hasOpenScope}
-use Rattle.rules.specs.Opening.{fresh, wakes, enter}
-use Rattle.rules.specs.Event.{install, installed, destinationOf, installedBy, move, moved, isClosing, isClosed, closesScope, closed, isFinishing, finished, afterEvent}
-use Rattle.forward.specs.Next.{nextOf, nextState, allFinalNext, closesNext, closedNext, finishesNext}
+use Rattle.rules.specs.Opening.{fresh, wakes}
+use Rattle.rules.specs.Event.{install, installed, destinationOf, installedBy, move, moved, isClosing, closesScope}
+use Rattle.forward.specs.Next.{nextOf, nextState, allFinalNext, closesNext}
 use Rattle.rules.proofs.Tests.{look, look-option, clash, none-some, refuted, and-true, and-both, implies, implied, strong}
-use Rattle.rules.proofs.Folds.{every-at, every-of, every-same}
+use Rattle.rules.proofs.Folds.{every-at, every-of}
 use Rattle.rules.proofs.Acceptance.{Accepted, transition-for}
-use Rattle.rules.proofs.Scopes.{in-host, host-in, by-host, host-by, every-in-at, every-in-of, every-in-same, some-in-same, open-at, open-find, shut-at, busy-at, busy-find, free-at, not-root}
-use Rattle.rules.proofs.Opening.{wakes-root, wakes-entered, wakes-woken, enter-to, enter-woken, enter-kept}
-use Rattle.rules.proofs.Closing.{closing-asleep, closed-host, closed-root, closed-asleep, closed-replaced, closed-kept}
+use Rattle.rules.proofs.Scopes.{in-host, host-in, by-host, host-by, every-in-at, every-in-of, open-at, open-find, shut-at, busy-at, busy-find, free-at}
+use Rattle.rules.proofs.Opening.{wakes-root, wakes-woken, enter-to, enter-woken, enter-kept}
 use Rattle.rules.proofs.Soundness.{Live}
 
 pub forward-awake : (m : Mode) → isForward m ≡ true → isAwake m ≡ true

@@ -1,29 +1,28 @@
 -- An event's settlings, its refusal 21 and its figures, on the ledger before the call: what closes and what finishes is known from the
 -- next states, and each closing scope has one track that hosts it. Assumes nothing.
-use mathlib.Core.Path.{_≡_, refl, sym, ap, ap₂, _∙_, subst}
-use mathlib.Core.Logic.{_⊎_, inl, inr, ⊎-elim}
-use mathlib.Core.Bool.{Bool, true, false, cond, not, _&&_, _||_}
+use mathlib.Core.Path.{_≡_, refl, sym, ap, ap₂, _∙_}
+use mathlib.Core.Logic.{inl, inr}
+use mathlib.Core.Bool.{true, false, cond, not, _&&_, _||_}
 use mathlib.Core.Option.{Option, none, some}
 use Prim.Native.Nat.{ℕ, _<_, _≤_}
 use lib.Dec.{eqb, ltb, leb}
 use lib.ListN.{length}
 use borrow.Author.Tests.{ltb-true}
-use Rattle.rules.specs.declared.Mode.the-variants.{Forward}
-use Rattle.rules.specs.Fold.{someBelow, everyBelow, countBelow}
-use Rattle.rules.specs.Plan.{Plan, trackCount, stateCount, noState, host, owner, transition, replacement, isRoot, isFinal, isStateOf}
+use Rattle.rules.specs.Fold.{someBelow, countBelow}
+use Rattle.rules.specs.Plan.{Plan, trackCount, stateCount, noState, host, owner, replacement, isRoot, isFinal, isStateOf}
 use Rattle.rules.specs.Ledger.{Configuration, Ledger, isAwake, isForward, sleeping}
 use Rattle.rules.specs.Scope.{isOpen, hasOpenScope}
-use Rattle.rules.specs.Opening.{fresh, wakes}
-use Rattle.rules.specs.Event.{install, installed, destinationOf, hasCode, move, moved, isClosing, isClosed, closesScope, closed, closings, isFinishing, finished, isReplaced, isFull, afterEvent}
-use Rattle.rules.proofs.Tests.{look, look-option, clash, refuted, and-true, and-both}
+use Rattle.rules.specs.Opening.{wakes}
+use Rattle.rules.specs.Event.{installed, destinationOf, hasCode, move, moved, isClosing, isClosed, closesScope, closed, closings, isFinishing, finished, isReplaced, isFull, afterEvent}
+use Rattle.rules.proofs.Tests.{look, look-option, clash, refuted, and-true}
 use Rattle.rules.proofs.Folds.{every-same, some-same}
-use Rattle.rules.proofs.Counting.{Pairing, count-pairs}
+use Rattle.rules.proofs.Counting.{count-pairs}
 use Rattle.rules.proofs.Acceptance.{Accepted}
-use Rattle.rules.proofs.Scopes.{root-none, open-at, open-find, shut-at, busy-find}
+use Rattle.rules.proofs.Scopes.{root-none, open-find, shut-at}
 use Rattle.rules.proofs.Closing.{closed-host, closed-root, closed-asleep, closed-replaced, closed-kept, closed-alike}
 use Rattle.rules.proofs.Soundness.{Live}
 use Rattle.forward.specs.Next.{nextOf, nextState, allFinalNext, closesNext, closedNext, finishesNext, givenNext, nextBy, nextLedger}
-use Rattle.forward.proofs.Moves.{forward-awake, Moves, mover-facts, woken-asleep, moved-mover, moved-woken, moved-kept, moved-awake, moved-own, is-owner, shut-stays, open-closes, closes-before}
+use Rattle.forward.proofs.Moves.{forward-awake, mover-facts, woken-asleep, moved-mover, moved-woken, moved-kept, moved-awake, is-owner, shut-stays, open-closes, closes-before}
 
 module _ (p : Plan) (ok : Accepted p) (l : Ledger) (live : Live p l) (low : (t : ℕ) → trackCount p ≤ t → l t ≡ sleeping) (event : ℕ) where
   abbrev m : Ledger

@@ -1,18 +1,18 @@
 -- Where no track moves, a live ledger stays as it is: none enters a state, so none wakes; closing and finish are not due before the event
 -- and so not after it; no entry is given. Assumes nothing.
-use mathlib.Core.Path.{_≡_, refl, sym, ap, _∙_, fun-ext}
+use mathlib.Core.Path.{_≡_, refl, ap, _∙_, fun-ext}
 use mathlib.Core.Logic.{inl, inr}
-use mathlib.Core.Bool.{Bool, true, false, cond, _&&_, _||_}
+use mathlib.Core.Bool.{Bool, true, false, cond, _&&_}
 use mathlib.Core.Option.{Option, none, some}
 use Prim.Native.Nat.{ℕ, zero, suc, _+_, _<_, _≤_}
 use native.Mathlib.Nat.{not-suc-le-zero}
 use native.Mathlib.Omega.{arith}
 use lib.Dec.{ltb, eqb}
 use borrow.Author.Tests.{ltb-true, ltb-false, eqb-true, eqb-false}
-use Rattle.rules.specs.Fold.{someBelow, countBelow}
+use Rattle.rules.specs.Fold.{countBelow}
 use Rattle.rules.specs.Plan.{Plan, trackCount, stateCount}
 use Rattle.rules.specs.Ledger.{Ledger, isAwake, isForward, sleeping}
-use Rattle.rules.specs.Event.{destinationOf, installedBy, hasCode, isMove, move, moves, moved, isClosing, closesScope, closed, closings, finished, isReplaced, isFull, afterEvent}
+use Rattle.rules.specs.Event.{destinationOf, installedBy, hasCode, isMove, move, moves, moved, isClosing, closesScope, closings, finished, isReplaced, isFull, afterEvent}
 use Rattle.rules.proofs.Tests.{look, clash}
 use Rattle.rules.proofs.Folds.{some-none}
 use Rattle.rules.proofs.Acceptance.{Accepted}

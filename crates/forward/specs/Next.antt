@@ -1,5 +1,5 @@
 -- What an event will do, read off the ledger before the call: no word is written before every refusal is ruled out. Assumes nothing.
-use mathlib.Core.Bool.{Bool, true, false, cond, not, _&&_, _||_}
+use mathlib.Core.Bool.{Bool, false, cond, not, _&&_, _||_}
 use mathlib.Core.Option.{Option, none, some}
 use Prim.Native.Nat.{ℕ}
 use Rattle.rules.specs.Fold.{everyBelow}

@@ -12,7 +12,6 @@ use borrow.Author.Tests.{le-leb, lt-leb, lt-ltb, le-ltb, eq-eqb, ne-eqb, leb-tru
 use Rattle.rules.specs.Record.{word, sizeAt, kindAt}
 use Rattle.rules.specs.Journal.{Entered, ended, broken, journalLength, isBroken, recordOf, enteredAt}
 use Rattle.rules.proofs.Tests.{look, or-right, or-false}
-use Rattle.journal.specs.declared.record.Record.{Record}
 use Rattle.journal.specs.declared.record.Record.the-variants.{Event, Signal, Fire, FireLowest}
 use Rattle.journal.specs.Entered.{entered, sizeOf}
 

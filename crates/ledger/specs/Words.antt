@@ -1,8 +1,7 @@
 -- The words of one track, read and written. Assumes nothing.
 use mathlib.Core.List.{List, _++_}
 use Prim.Native.Nat.{ℕ, suc, pred, _+_, _*_, _<_, _≤_}
-use lib.ListN.{length, getD, set, take, drop, replicate}
-use Rattle.rules.specs.declared.Mode.{Mode}
+use lib.ListN.{length, set, take, drop, replicate}
 use Rattle.rules.specs.declared.Track.{Track}
 use Rattle.rules.specs.Layout.{entryLimit, statePlace, countPlace, entryWidth, deviationPlace, trackWidth, trackPlace, entriesPlace, wordCount}
 use Rattle.rules.specs.Ledger.{Configuration, modeWord, configurationAt}

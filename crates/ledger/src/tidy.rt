@@ -8,7 +8,7 @@ use crate::layout::TRACK_WIDTH;
 ghost use mathlib.Core.Path.{_≡_};
 ghost use Prim.Native.Nat.{_+_, _≤_, _<_};
 ghost use lib.ListN.{length, getD};
-ghost use Rattle.rules.specs.Layout.{entryLimit, trackWidth, headWords};
+ghost use Rattle.rules.specs.Layout.{entryLimit, trackWidth};
 ghost use Rattle.rules.specs.Soundness.{goodMode, goodCount, unusedZero, asleepZero, isTidy, areTidy};
 ghost use Rattle.ledger.specs.Words.{Room};
 

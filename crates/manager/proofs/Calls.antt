@@ -1,14 +1,14 @@
 -- Event, signal and fire after the checks: refused, the outcome is the checks' number; passed, the step starts on what they establish.
 -- Assumes nothing.
 use mathlib.Core.Path.{_≡_, refl}
-use mathlib.Core.List.{List, _++_}
+use mathlib.Core.List.{List}
 use Prim.Native.Nat.{ℕ}
 use Rattle.rules.specs.declared.Counts.{Counts}
 use Rattle.rules.specs.Plan.{trackCount}
 use Rattle.rules.specs.Acceptance.{turnedBack, accepted}
 use Rattle.rules.specs.Layout.{entryLimit}
 use Rattle.rules.specs.Ledger.{ledgerAt, written}
-use Rattle.rules.specs.Call.{refusal, done, Outcome, Call, ledgerRefusals, callRefusals, figures, after, callOutcome}
+use Rattle.rules.specs.Call.{refusal, done, Call, ledgerRefusals, callRefusals, figures, after, callOutcome}
 use Rattle.steps.specs.Going.{Checked}
 use Rattle.manager.specs.Checked.{checked}
 use Rattle.manager.proofs.Checks.{checked-facts, lent-accepts, lent-roomy, refused-outcome}

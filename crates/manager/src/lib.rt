@@ -20,7 +20,6 @@ ghost use Rattle.rules.specs.Layout.{entryLimit};
 ghost use Rattle.rules.specs.Call.{nothing, beginOutcome, eventOutcome, signalOutcome, fireOutcome, readyOutcome, entriesPart, Meets};
 ghost use Rattle.rules.specs.Answers.{beginTold, eventTold, signalTold, fireTold, readyTold};
 ghost use Rattle.manager.specs.Checked.{Span};
-ghost use Rattle.steps.specs.Going.{Accepts, Roomy};
 
 // Overwrites the ledger: roots forward in their first states and holding nothing, others asleep.
 pub fn begin(plan: &[u8], ledger: &mut [u16]) -> BeginAnswer

@@ -1,20 +1,20 @@
 -- What the reader's passes work out: a turn sets one figure and leaves the others, so after n turns a figure is the test or the search
 -- over the records below n. Depths bound heights: a track at depth d is at most 9 - d high where none stands deeper than 8. Assumes nothing.
 use mathlib.Core.Path.{_≡_, refl, sym, ap, _∙_, subst}
-use mathlib.Core.Logic.{_⊎_, inl, inr, ⊎-elim}
-use mathlib.Core.Bool.{Bool, true, false, cond, not, _&&_, _||_}
+use mathlib.Core.Logic.{_⊎_, inl, inr}
+use mathlib.Core.Bool.{Bool, true, false, cond, _||_}
 use mathlib.Core.List.{List}
 use mathlib.Core.Option.{Option, none, some}
 use Prim.Native.Nat.{ℕ, zero, suc, _+_, _-_, _<_, _≤_}
 use native.Mathlib.Nat.{not-suc-le-zero}
 use native.Mathlib.Omega.{arith}
-use lib.Dec.{eqb, ltb, leb}
+use lib.Dec.{eqb, ltb}
 use lib.ListN.{length, getD, set, replicate, length-set, length-replicate, getD-replicate, List·getD-eq-default}
 use lib.Seq.{getD-set-same, getD-set-other}
 use borrow.Author.Tests.{eqb-true, eqb-false, ltb-true, ltb-false, eq-eqb, ne-eqb, le-ltb}
 use Rattle.rules.specs.Fold.{someBelow, firstBelow}
-use Rattle.rules.specs.Plan.{Plan, trackCount, stateCount, noState, host, hostWord, owner, isIn, isStateOf, isHosting, first, firstState, reachBy, heightTo, height}
-use Rattle.rules.specs.Acceptance.{mostHeight, badHost, tooHigh}
+use Rattle.rules.specs.Plan.{Plan, trackCount, stateCount, noState, host, owner, isIn, isStateOf, isHosting, first, firstState, reachBy, heightTo, height}
+use Rattle.rules.specs.Acceptance.{mostHeight, tooHigh}
 use Rattle.rules.proofs.Tests.{look, look-option, and-true, clash}
 use Rattle.rules.proofs.Folds.{first-found, some-not, greatest-le}
 use Rattle.plan.specs.Passes.{slots, stateSlots, noteFirst, noteHost, firstMarks, hostingMarks, depthBy, depthMarks, isDeep}

@@ -5,7 +5,7 @@ use crate::fields::source_of;
 use rules::Counts;
 ghost use mathlib.Core.Path.{_≡_};
 ghost use mathlib.Core.Bool.{false};
-ghost use Prim.Native.Nat.{_<_, _≤_};
+ghost use Prim.Native.Nat.{_<_};
 ghost use Rattle.rules.specs.Fold.{someBelow};
 ghost use Rattle.rules.specs.Plan.{planOf, transition};
 ghost use Rattle.rules.specs.Acceptance.{badTransition, repeatsEvent};

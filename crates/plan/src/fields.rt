@@ -1,7 +1,7 @@
 // The fields of a plan's records, each by its number at the place that follows from the counts. Nothing is copied out.
 use rules::Counts;
 ghost use mathlib.Core.Path.{_≡_};
-ghost use Prim.Native.Nat.{_+_, _*_, _<_, _≤_};
+ghost use Prim.Native.Nat.{_+_, _*_, _<_};
 ghost use lib.ListN.{length};
 ghost use Rattle.rules.specs.Record.{word};
 ghost use Rattle.rules.specs.Plan.{planOf, hostWord, owner, replacement, state, transition, stateRecord, transitionRecord, isRoot, isFinal, isStateOf, isIn, isHostedBy, isHosting, firstState};

@@ -11,7 +11,7 @@ ghost use Prim.Native.Nat.{_+_, _<_, _≤_};
 ghost use lib.ListN.{length, getD};
 ghost use lib.Dec.{eqb, ltb};
 ghost use Rattle.rules.specs.Record.{lengthOf, mostOf, countOf, oneMore, judgeRecord, scan};
-ghost use Rattle.plan.specs.Scanned.{scanTold, Stands};
+ghost use Rattle.plan.specs.Scanned.{scanTold};
 
 const END_KIND: u16 = 4;
 

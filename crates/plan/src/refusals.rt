@@ -17,7 +17,7 @@ use crate::passes::hosting_states;
 use rules::Counts;
 ghost use mathlib.Core.Path.{_≡_};
 ghost use mathlib.Core.Bool.{false};
-ghost use Prim.Native.Nat.{_+_, _<_, _≤_};
+ghost use Prim.Native.Nat.{_+_, _<_};
 ghost use Rattle.rules.specs.Fold.{someBelow};
 ghost use Rattle.rules.specs.Plan.{planOf, firstState, isHosting, transition, mover};
 ghost use Rattle.rules.specs.Acceptance.{noTrack, badState, badHost, badFirst, badHosting, badTransition, badDeviation};

@@ -1,20 +1,20 @@
 -- An accepted plan, in facts: the table of refusals gave 0, so each of its tests fails at every record. Assumes nothing.
 use mathlib.Core.Path.{_≡_, refl, sym, ap, _∙_}
 use mathlib.Core.Logic.{⊎-elim}
-use mathlib.Core.Bool.{Bool, true, false, cond, not, _&&_, _||_}
+use mathlib.Core.Bool.{Bool, true, false, not, _&&_, _||_}
 use mathlib.Core.List.{List}
 use mathlib.Core.Option.{Option, none, some}
-use Prim.Native.Nat.{ℕ, zero, suc, _<_, _≤_}
+use Prim.Native.Nat.{ℕ, zero, suc, _<_}
 use native.Mathlib.Omega.{arith}
 use lib.ListN.{length, getD, List·getD-eq-default}
 use lib.Dec.{eqb, ltb, leb}
-use borrow.Author.Tests.{eqb-true, eqb-false, ltb-true, ltb-false, leb-false, not-true, not-false, ne-eqb}
+use borrow.Author.Tests.{eqb-true, eqb-false, ltb-true, ltb-false, leb-false, not-false}
 use Rattle.rules.specs.declared.Counts.{Counts}
 use Rattle.rules.specs.Fold.{someBelow, firstRefusal}
 use Rattle.rules.specs.Record.{Scan, refused, counted, scan}
-use Rattle.rules.specs.Plan.{Plan, planOf, trackCount, stateCount, transitionCount, noState, optional, hostWord, host, owner, replacement, state, transition, mover, isRoot, isStateOf, isFinal, isIn, isHosting, first, firstState, transitionFor, height}
-use Rattle.rules.specs.Acceptance.{mostHeight, noTrack, badState, badHost, badFirst, badHosting, badTransition, badDeviation, repeatsEvent, tooHigh, judgePlan, Reading, turnedBack, accepted, judged, readPlan}
-use Rattle.rules.proofs.Tests.{look, look-option, clash, and-true, and-both, or-false, passed}
+use Rattle.rules.specs.Plan.{Plan, planOf, trackCount, stateCount, transitionCount, noState, optional, hostWord, host, owner, replacement, state, transition, mover, isRoot, isStateOf, isFinal, isIn, isHosting, first, firstState, transitionFor}
+use Rattle.rules.specs.Acceptance.{noTrack, badState, badHost, badFirst, badHosting, badTransition, badDeviation, repeatsEvent, tooHigh, judgePlan, turnedBack, accepted, judged, readPlan}
+use Rattle.rules.proofs.Tests.{look, clash, and-true, and-both, or-false, passed}
 use Rattle.rules.proofs.Folds.{some-not, some-at, first-found}
 
 -- 8 to 16, as each record passed them

@@ -2,18 +2,16 @@
 -- away; the single closings in any order, done until none is due, therefore end in the ledger that one pass gives. Assumes nothing.
 use mathlib.Core.Path.{_≡_, refl, sym, ap, ap₂, _∙_, subst, fun-ext}
 use mathlib.Core.Logic.{_⊎_, inl, inr, ⊎-elim}
-use mathlib.Core.Bool.{Bool, true, false, cond, not, _&&_, _||_}
-use mathlib.Core.Option.{Option, none, some}
+use mathlib.Core.Bool.{true, false, cond, _&&_}
+use mathlib.Core.Option.{none, some}
 use Prim.Native.Nat.{ℕ, _<_}
-use native.Mathlib.Omega.{arith}
 use lib.Dec.{eqb}
 use borrow.Author.Tests.{eqb-true, eqb-false, eq-eqb, ne-eqb}
-use Rattle.rules.specs.declared.Mode.the-variants.{Asleep, Forward, Undoing}
 use Rattle.rules.specs.Plan.{Plan, trackCount, noState, host, owner, replacement, isIn, isFinal}
 use Rattle.rules.specs.Ledger.{Configuration, Ledger, isAwake, isForward, sleeping}
 use Rattle.rules.specs.Scope.{isOpen}
 use Rattle.rules.specs.Event.{installed, isClosing, isClosed, closesScope, closed}
-use Rattle.rules.proofs.Tests.{look, look-option, clash, none-some, refuted, and-true}
+use Rattle.rules.proofs.Tests.{look, look-option, clash, refuted, and-true}
 use Rattle.rules.proofs.Acceptance.{Accepted}
 use Rattle.rules.proofs.Scopes.{in-host, host-in, every-in-at, every-in-same, some-in-same, open-find}
 

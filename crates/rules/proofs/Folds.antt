@@ -1,9 +1,8 @@
 -- Laws of tests, counts and searches below n: each by induction on n. The laws at `n + 1` are for loops that count up.
 -- Assumes nothing.
 use mathlib.Core.Path.{_≡_, refl, sym, ap, _∙_}
-use mathlib.Core.Logic.{_⊎_, inl, inr, ⊎-elim}
+use mathlib.Core.Logic.{_⊎_, ⊎-elim}
 use mathlib.Core.Bool.{Bool, true, false, cond, _&&_, _||_}
-use mathlib.Core.List.{List, [], _∷_}
 use mathlib.Core.Option.{Option, none, some}
 use Prim.Native.Nat.{ℕ, zero, suc, _+_, _<_, _≤_, max}
 use native.Mathlib.Nat.{add-zero, zero-add, add-suc, suc-add, le-of-suc-le-suc, not-suc-le-zero, eq-or-lt-of-le}
@@ -11,7 +10,7 @@ use native.Mathlib.Numerals.{add-one}
 use native.Mathlib.Omega.{arith}
 use lib.ListN.{length, getD}
 use Rattle.rules.specs.Fold.{someBelow, everyBelow, countBelow, sumBelow, greatestBelow, firstBelow, tabulateFrom, tabulate}
-use Rattle.rules.proofs.Tests.{look, clash, and-true, or-true, or-false, or-right}
+use Rattle.rules.proofs.Tests.{look, clash, and-true, or-true, or-right}
 
 -- Every number below n.
 pub every-at : (n : ℕ) (f : ℕ → Bool) → everyBelow n f ≡ true → (k : ℕ) → k < n → f k ≡ true

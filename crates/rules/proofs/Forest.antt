@@ -4,14 +4,14 @@ use mathlib.Core.Path.{_≡_, refl, sym, ap, _∙_, subst}
 use mathlib.Core.Logic.{_⊎_, inl, inr}
 use mathlib.Core.Bool.{Bool, true, false, _||_}
 use mathlib.Core.Option.{Option, none, some}
-use Prim.Native.Nat.{ℕ, zero, suc, _<_, _≤_}
+use Prim.Native.Nat.{ℕ, zero, suc, _<_}
 use native.Mathlib.Omega.{arith}
 use native.Mathlib.Nat.{not-suc-le-zero}
 use lib.Dec.{eqb}
 use borrow.Author.Tests.{eqb-true, eq-eqb}
-use Rattle.rules.specs.Plan.{Plan, trackCount, host, owner, climbTo, climb, isInside, isAbove}
+use Rattle.rules.specs.Plan.{Plan, host, owner, climbTo, climb, isInside, isAbove}
 use Rattle.rules.specs.Books.{Apart}
-use Rattle.rules.proofs.Tests.{look, look-option, clash, refuted, or-true, or-right, strong}
+use Rattle.rules.proofs.Tests.{look-option, clash, refuted, or-true, or-right, strong}
 use Rattle.rules.proofs.Acceptance.{Accepted}
 
 module _ (p : Plan) (ok : Accepted p) where

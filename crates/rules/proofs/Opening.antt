@@ -1,16 +1,15 @@
 -- Opening, one level at a time: whether a track wakes follows from its host and from whether its host's track wakes, whose number is
 -- lower; so one pass up the tracks opens everything, and the tracks of a scope wake together. Assumes nothing.
-use mathlib.Core.Path.{_≡_, refl, sym, ap, ap₂, _∙_, subst, fun-ext}
+use mathlib.Core.Path.{_≡_, sym, ap₂, _∙_, fun-ext}
 use mathlib.Core.Logic.{inl, inr}
-use mathlib.Core.Bool.{Bool, true, false, cond, _&&_}
+use mathlib.Core.Bool.{true, false, _&&_}
 use mathlib.Core.Option.{Option, none, some}
-use mathlib.Core.List.{List, []}
 use Prim.Native.Nat.{ℕ, _<_}
-use lib.Dec.{eqb, ltb}
-use borrow.Author.Tests.{eqb-true, lt-ltb}
+use lib.Dec.{eqb}
+use borrow.Author.Tests.{lt-ltb}
 use Rattle.rules.specs.declared.Mode.the-variants.{Forward}
-use Rattle.rules.specs.Plan.{Plan, trackCount, host, owner, isRoot, firstState, climb}
-use Rattle.rules.specs.Ledger.{Configuration, Ledger, sleeping}
+use Rattle.rules.specs.Plan.{Plan, trackCount, host, owner, firstState}
+use Rattle.rules.specs.Ledger.{Ledger, sleeping}
 use Rattle.rules.specs.Opening.{fresh, wakesIn, wakes, entered, enter, rootsFirst, begun}
 use Rattle.rules.proofs.Tests.{look-option, strong}
 use Rattle.rules.proofs.Acceptance.{Accepted}

@@ -1,5 +1,5 @@
 -- Scopes, in facts: a track is in the scope of its host, and a test over a scope holds at each of its tracks. Assumes nothing.
-use mathlib.Core.Path.{_≡_, refl, sym, ap, _∙_, subst}
+use mathlib.Core.Path.{_≡_, refl, ap, _∙_, subst}
 use mathlib.Core.Bool.{Bool, true, false, not, _&&_, _||_}
 use mathlib.Core.Option.{Option, none, some}
 use Prim.Native.Nat.{ℕ, _<_}
@@ -7,9 +7,9 @@ use lib.Dec.{eqb}
 use borrow.Author.Tests.{eqb-true, eq-eqb}
 use Rattle.rules.specs.Plan.{Plan, trackCount, host, owner, isIn, isHostedBy, isRoot, everyIn, someIn}
 use Rattle.rules.specs.Ledger.{Ledger, isAwake}
-use Rattle.rules.specs.Scope.{isOpen, hasOpenScope, isOver}
+use Rattle.rules.specs.Scope.{isOpen, hasOpenScope}
 use Rattle.rules.proofs.Tests.{look, clash, and-true, and-both, implies, implied}
-use Rattle.rules.proofs.Folds.{every-at, every-of, every-same, some-at, some-find, some-not, some-none, some-same}
+use Rattle.rules.proofs.Folds.{every-at, every-of, every-same, some-at, some-find, some-same}
 
 module _ (p : Plan) where
   -- in the scope of s: hosted by s

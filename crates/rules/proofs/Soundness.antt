@@ -1,16 +1,16 @@
 -- A live ledger, in facts: each clause of soundness holds at every track and every scope. Assumes nothing.
-use mathlib.Core.Path.{_≡_, refl, sym, ap, _∙_, subst}
-use mathlib.Core.Logic.{_⊎_, inl, inr, ⊎-elim}
+use mathlib.Core.Path.{_≡_, refl, sym, subst}
+use mathlib.Core.Logic.{_⊎_, ⊎-elim}
 use mathlib.Core.Bool.{Bool, true, false, not, _&&_, _||_}
 use mathlib.Core.Option.{Option, none, some}
 use Prim.Native.Nat.{ℕ, _<_}
-use lib.Dec.{eqb, ltb}
-use borrow.Author.Tests.{eqb-true, eq-eqb, not-true, ltb-true}
+use lib.Dec.{eqb}
+use borrow.Author.Tests.{eqb-true, eq-eqb, not-true}
 use Rattle.rules.specs.declared.Mode.{Mode}
 use Rattle.rules.specs.declared.Mode.the-variants.{Asleep, Forward, Undoing}
-use Rattle.rules.specs.Fold.{someBelow, everyBelow}
-use Rattle.rules.specs.Plan.{Plan, trackCount, stateCount, host, owner, isRoot, isStateOf, isIn, everyIn}
-use Rattle.rules.specs.Ledger.{Entry, Ledger, isAwake, isForward, isUndoing}
+use Rattle.rules.specs.Fold.{someBelow}
+use Rattle.rules.specs.Plan.{Plan, trackCount, stateCount, host, owner, isRoot, isStateOf, everyIn}
+use Rattle.rules.specs.Ledger.{Ledger, isAwake, isForward, isUndoing}
 use Rattle.rules.specs.Scope.{isOpen}
 use Rattle.rules.specs.Event.{isClosing, isFinishing}
 use Rattle.rules.specs.Signal.{isAbandoning}

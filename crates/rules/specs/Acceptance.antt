@@ -1,12 +1,12 @@
 -- Refusals 8 to 16, judged over the whole plan, and the reading of a plan. Assumes nothing.
-use mathlib.Core.Bool.{Bool, true, false, cond, not, _&&_, _||_}
+use mathlib.Core.Bool.{Bool, true, not, _&&_, _||_}
 use mathlib.Core.List.{List, [], _∷_}
-use mathlib.Core.Option.{Option, none, some}
+use mathlib.Core.Option.{none, some}
 use Prim.Native.Nat.{ℕ, zero, suc}
 use lib.Dec.{leb, ltb, eqb}
 use Rattle.rules.specs.declared.Counts.{Counts}
 use Rattle.rules.specs.Fold.{someBelow, firstRefusal}
-use Rattle.rules.specs.Record.{Scan, refused, counted, scan}
+use Rattle.rules.specs.Record.{refused, counted, scan}
 use Rattle.rules.specs.Plan.{Plan, trackCount, stateCount, transitionCount, noState, hostWord, state, transition, owner, replacement, isRoot, isStateOf, isFinal, isHosting, first, mover, height, planOf}
 
 -- "A track's height exceeds 8."

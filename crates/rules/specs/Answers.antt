@@ -1,6 +1,5 @@
 -- Each case of a call's answer as the paper's number and values. Assumes nothing.
-use mathlib.Core.List.{List, [], _∷_}
-use Prim.Native.Nat.{ℕ}
+use mathlib.Core.List.{[], _∷_}
 use Rattle.rules.specs.declared.PlanAnswer.{PlanAnswer}
 use Rattle.rules.specs.declared.BeginAnswer.{BeginAnswer}
 use Rattle.rules.specs.declared.EventAnswer.{EventAnswer}

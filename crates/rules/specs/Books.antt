@@ -1,9 +1,9 @@
 -- The books: any states, with a change for each transition and each retraction code, that meet property 3's conditions.
 -- Assumes nothing.
 use mathlib.Core.Path.{_≡_}
-use mathlib.Core.Bool.{Bool, true, false}
+use mathlib.Core.Bool.{false}
 use mathlib.Core.List.{List, [], _∷_}
-use mathlib.Core.Option.{Option, some}
+use mathlib.Core.Option.{some}
 use Prim.Native.Nat.{ℕ, _<_}
 use Rattle.rules.specs.Plan.{Plan, transitionCount, transition, host, owner, replacement, mover, isAbove}
 use Rattle.rules.specs.FinishedRun.{Finished}

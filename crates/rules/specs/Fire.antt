@@ -1,12 +1,12 @@
 -- Firing (the report's COMP and DEV), and the tracks that may be fired. Assumes nothing.
-use mathlib.Core.Bool.{Bool, true, false, cond, not, _&&_}
+use mathlib.Core.Bool.{Bool, cond, not, _&&_}
 use mathlib.Core.List.{List, [], _∷_}
-use mathlib.Core.Option.{Option, none, some}
+use mathlib.Core.Option.{Option, none}
 use Prim.Native.Nat.{ℕ, _^_}
 use lib.Dec.{ltb, eqb}
 use Rattle.rules.specs.Fold.{sumBelow, firstBelow}
 use Rattle.rules.specs.Plan.{Plan, trackCount, noState, optional}
-use Rattle.rules.specs.Ledger.{Entry, Configuration, Ledger, isUndoing, isEmpty}
+use Rattle.rules.specs.Ledger.{Entry, Ledger, isUndoing, isEmpty}
 use Rattle.rules.specs.Opening.{enter}
 use Rattle.rules.specs.Scope.{hasOpenScope}
 use Rattle.rules.specs.Signal.{abandoned}

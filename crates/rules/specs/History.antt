@@ -1,7 +1,7 @@
 -- Property 3: one claim about a list of calls, refused ones and deviations included, from the ledger as an accepted begin left it.
 -- Assumes nothing.
 use mathlib.Core.Path.{_≡_}
-use mathlib.Core.Bool.{Bool, true, false}
+use mathlib.Core.Bool.{true, false}
 use mathlib.Core.List.{List, [], _∷_}
 use Prim.Native.Nat.{ℕ, _<_}
 use Rattle.rules.specs.declared.Mode.the-variants.{Undoing}

@@ -1,7 +1,7 @@
 -- The reference run (the paper's clerk): a ledger and books worked by the rules along a list of calls, from the begin's arguments and a
 -- copy of the ledger lent to it alone. Assumes nothing.
 use mathlib.Core.Path.{_≡_}
-use mathlib.Core.Bool.{Bool, true, false}
+use mathlib.Core.Bool.{true, false}
 use mathlib.Core.List.{List, [], _∷_}
 use Prim.Native.Nat.{ℕ, _<_}
 use Rattle.rules.specs.declared.Mode.the-variants.{Undoing}
@@ -9,7 +9,7 @@ use Rattle.rules.specs.Plan.{Plan, trackCount, isRoot}
 use Rattle.rules.specs.Ledger.{Ledger, ledgerAt}
 use Rattle.rules.specs.Scope.{hasOpenScope}
 use Rattle.rules.specs.Fire.{newest}
-use Rattle.rules.specs.Call.{Answer, refusal, done, Outcome, Call, event, signal, fire, beginOutcome, callOutcome}
+use Rattle.rules.specs.Call.{Answer, refusal, done, Call, event, signal, fire, beginOutcome, callOutcome}
 use Rattle.rules.specs.FinishedRun.{movesOf}
 use Rattle.rules.specs.Books.{Books, act}
 

@@ -1,5 +1,5 @@
 -- Scopes on a ledger: which are open, and which tracks have one. Assumes nothing.
-use mathlib.Core.Bool.{Bool, true, false, not, _&&_, _||_}
+use mathlib.Core.Bool.{Bool, not, _&&_}
 use Prim.Native.Nat.{ℕ}
 use Rattle.rules.specs.Fold.{someBelow, everyBelow}
 use Rattle.rules.specs.Plan.{Plan, trackCount, isHostedBy, someIn}

@@ -1,6 +1,6 @@
 -- A signal: turning (the report's FAIL) and abandoning (NESTFAIL and NESTCOMP). Assumes nothing.
 use mathlib.Core.Bool.{Bool, true, false, cond, not, _&&_, _||_}
-use mathlib.Core.Option.{Option, none, some}
+use mathlib.Core.Option.{none, some}
 use Prim.Native.Nat.{ℕ, zero, suc}
 use Rattle.rules.specs.declared.Mode.the-variants.{Undoing}
 use Rattle.rules.specs.Fold.{everyBelow, countBelow}

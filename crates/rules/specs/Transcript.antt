@@ -1,5 +1,5 @@
 -- The text that the program `unwind` prints, as bytes, from the bytes of the plan and of the journal. Assumes nothing.
-use mathlib.Core.Bool.{Bool, true, false, cond, _||_}
+use mathlib.Core.Bool.{true, false, cond, _||_}
 use mathlib.Core.List.{List, [], _∷_, _++_}
 use Prim.Native.Nat.{ℕ, zero, suc, _+_}
 use lib.ListN.{length, getD, replicate}
@@ -13,7 +13,7 @@ use Rattle.rules.specs.Layout.{entryLimit, wordCount}
 use Rattle.rules.specs.Ledger.{Ledger, ledgerAt}
 use Rattle.rules.specs.Call.{Answer, refusal, done, Outcome, Call, event, signal, fire, beginOutcome, callOutcome}
 use Rattle.rules.specs.Text.{ascii, decimal, line}
-use Rattle.rules.specs.Journal.{Entered, ended, broken, fireLowest, called, enteredAt, fireLowestCall}
+use Rattle.rules.specs.Journal.{ended, broken, fireLowest, called, enteredAt, fireLowestCall}
 
 -- "`R` number"
 unfoldable pub refusalLine : ℕ → List ℕ

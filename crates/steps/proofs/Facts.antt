@@ -1,21 +1,17 @@
 -- Where a step starts, in facts: the accepted plan's, the live ledger's, and what a track's words and host say. Assumes nothing.
-use mathlib.Core.Path.{_≡_, refl, sym, ap, _∙_, subst}
-use mathlib.Core.Bool.{Bool, true, false}
+use mathlib.Core.Path.{_≡_, refl, sym, ap, _∙_}
 use mathlib.Core.List.{List}
 use mathlib.Core.Option.{Option, none, some}
 use Prim.Native.Nat.{ℕ, _<_, _≤_}
 use native.Mathlib.Omega.{arith}
-use lib.ListN.{length}
 use Rattle.rules.specs.declared.Counts.{Counts}
-use Rattle.rules.specs.declared.Track.{Track}
-use Rattle.rules.specs.Plan.{Plan, planOf, trackCount, stateCount, transitionCount, noState, hostWord, host, owner, transition}
+use Rattle.rules.specs.Plan.{Plan, planOf, trackCount, noState, hostWord, host, owner}
 use Rattle.rules.specs.Layout.{entryLimit}
-use Rattle.rules.specs.Ledger.{Ledger, Configuration, sleeping}
-use Rattle.rules.specs.Soundness.{areTidy}
+use Rattle.rules.specs.Ledger.{sleeping}
 use Rattle.rules.proofs.Acceptance.{Accepted, accepts}
 use Rattle.rules.proofs.Soundness.{Live, live-facts}
-use Rattle.rules.proofs.Stored.{Storable, read-at, read-beyond, storable-read, written-read}
-use Rattle.plan.proofs.FieldLaws.{track-count, state-count, transition-count}
+use Rattle.rules.proofs.Stored.{Storable, read-at, read-beyond, storable-read}
+use Rattle.plan.proofs.FieldLaws.{track-count, state-count}
 use Rattle.plan.proofs.Hosting.{host-none, host-some}
 use Rattle.ledger.specs.Words.{Within, trackOf, trackAt}
 use Rattle.ledger.proofs.Words.{within}

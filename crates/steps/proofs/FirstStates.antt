@@ -1,6 +1,6 @@
 -- What the reader's pass over the states leaves, for an accepted plan: every state's track exists, and a track's figure is its first state.
 -- Assumes nothing.
-use mathlib.Core.Path.{_≡_, refl, sym}
+use mathlib.Core.Path.{_≡_, refl}
 use mathlib.Core.Bool.{false}
 use mathlib.Core.List.{List}
 use Prim.Native.Nat.{ℕ, _<_}

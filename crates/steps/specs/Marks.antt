@@ -6,7 +6,7 @@ use mathlib.Core.List.{List}
 use mathlib.Core.Option.{Option, none, some}
 use Prim.Native.Nat.{ℕ, zero, suc, _<_}
 use lib.ListN.{getD, set, replicate}
-use Rattle.rules.specs.Plan.{Plan, noState, optional, host, owner, firstState}
+use Rattle.rules.specs.Plan.{Plan, optional, host, owner, firstState}
 use Rattle.rules.specs.Ledger.{Ledger, isAwake}
 use Rattle.rules.specs.Opening.{wakesIn}
 use Rattle.plan.specs.Passes.{slots, stateSlots}

@@ -1,7 +1,7 @@
 -- The call's own promise, its answer packed case by case. Assumes nothing.
 use mathlib.Core.Path.{sym, ap, _∙_}
 use Rattle.rules.specs.Answers.{signalTold}
-use Rattle.export.specs.Packed.{packed, bit16, bit32}
+use Rattle.export.specs.Packed.{packed}
 use Rattle.export.proofs.Packing.{packs}
 use borrow.Author.Needs.{needs}
 use Rattle.export.proofs.retraction_signal.Statement.{statement}

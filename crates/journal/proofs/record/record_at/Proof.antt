@@ -1,7 +1,6 @@
 use mathlib.Core.Path.{refl}
 -- One law for each way out. Assumes nothing.
 use mathlib.Core.Path.{sym, _∙_}
-use native.Mathlib.Omega.{arith}
 use Rattle.journal.specs.Entered.{entered}
 use Rattle.journal.proofs.Entering.{at-end, too-short, unknown, wrong, cut, whole}
 use borrow.Author.Needs.{needs}

@@ -16,7 +16,7 @@ use prog.Wp.{Heap, Calls, Loops, WpFn, Tables}
 use ghost.Atoms.{Atoms, sem}
 use contract.Monad.{Fun, fact, fact-use}
 use contract.Running.{givenOf, tables, tablesOf}
-use types.Kit.{Given, ‵, raw, _⊛_, some, later, given, _$_, _∵_, !, qed, by, move, keep, drop, use1, use2, use3, split, join, pick, learn, check, fsplit, fjoin, fpick, fpack, feqL, feqI, suffices, frame, await, updating, now as at-once, done}
+use types.Kit.{Given, ‵, raw, _⊛_, some, later, given, _$_, _∵_, !, qed, by, move, keep, use1, use2, use3, split, join, pick, learn, check, fsplit, fjoin, fpick, fpack, feqL, suffices, frame, await, updating, now as at-once, done}
 use types.Tokens.{lft-new, lft-end}
 use types.Run.{look, init, forget, stop, from, load, addr, and-then, no-more, of-opd, assigns, land, returns, enter, alloc1, alloc0, params1, pass1, pass0, free1, free0}
 use types.SemTy.{Body}
