@@ -1,5 +1,5 @@
--- Each condition is needed: without it, or without it for code 0, there are a small plan, books that meet the others, and a list of calls
--- after which the books are not given back. Computed. Assumes nothing.
+-- Which conditions are needed: that retractions commute is not. Without any other, or without it for code 0, there are a small plan, books
+-- that meet the others, and a list of calls after which the books are not given back, computed. Assumes nothing.
 use mathlib.Core.Path.{_≡_, refl, sym, ap, _∙_, subst}
 use mathlib.Core.Logic.{_⊎_, inl, inr}
 use mathlib.Core.Bool.{Bool, true, false, cond}
@@ -10,59 +10,49 @@ use native.Mathlib.Omega.{arith}
 use lib.ListN.{length}
 use lib.Dec.{eqb}
 use Rattle.rules.specs.declared.Counts.{Counts}
-use Rattle.rules.specs.Plan.{Plan, planOf, trackCount, transition, host, owner, replacement, isAbove}
+use Rattle.rules.specs.Plan.{Plan, planOf, transition, host, owner, replacement, mover, isAbove}
 use Rattle.rules.specs.Acceptance.{accepted, readPlan}
 use Rattle.rules.specs.Layout.{entryLimit}
-use Rattle.rules.specs.Ledger.{Ledger, ledgerAt}
-use Rattle.rules.specs.Call.{Answer, refusal, done, Call, event, signal, fire, nothing, beginOutcome, callOutcome}
-use Rattle.rules.specs.Books.{Apart, Deed, change, retraction, replacing, act, Books}
-use Rattle.rules.specs.ReferenceRun.{bookedCall, booked, booksFrom, booksAfter, ledgerAfter, AllWithdrawn}
+use Rattle.rules.specs.Call.{Call, event, signal, fire, nothing}
+use Rattle.rules.specs.Books.{Apart, Deed, change, retraction, replacing, act}
+use Rattle.rules.specs.ReferenceRun.{ledgerAfter, AllWithdrawn}
 use Rattle.rules.proofs.Tests.{clash, none-some}
 use Rattle.rules.proofs.Acceptance.{accepts}
 use Rattle.runs.specs.SamplePlan.{bytesOf, lentFor}
 use Rattle.runs.specs.Computing.{computing}
-use Rattle.restoration.specs.LenientBooks.{Lenient, freelyCall, freelyBooked, freely, Claim, noneOf, onlyReal, allAsked, withoutNothing, undoneWhere, replacedWhere, withoutCommuting}
-use Rattle.restoration.proofs.Restoration.{restored}
+use Rattle.restoration.specs.LenientBooks.{Lenient, freelyCall, freelyBooked, freely, Claim, noneOf, onlyReal, allAsked, withoutNothing, undoneWhere, replacedWhere, withoutCommuting, changesAlone}
+use Rattle.restoration.proofs.Runs01.{same-act, to-finished}
+use Rattle.restoration.proofs.Restoration.{freely-restored}
 
--- it is the reference run's where the changes are those of books
-module _ (limit : ℕ) (bs : List ℕ) (p : Plan) (k : Books p limit) where
-  same-call : (l : Ledger) (c : Call) (b : k .State) → freelyCall limit bs p (k .changed) (k .retracted) l c b ≡ bookedCall limit bs p k l c b
-  unfolding freelyCall bookedCall
-  same-call l (event a) b = refl
-  same-call l (signal a) b = refl
-  same-call l (fire a) b = refl
-
-  same-booked : (l : Ledger) (c : Call) (r : Answer) (b : k .State)
-      → freelyBooked limit bs p (k .changed) (k .retracted) l c r b ≡ booked limit bs p k l c r b
-  unfolding freelyBooked booked
-  same-booked l c (refusal n) b = refl
-  same-booked l c (done figures) b = same-call l c b
-
-  pub same-books : (cs : List Call) (ws : List ℕ) (b : k .State) → freely limit bs p (k .changed) (k .retracted) ws cs b ≡ booksFrom limit bs p k ws cs b
-  unfolding freely booksFrom
-  same-books [] ws b = refl
-  same-books (c ∷ cs) ws b =
-      same-books cs (callOutcome limit bs ws c .words)
-      (freelyBooked limit bs p (k .changed) (k .retracted) (ledgerAt limit ws (trackCount p)) c (callOutcome limit bs ws c .answer) b)
-      ∙ ap (booksFrom limit bs p k (callOutcome limit bs ws c .words) cs)
-      (same-booked (ledgerAt limit ws (trackCount p)) c (callOutcome limit bs ws c .answer) b)
-
--- asked of every code it is true
-pub asked-of-all : Claim allAsked
-unfolding booksAfter
-asked-of-all bs c read k lent cs h w b =
-    let books : Books (planOf bs c) entryLimit =
-    record {
+-- that retractions commute need not be asked: the claim holds without it, and so with it
+pub retractions-free : Claim changesAlone
+retractions-free bs c read k lent cs h w b =
+    freely-restored entryLimit bs c read
+    (record {
       State = k .State;
       changed = k .changed;
       retracted = k .retracted;
-      nothing = k .nothing refl;
-      undo = λ x l b. k .undo x l refl b;
-      undo-run = λ s t e w f b. k .undo-run s t e refl w f b;
-      commute = k .commute refl;
-    } in
-    same-books entryLimit bs (planOf bs c) books cs (beginOutcome entryLimit bs lent .words) b
-    ∙ restored entryLimit bs c read books lent cs h b w
+      nothing = λ a d b. k .nothing refl b;
+      undo = λ a x l b. k .undo x l refl b;
+      undo-run = λ s t e a w f b.
+          ap (k .retracted (replacement (planOf bs c) s)) (sym (same-act (k .changed) w b)) ∙ k .undo-run s t e refl w (to-finished (planOf bs c) entryLimit f) b;
+      commute = λ a c x y l m n b. k .commute refl x y l m n b;
+    })
+    lent cs h b w
+
+pub asked-of-all : Claim allAsked
+asked-of-all bs c read k =
+    retractions-free bs c read
+    (record {
+      State = k .State;
+      changed = k .changed;
+      retracted = k .retracted;
+      nothing = k .nothing;
+      undo = k .undo;
+      undo-run = k .undo-run;
+      commute = k .commute;
+      commute-all = λ h. clash h refl;
+    })
 
 -- one event and a signal
 abbrev calls : List Call
@@ -112,7 +102,8 @@ counted f z =
       nothing = λ h b. refl;
       undo = λ x l h b. codeless x l h;
       undo-run = λ s t e h w f b. hostless t s e;
-      commute = λ h t u a d e b. apart-C t u a d e;
+      commute = λ h x y l m a b. apart-C (mover C x) (mover C y) a (change x l) (change y m);
+      commute-all = λ h t u a d e b. apart-C t u a d e;
     }
   where
     codeless : {A : Type 0} (x : ℕ) → x < 1 → f (transition C x .code) ≡ true → A
@@ -130,7 +121,8 @@ uncounted =
       nothing = λ h b. contrary h;
       undo = λ x l h b. omega arith;
       undo-run = λ s t e h w f b. hostless t s e;
-      commute = λ h t u a d e b. apart-C t u a d e;
+      commute = λ h x y l m a b. apart-C (mover C x) (mover C y) a (change x l) (change y m);
+      commute-all = λ h t u a d e b. apart-C t u a d e;
     }
 
 withdrawn-C : AllWithdrawn C (ledgerAfter entryLimit planC C (lentFor 1) calls)
@@ -200,7 +192,8 @@ dropped f z =
       nothing = λ h b. refl;
       undo = undone;
       undo-run = λ s t e h w g b. clash (subst (λ x. f (replacement R x) ≡ true) (one-host t s e) h) z;
-      commute = λ h t u a d e b. absurd (related t u a (two-tracks d) (two-tracks e));
+      commute = λ h x y l m a b. absurd (related (mover R x) (mover R y) a (two-tracks (change x l)) (two-tracks (change y m)));
+      commute-all = λ h t u a d e b. absurd (related t u a (two-tracks d) (two-tracks e));
     }
   where
     undone : (x : ℕ) → x < 1 → true ≡ true → (b : ℕ) → cond (eqb (transition R x .code) 5) (suc b - 1) (suc b) ≡ b
@@ -271,7 +264,8 @@ piled =
       nothing = λ h b. refl;
       undo = undone;
       undo-run = λ s t e h w f b. unhosted t s e;
-      commute = λ h t u a d e b. contrary h;
+      commute = λ h x y l m a b. contrary h;
+      commute-all = λ h t u a d e b. contrary h;
     }
   where
     undone : (x : ℕ) → x < 2 → true ≡ true → (b : List ℕ) → unpiled (transition W x .code) (x ∷ b) ≡ b

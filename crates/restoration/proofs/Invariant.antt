@@ -17,7 +17,7 @@ use Rattle.rules.proofs.Tests.{look}
 use Rattle.rules.proofs.Acceptance.{Accepted}
 use Rattle.rules.proofs.Forest.{Reaches, apart}
 use Rattle.restoration.specs.Seams.{Seams}
-use Rattle.restoration.specs.Runs.{act, changing, does, Books}
+use Rattle.restoration.specs.Runs.{act, Books}
 use Rattle.restoration.proofs.Composition.{when, join, All, none, all-append, all-map, Same, Swap, Commute, swap-words, swap-nil, join-nil}
 use Rattle.restoration.proofs.Nesting.{Sleeps, Nested, free-below, shut-inside, open-host}
 use Rattle.restoration.proofs.Entering.{Enterable, Fate, enters, wakens, stays, fate, fresh-held, woken-asleep, kept-busy}
@@ -61,7 +61,7 @@ module _ {σ : Seams} (limit : ℕ) (p : Plan) (ok : Accepted p) (k : Books σ p
     where
       commutes : (a c : Event) (v w : ℕ) → v < transitionCount p → w < transitionCount p → Apart p (mover p v) (mover p w)
           → Commute (k .changed) (change a v) (change c w)
-      commutes a c v w r q d b = unfold does in sym (k .commute (mover p v) (mover p w) d (changing a v r) (changing c w q) b)
+      commutes a c v w r q d b = sym (k .commute a c v w r q d b)
 
   pub swap-below : (t u : ℕ) (v w : List Change) → t < u → isAbove p t u ≡ false → All (Below t) v → All (Below u) w → Swap (k .changed) v w
   swap-below t u v w l n a b =

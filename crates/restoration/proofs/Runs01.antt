@@ -4,14 +4,14 @@ use Prim.{Unit, tt}
 use mathlib.Core.Path.{_≡_, refl, sym, ap, _∙_, subst}
 use mathlib.Core.Bool.{true}
 use mathlib.Core.List.{List, [], _∷_}
-use Prim.Native.Nat.{ℕ}
-use Rattle.rules.specs.Plan.{Plan, replacement}
+use Prim.Native.Nat.{ℕ, _<_}
+use Rattle.rules.specs.Plan.{Plan, transitionCount, replacement, mover}
 use Rattle.rules.specs.Ledger.{Ledger}
 use Rattle.rules.specs.Scope.{isOpen}
 use Rattle.rules.specs.Call.{Call, event, signal, fire, next}
 use Rattle.rules.specs.FinishedRun as rule
 use Rattle.rules.specs.Books as book
-use Rattle.rules.specs.ReferenceRun as clerk
+use Rattle.restoration.specs.LenientBooks.{freelyCall}
 use Rattle.restoration.specs.Runs as theory
 use Rattle.restoration.proofs.Document01.{document01, asRules, asTheory, there-and-back}
 
@@ -54,26 +54,11 @@ module _ (p : Plan) (limit : ℕ) where
   pub from-finished : {s : ℕ} {w : List ℕ} → rule.Finished p limit s w → (a : document01 .Event) × theory.Finished document01 p limit s a w
   from-finished (rule.closed r a z c) = (a, theory.closed (from-running r) a z c)
 
-  -- The same deeds.
-  pub to-deed : {t : ℕ} → theory.Deed document01 p t → book.Deed p t
-  to-deed (theory.changing a x l) = book.change x l
-  to-deed (theory.retracting a x l) = book.retraction x l
-  to-deed (theory.replacing a s t h) = book.replacing s t h
-
-  same-deed : {B : Type 0} (changed retracted : ℕ → B → B) {t : ℕ} (d : theory.Deed document01 p t) (b : B)
-      → theory.does document01 p changed retracted d b ≡ book.does p changed retracted (to-deed d) b
-  unfolding theory.does book.does to-deed
-  same-deed changed retracted (theory.changing a x l) b = refl
-  same-deed changed retracted (theory.retracting a x l) b = refl
-  same-deed changed retracted (theory.replacing a s t h) b = refl
-
   module _ (k : book.Books p limit) where
-    pub same-deeds : {t u : ℕ} (d : theory.Deed document01 p t) (e : theory.Deed document01 p u) (b : k .State)
-        → theory.does document01 p (k .changed) (k .retracted) d (theory.does document01 p (k .changed) (k .retracted) e b)
-        ≡ book.does p (k .changed) (k .retracted) (to-deed d) (book.does p (k .changed) (k .retracted) (to-deed e) b)
-    same-deeds d e b =
-        same-deed (k .changed) (k .retracted) d (theory.does document01 p (k .changed) (k .retracted) e b)
-        ∙ ap (book.does p (k .changed) (k .retracted) (to-deed d)) (same-deed (k .changed) (k .retracted) e b)
+    pub same-changes : (x y : ℕ) → x < transitionCount p → y < transitionCount p → book.Apart p (mover p x) (mover p y) → (b : k .State)
+        → k .changed x (k .changed y b) ≡ k .changed y (k .changed x b)
+    unfolding book.does
+    same-changes x y l m n b = k .commute (mover p x) (mover p y) n (book.change x l) (book.change y m) b
 
     -- books of the rules are books of the theory
     abbrev pub books01 : theory.Books document01 p limit
@@ -85,13 +70,13 @@ module _ (p : Plan) (limit : ℕ) where
           nothing = λ a d b. k .nothing b;
           undo = λ a x l b. k .undo x l b;
           undo-run = λ s t h a w f b. ap (k .retracted (replacement p s)) (sym (same-act (k .changed) w b)) ∙ k .undo-run s t h w (to-finished f) b;
-          commute = λ t u n d e b. same-deeds d e b ∙ k .commute t u n (to-deed d) (to-deed e) b ∙ sym (same-deeds e d b);
+          commute = λ a c x y l m n b. same-changes x y l m n b;
         }
 
-    -- and the clerk keeps them as the theory says
-    pub same-call : (bs : List ℕ) (l : Ledger) (c : Call) (b : k .State)
-        → clerk.bookedCall limit bs p k l c b ≡ theory.bookedCall document01 p limit books01 l (asTheory c) b
-    unfolding clerk.bookedCall theory.bookedCall
-    same-call bs l (event a) b = same-act (k .changed) _ b
-    same-call bs l (signal a) b = refl
-    same-call bs l (fire a) b = refl
+-- the reference run's books are kept as the theory says, with no condition on the changes of the rules
+pub same-call : (p : Plan) (limit : ℕ) (k : theory.Books document01 p limit) (bs : List ℕ) (l : Ledger) (c : Call) (b : k .State)
+    → freelyCall limit bs p (k .changed) (k .retracted) l c b ≡ theory.bookedCall document01 p limit k l (asTheory c) b
+unfolding freelyCall theory.bookedCall
+same-call p limit k bs l (event a) b = same-act (k .changed) _ b
+same-call p limit k bs l (signal a) b = refl
+same-call p limit k bs l (fire a) b = refl

@@ -6,7 +6,7 @@ use mathlib.Core.Option.{some}
 use Prim.Native.Nat.{ℕ, _<_}
 use lib.Dec.{eqb}
 use Rattle.rules.specs.declared.Counts.{Counts}
-use Rattle.rules.specs.Plan.{Plan, planOf, trackCount, transitionCount, transition, host, replacement}
+use Rattle.rules.specs.Plan.{Plan, planOf, trackCount, transitionCount, transition, host, replacement, mover}
 use Rattle.rules.specs.Acceptance.{accepted, readPlan}
 use Rattle.rules.specs.Layout.{entryLimit}
 use Rattle.rules.specs.Ledger.{Ledger, ledgerAt}
@@ -17,12 +17,13 @@ use Rattle.rules.specs.Books.{Apart, Deed, does, act}
 use Rattle.rules.specs.ReferenceRun.{ledgerAfter, AllWithdrawn}
 
 -- What is asked of books: that code 0 changes nothing, of which transitions' codes and which hosting states' replacements that they undo,
--- and that tracks that are apart commute.
+-- that changes of tracks that are apart commute, and that their retractions do too.
 pub record Asked : Type 0 where
   pub ofNothing : Bool
   pub ofCode : ℕ → Bool
   pub ofReplacement : ℕ → Bool
-  pub ofTracks : Bool
+  pub ofChanges : Bool
+  pub ofRetractions : Bool
 
 -- The conditions of property 3, as far as they are asked.
 pub record Lenient (p : Plan) (limit : ℕ) (asked : Asked) : Type 1 where
@@ -33,7 +34,9 @@ pub record Lenient (p : Plan) (limit : ℕ) (asked : Asked) : Type 1 where
   pub undo : (x : ℕ) → x < transitionCount p → asked .ofCode (transition p x .code) ≡ true → (b : State) → retracted (transition p x .code) (changed x b) ≡ b
   pub undo-run : (s t : ℕ) → host p t ≡ some s → asked .ofReplacement (replacement p s) ≡ true → (w : List ℕ) → Finished p limit s w
       → (b : State) → retracted (replacement p s) (act changed w b) ≡ b
-  pub commute : asked .ofTracks ≡ true → (t u : ℕ) → Apart p t u → (d : Deed p t) (e : Deed p u)
+  pub commute : asked .ofChanges ≡ true → (x y : ℕ) → x < transitionCount p → y < transitionCount p → Apart p (mover p x) (mover p y)
+      → (b : State) → changed x (changed y b) ≡ changed y (changed x b)
+  pub commute-all : asked .ofRetractions ≡ true → (t u : ℕ) → Apart p t u → (d : Deed p t) (e : Deed p u)
       → (b : State) → does p changed retracted d (does p changed retracted e b) ≡ does p changed retracted e (does p changed retracted d b)
 
 -- The reference run's books, with no condition on the changes.
@@ -74,17 +77,21 @@ abbrev pub onlyReal : ℕ → Bool
 onlyReal c = not (eqb c 0)
 
 abbrev pub allAsked : Asked
-allAsked = record { ofNothing = true; ofCode = every; ofReplacement = every; ofTracks = true }
+allAsked = record { ofNothing = true; ofCode = every; ofReplacement = every; ofChanges = true; ofRetractions = true }
 
 abbrev pub withoutNothing : Asked
-withoutNothing = record { ofNothing = false; ofCode = every; ofReplacement = every; ofTracks = true }
+withoutNothing = record { ofNothing = false; ofCode = every; ofReplacement = every; ofChanges = true; ofRetractions = true }
 
 -- of the codes that pass a test alone
 abbrev pub undoneWhere : (ℕ → Bool) → Asked
-undoneWhere f = record { ofNothing = true; ofCode = f; ofReplacement = every; ofTracks = true }
+undoneWhere f = record { ofNothing = true; ofCode = f; ofReplacement = every; ofChanges = true; ofRetractions = true }
 
 abbrev pub replacedWhere : (ℕ → Bool) → Asked
-replacedWhere f = record { ofNothing = true; ofCode = every; ofReplacement = f; ofTracks = true }
+replacedWhere f = record { ofNothing = true; ofCode = every; ofReplacement = f; ofChanges = true; ofRetractions = true }
 
 abbrev pub withoutCommuting : Asked
-withoutCommuting = record { ofNothing = true; ofCode = every; ofReplacement = every; ofTracks = false }
+withoutCommuting = record { ofNothing = true; ofCode = every; ofReplacement = every; ofChanges = false; ofRetractions = false }
+
+-- of retractions nothing
+abbrev pub changesAlone : Asked
+changesAlone = record { ofNothing = true; ofCode = every; ofReplacement = every; ofChanges = true; ofRetractions = false }

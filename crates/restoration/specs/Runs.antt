@@ -7,7 +7,7 @@ use mathlib.Core.List.{List, [], _∷_, _++_}
 use mathlib.Core.Option.{some}
 use Prim.Native.Nat.{ℕ, _+_, _<_}
 use lib.Dec.{eqb}
-use Rattle.rules.specs.Plan.{Plan, noState, transitionCount, transition, host, owner, replacement, mover, isInside}
+use Rattle.rules.specs.Plan.{Plan, noState, transitionCount, transition, host, replacement, mover, isInside}
 use Rattle.rules.specs.Ledger.{Ledger, isForward}
 use Rattle.rules.specs.Opening.{begun}
 use Rattle.rules.specs.Scope.{isOpen}
@@ -53,23 +53,12 @@ module _ (σ : Seams) (p : Plan) where
           → isClosing p (moved p l a) s ≡ true
           → Finished s a (w ++ movesOf p (isInside p s) l a)
 
-  -- a track's changes, and its retractions, on any event
-  pub data Deed : ℕ → Type 0 where
-    changing : (a : Event) (x : ℕ) → x < transitionCount p → Deed (mover p x)
-    retracting : (a : Event) (x : ℕ) → x < transitionCount p → Deed (mover p x)
-    replacing : (a : Event) (s t : ℕ) → host p t ≡ some s → Deed (owner p s)
-
   -- what the retraction of a transition and of a replacement are, installed on an event
   abbrev pub retractionOf : Event → ℕ → Retraction
   retractionOf a x = retraction (entry a (transition p x .code) (transition p x .deviation))
 
   abbrev pub replacementOf : Event → ℕ → Retraction
   replacementOf a s = retraction (entry a (replacement p s) noState)
-
-  unfoldable pub does : {B : Type 0} → (Change → B → B) → (Retraction → B → B) → {t : ℕ} → Deed t → B → B
-  does changed retracted (changing a x l) = changed (change a x)
-  does changed retracted (retracting a x l) = retracted (retractionOf a x)
-  does changed retracted (replacing a s t h) = retracted (replacementOf a s)
 
   pub record Books (limit : ℕ) : Type 1 where
     pub State : Type 0
@@ -82,9 +71,9 @@ module _ (σ : Seams) (p : Plan) where
     -- each hosting state's replacement undoes every finished run, on the event that closed it
     pub undo-run : (s t : ℕ) → host p t ≡ some s → (a : Event) (w : List Change) → Finished limit s a w
         → (b : State) → retracted (replacementOf a s) (act changed w b) ≡ b
-    -- changes and retractions of two tracks commute where neither hosts the other, at any remove, on any two events
-    pub commute : (t u : ℕ) → Apart p t u → (d : Deed t) (e : Deed u)
-        → (b : State) → does changed retracted d (does changed retracted e b) ≡ does changed retracted e (does changed retracted d b)
+    -- changes of two tracks commute where neither hosts the other, at any remove, on any two events. Of retractions nothing is asked
+    pub commute : (a c : Event) (x y : ℕ) → x < transitionCount p → y < transitionCount p → Apart p (mover p x) (mover p y)
+        → (b : State) → changed (change a x) (changed (change c y) b) ≡ changed (change c y) (changed (change a x) b)
 
   -- the ledger after a list of calls
   unfoldable pub ledgerFrom : ℕ → Head → Ledger → List (Call σ) → Ledger
