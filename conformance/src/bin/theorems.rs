@@ -27,7 +27,7 @@ use mathlib.Core.Path.{refl}
 use mathlib.Core.List.{[], _∷_}
 use Rattle.rules.specs.Acceptance.{turnedBack}
 use Rattle.rules.specs.Call.{refusal, done}
-use Rattle.runs.specs.Computing.{computing}
+use Rattle.starred.specs.Computing.{computing}
 use Rattle.agreement.specs.Statements.{e, f, s, acceptedWith, \
     HistoryAgrees, PlanAgrees, CallAgrees, ReadyAgrees, EntriesAgree, RunAgrees}
 ";

@@ -17,11 +17,11 @@ use Rattle.rules.specs.ReferenceRun.{wordsFrom, wordsAfter, ledgerAfter, AllWit
 use Rattle.rules.proofs.Tests.{look, clash}
 use Rattle.rules.proofs.Acceptance.{Accepted, accepts}
 use Rattle.rules.proofs.Scopes.{root-of}
-use Rattle.restoration.proofs.Modes.{is-undoing}
+use Rattle.theory.proofs.Modes.{is-undoing}
 use Rattle.rules.proofs.Abandoning.{undoing-awake}
-use Rattle.restoration.proofs.Nesting.{Awake, Nested}
-use Rattle.restoration.proofs.SoundBegin.{root-zero}
-use Rattle.restoration.proofs.SoundEvent.{bare-of}
+use Rattle.theory.proofs.Nesting.{Awake, Nested}
+use Rattle.theory.proofs.SoundBegin.{root-zero}
+use Rattle.theory.proofs.SoundEvent.{bare-of}
 use Rattle.restoration.proofs.SoundWords.{Holds, begin-holds, call-holds, call-accepted, call-refused}
 use Rattle.restoration.proofs.Restoration.{list-holds}
 use Rattle.restoration.proofs.Theorems01.{over-refused, next-accepted, next-refused, sleeping-asleep, Sound, Over, Kept, over-is}

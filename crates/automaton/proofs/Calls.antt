@@ -20,8 +20,8 @@ use Rattle.rules.proofs.Folds.{every-at, every-of}
 use Rattle.rules.proofs.Acceptance.{Accepted, accepts}
 use Rattle.rules.proofs.Scopes.{root-of, root-none}
 use Rattle.rules.proofs.Closing.{closed-done}
-use Rattle.restoration.proofs.Nesting.{Nested}
-use Rattle.restoration.proofs.Soundness.{RootsAwake}
+use Rattle.theory.proofs.Nesting.{Nested}
+use Rattle.theory.proofs.Soundness.{RootsAwake}
 use Rattle.restoration.proofs.SoundWords.{Holds, outcome, not-refused, passed-ledger, sound-holds, begin-holds, call-holds, call-accepted, call-refused}
 use Rattle.restoration.proofs.Theorems01.{fire-accepted, over-refused, next-accepted, moved-nested, sleeping-asleep, closed-nested, Sound, event-roots, event-abandoning, signal-sound, fire-sound, unfinished, over-is}
 use Rattle.automaton.specs.Listing.{listed, everyOf}

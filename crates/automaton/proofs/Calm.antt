@@ -15,7 +15,7 @@ use Rattle.rules.specs.Signal.{isAbandoning}
 use Rattle.rules.proofs.Tests.{look, clash, and-true}
 use Rattle.rules.proofs.Acceptance.{Accepted}
 use Rattle.rules.proofs.Abandoning.{hosts-higher}
-use Rattle.restoration.proofs.Nesting.{Awake, Nested, state-of}
+use Rattle.theory.proofs.Nesting.{Awake, Nested, state-of}
 use Rattle.automaton.specs.Listing.{listed, everyOf}
 use Rattle.automaton.specs.Configuration.{Direction, forward, backward, Comp, Dev, Stack, NConf, Basic, Nest, Conf, end, next, Vect, isForwards, hasTerminated, hasCompensated, pushComp}
 use Rattle.automaton.specs.Semantics.{Trace, Forw, Back, γ, τ, Act, trace, SUC, FAIL, COMP, DEV, NESTSUC, NESTFAIL, NESTCOMP, NEST, VStep, VECT, Settled}

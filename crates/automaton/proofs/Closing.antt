@@ -16,8 +16,8 @@ use Rattle.rules.proofs.Counting.{count-pairs}
 use Rattle.rules.proofs.Acceptance.{Accepted}
 use Rattle.rules.proofs.Scopes.{host-by, by-host, open-find, busy-find}
 use Rattle.rules.proofs.Closing.{closing-final, closed-host, closed-root, closed-kept, closed-replaced, closed-alike}
-use Rattle.restoration.proofs.Nesting.{Awake, Nested, state-of, open-host}
-use Rattle.restoration.proofs.Closing.{closing-open, closes-known, closes-of, closing-busy, closing-open-track, closing-direct}
+use Rattle.theory.proofs.Nesting.{Awake, Nested, state-of, open-host}
+use Rattle.theory.proofs.Closing.{closing-open, closes-known, closes-of, closing-busy, closing-open-track, closing-direct}
 use Rattle.restoration.proofs.Theorems01.{installed-mode, installed-state, installed-held, closed-awake}
 use Rattle.automaton.specs.Configuration.{forward, NConf, Basic, push, hasTerminated}
 use Rattle.automaton.specs.Semantics.{nestsucAt, Step, NESTSUC, Run}

@@ -18,7 +18,7 @@ use Rattle.rules.specs.Fire.{newest, fired}
 use Rattle.rules.specs.Call.{Call, event, signal, fire, figures}
 use Rattle.rules.proofs.Tests.{look}
 use Rattle.rules.proofs.Acceptance.{Accepted}
-use Rattle.restoration.proofs.Nesting.{Nested}
+use Rattle.theory.proofs.Nesting.{Nested}
 use Rattle.restoration.proofs.Theorems01.{moved-nested}
 use Rattle.automaton.specs.Listing.{listedFrom, listed, listedDown}
 use Rattle.automaton.specs.Semantics.{Act, sucAt, failAt, nestsucAt, nestfailAt, trace}

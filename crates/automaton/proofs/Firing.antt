@@ -19,11 +19,11 @@ use Rattle.rules.proofs.Acceptance.{Accepted}
 use Rattle.rules.proofs.Forest.{above-lower}
 use Rattle.rules.proofs.Opening.{wakes-root}
 use Rattle.rules.proofs.Abandoning.{undoing-awake}
-use Rattle.restoration.proofs.Modes.{undoing-forward}
-use Rattle.restoration.proofs.Nesting.{Awake, Nested}
-use Rattle.restoration.proofs.Entries.{Good}
-use Rattle.restoration.proofs.Entering.{Fate, enters, wakens, stays, fate, arrived-awake}
-use Rattle.restoration.proofs.Firing.{fired-is, removed-mode, removed-state, removed-here, removed-other, removed-awake, deviates-known, deviates-here, removed-nested, deviates-free, fired-nested, fired-still}
+use Rattle.theory.proofs.Modes.{undoing-forward}
+use Rattle.theory.proofs.Nesting.{Awake, Nested}
+use Rattle.theory.proofs.Entries.{Good}
+use Rattle.theory.proofs.Entering.{Fate, enters, wakens, stays, fate, arrived-awake}
+use Rattle.theory.proofs.Firing.{fired-is, removed-mode, removed-state, removed-here, removed-other, removed-awake, deviates-known, deviates-here, removed-nested, deviates-free, fired-nested, fired-still}
 use Rattle.restoration.proofs.Theorems01.{may-fire}
 use Rattle.automaton.specs.Configuration.{backward, Comp, Dev, Stack, NConf, Basic, pushComp, pushDev, goto}
 use Rattle.automaton.specs.Semantics.{compAt, devAt, Step, COMP, DEV, VStep, Run, stop, step}

@@ -17,7 +17,7 @@ use Rattle.rules.proofs.Acceptance.{Accepted}
 use Rattle.rules.proofs.Scopes.{by-host, host-by, root-of, root-none}
 use Rattle.rules.proofs.Forest.{Reaches, above-up, above-down, above-hosted, above-lower, reaches-above, in-line}
 use Rattle.rules.proofs.Abandoning.{hosts-higher}
-use Rattle.restoration.proofs.Nesting.{Awake, Nested, host-awake, host-busy}
+use Rattle.theory.proofs.Nesting.{Awake, Nested, host-awake, host-busy}
 use Rattle.automaton.specs.Listing.{listed}
 use Rattle.automaton.specs.Configuration.{forward, NConf, Basic, Nest, Conf, Vect}
 use Rattle.automaton.specs.Semantics.{Act, Step, NEST, VStep}

@@ -25,7 +25,7 @@ use Rattle.rules.specs.ReferenceRun.{bookedCall, booked, booksFrom, booksAfter,
 use Rattle.rules.proofs.Tests.{look, look-option, none-some}
 use Rattle.rules.proofs.Acceptance.{Accepted, accepts}
 use Rattle.restoration.proofs.Theorems01.{act-append, fire-accepted, may-fire, over-refused, mover-is, Sound, Kept, over-is}
-use Rattle.restoration.proofs.Nesting.{Nested}
+use Rattle.theory.proofs.Nesting.{Nested}
 use Rattle.restoration.proofs.SoundWords.{Holds, begin-holds, call-holds, call-accepted, call-refused}
 use Rattle.restoration.proofs.Restoration.{restored}
 use Rattle.automaton.specs.Listing.{listedFrom, listed, listedDown}

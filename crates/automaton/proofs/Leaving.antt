@@ -17,9 +17,9 @@ use Rattle.rules.proofs.Acceptance.{Accepted}
 use Rattle.rules.proofs.Scopes.{in-host, host-in, host-by, by-host, every-in-at, every-in-of, open-find, busy-find}
 use Rattle.rules.proofs.Forest.{above-lower}
 use Rattle.rules.proofs.Abandoning.{spent-parts, abandoned-host, left-kept}
-use Rattle.restoration.proofs.Modes.{undoing-forward}
-use Rattle.restoration.proofs.Nesting.{Awake, Nested, state-of, host-busy}
-use Rattle.restoration.proofs.Leaving.{left-awake, left-root}
+use Rattle.theory.proofs.Modes.{undoing-forward}
+use Rattle.theory.proofs.Nesting.{Awake, Nested, state-of, host-busy}
+use Rattle.theory.proofs.Leaving.{left-awake, left-root}
 use Rattle.automaton.specs.Listing.{listed, listedDown}
 use Rattle.automaton.specs.Configuration.{backward, NConf, Basic, Vect, isBackwards, isCompensated}
 use Rattle.automaton.specs.Semantics.{nestfailAt, Step, NESTFAIL, VStep, Run}

@@ -22,11 +22,11 @@ use Rattle.rules.proofs.Tests.{look, look-option, clash, and-true, and-both}
 use Rattle.rules.proofs.Acceptance.{Accepted}
 use Rattle.rules.proofs.Closing.{closed-asleep, closed-replaced, closed-kept}
 use Rattle.rules.proofs.Abandoning.{left-asleep, left-kept}
-use Rattle.restoration.proofs.Nesting.{Nested}
-use Rattle.restoration.proofs.Entering.{Fate, enters, wakens, stays, fate, fresh-held}
-use Rattle.restoration.proofs.Firing.{fired-is, removed-here, removed-other}
-use Rattle.restoration.proofs.Soundness.{sleeping-held}
-use Rattle.restoration.proofs.SoundBegin.{all-asleep}
+use Rattle.theory.proofs.Nesting.{Nested}
+use Rattle.theory.proofs.Entering.{Fate, enters, wakens, stays, fate, fresh-held}
+use Rattle.theory.proofs.Firing.{fired-is, removed-here, removed-other}
+use Rattle.theory.proofs.Soundness.{sleeping-held}
+use Rattle.theory.proofs.SoundBegin.{all-asleep}
 use Rattle.restoration.proofs.Theorems01.{move-takes, installed-held, by-none, by-some, turned-held, work, next-cases, next-refused, reached-kept, over-refused, recorded, goes, moved-is, mover-is, Kept, over-is}
 use Rattle.automaton.specs.SelfCancelling.{Perfect}
 use Rattle.automaton.proofs.StringBooks.{isCodeOf, code-of}

@@ -15,7 +15,7 @@ use Rattle.rules.proofs.Tests.{look, look-option, refuted}
 use Rattle.rules.proofs.Acceptance.{Accepted}
 use Rattle.rules.proofs.Forest.{reaches-above}
 use Rattle.rules.proofs.Abandoning.{hosts-higher}
-use Rattle.restoration.proofs.Nesting.{Awake, Nested}
+use Rattle.theory.proofs.Nesting.{Awake, Nested}
 use Rattle.automaton.specs.Listing.{listed}
 use Rattle.automaton.specs.Configuration.{NConf, Vect}
 use Rattle.automaton.specs.Semantics.{Act, Step, VStep, Run}

@@ -7,8 +7,8 @@ use Rattle.rules.specs.Layout.{entryLimit}
 use Rattle.rules.specs.Ledger.{Ledger}
 use Rattle.rules.specs.Call.{Call, event, signal, fire, nothing, figures}
 use Rattle.rules.specs.ReferenceRun.{ledgerAfter}
-use Rattle.runs.specs.SamplePlan.{planP, lentFor}
-use Rattle.runs.specs.Computing.{computing}
+use Rattle.starred.specs.SamplePlan.{planP, lentFor}
+use Rattle.starred.specs.Computing.{computing}
 use Rattle.automaton.specs.Listing.{listedFrom, listed, listedDown}
 use Rattle.automaton.specs.Configuration.{forward, backward, Comp, Basic, Nest, Vect, pushComp, pushDev, initBy, gotoTo, goto, init}
 use Rattle.automaton.specs.Semantics.{sucAt, failAt, compAt, nestsucAt, nestfailAt}

@@ -15,8 +15,8 @@ use Rattle.rules.specs.Layout.{entryLimit}
 use Rattle.rules.specs.Call.{Call, event, signal, fire, nothing}
 use Rattle.rules.proofs.Tests.{look, implies}
 use Rattle.rules.proofs.Folds.{every-at}
-use Rattle.runs.specs.SamplePlan.{bytesOf, lentFor}
-use Rattle.runs.specs.Computing.{computing}
+use Rattle.starred.specs.SamplePlan.{bytesOf, lentFor}
+use Rattle.starred.specs.Computing.{computing}
 use Rattle.automaton.specs.Listing.{listedFrom, listed, listedDown}
 use Rattle.automaton.specs.Semantics.{trace}
 use Rattle.automaton.specs.View.{isWithin, leavesScope, isGoing, abandonings, deviating, movings, closers, turners, actsOf}

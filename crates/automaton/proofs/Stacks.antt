@@ -15,7 +15,7 @@ use Rattle.rules.proofs.Tests.{look, and-true, and-both}
 use Rattle.rules.proofs.Acceptance.{Accepted}
 use Rattle.rules.proofs.Forest.{Reaches, above-lower}
 use Rattle.rules.proofs.Scopes.{in-host, host-by}
-use Rattle.restoration.proofs.Nesting.{state-of}
+use Rattle.theory.proofs.Nesting.{state-of}
 use Rattle.automaton.specs.Listing.{listed, everyOf}
 use Rattle.automaton.specs.Configuration.{Comp, Dev, Stack, NConf, Basic, Nest, Conf, end, next, Vect, pushComp, pushDev, push, initBy, gotoTo, goto}
 use Rattle.automaton.specs.Semantics.{Act, sucAt, failAt, compAt, devAt, nestsucAt, nestfailAt, nestcompAt, trace, Step, SUC, FAIL, COMP, DEV, NESTSUC, NESTFAIL, NESTCOMP, NEST, VECT, NRun, halt, then}

@@ -21,7 +21,7 @@ use Rattle.rules.proofs.Acceptance.{Accepted}
 use Rattle.rules.proofs.Forest.{inside-root}
 use Rattle.rules.proofs.Scopes.{root-none}
 use Rattle.restoration.proofs.Theorems01.{act-append, over-refused, mover-is, Over, Kept, over-is, reached-kept, running-reached}
-use Rattle.restoration.proofs.Nesting.{Nested}
+use Rattle.theory.proofs.Nesting.{Nested}
 use Rattle.automaton.specs.SelfCancelling.{Symbol, activity, action, leftAfter, Perfect, Tagged}
 use Rattle.automaton.proofs.CancOut.{left-activity, left-action}
 

@@ -19,11 +19,11 @@ use Rattle.rules.proofs.Acceptance.{Accepted}
 use Rattle.rules.proofs.Scopes.{by-host, host-by, open-at, open-find, busy-find}
 use Rattle.rules.proofs.Closing.{closing-final}
 use Rattle.rules.proofs.Abandoning.{bare-parts}
-use Rattle.restoration.proofs.Modes.{undoing-forward}
-use Rattle.restoration.proofs.Nesting.{Awake, Nested, open-host}
-use Rattle.restoration.proofs.Closing.{closing-of, final-free}
-use Rattle.restoration.proofs.SoundBegin.{abandoning-bare}
-use Rattle.restoration.proofs.SoundEvent.{abandoning-of}
+use Rattle.theory.proofs.Modes.{undoing-forward}
+use Rattle.theory.proofs.Nesting.{Awake, Nested, open-host}
+use Rattle.theory.proofs.Closing.{closing-of, final-free}
+use Rattle.theory.proofs.SoundBegin.{abandoning-bare}
+use Rattle.theory.proofs.SoundEvent.{abandoning-of}
 use Rattle.automaton.specs.Listing.{listed, someOf, everyOf}
 use Rattle.automaton.specs.Configuration.{NConf, Conf, Vect, members, pushComp, isForwards, isBackwards, isBare, isTerminated, isCompensated, hasTerminated, hasCompensated}
 use Rattle.automaton.specs.View.{stackOf, directionOf, isWithin, basic, nested, viewOf, scopeView}

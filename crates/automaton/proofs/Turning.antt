@@ -13,8 +13,8 @@ use Rattle.rules.specs.Signal.{turned, afterSignal}
 use Rattle.rules.specs.Call.{nothing}
 use Rattle.rules.proofs.Tests.{look, clash, none-some, refuted, and-true}
 use Rattle.rules.proofs.Acceptance.{Accepted}
-use Rattle.restoration.proofs.Modes.{forward-awake}
-use Rattle.restoration.proofs.Nesting.{Awake, Nested, free-below, busy-same}
+use Rattle.theory.proofs.Modes.{forward-awake}
+use Rattle.theory.proofs.Nesting.{Awake, Nested, free-below, busy-same}
 use Rattle.restoration.proofs.Theorems01.{turned-awake, turned-state, turned-held, turned-forward, turned-nested}
 use Rattle.automaton.specs.Configuration.{forward, backward, NConf, Basic}
 use Rattle.automaton.specs.Semantics.{failAt, Step, FAIL, Run}

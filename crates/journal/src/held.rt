@@ -1,15 +1,15 @@
 // What the text tells of a ledger: the entries that it holds, and the lowest track that may be fired.
+use lookup::opens;
+use lookup::reading;
+use lookup::ready;
 use rules::Counts;
-use steps::opens;
-use steps::reading;
-use steps::ready;
 ghost use mathlib.Core.Path.{_≡_};
 ghost use lib.ListN.{length};
 ghost use Rattle.rules.specs.Fold.{sumBelow};
 ghost use Rattle.rules.specs.Plan.{planOf};
 ghost use Rattle.rules.specs.Journal.{fireLowestCall};
 ghost use Rattle.rules.specs.Call.{fire};
-ghost use Rattle.steps.specs.Going.{Accepts, Roomy, ledgerOf};
+ghost use Rattle.lookup.specs.Going.{Accepts, Roomy, ledgerOf};
 
 // The entries that all tracks hold.
 pub fn held_total(c: Counts, ledger: &[u16]) -> u32

@@ -28,11 +28,11 @@ use Rattle.rules.proofs.Replaced.{updated, updated-here, updated-other, updated
 use Rattle.plan.proofs.FieldLaws.{track-count, state-count}
 use Rattle.ledger.specs.Words.{Within, trackOf, withTrack, withAsleep}
 use Rattle.ledger.proofs.Words.{put-written}
-use Rattle.steps.specs.Going.{Accepts, Roomy}
+use Rattle.lookup.specs.Going.{Accepts, Roomy}
 use Rattle.plan.specs.Passes.{slots}
-use Rattle.steps.specs.Marks.{wakeMarks}
-use Rattle.steps.proofs.Marks.{wake-marks}
-use Rattle.steps.proofs.Facts.{plan-facts, few-tracks, in-room}
+use Rattle.lookup.specs.Marks.{wakeMarks}
+use Rattle.lookup.proofs.Marks.{wake-marks}
+use Rattle.lookup.proofs.Facts.{plan-facts, few-tracks, in-room}
 use Rattle.manager.specs.Roots.{rootWord, rootWords}
 
 -- The words of the states that roots enter.

@@ -9,7 +9,7 @@ use Rattle.rules.specs.Acceptance.{turnedBack, accepted}
 use Rattle.rules.specs.Layout.{entryLimit}
 use Rattle.rules.specs.Ledger.{ledgerAt, written}
 use Rattle.rules.specs.Call.{refusal, done, Call, ledgerRefusals, callRefusals, figures, after, callOutcome}
-use Rattle.steps.specs.Going.{Checked}
+use Rattle.lookup.specs.Going.{Checked}
 use Rattle.manager.specs.Checked.{checked}
 use Rattle.manager.proofs.Checks.{checked-facts, lent-accepts, lent-roomy, refused-outcome}
 

@@ -24,7 +24,7 @@ use Rattle.rules.proofs.Tests.{and-true}
 use Rattle.ledger.proofs.Words.{room-within}
 use Rattle.ledger.proofs.ReadTracks.{count-within}
 use Rattle.ledger.specs.Words.{Room}
-use Rattle.steps.specs.Going.{Accepts, Roomy, ledgerOf}
+use Rattle.lookup.specs.Going.{Accepts, Roomy, ledgerOf}
 use Rattle.manager.specs.Checked.{lent, checked, Span}
 
 -- the entries of a track end within its words

@@ -1,11 +1,11 @@
 // The tracks that may be fired, as the bits of a number.
+use lookup::opens;
+use lookup::ready;
 use rules::Counts;
-use steps::opens;
-use steps::ready;
 ghost use mathlib.Core.Path.{_≡_};
 ghost use Rattle.rules.specs.Plan.{planOf};
 ghost use Rattle.rules.specs.Fire.{ready};
-ghost use Rattle.steps.specs.Going.{Accepts, Roomy, ledgerOf};
+ghost use Rattle.lookup.specs.Going.{Accepts, Roomy, ledgerOf};
 
 // The number with bit n set exactly if track n may be fired.
 pub fn ready_bits(plan: &[u8], c: Counts, ledger: &[u16]) -> u32

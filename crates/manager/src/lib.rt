@@ -43,7 +43,7 @@ pub fn event(plan: &[u8], ledger: &mut [u16], event: u16) -> EventAnswer
     let answer = verify::verify(plan, &ledger[..]);
     match answer {
         PlanAnswer::Refused(n) => EventAnswer::Refused(n),
-        PlanAnswer::Accepted(c) => forward::event::event(plan, c, &mut ledger[..], event),
+        PlanAnswer::Accepted(c) => event_step::event::event(plan, c, &mut ledger[..], event),
     }
 }
 
@@ -54,7 +54,7 @@ pub fn signal(plan: &[u8], ledger: &mut [u16]) -> SignalAnswer
     let answer = verify::verify(plan, &ledger[..]);
     match answer {
         PlanAnswer::Refused(n) => SignalAnswer::Refused(n),
-        PlanAnswer::Accepted(c) => backward::signal::signal(plan, c, &mut ledger[..]),
+        PlanAnswer::Accepted(c) => withdrawal::signal::signal(plan, c, &mut ledger[..]),
     }
 }
 
@@ -66,7 +66,7 @@ pub fn fire(plan: &[u8], ledger: &mut [u16], track: u16) -> FireAnswer
     let answer = verify::verify(plan, &ledger[..]);
     match answer {
         PlanAnswer::Refused(n) => FireAnswer::Refused(n),
-        PlanAnswer::Accepted(c) => backward::fire::fire(plan, c, &mut ledger[..], track),
+        PlanAnswer::Accepted(c) => withdrawal::fire::fire(plan, c, &mut ledger[..], track),
     }
 }
 

@@ -1,12 +1,12 @@
 // Begin's ledger: roots forward in their first states, the scopes of the states entered open, the other tracks asleep.
 use ledger::track;
+use lookup::firsts;
+use lookup::waking;
 use plan::fields;
 use plan::fields::NO_STATE;
 use rules::Counts;
 use rules::Mode;
 use rules::Track;
-use steps::firsts;
-use steps::waking;
 ghost use mathlib.Core.Path.{_≡_};
 ghost use mathlib.Core.Bool.{false, cond, _||_};
 ghost use Prim.Native.Nat.{_<_};
@@ -16,7 +16,7 @@ ghost use Rattle.rules.specs.Plan.{planOf, isRoot};
 ghost use Rattle.rules.specs.Ledger.{written};
 ghost use Rattle.rules.specs.Opening.{fresh, begun};
 ghost use Rattle.ledger.specs.Words.{Within, trackOf, withTrack, withAsleep};
-ghost use Rattle.steps.specs.Going.{Accepts, Roomy};
+ghost use Rattle.lookup.specs.Going.{Accepts, Roomy};
 ghost use Rattle.plan.specs.Passes.{firstMarks};
 ghost use Rattle.manager.specs.Roots.{rootWord, rootWords};
 

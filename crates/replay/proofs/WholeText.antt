@@ -19,7 +19,7 @@ use Rattle.rules.specs.Call.{beginOutcome}
 use Rattle.rules.specs.Transcript.{refusalLine, planLine, replay, mostBytes, ownWords, transcript}
 use Rattle.rules.proofs.Tests.{or-right}
 use Rattle.plan.proofs.Reader.{accepted-holds}
-use Rattle.steps.specs.Going.{Accepts, Roomy}
+use Rattle.lookup.specs.Going.{Accepts, Roomy}
 use Rattle.journal.specs.Writing.{Lined, lineRoom, writtenAt}
 use Rattle.journal.proofs.Written.{wrote-then}
 use Rattle.replay.specs.declared.RunAnswer.the-variants.{Written, TooSmall, ShortLedger}

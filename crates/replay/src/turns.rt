@@ -9,7 +9,7 @@ ghost use Prim.Native.Nat.{_<_};
 ghost use Rattle.rules.specs.Plan.{planOf};
 ghost use Rattle.rules.specs.Call.{event, signal, fire, nothing};
 ghost use Rattle.rules.specs.Journal.{fireLowestCall};
-ghost use Rattle.steps.specs.Going.{ledgerOf};
+ghost use Rattle.lookup.specs.Going.{ledgerOf};
 ghost use Rattle.journal.specs.Entered.{entered, sizeOf};
 ghost use Rattle.journal.specs.Replayed.{callOf};
 ghost use Rattle.replay.specs.Turned.{Ready, Turned};
@@ -31,7 +31,7 @@ fn event_turn(
     requires { ⌜ Ready (now plan) c (now ledger) (now output) from ⌝ }
     ensures { λ r. ⌜ Turned (now (plan .entry)) c (event (record { event = name })) (now (ledger .entry)) (now (output .entry)) from (now (ledger .exit)) (now (output .exit)) r ⌝ }
 {
-    let answer = forward::event::event(plan, c, &mut ledger[..], name);
+    let answer = event_step::event::event(plan, c, &mut ledger[..], name);
     let place = lines::event_line(&mut output[..], from.place, name, answer);
     let held = held::held_total(c, &ledger[..]);
     let before = from.tally;
@@ -52,7 +52,7 @@ fn signal_turn(
     requires { ⌜ Ready (now plan) c (now ledger) (now output) from ⌝ }
     ensures { λ r. ⌜ Turned (now (plan .entry)) c (signal nothing) (now (ledger .entry)) (now (output .entry)) from (now (ledger .exit)) (now (output .exit)) r ⌝ }
 {
-    let answer = backward::signal::signal(plan, c, &mut ledger[..]);
+    let answer = withdrawal::signal::signal(plan, c, &mut ledger[..]);
     let place = lines::signal_line(&mut output[..], from.place, answer);
     let held = held::held_total(c, &ledger[..]);
     let before = from.tally;
@@ -74,7 +74,7 @@ fn fire_turn(
     requires { ⌜ Ready (now plan) c (now ledger) (now output) from ⌝ }
     ensures { λ r. ⌜ Turned (now (plan .entry)) c (fire (record { track = track })) (now (ledger .entry)) (now (output .entry)) from (now (ledger .exit)) (now (output .exit)) r ⌝ }
 {
-    let answer = backward::fire::fire(plan, c, &mut ledger[..], track);
+    let answer = withdrawal::fire::fire(plan, c, &mut ledger[..], track);
     let place = lines::fire_line(&mut output[..], from.place, track, answer);
     let held = held::held_total(c, &ledger[..]);
     let fired = tally::firings_of(answer);

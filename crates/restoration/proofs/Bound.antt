@@ -21,10 +21,10 @@ use Rattle.rules.specs.Transcript.{firingsOf}
 use Rattle.rules.specs.ReferenceRun.{answersFrom}
 use Rattle.rules.proofs.Tests.{look, clash}
 use Rattle.rules.proofs.Acceptance.{Accepted, accepts}
-use Rattle.restoration.specs.Seams as seam
-use Rattle.restoration.specs.Runs.{firingsFrom, isEventless}
+use Rattle.theory.specs.Seams as seam
+use Rattle.theory.specs.Runs.{firingsFrom, isEventless}
 use Rattle.restoration.specs.Firings.{firingsIn, isEventDone, isDeviation, isWithout}
-use Rattle.restoration.proofs.FiringsFall as theorem
+use Rattle.theory.proofs.FiringsFall as theorem
 use Rattle.restoration.proofs.Document01.{document01, asRules, asTheory, there-and-back, laws01}
 use Rattle.restoration.proofs.SoundWords.{theLedger, Holds, sound-holds, outcome, passed-ledger, call-accepted, call-refused, call-holds}
 use Rattle.restoration.proofs.Restoration.{listed}

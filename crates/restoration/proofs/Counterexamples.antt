@@ -18,8 +18,8 @@ use Rattle.rules.specs.Books.{Apart, Deed, change, retraction, replacing, act}
 use Rattle.rules.specs.ReferenceRun.{ledgerAfter, AllWithdrawn}
 use Rattle.rules.proofs.Tests.{clash, none-some}
 use Rattle.rules.proofs.Acceptance.{accepts}
-use Rattle.runs.specs.SamplePlan.{bytesOf, lentFor}
-use Rattle.runs.specs.Computing.{computing}
+use Rattle.starred.specs.SamplePlan.{bytesOf, lentFor}
+use Rattle.starred.specs.Computing.{computing}
 use Rattle.restoration.specs.LenientBooks.{Lenient, freelyCall, freelyBooked, freely, Claim, noneOf, onlyReal, allAsked, withoutNothing, undoneWhere, replacedWhere, withoutCommuting, changesAlone}
 use Rattle.restoration.proofs.Runs01.{same-act, to-finished}
 use Rattle.restoration.proofs.Restoration.{freely-restored}

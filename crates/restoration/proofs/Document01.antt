@@ -29,16 +29,16 @@ use Rattle.rules.proofs.Acceptance.{Accepted, transition-for}
 use Rattle.rules.proofs.Scopes.{root-of, root-none}
 use Rattle.rules.proofs.Opening.{enter-to}
 use Rattle.rules.proofs.Closing as closing
-use Rattle.restoration.specs.Roots.{rootOf}
-use Rattle.restoration.specs.Seams.{Seams, CallOf, event, signal, fire, isEvent, installed, installedBy, install, recorded, goes, changeOf, turned, work}
-use Rattle.restoration.proofs.Composition.{when, join}
-use Rattle.restoration.proofs.Modes.{undoing-forward}
-use Rattle.restoration.proofs.Nesting.{Nested, root-above}
-use Rattle.restoration.proofs.Entries.{deviates}
-use Rattle.restoration.proofs.Firing.{may-fire, fired-is, removed-mode, deviates-here, deviates-not, fired-still}
-use Rattle.restoration.proofs.Soundness.{Sound}
-use Rattle.restoration.proofs.Laws.{Takes, ended, Settled, Roomy, Laws, Unfinished}
-use Rattle.restoration.proofs.SoundRetraction.{spared-track, fired-awake, fired-root}
+use Rattle.theory.specs.Roots.{rootOf}
+use Rattle.theory.specs.Seams.{Seams, CallOf, event, signal, fire, isEvent, installed, installedBy, install, recorded, goes, changeOf, turned, work}
+use Rattle.theory.proofs.Composition.{when, join}
+use Rattle.theory.proofs.Modes.{undoing-forward}
+use Rattle.theory.proofs.Nesting.{Nested, root-above}
+use Rattle.theory.proofs.Entries.{deviates}
+use Rattle.theory.proofs.Firing.{may-fire, fired-is, removed-mode, deviates-here, deviates-not, fired-still}
+use Rattle.theory.proofs.Soundness.{Sound}
+use Rattle.theory.proofs.Laws.{Takes, ended, Settled, Roomy, Laws, Unfinished}
+use Rattle.theory.proofs.SoundRetraction.{spared-track, fired-awake, fired-root}
 
 -- The rules' calls, as the theory's.
 abbrev Calls : Type 0

@@ -1,40 +1,4 @@
--- Property 3's mathematics, over the seams: theorems that know of the rules of calls only the laws of Laws.antt; and document 01 as an instance.
--- Changes composed; ledgers nested, and what they hold; the laws.
-pub mod Composition
-pub mod Modes
-pub mod Roots
-pub mod Nesting
-pub mod Entering
-pub mod Entries
-pub mod Firing
-pub mod Soundness
-pub mod Laws
--- What the laws give: each part of a call keeps a ledger nested and formed.
-pub mod Settling
-pub mod Installing
-pub mod Turning
-pub mod Moving
-pub mod Closing
-pub mod Leaving
-pub mod Forming
--- Soundness is kept by every call; progress; firings fall.
-pub mod SoundBegin
-pub mod SoundEvent
-pub mod SoundRetraction
-pub mod SoundKept
-pub mod Progress
-pub mod FiringsFall
--- Restoration: the invariant, each part of a call, whole calls, lists of calls.
-pub mod Invariant
-pub mod InvariantMoving
-pub mod InvariantClosing
-pub mod InvariantRetraction
-pub mod InvariantCalls
-pub mod Histories
--- Runs of a scope, and what they weigh.
-pub mod ScopeRuns
-pub mod Weights
--- Document 01: the instance, and the theorems in its own terms, on words.
+-- Property 3's mathematics, said of document 01: the rules are an instance of the theory, and its theorems in the rules' own terms, on words.
 pub mod Document01
 pub mod Theorems01
 pub mod Runs01

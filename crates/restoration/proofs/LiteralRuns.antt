@@ -20,18 +20,18 @@ use Rattle.rules.proofs.Acceptance.{Accepted}
 use Rattle.rules.proofs.Scopes.{open-find}
 use Rattle.rules.proofs.Closing.{closing-final, closed-alike}
 use Rattle.rules.proofs.Abandoning.{awake-kept}
-use Rattle.restoration.specs.Seams as seam
-use Rattle.restoration.specs.Seams.{turned}
-use Rattle.restoration.proofs.Composition.{Word}
-use Rattle.restoration.proofs.Modes.{forward-awake}
-use Rattle.restoration.proofs.Nesting.{open-host}
-use Rattle.restoration.proofs.Firing.{may-fire, removed-mode, fired-busy}
-use Rattle.restoration.proofs.Soundness.{Sound}
-use Rattle.restoration.proofs.Turning.{unturned}
-use Rattle.restoration.proofs.Moving.{moved-nested, moved-busy}
-use Rattle.restoration.proofs.Closing.{closing-open, closed-awake}
-use Rattle.restoration.proofs.SoundRetraction.{fired-awake}
-use Rattle.restoration.proofs.ScopeRuns as theorem
+use Rattle.theory.specs.Seams as seam
+use Rattle.theory.specs.Seams.{turned}
+use Rattle.theory.proofs.Composition.{Word}
+use Rattle.theory.proofs.Modes.{forward-awake}
+use Rattle.theory.proofs.Nesting.{open-host}
+use Rattle.theory.proofs.Firing.{may-fire, removed-mode, fired-busy}
+use Rattle.theory.proofs.Soundness.{Sound}
+use Rattle.theory.proofs.Turning.{unturned}
+use Rattle.theory.proofs.Moving.{moved-nested, moved-busy}
+use Rattle.theory.proofs.Closing.{closing-open, closed-awake}
+use Rattle.theory.proofs.SoundRetraction.{fired-awake}
+use Rattle.theory.proofs.ScopeRuns as theorem
 use Rattle.restoration.proofs.Document01.{document01, laws01, unfinished01}
 use Rattle.restoration.proofs.Runs01.{from-running}
 

@@ -12,10 +12,10 @@ use Rattle.rules.specs.FinishedRun.{Finished}
 use Rattle.rules.proofs.Tests.{and-true}
 use Rattle.rules.proofs.Folds.{every-at}
 use Rattle.rules.proofs.Acceptance.{Accepted}
-use Rattle.restoration.proofs.Composition.{Word}
-use Rattle.restoration.proofs.Weights as theorem
-unfoldable pub use Rattle.restoration.proofs.Weights.{weight}
-use Rattle.restoration.proofs.Weights.{Climbs}
+use Rattle.theory.proofs.Composition.{Word}
+use Rattle.theory.proofs.Weights as theorem
+unfoldable pub use Rattle.theory.proofs.Weights.{weight}
+use Rattle.theory.proofs.Weights.{Climbs}
 use Rattle.restoration.proofs.Document01.{document01, laws01, unfinished01}
 use Rattle.restoration.proofs.Runs01.{from-finished}
 

@@ -19,11 +19,11 @@ use Rattle.rules.specs.Call.{EventArguments, SignalArguments, FireArguments, An
 use Rattle.rules.specs.Books.{Books}
 use Rattle.rules.specs.ReferenceRun.{wordsFrom, wordsAfter, bookedCall, booked, booksFrom, booksAfter, ledgerAfter, AllWithdrawn}
 use Rattle.rules.proofs.Acceptance.{Accepted, accepts}
-use Rattle.restoration.specs.Seams.{CallOf}
+use Rattle.theory.specs.Seams.{CallOf}
 use Rattle.restoration.specs.LenientBooks.{freelyCall, freelyBooked, freely}
-use Rattle.restoration.specs.Runs as theory
-use Rattle.restoration.specs.Runs.{ledgerFrom}
-use Rattle.restoration.proofs.Histories as theorem
+use Rattle.theory.specs.Runs as theory
+use Rattle.theory.specs.Runs.{ledgerFrom}
+use Rattle.theory.proofs.Histories as theorem
 use Rattle.restoration.proofs.Document01.{document01, asRules, asTheory, there-and-back, laws01, unfinished01}
 use Rattle.restoration.proofs.Runs01.{books01, same-call}
 use Rattle.restoration.proofs.SoundWords.{Holds, call-accepted, call-refused, call-holds, begin-holds}

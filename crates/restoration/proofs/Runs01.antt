@@ -12,7 +12,7 @@ use Rattle.rules.specs.Call.{Call, event, signal, fire, next}
 use Rattle.rules.specs.FinishedRun as rule
 use Rattle.rules.specs.Books as book
 use Rattle.restoration.specs.LenientBooks.{freelyCall}
-use Rattle.restoration.specs.Runs as theory
+use Rattle.theory.specs.Runs as theory
 use Rattle.restoration.proofs.Document01.{document01, asRules, asTheory, there-and-back}
 
 -- changes done one after the other

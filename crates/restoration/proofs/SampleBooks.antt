@@ -13,11 +13,11 @@ use Rattle.rules.specs.FinishedRun.{Finished}
 use Rattle.rules.specs.Books.{act}
 use Rattle.rules.proofs.Tests.{clash, none-some}
 use Rattle.rules.proofs.Acceptance.{Accepted, accepts}
-use Rattle.runs.specs.SamplePlan.{planP}
-use Rattle.runs.specs.Computing.{computing}
+use Rattle.starred.specs.SamplePlan.{planP}
+use Rattle.starred.specs.Computing.{computing}
 use Rattle.restoration.specs.SampleAccount.{countsP, P, Account, rootAdds, leftAdds, rightAdds, raised, lowered}
-use Rattle.restoration.proofs.Composition.{Word}
-use Rattle.restoration.proofs.Nesting.{state-of}
+use Rattle.theory.proofs.Composition.{Word}
+use Rattle.theory.proofs.Nesting.{state-of}
 use Rattle.restoration.proofs.Potential.{weight, Potential, isPotential, potential-of, finished-weight, outside-weight}
 
 pub accepts-P : readPlan planP ≡ accepted countsP

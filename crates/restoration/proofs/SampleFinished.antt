@@ -10,9 +10,9 @@ use borrow.Author.Tests.{ne-eqb}
 use Rattle.rules.specs.Plan.{mover, isInside}
 use Rattle.rules.specs.FinishedRun.{Finished}
 use Rattle.rules.proofs.Tests.{clash}
-use Rattle.runs.specs.Computing.{computing}
+use Rattle.starred.specs.Computing.{computing}
 use Rattle.restoration.specs.SampleAccount.{P}
-use Rattle.restoration.proofs.Composition.{Word}
+use Rattle.theory.proofs.Composition.{Word}
 use Rattle.restoration.proofs.Potential.{weight, Potential, isPotential, potential-of, outside-weight}
 use Rattle.restoration.proofs.SampleBooks.{ok-P, five, left-weight, right-weight}
 

@@ -10,8 +10,8 @@ use Rattle.rules.specs.Call.{Call, event, signal, fire, nothing, done, beginOut
 use Rattle.rules.specs.Books.{Apart, Deed, change, retraction, replacing, does, act, Books}
 use Rattle.rules.specs.ReferenceRun.{bookedCall, booked, booksFrom, booksAfter, ledgerAfter, AllWithdrawn}
 use Rattle.rules.proofs.Tests.{clash}
-use Rattle.runs.specs.SamplePlan.{planP, lentFor}
-use Rattle.runs.specs.Computing.{computing}
+use Rattle.starred.specs.SamplePlan.{planP, lentFor}
+use Rattle.starred.specs.Computing.{computing}
 use Rattle.restoration.specs.SampleAccount.{countsP, P, Account, raised, lowered}
 use Rattle.restoration.proofs.SampleBooks.{accepts-P, same, five, hosts-P, undo-P, undo-run-P}
 use Rattle.restoration.proofs.Restoration.{restored}

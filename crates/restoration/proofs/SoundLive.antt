@@ -23,14 +23,14 @@ use Rattle.rules.proofs.Acceptance.{Accepted}
 use Rattle.rules.proofs.Abandoning.{undoing-awake}
 use Rattle.rules.proofs.Soundness.{Live, live-facts, live-of}
 use Rattle.rules.proofs.Stored.{Storable, read-written, tidy-written, storable-read}
-use Rattle.restoration.proofs.Modes.{is-undoing}
-use Rattle.restoration.proofs.Nesting.{Awake, Nested}
-use Rattle.restoration.proofs.Entries.{Good, may-deviate}
-use Rattle.restoration.proofs.Soundness.{Formed, Sound, Over, sleeping-asleep, sleeping-held, sleeping-few, sleeping-good}
-use Rattle.restoration.proofs.SoundBegin.{begun-sound}
-use Rattle.restoration.proofs.SoundKept as theory
-use Rattle.restoration.proofs.SoundKept.{Kept, over-is, kept-accepted}
-use Rattle.restoration.proofs.Progress.{progress}
+use Rattle.theory.proofs.Modes.{is-undoing}
+use Rattle.theory.proofs.Nesting.{Awake, Nested}
+use Rattle.theory.proofs.Entries.{Good, may-deviate}
+use Rattle.theory.proofs.Soundness.{Formed, Sound, Over, sleeping-asleep, sleeping-held, sleeping-few, sleeping-good}
+use Rattle.theory.proofs.SoundBegin.{begun-sound}
+use Rattle.theory.proofs.SoundKept as theory
+use Rattle.theory.proofs.SoundKept.{Kept, over-is, kept-accepted}
+use Rattle.theory.proofs.Progress.{progress}
 use Rattle.restoration.proofs.Document01.{document01, asTheory, there-and-back, next-accepted, laws01, unfinished01}
 
 module _ (limit : ℕ) (p : Plan) (ok : Accepted p) (l : Ledger) where

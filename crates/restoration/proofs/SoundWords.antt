@@ -23,9 +23,9 @@ use Rattle.rules.proofs.Tests.{look, and-true, or-true, passed}
 use Rattle.rules.proofs.Folds.{every-at}
 use Rattle.rules.proofs.Acceptance.{Accepted, accepts}
 use Rattle.rules.proofs.Stored.{Storable, read-written, length-written, storable-read}
-use Rattle.restoration.proofs.Soundness.{Over}
-use Rattle.restoration.proofs.SoundBegin.{begun-sound}
-use Rattle.restoration.proofs.SoundKept.{Kept}
+use Rattle.theory.proofs.Soundness.{Over}
+use Rattle.theory.proofs.SoundBegin.{begun-sound}
+use Rattle.theory.proofs.SoundKept.{Kept}
 use Rattle.restoration.proofs.Document01.{document01, next-accepted, next-refused, laws01}
 use Rattle.restoration.proofs.SoundLive.{sound-of, kept-storable, kept-next, words-sound}
 

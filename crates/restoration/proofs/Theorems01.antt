@@ -19,26 +19,26 @@ use Rattle.rules.specs.Books.{act}
 use Rattle.rules.specs.FinishedRun.{Reached, start, then, Running, by-begin, by-call, over-event, over-signal, over-fire}
 use Rattle.rules.proofs.Tests.{clash}
 use Rattle.rules.proofs.Acceptance.{Accepted}
-use Rattle.restoration.specs.Seams as seam
-use Rattle.restoration.proofs.Nesting.{Awake, Nested}
-use Rattle.restoration.proofs.Entering.{Enterable}
-use Rattle.restoration.proofs.Firing as firing
-use Rattle.restoration.proofs.Soundness as theory
-use Rattle.restoration.proofs.Soundness.{Formed, RootsAwake}
-use Rattle.restoration.proofs.Settling as settling
-use Rattle.restoration.proofs.Turning as turning
-use Rattle.restoration.proofs.Moving as moving
-use Rattle.restoration.proofs.Closing as closing
-use Rattle.restoration.proofs.Leaving as leaving
-use Rattle.restoration.proofs.SoundEvent as sound-event
-use Rattle.restoration.proofs.SoundRetraction as sound-retraction
-use Rattle.restoration.proofs.SoundKept as kept
-use Rattle.restoration.proofs.Histories as histories
+use Rattle.theory.specs.Seams as seam
+use Rattle.theory.proofs.Nesting.{Awake, Nested}
+use Rattle.theory.proofs.Entering.{Enterable}
+use Rattle.theory.proofs.Firing as firing
+use Rattle.theory.proofs.Soundness as theory
+use Rattle.theory.proofs.Soundness.{Formed, RootsAwake}
+use Rattle.theory.proofs.Settling as settling
+use Rattle.theory.proofs.Turning as turning
+use Rattle.theory.proofs.Moving as moving
+use Rattle.theory.proofs.Closing as closing
+use Rattle.theory.proofs.Leaving as leaving
+use Rattle.theory.proofs.SoundEvent as sound-event
+use Rattle.theory.proofs.SoundRetraction as sound-retraction
+use Rattle.theory.proofs.SoundKept as kept
+use Rattle.theory.proofs.Histories as histories
 use Rattle.restoration.proofs.Runs01.{from-reached}
 use Rattle.restoration.proofs.Document01.{document01, asTheory, there-and-back, same-by, laws01, unfinished01}
-pub use Rattle.restoration.proofs.Soundness.{Over, sleeping-asleep}
-pub use Rattle.restoration.proofs.Moving.{to-none, to-destination, to-some, has-code}
-pub use Rattle.restoration.proofs.SoundKept.{over-is}
+pub use Rattle.theory.proofs.Soundness.{Over, sleeping-asleep}
+pub use Rattle.theory.proofs.Moving.{to-none, to-destination, to-some, has-code}
+pub use Rattle.theory.proofs.SoundKept.{over-is}
 pub use Rattle.restoration.proofs.Document01.{move-takes, next-accepted, next-refused, event-accepted, signal-accepted, fire-accepted}
 
 -- sound, and sound or over

@@ -6,7 +6,7 @@ use lib.ListN.{getD}
 use lib.Dec.{eqb}
 use Rattle.rules.specs.declared.Counts.{Counts}
 use Rattle.rules.specs.Plan.{Plan, planOf}
-use Rattle.runs.specs.SamplePlan.{planP}
+use Rattle.starred.specs.SamplePlan.{planP}
 
 abbrev pub countsP : Counts
 countsP = record { tracks = 3; states = 8; transitions = 5 }

@@ -1,1 +1,1 @@
-// Property 3's mathematics, proved from the rules alone: proofs/. This crate has no code.
+// Property 3's mathematics, said of document 01's rules: proofs/. This crate has no code.

@@ -23,8 +23,8 @@ use Rattle.plan.proofs.Hosting.{host-none}
 use Rattle.ledger.specs.Words.{trackOf}
 use Rattle.ledger.proofs.Branches.{and-stops, and-goes}
 use Rattle.ledger.proofs.ReadTracks.{mode-as, state-as, count-within}
-use Rattle.steps.specs.Going.{Accepts, Roomy, ledgerOf}
-use Rattle.steps.proofs.Facts.{host-is}
+use Rattle.lookup.specs.Going.{Accepts, Roomy, ledgerOf}
+use Rattle.lookup.proofs.Facts.{host-is}
 use Rattle.soundness.specs.declared.tracks.Test.{Test}
 use Rattle.soundness.specs.Asked.{ofEntries, Askable}
 

@@ -13,7 +13,7 @@ use Rattle.rules.specs.Scope.{isOver}
 use Rattle.rules.specs.Soundness.{areTidy, isLive, isSound}
 use Rattle.plan.proofs.FieldLaws.{track-count}
 use Rattle.ledger.specs.Words.{Room}
-use Rattle.steps.specs.Going.{Roomy, ledgerOf}
+use Rattle.lookup.specs.Going.{Roomy, ledgerOf}
 
 -- room for all tracks, as the layout's test asks for it
 pub in-all : (c : Counts) (ws : List ℕ) → Roomy c ws → Room ws (c .tracks)

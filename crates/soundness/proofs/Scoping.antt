@@ -25,12 +25,12 @@ use Rattle.rules.proofs.Acceptance.{Accepted}
 use Rattle.rules.proofs.Scopes.{every-in-at, every-in-of, some-in-at, some-in-find, open-at, open-find}
 use Rattle.plan.proofs.FieldLaws.{track-count, state-count}
 use Rattle.plan.proofs.Hosting.{host-none}
-use Rattle.steps.specs.Going.{Accepts}
+use Rattle.lookup.specs.Going.{Accepts}
 use Rattle.plan.specs.Passes.{slots, stateSlots}
-use Rattle.steps.specs.Marks.{Marks, setAt, markTurn, marksFrom, openMarks, scopeMarks}
-use Rattle.steps.proofs.Facts.{plan-facts, few-tracks, host-is}
-use Rattle.steps.proofs.Marks.{length-open, open-scopes}
-use Rattle.steps.proofs.Setting.{isPlace, marks-set, none-set, scope-marks}
+use Rattle.lookup.specs.Marks.{Marks, setAt, markTurn, marksFrom, openMarks, scopeMarks}
+use Rattle.lookup.proofs.Facts.{plan-facts, few-tracks, host-is}
+use Rattle.lookup.proofs.Marks.{length-open, open-scopes}
+use Rattle.lookup.proofs.Setting.{isPlace, marks-set, none-set, scope-marks}
 use Rattle.soundness.specs.declared.tracks.Test.{Test}
 use Rattle.soundness.specs.declared.tracks.Test.the-variants.{Awake, Done, Emptied}
 use Rattle.soundness.specs.Asked.{passes, failMark, failMarks, scopeIs}

@@ -11,8 +11,8 @@ use Rattle.rules.specs.Layout.{entryLimit}
 use Rattle.rules.specs.Plan.{Plan, host, isRoot, isStateOf, isFinal}
 use Rattle.rules.specs.Ledger.{Ledger, isAwake, isForward, isUndoing, isEmpty}
 use Rattle.rules.specs.Soundness.{areTidy, everyHeld, goodDeviation, isHostedWell}
-use Rattle.steps.specs.Going.{Accepts, Roomy}
-use Rattle.steps.specs.Marks.{markTurn, marksFrom}
+use Rattle.lookup.specs.Going.{Accepts, Roomy}
+use Rattle.lookup.specs.Marks.{markTurn, marksFrom}
 use Rattle.soundness.specs.declared.tracks.Test.{Test}
 use Rattle.soundness.specs.declared.tracks.Test.the-variants.{RootAwake, StateOwn, CodesReal, DeviationsGood, HostedWell, RootDone, Awake, Done, Emptied}
 

@@ -2,15 +2,15 @@
 use crate::scopes;
 use crate::tracks;
 use crate::tracks::Test;
+use lookup::opens;
+use lookup::scopes::scopes_with;
 use rules::Counts;
-use steps::opens;
-use steps::scopes::scopes_with;
 ghost use mathlib.Core.Path.{_≡_};
 ghost use mathlib.Core.Bool.{true};
 ghost use Rattle.rules.specs.Layout.{entryLimit};
 ghost use Rattle.rules.specs.Plan.{planOf};
 ghost use Rattle.rules.specs.Soundness.{areTidy, rootsAwake, statesOwn, codesReal, deviationsGood, scopesWhole, hostsAwake, closingDone, finishDone, abandoningDone};
-ghost use Rattle.steps.specs.Going.{Accepts, Roomy, ledgerOf};
+ghost use Rattle.lookup.specs.Going.{Accepts, Roomy, ledgerOf};
 
 // "every root is awake"
 pub fn roots_awake(plan: &[u8], c: Counts, ledger: &[u16]) -> bool

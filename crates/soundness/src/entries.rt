@@ -1,10 +1,10 @@
 // The entries that a track holds: their codes and their deviations.
 use ledger::layout;
 use ledger::track as words;
+use lookup::reading;
 use plan::fields;
 use plan::fields::NO_STATE;
 use rules::Counts;
-use steps::reading;
 ghost use mathlib.Core.Path.{_≡_};
 ghost use mathlib.Core.Bool.{true, not};
 ghost use Prim.Native.Nat.{_<_, _≤_};
@@ -15,7 +15,7 @@ ghost use Rattle.rules.specs.Ledger.{heldAt};
 ghost use Rattle.rules.specs.Soundness.{areTidy, everyHeld, goodDeviation};
 ghost use Rattle.plan.specs.Holds.{Holds};
 ghost use Rattle.ledger.specs.Words.{Within};
-ghost use Rattle.steps.specs.Going.{Accepts, Roomy, ledgerOf};
+ghost use Rattle.lookup.specs.Going.{Accepts, Roomy, ledgerOf};
 
 // Whether a number is a final state, whatever the number.
 pub fn is_final(plan: &[u8], c: Counts, s: usize) -> bool

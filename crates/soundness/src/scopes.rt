@@ -1,13 +1,13 @@
 // What soundness asks of open scopes, each by a mark of the state whose scope it is.
+use lookup::reading;
 use plan::fields;
 use plan::fields::NO_STATE;
 use rules::Counts;
-use steps::reading;
 ghost use mathlib.Core.Path.{_≡_};
 ghost use Prim.Native.Nat.{_<_};
 ghost use Rattle.rules.specs.Fold.{everyBelow};
 ghost use Rattle.rules.specs.Plan.{planOf};
-ghost use Rattle.steps.specs.Going.{Accepts, Roomy, ledgerOf};
+ghost use Rattle.lookup.specs.Going.{Accepts, Roomy, ledgerOf};
 ghost use Rattle.soundness.specs.Asked.{scopeIs};
 
 // Whether the scope that a track is in, if the track is hosted and awake, is marked, or is not, as wanted.

@@ -1,14 +1,14 @@
 // A sound ledger: tidy words, and over or all clauses.
 use crate::clauses;
 use ledger::tidy;
+use lookup::reading;
 use rules::Counts;
-use steps::reading;
 ghost use mathlib.Core.Path.{_≡_};
 ghost use mathlib.Core.Bool.{true};
 ghost use Rattle.rules.specs.Layout.{entryLimit};
 ghost use Rattle.rules.specs.Plan.{planOf};
 ghost use Rattle.rules.specs.Soundness.{areTidy, isLive, isSound};
-ghost use Rattle.steps.specs.Going.{Accepts, Roomy, ledgerOf};
+ghost use Rattle.lookup.specs.Going.{Accepts, Roomy, ledgerOf};
 
 // Whether all clauses of a ledger that is not over hold.
 fn is_live(plan: &[u8], c: Counts, ledger: &[u16]) -> bool

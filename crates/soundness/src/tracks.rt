@@ -2,11 +2,11 @@
 use crate::entries;
 use ledger::layout;
 use ledger::track as words;
+use lookup::reading;
 use plan::fields;
 use plan::fields::NO_STATE;
 use rules::Counts;
 use rules::Mode;
-use steps::reading;
 ghost use mathlib.Core.Path.{_≡_};
 ghost use mathlib.Core.Bool.{_&&_};
 ghost use Prim.Native.Nat.{_<_};
@@ -15,7 +15,7 @@ ghost use Rattle.rules.specs.Fold.{everyBelow};
 ghost use Rattle.rules.specs.Plan.{planOf, owner};
 ghost use Rattle.rules.specs.Ledger.{isUndoing, isEmpty};
 ghost use Rattle.rules.specs.Soundness.{sameMode};
-ghost use Rattle.steps.specs.Going.{Accepts, Roomy, ledgerOf};
+ghost use Rattle.lookup.specs.Going.{Accepts, Roomy, ledgerOf};
 ghost use Rattle.soundness.specs.Asked.{Askable, passes, failMark, failMarks};
 
 // The tests; `passes` says which function answers each.

@@ -5,7 +5,7 @@ use Rattle.rules.specs.Layout.{entryLimit, entryWidth, headWords, trackWidth, l
 use Rattle.rules.specs.Answers.{planTold}
 use Rattle.ledger.proofs.Words.{room-within}
 use Rattle.ledger.proofs.ReadTracks.{count-as}
-use Rattle.steps.proofs.Facts.{track-read}
+use Rattle.lookup.proofs.Facts.{track-read}
 use Rattle.manager.proofs.Checks.{lent-room, checked-facts, span-at, span-refused, span-absent, span-held}
 use borrow.Author.Needs.{needs}
 use Rattle.manager.proofs.part_of.Statement.{statement}

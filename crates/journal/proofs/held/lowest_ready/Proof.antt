@@ -7,8 +7,8 @@ use Rattle.rules.specs.Fold.{firstBelow}
 use Rattle.rules.specs.Plan.{planOf}
 use Rattle.rules.specs.Fire.{mayFire}
 use Rattle.rules.proofs.Folds.{first-more-none}
-use Rattle.steps.specs.Going.{ledgerOf}
-use Rattle.steps.proofs.Readiness.{fire-read}
+use Rattle.lookup.specs.Going.{ledgerOf}
+use Rattle.lookup.proofs.Readiness.{fire-read}
 use Rattle.journal.proofs.Ready.{lowest-is, lowest-lacks}
 use Rattle.journal.proofs.held.lowest_ready.Statement.{statement}
 use Rattle.journal.proofs.held.lowest_ready.Tie as tie

@@ -6,8 +6,8 @@ use Prim.Native.Nat.{_-_, _^_, _≤_}
 use native.Mathlib.Omega.{arith}
 use Rattle.rules.specs.Plan.{planOf}
 use Rattle.rules.specs.Fire.{mayFire}
-use Rattle.steps.specs.Going.{ledgerOf}
-use Rattle.steps.proofs.Readiness.{fire-read}
+use Rattle.lookup.specs.Going.{ledgerOf}
+use Rattle.lookup.proofs.Readiness.{fire-read}
 use Rattle.manager.proofs.BitLaws.{bitsBelow, bits-none, twice, bit-small, bits-fit, bits-yes, bits-no, bits-ready}
 use Rattle.manager.proofs.bits.ready_bits.Statement.{statement}
 use Rattle.manager.proofs.bits.ready_bits.Tie as tie

@@ -1,5 +1,5 @@
 -- The track's words are zeroed, and its first three set where it begins awake. Assumes nothing.
-use Rattle.steps.proofs.FirstStates.{first-at}
+use Rattle.lookup.proofs.FirstStates.{first-at}
 use Rattle.manager.proofs.Begins.{begin-asleep, begin-awake}
 use borrow.Author.Needs.{needs}
 use Rattle.manager.proofs.opening.begin_track.Statement.{statement}

@@ -1,6 +1,6 @@
 -- Two cases: a root, or not. Assumes nothing.
 use native.Mathlib.Omega.{arith}
-use Rattle.steps.proofs.FirstStates.{first-at}
+use Rattle.lookup.proofs.FirstStates.{first-at}
 use Rattle.manager.proofs.Begins.{not-rooted, rooted}
 use borrow.Author.Needs.{needs}
 use Rattle.manager.proofs.opening.root_word.Statement.{statement}

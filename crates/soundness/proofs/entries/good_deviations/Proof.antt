@@ -3,8 +3,8 @@ use mathlib.Core.Path.{_∙_, _≡_, refl, ap}
 use Rattle.rules.specs.Ledger.{entryAt}
 use Rattle.rules.specs.Soundness.{goodDeviation}
 use Rattle.ledger.specs.Words.{entryPlace}
-use Rattle.steps.specs.Going.{ledgerOf}
-use Rattle.steps.proofs.Facts.{in-room}
+use Rattle.lookup.specs.Going.{ledgerOf}
+use Rattle.lookup.proofs.Facts.{in-room}
 use Rattle.soundness.proofs.Asking.{held-below}
 use borrow.Author.Needs.{needs}
 use borrow.Author.Tests.{not-true, not-false}

@@ -1,7 +1,7 @@
 -- Asleep, a root, or hosted, and then the mark of its scope: the cases of the test. Assumes nothing.
 use native.Mathlib.Omega.{arith}
 use Rattle.rules.specs.Plan.{noState}
-use Rattle.steps.proofs.Facts.{host-low}
+use Rattle.lookup.proofs.Facts.{host-low}
 use Rattle.soundness.proofs.Scoping.{asleep-asked, root-asked, marked-asked, unmarked-asked}
 use borrow.Author.Needs.{needs}
 use Rattle.soundness.proofs.scopes.scope_is.Statement.{statement}

@@ -1,6 +1,6 @@
 -- A state's track is one of the plan's; its state and mode as read are the ledger's. Assumes nothing.
-use Rattle.steps.specs.Going.{ledgerOf}
-use Rattle.steps.proofs.Facts.{owner-low}
+use Rattle.lookup.specs.Going.{ledgerOf}
+use Rattle.lookup.proofs.Facts.{owner-low}
 use Rattle.soundness.proofs.Asking.{host-elsewhere, host-there}
 use mathlib.Core.Path.{_∙_}
 use borrow.Author.Needs.{needs}

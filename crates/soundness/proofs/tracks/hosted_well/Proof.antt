@@ -1,12 +1,12 @@
 -- A root has no host; a track asleep is not asked. Assumes nothing.
 use Rattle.rules.specs.Plan.{noState, planOf}
-use Rattle.steps.specs.Going.{ledgerOf}
+use Rattle.lookup.specs.Going.{ledgerOf}
 use mathlib.Core.Path.{ap, _∙_}
 use Rattle.rules.specs.Ledger.{isAwake}
 use Rattle.ledger.proofs.Branches.{or-stops, or-goes}
 use Rattle.ledger.proofs.ReadTracks.{mode-as}
 use Rattle.soundness.proofs.Asking.{root-well, host-well, host-read}
-use Rattle.steps.proofs.Facts.{host-low}
+use Rattle.lookup.proofs.Facts.{host-low}
 use Rattle.soundness.specs.Asked.{passes}
 use borrow.Author.Needs.{needs}
 use Rattle.soundness.proofs.tracks.hosted_well.Statement.{statement}

@@ -1,0 +1,45 @@
+-- A root, an asleep track, or its host's mark: the cases of the definition. Assumes nothing.
+use native.Mathlib.Omega.{arith}
+use Rattle.rules.specs.Plan.{noState}
+use Rattle.lookup.proofs.Facts.{host-track-low}
+use Rattle.event_writing.proofs.Writes.{closed-root, closed-asleep, closed-by}
+use borrow.Author.Needs.{needs}
+use Rattle.event_writing.proofs.is_closed.Statement.{statement}
+use Rattle.event_writing.proofs.is_closed.Tie as tie
+
+host-track-requires : tie.Need-host-track-requires
+host-track-requires c κs = search needs
+
+returns : tie.Need-returns
+unfolding noState
+returns c = closed-root _ _ _ _ _ _ (c .before .host-track .ensures) (c .before .before .before .pre .0) (c .if1 .taken)
+
+is-awake-requires : tie.Need-is-awake-requires
+is-awake-requires c κs = search needs
+
+returns-2 : tie.Need-returns-2
+unfolding noState
+returns-2 c = closed-asleep _ _ _ _ _ _ (c .before .before .before .host-track .ensures) _ (c .before .before .if1 .left) (c .before .is-awake .ensures) (c .if2 .taken)
+
+cast-result : tie.Need-cast-result
+cast-result c = search needs
+
+array-read-result : tie.Need-array-read-result
+unfolding noState
+array-read-result c = let k = host-track-low _ _ _ _ (c .before .before .before .before .before .pre .0) (c .before .before .before .host-track .ensures) (c .before .before .if1 .left) in let n = c .before .before .before .before .before .pre .0 .holds .tracks in omega arith
+
+returns-3 : tie.Need-returns-3
+unfolding noState
+returns-3 c = closed-by _ _ _ _ _ _ (c .before .before .before .host-track .ensures) _ (c .before .before .if1 .left) (c .before .is-awake .ensures) (c .if2 .left)
+
+pub is-closed-spec : {M : Type 1} → statement M
+is-closed-spec =
+    tie.close
+    (tie.spec
+    host-track-requires
+    returns
+    is-awake-requires
+    returns-2
+    cast-result
+    array-read-result
+    returns-3)

@@ -1,0 +1,92 @@
+-- Where a step starts, in facts: the accepted plan's, the live ledger's, and what a track's words and host say. Assumes nothing.
+use mathlib.Core.Path.{_≡_, refl, sym, ap, _∙_}
+use mathlib.Core.List.{List}
+use mathlib.Core.Option.{Option, none, some}
+use Prim.Native.Nat.{ℕ, _<_, _≤_}
+use native.Mathlib.Omega.{arith}
+use Rattle.rules.specs.declared.Counts.{Counts}
+use Rattle.rules.specs.Plan.{Plan, planOf, trackCount, noState, hostWord, host, owner}
+use Rattle.rules.specs.Layout.{entryLimit}
+use Rattle.rules.specs.Ledger.{sleeping}
+use Rattle.rules.proofs.Acceptance.{Accepted, accepts}
+use Rattle.rules.proofs.Soundness.{Live, live-facts}
+use Rattle.rules.proofs.Stored.{Storable, read-at, read-beyond, storable-read}
+use Rattle.plan.proofs.FieldLaws.{track-count, state-count}
+use Rattle.plan.proofs.Hosting.{host-none, host-some}
+use Rattle.ledger.specs.Words.{Within, trackOf, trackAt}
+use Rattle.ledger.proofs.Words.{within}
+use Rattle.lookup.specs.Going.{Accepts, Roomy, Going, ledgerOf, hostTrack}
+
+-- the plan's facts
+pub plan-facts : (bs : List ℕ) (c : Counts) → Accepts bs c → Accepted (planOf bs c)
+plan-facts bs c a = accepts bs c (a .read)
+
+pub few-tracks : (bs : List ℕ) (c : Counts) → Accepts bs c → trackCount (planOf bs c) ≤ 32
+few-tracks bs c a = let h = a .holds .tracks in omega (arith, track-count bs c)
+
+-- the ledger's facts
+pub live-of-going : (bs : List ℕ) (c : Counts) (ws : List ℕ) → Going bs c ws → Live (planOf bs c) (ledgerOf c ws)
+live-of-going bs c ws g = live-facts (planOf bs c) (plan-facts bs c (g .accepts)) (ledgerOf c ws) (g .live)
+
+pub storable : (bs : List ℕ) (c : Counts) (ws : List ℕ) → Going bs c ws → Storable entryLimit (c .tracks) (ledgerOf c ws)
+unfolding ledgerOf
+storable bs c ws g = storable-read entryLimit (c .tracks) ws (g .tidy)
+
+pub beyond : (bs : List ℕ) (c : Counts) (ws : List ℕ) (t : ℕ) → trackCount (planOf bs c) ≤ t → ledgerOf c ws t ≡ sleeping
+unfolding ledgerOf
+beyond bs c ws t h = read-beyond entryLimit (c .tracks) ws t (rw (track-count bs c) at h)
+
+-- a track's words
+pub in-room : (c : Counts) (ws : List ℕ) (t : ℕ) → Roomy c ws → t < c .tracks → Within ws t
+in-room c ws t r b = within ws (c .tracks) t (r .few) (r .room) b
+
+pub track-read : (c : Counts) (ws : List ℕ) (t : ℕ) → t < c .tracks → trackAt ws t ≡ trackOf (ledgerOf c ws t)
+unfolding trackAt ledgerOf
+track-read c ws t b = ap trackOf (sym (read-at entryLimit (c .tracks) ws t b))
+
+-- a track's host
+pub host-root : (p : Plan) (t h : ℕ) → h ≡ hostWord p t → h ≡ noState → noState ≡ hostTrack p t
+unfolding hostTrack
+host-root p t h e z = rw (host-none p t (sym e ∙ z), hostTrack)
+
+pub host-track : (p : Plan) (t h : ℕ) → h ≡ hostWord p t → (h ≡ noState → ⊥) → owner p h ≡ hostTrack p t
+unfolding hostTrack
+host-track p t h e n = rw (host-some p t (λ z. n (e ∙ z)), hostTrack) (ap (owner p) e)
+
+pub host-is : (p : Plan) (t h : ℕ) → h ≡ hostWord p t → (h ≡ noState → ⊥) → host p t ≡ some h
+host-is p t h e n = host-some p t (λ z. n (e ∙ z)) ∙ ap some (sym e)
+
+pub host-low : (bs : List ℕ) (c : Counts) (t h : ℕ) → Accepts bs c → h ≡ hostWord (planOf bs c) t → (h ≡ noState → ⊥) → h < c .states
+host-low bs c t h a e n = rw (state-count bs c) at (plan-facts bs c a .host-state t h (host-is (planOf bs c) t h e n))
+
+pub owner-low : (bs : List ℕ) (c : Counts) (s : ℕ) → Accepts bs c → s < c .states → owner (planOf bs c) s < c .tracks
+owner-low bs c s a b = rw (track-count bs c) at (plan-facts bs c a .owned s (rw (state-count bs c) b))
+
+-- a track whose host's track is none is a root; any other has its host there
+pub no-host-track : (bs : List ℕ) (c : Counts) (t : ℕ) → Accepts bs c → hostTrack (planOf bs c) t ≡ noState → host (planOf bs c) t ≡ none
+unfolding hostTrack noState
+no-host-track bs c t a h = go (host (planOf bs c) t) refl
+  where
+    go : (o : Option ℕ) → host (planOf bs c) t ≡ o → host (planOf bs c) t ≡ none
+    go none e = e
+    go (some s) e =
+        let q : owner (planOf bs c) s ≡ 65535 = rw (e, hostTrack) at h in
+        let b = plan-facts bs c a .owned s (plan-facts bs c a .host-state t s e) in
+        let n = few-tracks bs c a in
+        absurd (omega arith)
+
+pub host-of-track : (p : Plan) (t : ℕ) → (hostTrack p t ≡ noState → ⊥) → (h : ℕ) × (host p t ≡ some h) × (owner p h ≡ hostTrack p t)
+unfolding hostTrack
+host-of-track p t n = go (host p t) refl
+  where
+    go : (o : Option ℕ) → host p t ≡ o → (h : ℕ) × (host p t ≡ some h) × (owner p h ≡ hostTrack p t)
+    go none e = absurd (n (rw (e, hostTrack)))
+    go (some h) e = (h, e, rw (e, hostTrack))
+
+pub host-track-low : (bs : List ℕ) (c : Counts) (t u : ℕ) → Accepts bs c → u ≡ hostTrack (planOf bs c) t → (u ≡ noState → ⊥) → u < c .tracks
+host-track-low bs c t u a e n =
+    let (h, q, o) = host-of-track (planOf bs c) t (λ z. n (e ∙ z)) in
+    let b = plan-facts bs c a .owned h (plan-facts bs c a .host-state t h q) in
+    let k = track-count bs c in
+    let w : u ≡ owner (planOf bs c) h = e ∙ sym o in
+    omega arith

@@ -1,0 +1,60 @@
+// A track's configuration and its host, as every step reads them, and whether the ledger is over.
+use ledger::track;
+use plan::fields;
+use plan::fields::NO_STATE;
+use rules::Counts;
+use rules::Track;
+ghost use mathlib.Core.Path.{_≡_};
+ghost use mathlib.Core.Bool.{not};
+ghost use Prim.Native.Nat.{_<_};
+ghost use Rattle.rules.specs.Fold.{everyBelow};
+ghost use Rattle.rules.specs.Plan.{planOf};
+ghost use Rattle.rules.specs.Ledger.{isAwake};
+ghost use Rattle.ledger.specs.Words.{trackOf};
+ghost use Rattle.lookup.specs.Going.{Accepts, Roomy, ledgerOf, hostTrack};
+
+// A track of the ledger.
+pub fn track(c: Counts, ledger: &[u16], t: usize) -> Track
+    requires { ⌜ Roomy c (now ledger) × (t < c .tracks) ⌝ }
+    ensures { λ r. ⌜ r ≡ trackOf (ledgerOf c (now (ledger .entry)) t) ⌝ }
+{
+    track::track_at(ledger, t)
+}
+
+// Whether a track is awake.
+pub fn is_awake(c: Counts, ledger: &[u16], t: usize) -> bool
+    requires { ⌜ Roomy c (now ledger) × (t < c .tracks) ⌝ }
+    ensures { λ r. ⌜ r ≡ isAwake (ledgerOf c (now (ledger .entry)) t .mode) ⌝ }
+{
+    let k = track(c, ledger, t);
+    let m = k.mode;
+    track::is_awake(m)
+}
+
+// "all asleep ("over")"
+pub fn is_over(c: Counts, ledger: &[u16]) -> bool
+    requires { ⌜ Roomy c (now ledger) ⌝ }
+    ensures { λ r. ⌜ r ≡ everyBelow (c .tracks) (λ t. not (isAwake (ledgerOf c (now (ledger .entry)) t .mode))) ⌝ }
+{
+    let tracks = c.tracks;
+    let mut t: usize = 0;
+    while t < tracks {
+        if is_awake(c, ledger, t) {
+            return false;
+        }
+        t += 1;
+    }
+    true
+}
+
+// The track of a track's host, 65535 for a root.
+pub fn host_track(plan: &[u8], c: Counts, t: usize) -> u16
+    requires { ⌜ Accepts (now plan) c × (t < c .tracks) ⌝ }
+    ensures { λ r. ⌜ r ≡ hostTrack (planOf (now (plan .entry)) c) t ⌝ }
+{
+    let h = fields::host_word(plan, c, t);
+    if h == NO_STATE {
+        return NO_STATE;
+    }
+    fields::track_of(plan, c, h as usize)
+}

@@ -1,0 +1,152 @@
+-- The bound on firings, on ledgers: an accepted firing removes an entry, a signal adds none, and a ledger holds at most `limit` entries for
+-- each track; so without an accepted event no more firings are accepted than entries were held. Assumes nothing.
+use mathlib.Core.Path.{_≡_, refl, ap, subst}
+use mathlib.Core.Logic.{inl, inr}
+use mathlib.Core.Bool.{true, false, not, _&&_}
+use mathlib.Core.List.{List, [], _∷_}
+use Prim.Native.Nat.{ℕ, zero, suc, _+_, _*_, _<_, _≤_}
+use native.Mathlib.Omega.{arith}
+use native.Mathlib.Nat.{not-suc-le-zero}
+use lib.ListN.{length}
+use lib.Dec.{eqb}
+use borrow.Author.Tests.{eqb-true, eqb-false, eq-eqb, not-true}
+use Rattle.rules.specs.Fold.{sumBelow}
+use Rattle.rules.specs.Plan.{Plan, trackCount}
+use Rattle.rules.specs.Ledger.{Ledger}
+use Rattle.rules.specs.Opening.{enter}
+use Rattle.rules.specs.Signal.{isAbandoned, abandoned}
+use Rattle.rules.specs.Fire.{mayFire, older, removed, deviatesTo, fired}
+use Rattle.rules.specs.Transcript.{heldTotal}
+use Rattle.rules.proofs.Tests.{look, clash, and-true}
+use Rattle.rules.proofs.Acceptance.{Accepted}
+use Rattle.rules.proofs.Abandoning.{left-asleep, left-kept}
+use Rattle.theory.specs.Seams.{Seams, Call, event, signal, fire, isEvent, firingsOf, turned, work}
+use Rattle.theory.specs.Runs.{firingsFrom, isEventless}
+use Rattle.theory.proofs.Entering.{Fate, enters, wakens, stays, fate, fresh-held}
+use Rattle.theory.proofs.Entries.{older-length, older-less}
+use Rattle.theory.proofs.Firing.{may-fire, fired-is, removed-here, removed-other}
+use Rattle.theory.proofs.Soundness.{sleeping-held}
+use Rattle.theory.proofs.Laws.{Laws}
+use Rattle.theory.proofs.Settling.{next-cases}
+use Rattle.theory.proofs.Turning.{turned-held}
+use Rattle.theory.proofs.SoundKept.{Kept}
+
+-- Sums over the tracks.
+sum-mono : (n : ℕ) (f g : ℕ → ℕ) → ((t : ℕ) → f t ≤ g t) → sumBelow n f ≤ sumBelow n g
+unfolding sumBelow
+sum-mono zero f g h = omega arith
+sum-mono (suc n) f g h = let i = sum-mono n f g h in let k = h n in omega arith
+
+sum-drop : (n : ℕ) (f g : ℕ → ℕ) (t : ℕ) → t < n → ((u : ℕ) → f u ≤ g u) → f t < g t → sumBelow n f < sumBelow n g
+unfolding sumBelow
+sum-drop zero f g t l h k = absurd (not-suc-le-zero l)
+sum-drop (suc n) f g t l h k =
+    elim (look (eqb t n)) [
+      | inl e ↦
+          let i = sum-mono n f g h in
+          let j : f n < g n = subst (λ z. f z < g z) (eqb-true t n e) k in omega arith
+      | inr e ↦
+          let d : t ≡ n → ⊥ = eqb-false t n e in
+          let i = sum-drop n f g t (omega arith) h k in let j = h n in omega arith
+    ]
+
+sum-most : (n m : ℕ) (f : ℕ → ℕ) → ((t : ℕ) → f t ≤ m) → sumBelow n f ≤ m * n
+unfolding sumBelow
+sum-most zero m f h = omega arith
+sum-most (suc n) m f h = let i = sum-most n m f h in let j = h n in omega arith
+
+-- What each part of a signal and of a firing does to the entries held.
+module _ (p : Plan) (ok : Accepted p) (l : Ledger) where
+  abandoned-fewer : (t : ℕ) → length (abandoned p l t .held) ≤ length (l t .held)
+  abandoned-fewer t =
+      elim (look (isAbandoned p l t)) [
+        | inl c ↦ rw (left-asleep p ok l t c, sleeping-held) (omega arith)
+        | inr c ↦ rw (left-kept p ok l t c) (omega arith)
+      ]
+
+  removed-fewer : (t u : ℕ) → length (removed p l t u .held) ≤ length (l u .held)
+  removed-fewer t u =
+      elim (look (eqb u t)) [
+        | inl e ↦ rw (removed-here p l t u e) (older-length (l u .held))
+        | inr e ↦ rw (removed-other p l t u e) (omega arith)
+      ]
+
+  fired-fewer : (t u : ℕ) → length (fired p l t u .held) ≤ length (removed p l t u .held)
+  fired-fewer t u = rw (fired-is p l t) (go (fate p ok (removed p l t) (deviatesTo p l t) u))
+    where
+      go : Fate p ok (removed p l t) (deviatesTo p l t) u → length (enter p (deviatesTo p l t) (removed p l t) u .held) ≤ length (removed p l t u .held)
+      go (enters d k q) = rw q (omega arith)
+      go (wakens k w q) = rw (q, fresh-held p u) (omega arith)
+      go (stays k w q) = rw q (omega arith)
+
+module _ {σ : Seams} (ω : Laws σ) (limit : ℕ) (p : Plan) (ok : Accepted p) where
+  open Seams σ using (Head, nextHead, refusal, next)
+
+  signal-fewer : (l : Ledger) (a : σ .Signal) → heldTotal p (abandoned p (turned σ p l a)) ≤ heldTotal p l
+  unfolding heldTotal
+  signal-fewer l a =
+      sum-mono (trackCount p) (λ t. length (abandoned p (turned σ p l a) t .held)) (λ t. length (l t .held))
+      (λ t. let b = abandoned-fewer p ok (turned σ p l a) t in let e = ap length (turned-held ω p l a t) in omega arith)
+
+  fire-fewer : (l : Ledger) (t : ℕ) → mayFire p l t ≡ true → heldTotal p (abandoned p (fired p l t)) < heldTotal p l
+  unfolding heldTotal
+  fire-fewer l t m =
+      let (b, u, e, f) = may-fire p l t m in
+      sum-drop (trackCount p) (λ u. length (abandoned p (fired p l t) u .held)) (λ u. length (l u .held)) t b
+      (λ u.
+      let x = abandoned-fewer p ok (fired p l t) u in
+      let y = fired-fewer p ok l t u in
+      let z = removed-fewer p ok l t u in omega arith)
+      (let x = abandoned-fewer p ok (fired p l t) t in
+      let y = fired-fewer p ok l t t in
+      let z : length (removed p l t t .held) ≡ length (older (l t .held)) = ap length (removed-here p l t t (eq-eqb t t refl)) in
+      let w = older-less (l t .held) e in omega arith)
+
+  -- settling adds nothing
+  settled-fewer : (h : Head) (l : Ledger) (c : Call σ) → refusal limit p h l c ≡ 0 → heldTotal p (next limit p h l c) ≤ heldTotal p (work σ p l c)
+  unfolding heldTotal
+  settled-fewer h l c z =
+      elim (next-cases ω limit p h l c z) [
+        | inl q ↦ rw q (omega arith)
+        | inr o ↦
+            sum-mono (trackCount p) (λ t. length (next limit p h l c t .held)) (λ t. length (work σ p l c t .held))
+            (λ t. rw (o t, sleeping-held) (omega arith))
+      ]
+
+  -- an accepted call that is no event: what it fires, and what is held afterwards, was held before
+  call-fewer : (h : Head) (l : Ledger) (c : Call σ) → refusal limit p h l c ≡ 0 → isEvent c ≡ false
+      → firingsOf c + heldTotal p (next limit p h l c) ≤ heldTotal p l
+  call-fewer h l (event a) z n = clash refl n
+  call-fewer h l (signal a) z n = let x = signal-fewer l a in let y = settled-fewer h l (signal a) z in omega arith
+  call-fewer h l (fire a) z n =
+      let x = fire-fewer l (σ .track a) (ω .fire-accepted limit p h l a z .1) in
+      let y = settled-fewer h l (fire a) z in omega arith
+
+  -- in any list without an accepted event no more firings are accepted than entries were held
+  pub firings-held : (cs : List (Call σ)) (h : Head) (l : Ledger) → isEventless σ p limit h l cs ≡ true → firingsFrom σ p limit h l cs ≤ heldTotal p l
+  unfolding firingsFrom isEventless
+  firings-held [] h l n = omega arith
+  firings-held (c ∷ cs) h l n =
+      let (x, y) =
+      and-true (not (eqb (refusal limit p h l c) 0 && isEvent c)) (isEventless σ p limit (nextHead limit p h l c) (next limit p h l c) cs) n in
+      let i = firings-held cs (nextHead limit p h l c) (next limit p h l c) y in
+      elim (look (eqb (refusal limit p h l c) 0)) [
+        | inl z ↦
+            let e : not (isEvent c) ≡ true = rw z at x in
+            let j = call-fewer h l c (eqb-true (refusal limit p h l c) 0 z) (not-true (isEvent c) e) in
+            rw z (omega arith)
+        | inr z ↦
+            let q : heldTotal p (next limit p h l c) ≡ heldTotal p l =
+            ap (heldTotal p) (ω .refused limit p h l c (eqb-false (refusal limit p h l c) 0 z) .0) in
+            rw z (omega arith)
+      ]
+
+  -- and a sound ledger holds at most `limit` for each track
+  pub most-held : (l : Ledger) → Kept σ limit p l → heldTotal p l ≤ limit * trackCount p
+  unfolding heldTotal
+  most-held l (inl o) = sum-most (trackCount p) limit (λ t. length (l t .held)) (λ t. rw (o t, sleeping-held) (omega arith))
+  most-held l (inr s) = sum-most (trackCount p) limit (λ t. length (l t .held)) (s .formed .few)
+
+  pub firings-bounded : (cs : List (Call σ)) (h : Head) (l : Ledger) → Kept σ limit p l → isEventless σ p limit h l cs ≡ true
+      → firingsFrom σ p limit h l cs ≤ limit * trackCount p
+  firings-bounded cs h l k n = let i = firings-held cs h l n in let j = most-held l k in omega arith

@@ -1,0 +1,93 @@
+-- Progress: a track that is undoing and holds an entry, or has an open scope, may be fired, or its scope, to which abandoning is not due,
+-- has a track of which the same holds; and that track's number is higher. Assumes nothing.
+use mathlib.Core.Path.{_≡_, refl, sym, ap, _∙_, subst}
+use mathlib.Core.Logic.{_⊎_, inl, inr}
+use mathlib.Core.Bool.{Bool, true, false, not, _||_}
+use Prim.Native.Nat.{ℕ, zero, suc, _+_, _<_, _≤_}
+use native.Mathlib.Omega.{arith}
+use lib.Dec.{eqb}
+use borrow.Author.Tests.{eqb-true, eqb-false}
+use Rattle.rules.specs.declared.Mode.the-variants.{Undoing}
+use Rattle.rules.specs.Plan.{Plan, trackCount, isIn}
+use Rattle.rules.specs.Ledger.{Ledger, isUndoing, isEmpty}
+use Rattle.rules.specs.Scope.{hasOpenScope}
+use Rattle.rules.specs.Signal.{isBare}
+use Rattle.rules.specs.Fire.{mayFire}
+use Rattle.rules.proofs.Tests.{look, clash, implies}
+use Rattle.rules.proofs.Acceptance.{Accepted}
+use Rattle.rules.proofs.Scopes.{in-host, host-in, open-at, busy-find}
+use Rattle.rules.proofs.Abandoning.{undoing-awake}
+use Rattle.theory.specs.Seams.{Seams}
+use Rattle.theory.proofs.Modes.{is-undoing}
+use Rattle.theory.proofs.Nesting.{Awake, Nested}
+use Rattle.theory.proofs.Firing.{fire-may}
+use Rattle.theory.proofs.Soundness.{Sound}
+use Rattle.theory.proofs.SoundEvent.{bare-of, abandoning-of}
+
+-- a test fails somewhere below n, or holds everywhere
+search : (n : ℕ) (f : ℕ → Bool) → ((k : ℕ) × (k < n) × (f k ≡ false)) ⊎ ((k : ℕ) → k < n → f k ≡ true)
+search zero f = inr (λ k l. absurd (omega arith))
+search (suc n) f =
+    elim (search n f) [
+      | inl h ↦ inl (h .0, (let l = h .1 in omega arith), h .2)
+      | inr h ↦
+          elim (look (f n)) [
+            | inr e ↦ inl (n, omega arith, e)
+            | inl e ↦
+                inr
+                (λ k l.
+                elim (look (eqb k n)) [
+                  | inl q ↦ subst (λ x. f x ≡ true) (sym (eqb-true k n q)) e
+                  | inr q ↦ let d : k ≡ n → ⊥ = eqb-false k n q in h k (omega arith)
+                ])
+          ]
+    ]
+
+not-implied : (a b : Bool) → (not a || b) ≡ false → (a ≡ true) × (b ≡ false)
+not-implied true b h = (refl, h)
+not-implied false b h = clash refl h
+
+module _ {σ : Seams} (limit : ℕ) (p : Plan) (ok : Accepted p) (l : Ledger) (s : Sound σ limit p l) where
+  abbrev n : Nested p l
+  n = s .formed .nested
+
+  -- the scope below an undoing track has a track that is not bare
+  loaded : (t : ℕ) → isUndoing (l t .mode) ≡ true → hasOpenScope p l t ≡ true
+      → (u : ℕ) × (t < u) × (isUndoing (l u .mode) ≡ true) × ((isEmpty (l u .held) ≡ false) ⊎ (hasOpenScope p l u ≡ true))
+  loaded t d b =
+      let (u, h, c, e, o, a) = busy-find p l t b in
+      elim (search (trackCount p) (λ v. not (isIn p h v) || isBare p l v)) [
+        | inr all ↦
+            clash
+            (abandoning-of p l h (open-at p l h u c e a)
+            (λ v f.
+            implies (isIn p h v) (isBare p l v) (all v (ok .hosted v h f)) (host-in p h v f)))
+            (s .abandoning h)
+        | inl r ↦
+            let v = r .0 in
+            let (i, k) = not-implied (isIn p h v) (isBare p l v) (r .2) in
+            let f = in-host p h v i in
+            let w : Awake l v = n .whole v u h f e ∙ a in
+            let m : isUndoing (l v .mode) ≡ true = ap isUndoing (sym (n .hosted v h w f .1) ∙ ap (λ x. l x .mode) o) ∙ d in (
+              v,
+              subst (λ x. x < v) o (ok .lower v h f),
+              m,
+              elim (look (isEmpty (l v .held))) [
+                | inr y ↦ inl y
+                | inl y ↦ elim (look (hasOpenScope p l v)) [ inl z ↦ inr z | inr z ↦ clash (bare-of p l v m y z) k ]
+              ],
+            )
+      ]
+
+  hunt : (k t : ℕ) → trackCount p ≤ t + k → isUndoing (l t .mode) ≡ true → (isEmpty (l t .held) ≡ false) ⊎ (hasOpenScope p l t ≡ true)
+      → (u : ℕ) × (mayFire p l u ≡ true)
+  hunt zero t b d h = let c = n .below t (undoing-awake (l t .mode) d) in absurd (omega arith)
+  hunt (suc k) t b d h =
+      elim (look (hasOpenScope p l t)) [
+        | inr f ↦ elim h [ inl e ↦ (t, fire-may p l t (n .below t (undoing-awake (l t .mode) d)) d e f) | inr o ↦ clash o f ]
+        | inl o ↦ let (u, c, m, r) = loaded t d o in hunt k u (omega arith) m r
+      ]
+
+  -- "if any track is undoing and holds an entry, some firing is allowed"
+  pub progress : (t : ℕ) → l t .mode ≡ Undoing → isEmpty (l t .held) ≡ false → (u : ℕ) × (mayFire p l u ≡ true)
+  progress t d h = hunt (trackCount p) t (omega arith) (is-undoing (l t .mode) d) (inl h)

@@ -1,0 +1,23 @@
+-- A call settled: an accepted one leaves its work or all asleep, and over no call is accepted. Assumes nothing.
+use mathlib.Core.Path.{_≡_}
+use mathlib.Core.Logic.{_⊎_, inl, inr}
+use mathlib.Core.Bool.{true}
+use Prim.Native.Nat.{ℕ}
+use Rattle.rules.specs.Plan.{Plan}
+use Rattle.rules.specs.Ledger.{Ledger}
+use Rattle.rules.specs.Scope.{isOver}
+use Rattle.rules.proofs.Tests.{clash}
+use Rattle.theory.specs.Seams.{Seams, Call, event, signal, fire, work}
+use Rattle.theory.proofs.Soundness.{Over}
+use Rattle.theory.proofs.Laws.{Laws}
+
+module _ {σ : Seams} (ω : Laws σ) (limit : ℕ) (p : Plan) (h : σ .Head) (l : Ledger) where
+  open Seams σ using (refusal, next)
+
+  pub next-cases : (c : Call σ) → refusal limit p h l c ≡ 0 → (next limit p h l c ≡ work σ p l c) ⊎ Over (next limit p h l c)
+  next-cases c z = elim (ω .settled limit p h l c z) [ inl q ↦ inl (q .0) | inr o ↦ inr o ]
+
+  pub over-refused : isOver p l ≡ true → (c : Call σ) → refusal limit p h l c ≡ 0 → ⊥
+  over-refused o (event a) z = clash o (ω .event-accepted limit p h l a z .0)
+  over-refused o (signal a) z = clash o (ω .signal-accepted limit p h l a z)
+  over-refused o (fire a) z = clash o (ω .fire-accepted limit p h l a z .0)

@@ -1,0 +1,1 @@
+// Property 3's mathematics, proved over parameters with laws: proofs/. This crate has no code.

@@ -1,0 +1,120 @@
+-- What a call answers once checks 2 to 18 are passed: the first of its own refusals, or its figures and the ledger after it.
+-- Assumes nothing.
+use mathlib.Core.Path.{_≡_, sym, ap, _∙_}
+use mathlib.Core.Logic.{inl, inr}
+use mathlib.Core.Bool.{Bool, true, false, not, _||_}
+use mathlib.Core.List.{List, [], _∷_, _++_}
+use Prim.Native.Nat.{ℕ, suc}
+use lib.ListN.{length}
+use borrow.Author.Tests.{le-ltb}
+use Rattle.rules.specs.declared.Counts.{Counts}
+use Rattle.rules.specs.Fold.{everyBelow, countBelow, firstRefusal}
+use Rattle.rules.specs.Plan.{Plan, trackCount, planOf}
+use Rattle.rules.specs.Layout.{entryLimit, wordCount}
+use Rattle.rules.specs.Ledger.{Ledger, isAwake, isForward, ledgerAt, written}
+use Rattle.rules.specs.Scope.{isOver}
+use Rattle.rules.specs.Signal.{turned, turnings, abandoned, afterSignal}
+use Rattle.rules.specs.Soundness.{isSound, isLive, areTidy}
+use Rattle.rules.specs.Call.{refusal, done, Outcome, nothing, Call, signal, refusedOr, underPlan, tooShort, ledgerRefusals, callRefusals, callRefusal, figures, after, callOutcome, signalOutcome, Meets}
+use Rattle.rules.proofs.Tests.{clash, and-true, or-true}
+use Rattle.plan.proofs.FieldLaws.{track-count}
+use Rattle.lookup.specs.Going.{Checked, Going, ledgerOf}
+use Rattle.withdrawal.specs.Orderly.{Orderly}
+use Rattle.withdrawal.proofs.Standing.{holds, orderly-after, then}
+use Rattle.withdrawal.proofs.Storing.{storable-turned}
+
+module _ (bs : List ℕ) (c : Counts) (ws : List ℕ) (g : Checked bs c ws) where
+  abbrev p : Plan
+  p = planOf bs c
+
+  -- the call on the ledger of so many tracks
+  abbrev answered : Call → ℕ → ℕ → Outcome
+  answered k n r =
+      refusedOr ws
+      (record {
+        answer = done (figures entryLimit p (ledgerAt entryLimit ws n) k);
+        words = written entryLimit n (after entryLimit p (ledgerAt entryLimit ws n) k) ws;
+      })
+      r
+
+  long : tooShort entryLimit p ws ≡ false
+  unfolding tooShort
+  long = let r = g .roomy .room in rw (track-count bs c) (le-ltb (length ws) (wordCount entryLimit (c .tracks)) r)
+
+  passed : (rs : List (ℕ × Bool)) → firstRefusal (ledgerRefusals entryLimit p ws ++ rs) ≡ firstRefusal rs
+  unfolding ledgerRefusals firstRefusal
+  passed rs = rw (long, g .sound)
+
+  read : (k : Call) → callOutcome entryLimit bs ws k
+      ≡ answered k (trackCount p) (firstRefusal (ledgerRefusals entryLimit p ws ++ callRefusals entryLimit p (ledgerAt entryLimit ws (trackCount p)) k))
+  unfolding callOutcome underPlan
+  read k = rw (g .accepts .read, underPlan)
+
+  pub outcome : (k : Call) → callOutcome entryLimit bs ws k ≡ answered k (c .tracks) (callRefusal entryLimit p (ledgerAt entryLimit ws (c .tracks)) k)
+  unfolding callRefusal
+  outcome k =
+      read k
+      ∙ ap (answered k (trackCount p)) (passed (callRefusals entryLimit p (ledgerAt entryLimit ws (trackCount p)) k))
+      ∙ ap (λ (n : ℕ). answered k n (firstRefusal (callRefusals entryLimit p (ledgerAt entryLimit ws n) k))) (track-count bs c)
+
+  -- words in order, and a ledger that is over or live
+  pub orderly : Orderly c ws
+  unfolding isSound
+  orderly =
+      record {
+        roomy = g .roomy;
+        tidy =
+            let q = and-true (areTidy entryLimit ws (trackCount p)) (isOver p (ledgerAt entryLimit ws (trackCount p)) || isLive p (ledgerAt entryLimit ws (trackCount p))) (g .sound) .0 in
+            ap (areTidy entryLimit ws) (sym (track-count bs c)) ∙ q;
+      }
+
+  pub over-as : {r : Bool} → r ≡ everyBelow (c .tracks) (λ t. not (isAwake (ledgerOf c ws t .mode))) → r ≡ isOver p (ledgerOf c ws)
+  unfolding isOver
+  over-as e = e ∙ ap (λ (n : ℕ). everyBelow n (λ t. not (isAwake (ledgerOf c ws t .mode)))) (sym (track-count bs c))
+
+  pub going : isOver p (ledgerOf c ws) ≡ false → Going bs c ws
+  unfolding isSound ledgerOf
+  going n =
+      let l : ℕ → Ledger = ledgerAt entryLimit ws in
+      let q = and-true (areTidy entryLimit ws (trackCount p)) (isOver p (l (trackCount p)) || isLive p (l (trackCount p))) (g .sound) .1 in
+      let q′ : (isOver p (l (c .tracks)) || isLive p (l (c .tracks))) ≡ true = ap (λ (m : ℕ). isOver p (l m) || isLive p (l m)) (sym (track-count bs c)) ∙ q in
+      record {
+        accepts = g .accepts;
+        roomy = g .roomy;
+        tidy = orderly .tidy;
+        live = elim (or-true (isOver p (l (c .tracks))) (isLive p (l (c .tracks))) q′) [ inl o ↦ clash o n | inr v ↦ v ];
+      }
+
+  -- refused by a number of its own, and accepted
+  pub refused-call : (k : Call) (r : ℕ) → callRefusal entryLimit p (ledgerOf c ws) k ≡ suc r → Meets (callOutcome entryLimit bs ws k) (refusal (suc r)) ws
+  unfolding refusedOr ledgerOf
+  refused-call k r q =
+      let e = outcome k ∙ ap (answered k (c .tracks)) q in
+      record { answered = sym (ap (λ (x : Outcome). x .answer) e); left = sym (ap (λ (x : Outcome). x .words) e) }
+
+  pub done-call : (k : Call) → callRefusal entryLimit p (ledgerOf c ws) k ≡ 0 → {fs vs : List ℕ} → fs ≡ figures entryLimit p (ledgerOf c ws) k
+      → vs ≡ written entryLimit (c .tracks) (after entryLimit p (ledgerOf c ws) k) ws → Meets (callOutcome entryLimit bs ws k) (done fs) vs
+  unfolding refusedOr ledgerOf
+  done-call k q f w =
+      let e = outcome k ∙ ap (answered k (c .tracks)) q in
+      record { answered = ap done f ∙ sym (ap (λ (x : Outcome). x .answer) e); left = w ∙ sym (ap (λ (x : Outcome). x .words) e) }
+
+  -- A signal: over, or turned.
+  pub signal-over : isOver p (ledgerOf c ws) ≡ true → Meets (signalOutcome entryLimit bs ws nothing) (refusal 20) ws
+  unfolding signalOutcome callRefusal callRefusals firstRefusal
+  signal-over o = refused-call (signal nothing) 19 (rw o)
+
+  pub turned-orderly : {vs : List ℕ} → vs ≡ written entryLimit (c .tracks) (turned (ledgerOf c ws)) ws → Orderly c vs
+  turned-orderly d =
+      orderly-after c ws orderly (turned (ledgerOf c ws)) (storable-turned entryLimit (c .tracks) (ledgerOf c ws) (holds c ws orderly)) d
+
+  pub signal-done : {n : ℕ} {vs us : List ℕ} → isOver p (ledgerOf c ws) ≡ false
+      → n ≡ countBelow (c .tracks) (λ t. isForward (ledgerOf c ws t .mode)) → vs ≡ written entryLimit (c .tracks) (turned (ledgerOf c ws)) ws
+      → us ≡ written entryLimit (c .tracks) (abandoned p (ledgerOf c vs)) vs
+      → Meets (signalOutcome entryLimit bs ws nothing) (done (n ∷ [])) us
+  unfolding signalOutcome callRefusal callRefusals firstRefusal figures after turnings afterSignal
+  signal-done o f v w =
+      let l : Ledger = ledgerOf c ws in
+      done-call (signal nothing) (rw o)
+      (ap (λ (n : ℕ). n ∷ []) (f ∙ ap (λ (m : ℕ). countBelow m (λ t. isForward (l t .mode))) (sym (track-count bs c))))
+      (then c ws orderly (turned l) (storable-turned entryLimit (c .tracks) l (holds c ws orderly)) v (abandoned p) w)

@@ -1,0 +1,63 @@
+-- The invariant: the tracks passed are left where their scope does not stay, the others are as they were. Assumes nothing.
+use mathlib.Core.Path.{_≡_}
+use Prim.Native.Nat.{_≤_, _-_}
+use native.Mathlib.Omega.{arith}
+use borrow.Author.Needs.{needs}
+use Rattle.rules.specs.Layout.{entryLimit}
+use Rattle.rules.specs.Plan.{planOf}
+use Rattle.rules.specs.Ledger.{written}
+use Rattle.rules.proofs.Passes.{upTo}
+use Rattle.lookup.specs.Going.{ledgerOf}
+use Rattle.withdrawal.specs.Staying.{leftBy}
+use Rattle.withdrawal.proofs.Leaving.{leaving-start, leaving-orderly, leaving-length, leaving-more, leaving-end}
+use Rattle.withdrawal.proofs.abandoning.abandon.Statement.{statement}
+use Rattle.withdrawal.proofs.abandoning.abandon.Tie as tie
+
+abbrev Inv-loop : tie.InvT-loop
+Inv-loop plan c ledger₀ stays tracks t₀ ledger t = (t ≤ c .tracks) × (ledger ≡ written entryLimit (c .tracks) (upTo (λ u. leftBy (planOf plan c) stays u (ledgerOf c ledger₀ u)) (ledgerOf c ledger₀) t) ledger₀)
+
+abbrev μ-loop : tie.MeasureT-loop
+μ-loop plan c ledger₀ stays tracks t₀ ledger t = c .tracks - t
+
+staying-requires : tie.Need-staying-requires Inv-loop μ-loop
+staying-requires c κs = (c .before .before .before .pre .0, c .before .before .before .pre .1 .roomy)
+
+scopes-with-requires : tie.Need-scopes-with-requires Inv-loop μ-loop
+scopes-with-requires c κs = c .before .before .before .before .pre .0
+
+loop-holds : tie.Need-loop-holds Inv-loop μ-loop
+loop-holds c = (omega arith, leaving-start _ _ (c .before .before .before .before .before .pre .0) _ (c .before .before .before .before .before .pre .1) (c .before .staying .ensures) (c .scopes-with .ensures))
+
+leave-track-requires : tie.Need-leave-track-requires Inv-loop μ-loop
+leave-track-requires c κs = (c .before .before .before .before .before .before .before .before .pre .0, leaving-orderly _ _ (c .before .before .before .before .before .before .before .before .pre .0) _ (c .before .before .before .before .before .before .before .before .pre .1) (c .before .before .before .before .staying .ensures) (c .before .before .before .scopes-with .ensures) _ (c .before .before .loop .inv .0) (c .before .before .loop .inv .1), search needs)
+
+add-t : tie.Need-add-t Inv-loop μ-loop
+add-t c = search needs
+
+loop-less : tie.Need-loop-less Inv-loop μ-loop
+loop-less c = search needs
+
+loop-again : tie.Need-loop-again Inv-loop μ-loop
+loop-again c = (omega arith, leaving-more _ _ (c .before .before .before .before .before .before .before .before .before .before .before .pre .0) _ (c .before .before .before .before .before .before .before .before .before .before .before .pre .1) (c .before .before .before .before .before .before .before .staying .ensures) (c .before .before .before .before .before .before .scopes-with .ensures) _ (c .before .before .before .before .before .loop .inv .0) (c .before .before .before .before .before .loop .inv .1) (c .before .before .leave-track .ensures))
+
+same-length : tie.Need-same-length Inv-loop μ-loop
+same-length c = leaving-length _ _ (c .before .before .before .before .before .before .before .pre .0) _ (c .before .before .before .before .before .before .before .pre .1) (c .before .before .before .staying .ensures) (c .before .before .scopes-with .ensures) _ (c .before .loop .inv .0) (c .before .loop .inv .1)
+
+returns : tie.Need-returns Inv-loop μ-loop
+returns c = leaving-end _ _ (c .before .before .before .before .before .before .before .pre .0) _ (c .before .before .before .before .before .before .before .pre .1) (c .before .before .before .staying .ensures) (c .before .before .scopes-with .ensures) _ (c .before .loop .inv .0) (c .before .loop .inv .1) (omega arith)
+
+pub abandon-spec : {M : Type 1} → statement M
+abandon-spec =
+    tie.close
+    (tie.spec
+    Inv-loop
+    μ-loop
+    staying-requires
+    scopes-with-requires
+    loop-holds
+    leave-track-requires
+    add-t
+    loop-less
+    loop-again
+    same-length
+    returns)

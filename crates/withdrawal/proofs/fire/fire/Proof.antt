@@ -1,0 +1,103 @@
+-- Over, not to be fired, or fired: the entry is read and removed, its deviation entered, and climbing from the track ends abandoning.
+-- Assumes nothing.
+use native.Mathlib.Omega.{arith}
+use borrow.Author.Needs.{needs}
+use Rattle.rules.specs.Answers.{fireTold}
+use Rattle.withdrawal.proofs.Fired.{fire-over, fire-not, fireable, low, counted, within-words, removable, removed-words, code-is, deviation-is, removed-orderly, sleepers, fired-orderly, fire-done}
+use Rattle.withdrawal.proofs.fire.fire.Statement.{statement}
+use Rattle.withdrawal.proofs.fire.fire.Tie as tie
+
+is-over-requires : tie.Need-is-over-requires
+is-over-requires c κs = search needs
+
+same-length : tie.Need-same-length
+same-length c = search needs
+
+returns : tie.Need-returns
+unfolding fireTold
+returns c = fire-over (c .before .before .before .before .before .pre) (c .before .is-over .ensures) _ (c .if1 .taken)
+
+may-fire-requires : tie.Need-may-fire-requires
+may-fire-requires c κs = search needs
+
+same-length-2 : tie.Need-same-length-2
+same-length-2 c = search needs
+
+returns-2 : tie.Need-returns-2
+unfolding fireTold
+returns-2 c = fire-not (c .before .before .before .before .before .before .before .before .pre) (c .before .before .before .before .is-over .ensures) (c .before .before .before .if1 .left) _ (c .before .may-fire .ensures) (c .if2 .taken)
+
+track-requires : tie.Need-track-requires
+track-requires c κs = (c .before .before .before .before .before .before .before .before .before .pre .roomy, low (fireable (c .before .before .before .before .before .before .before .before .before .pre) (c .before .before .before .before .before .is-over .ensures) (c .before .before .before .before .if1 .left) _ (c .before .before .may-fire .ensures) (c .before .if2 .left)))
+
+sub-newest : tie.Need-sub-newest
+sub-newest c =
+    let a = fireable (c .before .before .before .before .before .before .before .before .before .before .before .pre) (c .before .before .before .before .before .before .before .is-over .ensures) (c .before .before .before .before .before .before .if1 .left) _ (c .before .before .before .before .may-fire .ensures) (c .before .before .before .if2 .left) in
+    let n = counted a (c .before .track .ensures) in
+    omega arith
+
+cast-newest : tie.Need-cast-newest
+cast-newest c = search needs
+
+entry-code-requires : tie.Need-entry-code-requires
+entry-code-requires c κs =
+    let a = fireable (c .before .before .before .before .before .before .before .before .before .before .before .before .pre) (c .before .before .before .before .before .before .before .before .is-over .ensures) (c .before .before .before .before .before .before .before .if1 .left) _ (c .before .before .before .before .before .may-fire .ensures) (c .before .before .before .before .if2 .left) in
+    let n = counted a (c .before .before .track .ensures) in
+    (within-words a, omega arith)
+
+entry-deviation-requires : tie.Need-entry-deviation-requires
+entry-deviation-requires c κs =
+    let a = fireable (c .before .before .before .before .before .before .before .before .before .before .before .before .before .before .pre) (c .before .before .before .before .before .before .before .before .before .before .is-over .ensures) (c .before .before .before .before .before .before .before .before .before .if1 .left) _ (c .before .before .before .before .before .before .before .may-fire .ensures) (c .before .before .before .before .before .before .if2 .left) in
+    let n = counted a (c .before .before .before .before .track .ensures) in
+    (within-words a, omega arith)
+
+remove-newest-requires : tie.Need-remove-newest-requires
+remove-newest-requires c κs =
+    let a = fireable (c .before .before .before .before .before .before .before .before .before .before .before .before .before .before .before .before .pre) (c .before .before .before .before .before .before .before .before .before .before .before .before .is-over .ensures) (c .before .before .before .before .before .before .before .before .before .before .before .if1 .left) _ (c .before .before .before .before .before .before .before .before .before .may-fire .ensures) (c .before .before .before .before .before .before .before .before .if2 .left) in
+    (within-words a, removable a .0, removable a .1)
+
+deviate-requires : tie.Need-deviate-requires
+deviate-requires c κs =
+    let a = fireable (c .before .before .before .before .before .before .before .before .before .before .before .before .before .before .before .before .before .before .before .before .pre) (c .before .before .before .before .before .before .before .before .before .before .before .before .before .before .before .before .is-over .ensures) (c .before .before .before .before .before .before .before .before .before .before .before .before .before .before .before .if1 .left) _ (c .before .before .before .before .before .before .before .before .before .before .before .before .before .may-fire .ensures) (c .before .before .before .before .before .before .before .before .before .before .before .before .if2 .left) in
+    let d = removed-words a (c .before .before .before .before .before .before .before .before .before .before .track .ensures) (c .before .before .before .remove-newest .ensures) in
+    let e = deviation-is a (c .before .before .before .before .before .before .before .before .before .before .track .ensures) (c .before .before .before .before .before .entry-deviation .ensures) in
+    (c .before .before .before .before .before .before .before .before .before .before .before .before .before .before .before .before .before .before .before .before .pre .accepts, removed-orderly a d e, low a, sleepers a d e)
+
+abandon-requires : tie.Need-abandon-requires
+abandon-requires c κs =
+    let a = fireable (c .before .before .before .before .before .before .before .before .before .before .before .before .before .before .before .before .before .before .before .before .before .before .before .before .pre) (c .before .before .before .before .before .before .before .before .before .before .before .before .before .before .before .before .before .before .before .before .is-over .ensures) (c .before .before .before .before .before .before .before .before .before .before .before .before .before .before .before .before .before .before .before .if1 .left) _ (c .before .before .before .before .before .before .before .before .before .before .before .before .before .before .before .before .before .may-fire .ensures) (c .before .before .before .before .before .before .before .before .before .before .before .before .before .before .before .before .if2 .left) in
+    let d = removed-words a (c .before .before .before .before .before .before .before .before .before .before .before .before .before .before .track .ensures) (c .before .before .before .before .before .before .before .remove-newest .ensures) in
+    let e = deviation-is a (c .before .before .before .before .before .before .before .before .before .before .before .before .before .before .track .ensures) (c .before .before .before .before .before .before .before .before .before .entry-deviation .ensures) in
+    (c .before .before .before .before .before .before .before .before .before .before .before .before .before .before .before .before .before .before .before .before .before .before .before .before .pre .accepts, fired-orderly a d e (c .before .before .before .deviate .ensures))
+
+same-length-3 : tie.Need-same-length-3
+same-length-3 c = search needs
+
+returns-3 : tie.Need-returns-3
+unfolding fireTold
+returns-3 c =
+    let a = fireable (c .before .before .before .before .before .before .before .before .before .before .before .before .before .before .before .before .before .before .before .before .before .before .before .before .before .before .before .pre) (c .before .before .before .before .before .before .before .before .before .before .before .before .before .before .before .before .before .before .before .before .before .before .before .is-over .ensures) (c .before .before .before .before .before .before .before .before .before .before .before .before .before .before .before .before .before .before .before .before .before .before .if1 .left) _ (c .before .before .before .before .before .before .before .before .before .before .before .before .before .before .before .before .before .before .before .before .may-fire .ensures) (c .before .before .before .before .before .before .before .before .before .before .before .before .before .before .before .before .before .before .before .if2 .left) in
+    let d = removed-words a (c .before .before .before .before .before .before .before .before .before .before .before .before .before .before .before .before .before .track .ensures) (c .before .before .before .before .before .before .before .before .before .before .remove-newest .ensures) in
+    let e = deviation-is a (c .before .before .before .before .before .before .before .before .before .before .before .before .before .before .before .before .before .track .ensures) (c .before .before .before .before .before .before .before .before .before .before .before .before .entry-deviation .ensures) in
+    fire-done a d e (c .before .before .before .before .before .before .deviate .ensures) (code-is a (c .before .before .before .before .before .before .before .before .before .before .before .before .before .before .before .before .before .track .ensures) (c .before .before .before .before .before .before .before .before .before .before .before .before .before .before .entry-code .ensures)) (c .before .before .abandon .ensures)
+
+pub fire-spec : {M : Type 1} → statement M
+fire-spec =
+    tie.close
+    (tie.spec
+    is-over-requires
+    same-length
+    returns
+    may-fire-requires
+    same-length-2
+    returns-2
+    track-requires
+    sub-newest
+    cast-newest
+    entry-code-requires
+    entry-deviation-requires
+    remove-newest-requires
+    deviate-requires
+    abandon-requires
+    same-length-3
+    returns-3)

@@ -1,0 +1,61 @@
+-- The invariant: the tracks passed have turned, and the count is theirs. Assumes nothing.
+use mathlib.Core.Path.{_≡_, refl}
+use Prim.Native.Nat.{_≤_, _-_}
+use native.Mathlib.Omega.{arith}
+use borrow.Author.Needs.{needs}
+use Rattle.rules.specs.Fold.{countBelow}
+use Rattle.rules.specs.Layout.{entryLimit}
+use Rattle.rules.specs.Ledger.{isForward, written}
+use Rattle.rules.specs.Signal.{turned}
+use Rattle.rules.proofs.Passes.{upTo}
+use Rattle.rules.proofs.Folds.{count-most}
+use Rattle.lookup.specs.Going.{ledgerOf}
+use Rattle.withdrawal.proofs.Tracks.{one-most, turn-count, turning-start, turning-orderly, turning-length, turning-old, turning-more, turning-end}
+use Rattle.withdrawal.proofs.signal.turn_all.Statement.{statement}
+use Rattle.withdrawal.proofs.signal.turn_all.Tie as tie
+
+abbrev Inv-loop : tie.InvT-loop
+Inv-loop c ledger₀ tracks count₀ t₀ ledger count t = (t ≤ c .tracks) × (count ≡ countBelow t (λ t. isForward (ledgerOf c ledger₀ t .mode))) × (ledger ≡ written entryLimit (c .tracks) (upTo (turned (ledgerOf c ledger₀)) (ledgerOf c ledger₀) t) ledger₀)
+
+abbrev μ-loop : tie.MeasureT-loop
+μ-loop c ledger₀ tracks count₀ t₀ ledger count t = c .tracks - t
+
+loop-holds : tie.Need-loop-holds Inv-loop μ-loop
+unfolding countBelow
+loop-holds c = (omega arith, refl, turning-start _ _ (c .before .pre))
+
+turn-track-requires : tie.Need-turn-track-requires Inv-loop μ-loop
+turn-track-requires c κs = (turning-orderly _ _ (c .before .before .before .before .pre) _ (c .before .before .loop .inv .0) (c .before .before .loop .inv .2), search needs)
+
+add-count : tie.Need-add-count Inv-loop μ-loop
+add-count c = let f = c .before .before .before .before .before .before .before .pre .roomy .few in omega (arith, c .before .before .before .before .before .loop .inv .1, count-most (c .before .before .before .before .before .loop .t) (λ t. isForward (ledgerOf (c .before .before .before .before .before .before .before .args .c) (c .before .before .before .before .before .before .before .args .ledger .now) t .mode)), c .before .before .turn-track .ensures .0, one-most (isForward (ledgerOf (c .before .before .before .before .before .before .before .args .c) (c .before .before .before .before .before .loop .ledger) (c .before .before .before .before .before .loop .t) .mode)))
+
+add-t : tie.Need-add-t Inv-loop μ-loop
+add-t c = search needs
+
+loop-less : tie.Need-loop-less Inv-loop μ-loop
+loop-less c = search needs
+
+loop-again : tie.Need-loop-again Inv-loop μ-loop
+loop-again c = (omega arith, turn-count _ _ (c .before .before .before .before .before .before .before .pre) _ (turning-old _ _ (c .before .before .before .before .before .before .before .pre) _ (c .before .before .before .before .before .loop .inv .0) (c .before .before .before .before .before .loop .inv .2)) (c .before .before .before .before .before .loop .inv .1) (c .before .before .turn-track .ensures .0), turning-more _ _ (c .before .before .before .before .before .before .before .pre) _ (c .before .before .before .before .before .loop .inv .0) (c .before .before .before .before .before .loop .inv .2) (c .before .before .turn-track .ensures .1))
+
+same-length : tie.Need-same-length Inv-loop μ-loop
+same-length c = turning-length _ _ (c .before .before .before .pre) _ (c .before .loop .inv .0) (c .before .loop .inv .2)
+
+returns : tie.Need-returns Inv-loop μ-loop
+returns c = let e : c .before .loop .t ≡ c .before .before .before .args .c .tracks = omega arith in (rw e at (c .before .loop .inv .1), turning-end _ _ (c .before .before .before .pre) _ (c .before .loop .inv .0) (c .before .loop .inv .2) (omega arith))
+
+pub turn-all-spec : {M : Type 1} → statement M
+turn-all-spec =
+    tie.close
+    (tie.spec
+    Inv-loop
+    μ-loop
+    loop-holds
+    turn-track-requires
+    add-count
+    add-t
+    loop-less
+    loop-again
+    same-length
+    returns)

@@ -1,0 +1,25 @@
+-- Words in order, which hold a ledger, and the same words with one track replaced. Assumes nothing.
+use mathlib.Core.Path.{_≡_}
+use mathlib.Core.Bool.{true, cond}
+use mathlib.Core.List.{List}
+use Prim.Native.Nat.{ℕ}
+use lib.Dec.{eqb}
+use Rattle.rules.specs.declared.Counts.{Counts}
+use Rattle.rules.specs.declared.Mode.{Mode}
+use Rattle.rules.specs.Layout.{entryLimit}
+use Rattle.rules.specs.Ledger.{Configuration, written}
+use Rattle.rules.specs.Soundness.{areTidy}
+use Rattle.lookup.specs.Going.{Roomy, ledgerOf}
+
+-- the words of all tracks are there, each as the paper describes it
+pub record Orderly (c : Counts) (ws : List ℕ) : Type 0 where
+  pub roomy : Roomy c ws
+  pub tidy : areTidy entryLimit ws (c .tracks) ≡ true
+
+-- the words with one track's replaced
+unfoldable pub withConfiguration : Counts → List ℕ → ℕ → Configuration → List ℕ
+withConfiguration c ws t x = written entryLimit (c .tracks) (λ u. cond (eqb u t) x (ledgerOf c ws u)) ws
+
+-- a configuration in another mode and state, holding what it held
+unfoldable pub withMode : Mode → ℕ → Configuration → Configuration
+withMode m s x = record { mode = m; state = s; held = x .held }
