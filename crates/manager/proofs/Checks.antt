@@ -1,13 +1,14 @@
 -- What the checks found, and the outcome of a call by them. Assumes nothing.
 use mathlib.Core.Path.{_≡_, refl, sym, ap, _∙_, subst}
+use mathlib.Core.Logic.{inl, inr}
 use mathlib.Core.Bool.{Bool, true, false, cond, not}
 use mathlib.Core.List.{List, [], _∷_}
 use Prim.Native.Nat.{ℕ, _+_, _*_, _-_, _≤_, _<_}
 use native.Mathlib.Omega.{arith}
 use native.Mathlib.Nat.{add-sub-cancel-left}
 use lib.Dec.{ltb, eqb}
-use lib.ListN.{length}
-use borrow.Author.Tests.{not-true, not-false, ltb-false, lt-ltb, le-ltb}
+use lib.ListN.{length, take, drop}
+use borrow.Author.Tests.{not-true, not-false, ltb-true, ltb-false, lt-ltb, le-ltb}
 use Rattle.rules.specs.declared.Counts.{Counts}
 use Rattle.rules.specs.Fold.{firstRefusal}
 use Rattle.rules.specs.Layout.{entryLimit, entryWidth, trackWidth, headWords, trackPlace, entriesPlace, wordCount}
@@ -17,10 +18,10 @@ use Rattle.rules.specs.Ledger.{ledgerAt, written}
 use Rattle.rules.specs.Opening.{begun}
 use Rattle.rules.specs.Fire.{ready}
 use Rattle.rules.specs.Soundness.{areTidy, isSound}
-use Rattle.rules.specs.Call.{Answer, refusal, done, Outcome, refusedOr, underPlan, tooShort, ledgerRefusals, beginOutcome, readyOutcome, heldPart, entriesPart, Meets}
+use Rattle.rules.specs.Call.{Answer, refusal, done, Outcome, refusedOr, underPlan, tooShort, ledgerRefusals, beginOutcome, readyOutcome, heldPart, entriesPart, HandsBack, Meets}
 use Rattle.plan.proofs.FieldLaws.{track-count}
 use Rattle.plan.proofs.Reader.{accepted-holds}
-use Rattle.rules.proofs.Tests.{and-true}
+use Rattle.rules.proofs.Tests.{look, and-true}
 use Rattle.ledger.proofs.Words.{room-within}
 use Rattle.ledger.proofs.ReadTracks.{count-within}
 use Rattle.ledger.specs.Words.{Room}
@@ -196,7 +197,7 @@ module _ (bs ws : List ℕ) where
   span-at t u a b i s = subst (λ (x : ℕ). Span bs ws x a b) i s
 
   nothing : (t : ℕ) → [] ≡ entriesPart entryLimit bs ws t → Span bs ws t 0 0
-  nothing t e = record { starts = omega arith; ends = omega arith; part = e }
+  nothing t e = record { starts = omega arith; ends = omega arith; place = λ h. absurd (omega (arith, h)); part = e }
 
   -- the refusals 17 and 18 of an accepted plan
   unrefused : (c : Counts) → accepted c ≡ checked bs ws → (readPlan bs ≡ accepted c) × (firstRefusal (ledgerRefusals entryLimit (planOf bs c) ws) ≡ 0)
@@ -252,5 +253,21 @@ module _ (bs ws : List ℕ) where
       record {
         starts = omega arith;
         ends = in-track (length ws) from t k i m (r .room);
+        place = λ _. z;
         part = rw (a, entriesPart, b, l, n, add-sub-cancel-left, z);
       }
+
+  -- the part between two places, handed back from a ledger that lies at `ledger`
+  pub hands-back : (t a b : ℕ) (ledger : ℕ × ℕ) → Span bs ws t a b
+      → HandsBack entryLimit bs ws t ledger (ledger .0, a * 2 + ledger .1) (take (b - a) (drop a ws)) ws
+  hands-back t a b ledger s =
+      let starts : (take (b - a) (drop a ws) ≡ [] → ⊥) → a ≡ entriesPlace entryLimit t = λ h. s .place (longer h) in
+      record { held-as = s .part; block = λ h. refl; place = λ h. omega (arith, starts h); left = refl }
+    where
+      longer : (take (b - a) (drop a ws) ≡ [] → ⊥) → a < b
+      longer h = elim (look (ltb a b)) [
+        | inl l ↦ ltb-true a b l
+        | inr l ↦
+            let e : b - a ≡ 0 = omega (arith, ltb-false a b l) in
+            absurd (h (rw e))
+      ]

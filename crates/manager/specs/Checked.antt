@@ -2,11 +2,11 @@
 use mathlib.Core.Path.{_≡_}
 use mathlib.Core.Bool.{cond}
 use mathlib.Core.List.{List}
-use Prim.Native.Nat.{ℕ, _-_, _≤_}
+use Prim.Native.Nat.{ℕ, _-_, _≤_, _<_}
 use lib.ListN.{length, take, drop}
 use Rattle.rules.specs.Plan.{planOf}
 use Rattle.rules.specs.Acceptance.{Reading, turnedBack, accepted, readPlan}
-use Rattle.rules.specs.Layout.{entryLimit}
+use Rattle.rules.specs.Layout.{entryLimit, entriesPlace}
 use Rattle.rules.specs.Soundness.{isSound}
 use Rattle.rules.specs.Call.{tooShort, entriesPart}
 
@@ -22,8 +22,9 @@ checked bs ws =
     elim (lent bs ws)
     [ turnedBack r ↦ turnedBack r | accepted c ↦ cond (isSound entryLimit (planOf bs c) ws) (accepted c) (turnedBack 18) ]
 
--- the part of the ledger between two places is the one that holds a track's entries
+-- the part of the ledger between two places is the one that holds a track's entries, and starts there if it is not empty
 pub record Span (bs : List ℕ) (ws : List ℕ) (t from to : ℕ) : Type 0 where
   pub starts : from ≤ to
   pub ends : to ≤ length ws
+  pub place : from < to → from ≡ entriesPlace entryLimit t
   pub part : take (to - from) (drop from ws) ≡ entriesPart entryLimit bs ws t

@@ -17,7 +17,7 @@ use rules::SignalAnswer;
 ghost use mathlib.Core.Path.{_≡_};
 ghost use Prim.Native.Nat.{_<_};
 ghost use Rattle.rules.specs.Layout.{entryLimit};
-ghost use Rattle.rules.specs.Call.{nothing, beginOutcome, eventOutcome, signalOutcome, fireOutcome, readyOutcome, entriesPart, Meets};
+ghost use Rattle.rules.specs.Call.{nothing, beginOutcome, eventOutcome, signalOutcome, fireOutcome, readyOutcome, HandsBack, Meets};
 ghost use Rattle.rules.specs.Answers.{beginTold, eventTold, signalTold, fireTold, readyTold};
 ghost use Rattle.manager.specs.Checked.{Span};
 
@@ -112,9 +112,9 @@ fn part_of(plan: &[u8], ledger: &[u16], track: u16) -> Part
     }
 }
 
-// The part of the ledger that holds a track's entries: those held, and no unused pairs.
+// The part of the ledger that holds a track's entries: those held, and no unused pairs. Only an empty part may lie anywhere.
 pub fn entries<'a>(plan: &[u8], ledger: &'a [u16], track: u16) -> &'a [u16]
-    ensures { λ r. ⌜ now r ≡ entriesPart entryLimit (now (plan .entry)) (now (ledger .entry)) track ⌝ }
+    ensures { λ r. ⌜ HandsBack entryLimit (now (plan .entry)) (now (ledger .entry)) track (ledger .entry .ptr) (r .ptr) (now r) (now (ledger .exit)) ⌝ }
 {
     let part = part_of(plan, ledger, track);
     let from = part.from;

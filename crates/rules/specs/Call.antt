@@ -2,7 +2,7 @@
 use mathlib.Core.Path.{_≡_}
 use mathlib.Core.Bool.{Bool, cond, not, _&&_}
 use mathlib.Core.List.{List, [], _∷_, _++_}
-use Prim.Native.Nat.{ℕ, zero, suc, _*_}
+use Prim.Native.Nat.{ℕ, zero, suc, _+_, _*_}
 use lib.ListN.{length, take, drop}
 use lib.Dec.{ltb, eqb}
 use Rattle.rules.specs.Fold.{countBelow, firstRefusal}
@@ -140,6 +140,15 @@ module _ (limit : ℕ) where
             cond (eqb (firstRefusal (ledgerRefusals (planOf bs c) ws)) 0 && ltb t (trackCount (planOf bs c)))
             (heldPart (planOf bs c) ws t) []
       ]
+
+-- What Entries' contract promises: the words of the part handed back; where it lies, as a block of memory and an offset in bytes, a word
+-- having two; and every lent word afterwards. "the part of the caller's ledger" starts at the track's first entry; only an empty part may
+-- lie anywhere.
+pub record HandsBack (limit : ℕ) (bs ws : List ℕ) (t : ℕ) (ledger part : ℕ × ℕ) (held words : List ℕ) : Type 0 where
+  pub held-as : held ≡ entriesPart limit bs ws t
+  pub block : (held ≡ [] → ⊥) → part .0 ≡ ledger .0
+  pub place : (held ≡ [] → ⊥) → part .1 ≡ ledger .1 + entriesPlace limit t * 2
+  pub left : words ≡ ws
 
 -- What a call's contract promises of its answer, as the paper tells it, and of every lent word afterwards.
 pub record Meets (o : Outcome) (told : Answer) (words : List ℕ) : Type 0 where

@@ -13,23 +13,23 @@ entries-requires : tie.Need-entries-requires
 entries-requires c κs = search needs
 
 returns : tie.Need-returns
-returns c = part-empty _ _ (ap length (sym (c .before .entries .ensures)) ∙ c .if1 .taken)
+returns c = part-empty _ _ (ap length (sym (c .before .entries .ensures .held-as)) ∙ c .if1 .taken)
 
 wide-requires : tie.Need-wide-requires
 wide-requires c κs = search needs
 
 entry-place-requires : tie.Need-entry-place-requires
 unfolding entryLimit
-entry-place-requires c κs = (omega (arith, c .wide .ensures .0, held _ _ _ (λ e. c .before .if1 .left (ap length (c .before .before .entries .ensures) ∙ e)) .exists), omega arith)
+entry-place-requires c κs = (omega (arith, c .wide .ensures .0, held _ _ _ (λ e. c .before .if1 .left (ap length (c .before .before .entries .ensures .held-as) ∙ e)) .exists), omega arith)
 
 mul-result : tie.Need-mul-result
-mul-result c = omega (arith, place-small _ _ _ _ (c .before .wide .ensures .0) (held _ _ _ (λ e. c .before .before .if1 .left (ap length (c .before .before .before .entries .ensures) ∙ e)) .exists) (c .entry-place .ensures) (omega arith))
+mul-result c = omega (arith, place-small _ _ _ _ (c .before .wide .ensures .0) (held _ _ _ (λ e. c .before .before .if1 .left (ap length (c .before .before .before .entries .ensures .held-as) ∙ e)) .exists) (c .entry-place .ensures) (omega arith))
 
 add-result : tie.Need-add-result
-add-result c = omega (arith, ap length (c .before .before .before .entries .ensures), held _ _ _ (λ e. c .before .before .if1 .left (ap length (c .before .before .before .entries .ensures) ∙ e)) .few, place-small _ _ _ _ (c .before .wide .ensures .0) (held _ _ _ (λ e. c .before .before .if1 .left (ap length (c .before .before .before .entries .ensures) ∙ e)) .exists) (c .entry-place .ensures) (omega arith))
+add-result c = omega (arith, ap length (c .before .before .before .entries .ensures .held-as), held _ _ _ (λ e. c .before .before .if1 .left (ap length (c .before .before .before .entries .ensures .held-as) ∙ e)) .few, place-small _ _ _ _ (c .before .wide .ensures .0) (held _ _ _ (λ e. c .before .before .if1 .left (ap length (c .before .before .before .entries .ensures .held-as) ∙ e)) .exists) (c .entry-place .ensures) (omega arith))
 
 returns-2 : tie.Need-returns-2
-returns-2 c = part-packed _ _ _ _ (c .before .before .before .entries .ensures) (c .before .before .if1 .left) (c .entry-place .ensures ∙ ap (λ (t : ℕ). entriesPlace entryLimit t + entryWidth * 0) (c .before .wide .ensures .0))
+returns-2 c = part-packed _ _ _ _ (c .before .before .before .entries .ensures .held-as) (c .before .before .if1 .left) (c .entry-place .ensures ∙ ap (λ (t : ℕ). entriesPlace entryLimit t + entryWidth * 0) (c .before .wide .ensures .0))
 
 pub retraction-entries-spec : {M : Type 1} → statement M
 retraction-entries-spec =
