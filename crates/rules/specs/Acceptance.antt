@@ -1,9 +1,10 @@
 -- Refusals 8 to 16, judged over the whole plan, and the reading of a plan. Assumes nothing.
 use mathlib.Core.Bool.{Bool, true, not, _&&_, _||_}
-use mathlib.Core.List.{List, [], _∷_}
+use mathlib.Core.List.{[], _∷_}
 use mathlib.Core.Option.{none, some}
 use Prim.Native.Nat.{ℕ, zero, suc}
 use lib.Dec.{leb, ltb, eqb}
+use Rattle.rules.specs.Names.{Bytes, Refusal, TrackNumber, StateNumber, TransitionNumber}
 use Rattle.rules.specs.declared.Counts.{Counts}
 use Rattle.rules.specs.Fold.{someBelow, firstRefusal}
 use Rattle.rules.specs.Record.{refused, counted, scan}
@@ -19,23 +20,23 @@ module _ (p : Plan) where
   noTrack = eqb (trackCount p) 0
 
   -- 9 "A state names no track, or its final field exceeds 1."
-  unfoldable pub badState : ℕ → Bool
+  unfoldable pub badState : StateNumber → Bool
   badState s = leb (trackCount p) (owner p s) || ltb 1 (state p s .final)
 
   -- 10 "A host is neither 65535 nor a state of a lower-numbered track."
-  unfoldable pub badHost : ℕ → Bool
+  unfoldable pub badHost : TrackNumber → Bool
   badHost t = not (isRoot p t || (ltb (hostWord p t) (stateCount p) && ltb (owner p (hostWord p t)) t))
 
   -- 11 "A track has no state, or its first state is final."
-  unfoldable pub badFirst : ℕ → Bool
+  unfoldable pub badFirst : TrackNumber → Bool
   badFirst t = elim (first p t) [ none ↦ true | some s ↦ isFinal p s ]
 
   -- 12 "A final state hosts a track, or a state that hosts none has a replacement."
-  unfoldable pub badHosting : ℕ → Bool
+  unfoldable pub badHosting : StateNumber → Bool
   badHosting s = (isFinal p s && isHosting p s) || (not (isHosting p s) && not (eqb (replacement p s) 0))
 
   -- 13 "A transition's source or destination does not exist, they lie in two tracks, the source is final, or the event is 0."
-  unfoldable pub badTransition : ℕ → Bool
+  unfoldable pub badTransition : TransitionNumber → Bool
   badTransition x =
       leb (stateCount p) (transition p x .source)
       || leb (stateCount p) (transition p x .destination)
@@ -44,7 +45,7 @@ module _ (p : Plan) where
       || eqb (transition p x .event) 0
 
   -- 14 "A deviation other than 65535 is no state of that track, is final, stands in a hosted track, or comes with code 0."
-  unfoldable pub badDeviation : ℕ → Bool
+  unfoldable pub badDeviation : TransitionNumber → Bool
   badDeviation x =
       not (eqb (transition p x .deviation) noState)
       && (not (isStateOf p (mover p x) (transition p x .deviation))
@@ -53,17 +54,17 @@ module _ (p : Plan) where
       || eqb (transition p x .code) 0)
 
   -- 15 "Two transitions share source and event.": an earlier one has them too
-  unfoldable pub repeatsEvent : ℕ → Bool
+  unfoldable pub repeatsEvent : TransitionNumber → Bool
   repeatsEvent x =
       someBelow x
       (λ y. eqb (transition p y .source) (transition p x .source) && eqb (transition p y .event) (transition p x .event))
 
   -- 16 "A track's height exceeds 8."
-  unfoldable pub tooHigh : ℕ → Bool
+  unfoldable pub tooHigh : TrackNumber → Bool
   tooHigh t = ltb mostHeight (height p t)
 
   -- the lowest number that applies anywhere in the plan
-  unfoldable pub judgePlan : ℕ
+  unfoldable pub judgePlan : Refusal
   judgePlan =
       firstRefusal
       ((8, noTrack)
@@ -79,12 +80,12 @@ module _ (p : Plan) where
 
 -- a refusal, or the plan's counts: its records stand at places that follow from them
 pub data Reading : Type 0 where
-  turnedBack : ℕ → Reading
+  turnedBack : Refusal → Reading
   accepted : Counts → Reading
 
-unfoldable pub judged : List ℕ → Counts → Reading
+unfoldable pub judged : Bytes → Counts → Reading
 judged bs c = elim (judgePlan (planOf bs c)) [ zero ↦ accepted c | suc r ↦ turnedBack (suc r) ]
 
 -- Refusals 2 to 16.
-unfoldable pub readPlan : List ℕ → Reading
+unfoldable pub readPlan : Bytes → Reading
 readPlan bs = elim (scan bs) [ refused r ↦ turnedBack r | counted c ↦ judged bs c ]

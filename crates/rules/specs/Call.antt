@@ -5,6 +5,7 @@ use mathlib.Core.List.{List, [], _∷_, _++_}
 use Prim.Native.Nat.{ℕ, zero, suc, _+_, _*_}
 use lib.ListN.{length, take, drop}
 use lib.Dec.{ltb, eqb}
+use Rattle.rules.specs.Names.{Bytes, Words, Place, Refusal, TrackNumber, EventNumber}
 use Rattle.rules.specs.Fold.{countBelow, firstRefusal}
 use Rattle.rules.specs.Plan.{Plan, trackCount, planOf}
 use Rattle.rules.specs.Acceptance.{turnedBack, accepted, readPlan}
@@ -19,23 +20,23 @@ use Rattle.rules.specs.Soundness.{isSound}
 
 -- "an answer is either the result with its figures or a refusal with its number and nothing else"
 pub data Answer : Type 0 where
-  refusal : ℕ → Answer
+  refusal : Refusal → Answer
   done : List ℕ → Answer
 
 -- an answer, and the lent words afterwards
 pub record Outcome : Type 0 where
   pub answer : Answer
-  pub words : List ℕ
+  pub words : Words
 
 -- what each call is given beside the plan and the ledger
 pub record EventArguments : Type 0 where
-  pub event : ℕ
+  pub event : EventNumber
 
 pub data SignalArguments : Type 0 where
   nothing : SignalArguments
 
 pub record FireArguments : Type 0 where
-  pub track : ℕ
+  pub track : TrackNumber
 
 pub data Call : Type 0 where
   event : EventArguments → Call
@@ -43,34 +44,34 @@ pub data Call : Type 0 where
   fire : FireArguments → Call
 
 -- "Refused calls change no word."
-unfoldable pub refusedOr : List ℕ → Outcome → ℕ → Outcome
+unfoldable pub refusedOr : Words → Outcome → Refusal → Outcome
 refusedOr ws o zero = o
 refusedOr ws o (suc r) = record { answer = refusal (suc r); words = ws }
 
 -- under its plan: 2 to 16, and then what the call does with the plan
-unfoldable pub underPlan : List ℕ → List ℕ → (Plan → Outcome) → Outcome
+unfoldable pub underPlan : Bytes → Words → (Plan → Outcome) → Outcome
 underPlan bs ws f =
     elim (readPlan bs) [ turnedBack r ↦ record { answer = refusal r; words = ws } | accepted c ↦ f (planOf bs c) ]
 
 -- `limit` is the most entries that a track holds
 module _ (limit : ℕ) where
   -- 17 "The ledger has too few words."
-  unfoldable pub tooShort : Plan → List ℕ → Bool
+  unfoldable pub tooShort : Plan → Words → Bool
   tooShort p ws = ltb (length ws) (wordCount limit (trackCount p))
 
   -- 17, and 18 "The ledger is not sound."
-  unfoldable pub ledgerRefusals : Plan → List ℕ → List (ℕ × Bool)
+  unfoldable pub ledgerRefusals : Plan → Words → List (Refusal × Bool)
   ledgerRefusals p ws = (17, tooShort p ws) ∷ (18, not (isSound limit p ws)) ∷ []
 
   -- 19 "The event given is 0." 20 "The ledger is over (event, signal, fire)." 21 as under `isFull`.
   -- 22 "The track may not be fired, or does not exist."
-  unfoldable pub callRefusals : Plan → Ledger → Call → List (ℕ × Bool)
+  unfoldable pub callRefusals : Plan → Ledger → Call → List (Refusal × Bool)
   callRefusals p l (event a) = (19, eqb (a .event) 0) ∷ (20, isOver p l) ∷ (21, isFull p limit l (a .event)) ∷ []
   callRefusals p l (signal a) = (20, isOver p l) ∷ []
   callRefusals p l (fire a) = (20, isOver p l) ∷ (22, not (mayFire p l (a .track))) ∷ []
 
   -- the first of them that applies to the ledger, 0 where the call is accepted
-  unfoldable pub callRefusal : Plan → Ledger → Call → ℕ
+  unfoldable pub callRefusal : Plan → Ledger → Call → Refusal
   callRefusal p l c = firstRefusal (callRefusals p l c)
 
   -- "Answer: tracks moved, scopes closed"; "how many turned"; "code and deviation"
@@ -90,7 +91,7 @@ module _ (limit : ℕ) where
   next p l c = cond (eqb (callRefusal p l c) 0) (after p l c) l
 
   -- event, signal and fire
-  unfoldable pub callOutcome : List ℕ → List ℕ → Call → Outcome
+  unfoldable pub callOutcome : Bytes → Words → Call → Outcome
   callOutcome bs ws c =
       underPlan bs ws
       (λ p.
@@ -99,17 +100,17 @@ module _ (limit : ℕ) where
       (record { answer = done (figures p l c); words = written limit (trackCount p) (after p l c) ws })
       (firstRefusal (ledgerRefusals p ws ++ callRefusals p l c)))
 
-  unfoldable pub eventOutcome : List ℕ → List ℕ → EventArguments → Outcome
+  unfoldable pub eventOutcome : Bytes → Words → EventArguments → Outcome
   eventOutcome bs ws a = callOutcome bs ws (event a)
 
-  unfoldable pub signalOutcome : List ℕ → List ℕ → SignalArguments → Outcome
+  unfoldable pub signalOutcome : Bytes → Words → SignalArguments → Outcome
   signalOutcome bs ws a = callOutcome bs ws (signal a)
 
-  unfoldable pub fireOutcome : List ℕ → List ℕ → FireArguments → Outcome
+  unfoldable pub fireOutcome : Bytes → Words → FireArguments → Outcome
   fireOutcome bs ws a = callOutcome bs ws (fire a)
 
   -- "begin skips 18"
-  unfoldable pub beginOutcome : List ℕ → List ℕ → Outcome
+  unfoldable pub beginOutcome : Bytes → Words → Outcome
   beginOutcome bs ws =
       underPlan bs ws
       (λ p.
@@ -118,7 +119,7 @@ module _ (limit : ℕ) where
       (firstRefusal ((17, tooShort p ws) ∷ [])))
 
   -- Ready changes no word.
-  unfoldable pub readyOutcome : List ℕ → List ℕ → Outcome
+  unfoldable pub readyOutcome : Bytes → Words → Outcome
   readyOutcome bs ws =
       underPlan bs ws
       (λ p.
@@ -127,12 +128,12 @@ module _ (limit : ℕ) where
       (firstRefusal (ledgerRefusals p ws)))
 
   -- "the part of the caller's ledger that holds one track's pairs, those held and no unused ones"
-  unfoldable pub heldPart : Plan → List ℕ → ℕ → List ℕ
+  unfoldable pub heldPart : Plan → Words → TrackNumber → Words
   heldPart p ws t =
       take (entryWidth * length (ledgerAt limit ws (trackCount p) t .held)) (drop (entriesPlace limit t) ws)
 
   -- "the empty part if the plan or ledger is refused, the track does not exist, or it holds nothing"
-  unfoldable pub entriesPart : List ℕ → List ℕ → ℕ → List ℕ
+  unfoldable pub entriesPart : Bytes → Words → TrackNumber → Words
   entriesPart bs ws t =
       elim (readPlan bs) [
         | turnedBack r ↦ []
@@ -144,13 +145,13 @@ module _ (limit : ℕ) where
 -- What Entries' contract promises: the words of the part handed back; where it lies, as a block of memory and an offset in bytes, a word
 -- having two; and every lent word afterwards. "the part of the caller's ledger" starts at the track's first entry; only an empty part may
 -- lie anywhere.
-pub record HandsBack (limit : ℕ) (bs ws : List ℕ) (t : ℕ) (ledger part : ℕ × ℕ) (held words : List ℕ) : Type 0 where
+pub record HandsBack (limit : ℕ) (bs : Bytes) (ws : Words) (t : TrackNumber) (ledger part : ℕ × Place) (held words : Words) : Type 0 where
   pub held-as : held ≡ entriesPart limit bs ws t
   pub block : (held ≡ [] → ⊥) → part .0 ≡ ledger .0
   pub place : (held ≡ [] → ⊥) → part .1 ≡ ledger .1 + entriesPlace limit t * 2
   pub left : words ≡ ws
 
 -- What a call's contract promises of its answer, as the paper tells it, and of every lent word afterwards.
-pub record Meets (o : Outcome) (told : Answer) (words : List ℕ) : Type 0 where
+pub record Meets (o : Outcome) (told : Answer) (words : Words) : Type 0 where
   pub answered : told ≡ o .answer
   pub left : words ≡ o .words

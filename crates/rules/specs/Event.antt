@@ -5,6 +5,7 @@ use mathlib.Core.Option.{Option, none, some}
 use Prim.Native.Nat.{ℕ}
 use lib.ListN.{length}
 use lib.Dec.{leb, eqb}
+use Rattle.rules.specs.Names.{TrackNumber, StateNumber, TransitionNumber, EventNumber, Code}
 use Rattle.rules.specs.Fold.{someBelow, everyBelow, countBelow}
 use Rattle.rules.specs.Plan.{Plan, trackCount, stateCount, noState, transition, replacement, isRoot, isFinal, host, everyIn, transitionFor}
 use Rattle.rules.specs.Ledger.{Entry, Configuration, Ledger, isAwake, isForward, sleeping}
@@ -12,54 +13,54 @@ use Rattle.rules.specs.Opening.{enter}
 use Rattle.rules.specs.Scope.{isOpen, hasOpenScope}
 
 -- "A code other than 0 is installed as the newest entry, with its deviation."
-unfoldable pub install : ℕ → ℕ → List Entry → List Entry
+unfoldable pub install : Code → StateNumber → List Entry → List Entry
 install code deviation held = cond (eqb code 0) held (record { code = code; deviation = deviation } ∷ held)
 
 -- a configuration with one more entry
-unfoldable pub installed : ℕ → ℕ → Configuration → Configuration
+unfoldable pub installed : Code → StateNumber → Configuration → Configuration
 installed code deviation c = record { mode = c .mode; state = c .state; held = install code deviation (c .held) }
 
 module _ (p : Plan) where
-  unfoldable pub destinationOf : Option ℕ → Option ℕ
+  unfoldable pub destinationOf : Option TransitionNumber → Option StateNumber
   destinationOf none = none
   destinationOf (some x) = some (transition p x .destination)
 
   -- what a track that takes a transition installs
-  unfoldable pub installedBy : Option ℕ → Configuration → Configuration
+  unfoldable pub installedBy : Option TransitionNumber → Configuration → Configuration
   installedBy none c = c
   installedBy (some x) c = installed (transition p x .code) (transition p x .deviation) c
 
   -- whether the transition taken has a code
-  unfoldable pub hasCode : Option ℕ → Bool
+  unfoldable pub hasCode : Option TransitionNumber → Bool
   hasCode none = false
   hasCode (some x) = not (eqb (transition p x .code) 0)
 
-  unfoldable pub isMove : Option ℕ → Bool
+  unfoldable pub isMove : Option TransitionNumber → Bool
   isMove none = false
   isMove (some x) = true
 
   module _ (l : Ledger) where
     -- "each forward track without an open scope takes its state's transition for that event, if it has one"
-    unfoldable pub move : ℕ → ℕ → Option ℕ
+    unfoldable pub move : EventNumber → TrackNumber → Option TransitionNumber
     move event t = cond (isForward (l t .mode) && not (hasOpenScope p l t)) (transitionFor p (l t .state) event) none
 
-    unfoldable pub moves : ℕ → ℕ → Bool
+    unfoldable pub moves : EventNumber → TrackNumber → Bool
     moves event t = isMove (move event t)
 
     -- "All moves are chosen on the ledger before the call": each mover installs its entry and enters its destination
-    unfoldable pub moved : ℕ → Ledger
+    unfoldable pub moved : EventNumber → Ledger
     moved event = enter p (λ t. destinationOf (move event t)) (λ t. installedBy (move event t) (l t))
 
     -- "an open forward scope whose tracks are all in final states": closing is due to the scope of s
-    unfoldable pub isClosing : ℕ → Bool
+    unfoldable pub isClosing : StateNumber → Bool
     isClosing s = isOpen p l s && everyIn p s (λ t. isForward (l t .mode) && isFinal p (l t .state))
 
     -- the track is in a scope to which closing is due
-    unfoldable pub isClosed : ℕ → Bool
+    unfoldable pub isClosed : TrackNumber → Bool
     isClosed t = elim (host p t) [ none ↦ false | some h ↦ isClosing h ]
 
     -- closing is due to the scope of the state that the track is in
-    unfoldable pub closesScope : ℕ → Bool
+    unfoldable pub closesScope : TrackNumber → Bool
     closesScope t = isAwake (l t .mode) && isClosing (l t .state)
 
     -- Closing: the scope "goes to sleep, its entries are dropped, and the host installs the replacement, if not 0, with deviation 65535".
@@ -82,15 +83,15 @@ module _ (p : Plan) where
     finished t = cond isFinishing sleeping (l t)
 
   -- on the ledger after the moves: the track's scope closes and gives it a replacement
-  unfoldable pub isReplaced : Ledger → ℕ → Bool
+  unfoldable pub isReplaced : Ledger → TrackNumber → Bool
   isReplaced m t = closesScope m t && not (eqb (replacement p (m t .state)) 0)
 
   -- 21 "A track that the event gives an entry, even one dropped in the same call, holds 32."
-  unfoldable pub isFull : ℕ → Ledger → ℕ → Bool
+  unfoldable pub isFull : ℕ → Ledger → EventNumber → Bool
   isFull limit l event =
       someBelow (trackCount p)
       (λ t. (hasCode (move l event t) || isReplaced (moved l event) t) && leb limit (length (l t .held)))
 
   -- an event, its settlings done
-  unfoldable pub afterEvent : Ledger → ℕ → Ledger
+  unfoldable pub afterEvent : Ledger → EventNumber → Ledger
   afterEvent l event = finished (closed (moved l event))

@@ -4,6 +4,7 @@ use mathlib.Core.Bool.{Bool, true, false, cond}
 use mathlib.Core.List.{List, [], _∷_, _++_}
 use mathlib.Core.Option.{Option, none, some}
 use Prim.Native.Nat.{ℕ, zero, suc}
+use Rattle.rules.specs.Names.{TrackNumber, StateNumber, TransitionNumber, EventNumber}
 use Rattle.rules.specs.Plan.{Plan, trackCount, isInside}
 use Rattle.rules.specs.Ledger.{Ledger, isForward}
 use Rattle.rules.specs.Opening.{begun}
@@ -12,17 +13,17 @@ use Rattle.rules.specs.Event.{move, moved, isClosing}
 use Rattle.rules.specs.Call.{EventArguments, SignalArguments, FireArguments, Call, event, signal, fire, callRefusal, next}
 
 -- the transition taken, as a list
-unfoldable pub taken : Option ℕ → List ℕ
+unfoldable pub taken : Option TransitionNumber → List TransitionNumber
 taken none = []
 taken (some x) = x ∷ []
 
 module _ (p : Plan) where
   -- the transitions that an event takes of the first n tracks, in track order, of those that pass the test
-  unfoldable pub movesBelow : ℕ → (ℕ → Bool) → Ledger → ℕ → List ℕ
+  unfoldable pub movesBelow : ℕ → (TrackNumber → Bool) → Ledger → EventNumber → List TransitionNumber
   movesBelow zero f l e = []
   movesBelow (suc n) f l e = movesBelow n f l e ++ cond (f n) (taken (move p l e n)) []
 
-  unfoldable pub movesOf : (ℕ → Bool) → Ledger → ℕ → List ℕ
+  unfoldable pub movesOf : (TrackNumber → Bool) → Ledger → EventNumber → List TransitionNumber
   movesOf f l e = movesBelow (trackCount p) f l e
 
   module _ (limit : ℕ) where
@@ -33,7 +34,7 @@ module _ (p : Plan) where
 
     -- "from its opening": the scope of s is open on a ledger, and these are the moves inside it since it opened: at a begin or by a call,
     -- an event, a firing with a deviation. "no signal turning any of them meanwhile": one that turns none of them ends no run
-    pub data Running (s : ℕ) : Ledger → List ℕ → Type 0 where
+    pub data Running (s : StateNumber) : Ledger → List TransitionNumber → Type 0 where
       by-begin : isOpen p (begun p) s ≡ true → Running s (begun p) []
       by-call : {l : Ledger} → Reached l → (c : Call) → isOpen p l s ≡ false → isOpen p (next limit p l c) s ≡ true
           → Running s (next limit p l c) []
@@ -49,7 +50,7 @@ module _ (p : Plan) where
           → Running s (next limit p l (fire a)) w
 
     -- "to its closing": the event that closes the scope moves inside it too
-    pub data Finished (s : ℕ) : List ℕ → Type 0 where
+    pub data Finished (s : StateNumber) : List TransitionNumber → Type 0 where
       closed : {l : Ledger} {w : List ℕ} → Running s l w → (a : EventArguments) → callRefusal limit p l (event a) ≡ 0
           → isClosing p (moved p l (a .event)) s ≡ true
           → Finished s (w ++ movesOf (isInside p s) l (a .event))

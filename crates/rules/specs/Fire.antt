@@ -4,6 +4,7 @@ use mathlib.Core.List.{List, [], _∷_}
 use mathlib.Core.Option.{Option, none}
 use Prim.Native.Nat.{ℕ, _^_}
 use lib.Dec.{ltb, eqb}
+use Rattle.rules.specs.Names.{TrackNumber, StateNumber}
 use Rattle.rules.specs.Fold.{sumBelow, firstBelow}
 use Rattle.rules.specs.Plan.{Plan, trackCount, noState, optional}
 use Rattle.rules.specs.Ledger.{Entry, Ledger, isUndoing, isEmpty}
@@ -21,19 +22,19 @@ older (e ∷ es) = es
 
 module _ (p : Plan) (l : Ledger) where
   -- "it must be undoing, hold an entry and have no open scope"
-  unfoldable pub mayFire : ℕ → Bool
+  unfoldable pub mayFire : TrackNumber → Bool
   mayFire t = ltb t (trackCount p) && isUndoing (l t .mode) && not (isEmpty (l t .held)) && not (hasOpenScope p l t)
 
   -- "Its newest entry is removed."
-  unfoldable pub removed : ℕ → Ledger
+  unfoldable pub removed : TrackNumber → Ledger
   removed t u = cond (eqb u t) (record { mode = l u .mode; state = l u .state; held = older (l u .held) }) (l u)
 
   -- the state that the fired track deviates to, if it does
-  unfoldable pub deviatesTo : ℕ → ℕ → Option ℕ
+  unfoldable pub deviatesTo : TrackNumber → TrackNumber → Option StateNumber
   deviatesTo t u = cond (eqb u t) (optional (newest (l t .held) .deviation)) none
 
   -- "With a deviation other than 65535, the track goes forward in that state, entering it as above."
-  unfoldable pub fired : ℕ → Ledger
+  unfoldable pub fired : TrackNumber → Ledger
   fired t = enter p (deviatesTo t) (removed t)
 
   -- "a 32-bit number with bit n set exactly if track n may be fired"
@@ -41,9 +42,9 @@ module _ (p : Plan) (l : Ledger) where
   ready = sumBelow (trackCount p) (λ t. cond (mayFire t) (2 ^ t) 0)
 
   -- the lowest track that may be fired
-  unfoldable pub lowestReady : Option ℕ
+  unfoldable pub lowestReady : Option TrackNumber
   lowestReady = firstBelow (trackCount p) mayFire
 
 -- a firing, its settling done
-unfoldable pub afterFire : Plan → Ledger → ℕ → Ledger
+unfoldable pub afterFire : Plan → Ledger → TrackNumber → Ledger
 afterFire p l t = abandoned p (fired p l t)

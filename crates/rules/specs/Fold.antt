@@ -3,6 +3,7 @@ use mathlib.Core.Bool.{Bool, true, false, cond, _&&_, _||_}
 use mathlib.Core.List.{List, [], _∷_}
 use mathlib.Core.Option.{Option, none, some}
 use Prim.Native.Nat.{ℕ, zero, suc, _+_, max}
+use Rattle.rules.specs.Names.{Refusal}
 
 -- some number below n passes the test
 unfoldable pub someBelow : ℕ → (ℕ → Bool) → Bool
@@ -43,6 +44,6 @@ unfoldable pub tabulate : {A : Type 0} → ℕ → (ℕ → A) → List A
 tabulate n f = tabulateFrom n 0 f
 
 -- the first number of a table whose test holds, 0 where none does
-unfoldable pub firstRefusal : List (ℕ × Bool) → ℕ
+unfoldable pub firstRefusal : List (Refusal × Bool) → Refusal
 firstRefusal [] = 0
 firstRefusal (t ∷ ts) = cond (t .1) (t .0) (firstRefusal ts)

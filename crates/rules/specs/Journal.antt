@@ -1,20 +1,34 @@
 -- The journal of the program: its records, and refusal 23. Assumes nothing.
 use mathlib.Core.Bool.{Bool, cond, not, _||_}
-use mathlib.Core.List.{List, [], _∷_}
+use mathlib.Core.List.{[], _∷_}
 use mathlib.Core.Option.{none, some}
 use Prim.Native.Nat.{ℕ, _+_, _-_}
 use lib.ListN.{length, getD}
 use lib.Dec.{leb, ltb, eqb}
+use Rattle.rules.specs.Names.{Bytes, Place, Kind}
 use Rattle.rules.specs.Record.{word, sizeAt, kindAt}
 use Rattle.rules.specs.Plan.{Plan, trackCount}
 use Rattle.rules.specs.Ledger.{Ledger}
 use Rattle.rules.specs.Fire.{lowestReady}
 use Rattle.rules.specs.Call.{Call, event, signal, fire, nothing}
 
+-- "16 event"; "17 signal"; "18 fire"; "19 fire the lowest ready track"
+abbrev pub eventKind : Kind
+eventKind = 16
+
+abbrev pub signalKind : Kind
+signalKind = 17
+
+abbrev pub fireKind : Kind
+fireKind = 18
+
+abbrev pub fireLowestKind : Kind
+fireLowestKind = 19
+
 -- "16 event (length 6, event), 17 signal (length 4), 18 fire (length 6, track), 19 fire the lowest ready track (length 4)";
 -- 0 where there is no such kind
-unfoldable pub journalLength : ℕ → ℕ
-journalLength kind = cond (ltb kind 16) 0 (getD (6 ∷ 4 ∷ 6 ∷ 4 ∷ []) (kind - 16) 0)
+unfoldable pub journalLength : Kind → ℕ
+journalLength kind = cond (ltb kind eventKind) 0 (getD (6 ∷ 4 ∷ 6 ∷ 4 ∷ []) (kind - eventKind) 0)
 
 -- what stands at a place of the journal
 pub data Entered : Type 0 where
@@ -22,20 +36,20 @@ pub data Entered : Type 0 where
   called : Call → Entered
 
 -- 23 "1 to 3 bytes left where it starts (none left is the journal's end), unknown kind, wrong length, or cut short"
-unfoldable pub isBroken : List ℕ → ℕ → Bool
+unfoldable pub isBroken : Bytes → Place → Bool
 isBroken js at =
     ltb (length js) (at + 4)
     || eqb (journalLength (kindAt js at)) 0
     || not (eqb (sizeAt js at) (journalLength (kindAt js at)))
     || ltb (length js) (at + sizeAt js at)
 
-unfoldable pub recordOf : ℕ → ℕ → Entered
+unfoldable pub recordOf : Kind → ℕ → Entered
 recordOf kind field =
-    cond (eqb kind 16) (called (event (record { event = field })))
-    (cond (eqb kind 17) (called (signal nothing))
-    (cond (eqb kind 18) (called (fire (record { track = field }))) fireLowest))
+    cond (eqb kind eventKind) (called (event (record { event = field })))
+    (cond (eqb kind signalKind) (called (signal nothing))
+    (cond (eqb kind fireKind) (called (fire (record { track = field }))) fireLowest))
 
-unfoldable pub enteredAt : List ℕ → ℕ → Entered
+unfoldable pub enteredAt : Bytes → Place → Entered
 enteredAt js at =
     cond (leb (length js) at) ended (cond (isBroken js at) broken (recordOf (kindAt js at) (word js (at + 4))))
 

@@ -1,5 +1,6 @@
 -- Where the ledger's words stand: the only place for these numbers. Assumes nothing.
 use Prim.Native.Nat.{ℕ, _+_, _*_}
+use Rattle.rules.specs.Names.{Place, TrackNumber}
 
 -- "count of entries held (0 to 32)": the most that a track holds. Everything else takes the limit as a parameter
 unfoldable pub entryLimit : ℕ
@@ -13,17 +14,17 @@ leadingWords = 0
 unfoldable pub headWords : ℕ
 headWords = 3
 
-abbrev pub statePlace : ℕ → ℕ
+abbrev pub statePlace : Place → Place
 statePlace at = at + 1
 
-abbrev pub countPlace : ℕ → ℕ
+abbrev pub countPlace : Place → Place
 countPlace at = at + 2
 
 -- "pairs of retraction code and deviation state": where an entry's deviation stands, from where the entry starts
 unfoldable pub entryWidth : ℕ
 entryWidth = 2
 
-abbrev pub deviationPlace : ℕ → ℕ
+abbrev pub deviationPlace : Place → Place
 deviationPlace at = at + 1
 
 module _ (limit : ℕ) where
@@ -32,10 +33,10 @@ module _ (limit : ℕ) where
   trackWidth = headWords + entryWidth * limit
 
   -- where a track's words start, and where its entries do
-  unfoldable pub trackPlace : ℕ → ℕ
+  unfoldable pub trackPlace : TrackNumber → Place
   trackPlace t = leadingWords + trackWidth * t
 
-  unfoldable pub entriesPlace : ℕ → ℕ
+  unfoldable pub entriesPlace : TrackNumber → Place
   entriesPlace t = trackPlace t + headWords
 
   -- the words of so many tracks

@@ -4,24 +4,25 @@ use mathlib.Core.List.{List, [], _∷_, _++_}
 use Prim.Native.Nat.{ℕ, zero, suc, _+_, _*_, _-_}
 use lib.ListN.{length, getD, drop, replicate}
 use lib.Dec.{ltb}
+use Rattle.rules.specs.Names.{Words, Place, TrackNumber, StateNumber, Code}
 use Rattle.rules.specs.declared.Mode.{Mode}
 use Rattle.rules.specs.declared.Mode.the-variants.{Asleep, Forward, Undoing}
 use Rattle.rules.specs.Layout.{headWords, statePlace, countPlace, entryWidth, deviationPlace, trackPlace, wordCount}
 
 -- an entry: a retraction (the report's compensation) that is installed, and the state to deviate to, 65535 for none
 pub record Entry : Type 0 where
-  pub code : ℕ
-  pub deviation : ℕ
+  pub code : Code
+  pub deviation : StateNumber
 
 -- a track's configuration: its mode (the report's direction), its state, and the entries held, a stack with the newest first
 pub record Configuration : Type 0 where
   pub mode : Mode
-  pub state : ℕ
+  pub state : StateNumber
   pub held : List Entry
 
 -- by track number
 abbrev pub Ledger : Type 0
-Ledger = ℕ → Configuration
+Ledger = TrackNumber → Configuration
 
 unfoldable pub isAwake : Mode → Bool
 isAwake Asleep = false
@@ -53,7 +54,7 @@ modeWord Forward = 1
 modeWord Undoing = 2
 
 -- "pairs of retraction code and deviation state, oldest first"
-unfoldable pub heldWords : List Entry → List ℕ
+unfoldable pub heldWords : List Entry → Words
 heldWords [] = []
 heldWords (e ∷ es) = heldWords es ++ (e .code ∷ e .deviation ∷ [])
 
@@ -63,15 +64,15 @@ modeOf zero = Asleep
 modeOf (suc zero) = Forward
 modeOf (suc (suc n)) = Undoing
 
-unfoldable pub entryAt : List ℕ → ℕ → Entry
+unfoldable pub entryAt : Words → Place → Entry
 entryAt ws at = record { code = getD ws at 0; deviation = getD ws (deviationPlace at) 0 }
 
 -- the entries that stand from a place on, so many of them
-unfoldable pub heldAt : List ℕ → ℕ → ℕ → List Entry
+unfoldable pub heldAt : Words → Place → ℕ → List Entry
 heldAt ws at zero = []
 heldAt ws at (suc k) = entryAt ws (at + entryWidth * k) ∷ heldAt ws at k
 
-unfoldable pub configurationAt : List ℕ → ℕ → Configuration
+unfoldable pub configurationAt : Words → Place → Configuration
 configurationAt ws at =
     record {
       mode = modeOf (getD ws at 0);
@@ -82,20 +83,20 @@ configurationAt ws at =
 -- `limit` is the most entries that a track holds
 module _ (limit : ℕ) where
   -- "unused pairs zero"
-  unfoldable pub configurationWords : Configuration → List ℕ
+  unfoldable pub configurationWords : Configuration → Words
   configurationWords c =
       modeWord (c .mode) ∷ c .state ∷ length (c .held)
       ∷ (heldWords (c .held) ++ replicate (entryWidth * (limit - length (c .held))) 0)
 
   -- "67 for each track, in track order"
-  unfoldable pub ledgerWords : ℕ → Ledger → List ℕ
+  unfoldable pub ledgerWords : ℕ → Ledger → Words
   ledgerWords zero l = []
   ledgerWords (suc n) l = ledgerWords n l ++ configurationWords (l n)
 
   -- "words beyond are never touched": the words of so many tracks in place of a lent ledger's first ones
-  unfoldable pub written : ℕ → Ledger → List ℕ → List ℕ
+  unfoldable pub written : ℕ → Ledger → Words → Words
   written tracks l ws = ledgerWords tracks l ++ drop (wordCount limit tracks) ws
 
   -- the ledger that words hold, of so many tracks
-  unfoldable pub ledgerAt : List ℕ → ℕ → Ledger
+  unfoldable pub ledgerAt : Words → ℕ → Ledger
   ledgerAt ws tracks t = cond (ltb t tracks) (configurationAt ws (trackPlace limit t)) sleeping

@@ -1,4 +1,5 @@
 -- Document 01 as definitions, in its order: the plan file, the ledger, what each call does, refusals, the program, property 3.
+pub mod Names
 pub mod Fold
 pub mod Record
 pub mod Plan

@@ -6,50 +6,51 @@ use mathlib.Core.Option.{Option, none, some}
 use Prim.Native.Nat.{ℕ, zero, suc, _+_, _*_}
 use lib.ListN.{length, getD}
 use lib.Dec.{ltb, eqb}
+use Rattle.rules.specs.Names.{Bytes, Place, TrackNumber, StateNumber, TransitionNumber, EventNumber, Code}
 use Rattle.rules.specs.declared.Counts.{Counts}
 use Rattle.rules.specs.Fold.{someBelow, everyBelow, greatestBelow, firstBelow, tabulate}
-use Rattle.rules.specs.Record.{word, lengthOf}
+use Rattle.rules.specs.Record.{trackKind, stateKind, transitionKind, word, lengthOf}
 
 -- 65535 stands for no state: a root has no host, an entry no deviation
-unfoldable pub noState : ℕ
+unfoldable pub noState : StateNumber
 noState = 65535
 
-unfoldable pub optional : ℕ → Option ℕ
+unfoldable pub optional : StateNumber → Option StateNumber
 optional w = cond (eqb w noState) none (some w)
 
 pub record State : Type 0 where
-  pub track : ℕ
+  pub track : TrackNumber
   pub final : ℕ
-  pub replacement : ℕ
+  pub replacement : Code
 
 pub record Transition : Type 0 where
-  pub source : ℕ
-  pub event : ℕ
-  pub code : ℕ
-  pub deviation : ℕ
-  pub destination : ℕ
+  pub source : StateNumber
+  pub event : EventNumber
+  pub code : Code
+  pub deviation : StateNumber
+  pub destination : StateNumber
 
 pub record Plan : Type 0 where
-  pub hosts : List ℕ
+  pub hosts : List StateNumber
   pub states : List State
   pub transitions : List Transition
 
 -- where the record of a track, a state and a transition starts: kinds never fall, so each kind's records follow one another
-unfoldable pub trackRecord : ℕ → ℕ
-trackRecord t = lengthOf 1 * t
+unfoldable pub trackRecord : TrackNumber → Place
+trackRecord t = lengthOf trackKind * t
 
-unfoldable pub stateRecord : Counts → ℕ → ℕ
-stateRecord c s = trackRecord (c .tracks) + lengthOf 2 * s
+unfoldable pub stateRecord : Counts → StateNumber → Place
+stateRecord c s = trackRecord (c .tracks) + lengthOf stateKind * s
 
-unfoldable pub transitionRecord : Counts → ℕ → ℕ
-transitionRecord c x = stateRecord c (c .states) + lengthOf 3 * x
+unfoldable pub transitionRecord : Counts → TransitionNumber → Place
+transitionRecord c x = stateRecord c (c .states) + lengthOf transitionKind * x
 
 -- "track, final (0 or 1), replacement code (0 for none)"
-unfoldable pub stateAt : List ℕ → ℕ → State
+unfoldable pub stateAt : Bytes → Place → State
 stateAt bs at = record { track = word bs (at + 4); final = word bs (at + 6); replacement = word bs (at + 8) }
 
--- "source state, event, retraction code (0 for none), deviation state (65535 for none), destination state"
-unfoldable pub transitionAt : List ℕ → ℕ → Transition
+-- "source state, event (1 to 65535), retraction code (0 for none), deviation state (65535 for none), destination state"
+unfoldable pub transitionAt : Bytes → Place → Transition
 transitionAt bs at =
     record {
       source = word bs (at + 4);
@@ -60,7 +61,7 @@ transitionAt bs at =
     }
 
 -- the plan in bytes that hold so many records of each kind
-unfoldable pub planOf : List ℕ → Counts → Plan
+unfoldable pub planOf : Bytes → Counts → Plan
 planOf bs c =
     record {
       hosts = tabulate (c .tracks) (λ t. word bs (trackRecord t + 4));
@@ -79,96 +80,96 @@ module _ (p : Plan) where
   transitionCount = length (p .transitions)
 
   -- the fields of a record by its number; beyond the last there is nothing
-  unfoldable pub hostWord : ℕ → ℕ
+  unfoldable pub hostWord : TrackNumber → StateNumber
   hostWord t = getD (p .hosts) t noState
 
-  unfoldable pub state : ℕ → State
+  unfoldable pub state : StateNumber → State
   state s = getD (p .states) s (record { track = noState; final = 0; replacement = 0 })
 
-  unfoldable pub transition : ℕ → Transition
+  unfoldable pub transition : TransitionNumber → Transition
   transition x = getD (p .transitions) x (record { source = noState; event = 0; code = 0; deviation = noState; destination = noState })
 
   -- the state that hosts a track; a root has none
-  unfoldable pub host : ℕ → Option ℕ
+  unfoldable pub host : TrackNumber → Option StateNumber
   host t = optional (hostWord t)
 
   -- the track of a state
-  unfoldable pub owner : ℕ → ℕ
+  unfoldable pub owner : StateNumber → TrackNumber
   owner s = state s .track
 
-  unfoldable pub replacement : ℕ → ℕ
+  unfoldable pub replacement : StateNumber → Code
   replacement s = state s .replacement
 
-  unfoldable pub isRoot : ℕ → Bool
+  unfoldable pub isRoot : TrackNumber → Bool
   isRoot t = elim (host t) [ none ↦ true | some h ↦ false ]
 
   -- s is a state of the track t
-  unfoldable pub isStateOf : ℕ → ℕ → Bool
+  unfoldable pub isStateOf : TrackNumber → StateNumber → Bool
   isStateOf t s = ltb s stateCount && eqb (owner s) t
 
-  unfoldable pub isFinal : ℕ → Bool
+  unfoldable pub isFinal : StateNumber → Bool
   isFinal s = not (eqb (state s .final) 0)
 
   -- "A scope is a hosting state's set of tracks": t is in the scope of s
-  unfoldable pub isIn : ℕ → ℕ → Bool
+  unfoldable pub isIn : StateNumber → TrackNumber → Bool
   isIn s t = elim (host t) [ none ↦ false | some h ↦ eqb h s ]
 
   -- t is in the scope of some state of the track u: u hosts t
-  unfoldable pub isHostedBy : ℕ → ℕ → Bool
+  unfoldable pub isHostedBy : TrackNumber → TrackNumber → Bool
   isHostedBy u t = elim (host t) [ none ↦ false | some h ↦ eqb (owner h) u ]
 
   -- the state hosts some track
-  unfoldable pub isHosting : ℕ → Bool
+  unfoldable pub isHosting : StateNumber → Bool
   isHosting s = someBelow trackCount (isIn s)
 
   -- every track in the scope of s passes the test; some track does
-  unfoldable pub everyIn : ℕ → (ℕ → Bool) → Bool
+  unfoldable pub everyIn : StateNumber → (TrackNumber → Bool) → Bool
   everyIn s f = everyBelow trackCount (λ t. not (isIn s t) || f t)
 
-  unfoldable pub someIn : ℕ → (ℕ → Bool) → Bool
+  unfoldable pub someIn : StateNumber → (TrackNumber → Bool) → Bool
   someIn s f = someBelow trackCount (λ t. isIn s t && f t)
 
   -- "A track starts in its lowest-numbered state"
-  unfoldable pub first : ℕ → Option ℕ
+  unfoldable pub first : TrackNumber → Option StateNumber
   first t = firstBelow stateCount (isStateOf t)
 
-  unfoldable pub firstState : ℕ → ℕ
+  unfoldable pub firstState : TrackNumber → StateNumber
   firstState t = elim (first t) [ none ↦ noState | some s ↦ s ]
 
   -- the transition of a state for an event
-  unfoldable pub transitionFor : ℕ → ℕ → Option ℕ
+  unfoldable pub transitionFor : StateNumber → EventNumber → Option TransitionNumber
   transitionFor s event = firstBelow transitionCount (λ x. eqb (transition x .source) s && eqb (transition x .event) event)
 
   -- the track that a transition moves
-  unfoldable pub mover : ℕ → ℕ
+  unfoldable pub mover : TransitionNumber → TrackNumber
   mover x = owner (transition x .source)
 
   -- "A state's reach is the greatest height of the tracks it hosts, 0 where it hosts none", given those heights
-  unfoldable pub reachBy : (ℕ → ℕ) → ℕ → ℕ
+  unfoldable pub reachBy : (TrackNumber → ℕ) → StateNumber → ℕ
   reachBy heights s = greatestBelow trackCount (λ t. let h : ℕ = heights t in cond (isIn s t) h 0)
 
   -- "a track's height is one more than the greatest reach of its states", as far as n levels show it
-  unfoldable pub heightTo : ℕ → ℕ → ℕ
+  unfoldable pub heightTo : ℕ → TrackNumber → ℕ
   heightTo zero t = 0
   heightTo (suc n) t = suc (greatestBelow stateCount (λ s. let r : ℕ = reachBy (heightTo n) s in cond (isStateOf t s) r 0))
 
   -- a hosted track's number is above its host's, so as many levels as tracks show it whole
-  unfoldable pub height : ℕ → ℕ
+  unfoldable pub height : TrackNumber → ℕ
   height t = heightTo trackCount t
 
   -- What holds going up from a track to its host's track and on: `step t h r` says it of track t with host h, where r says it of h's
   -- track; of a root it does not hold. A host's track has a lower number, so a track's number bounds the levels
-  unfoldable pub climbTo : ℕ → (ℕ → ℕ → Bool → Bool) → ℕ → Bool
+  unfoldable pub climbTo : ℕ → (TrackNumber → StateNumber → Bool → Bool) → TrackNumber → Bool
   climbTo zero step t = false
   climbTo (suc n) step t = elim (host t) [ none ↦ false | some h ↦ step t h (climbTo n step (owner h)) ]
 
-  unfoldable pub climb : (ℕ → ℕ → Bool → Bool) → ℕ → Bool
+  unfoldable pub climb : (TrackNumber → StateNumber → Bool → Bool) → TrackNumber → Bool
   climb step t = climbTo (suc t) step t
 
   -- "of its tracks and of everything hosted inside it": t is inside the scope of s, at any remove
-  unfoldable pub isInside : ℕ → ℕ → Bool
+  unfoldable pub isInside : StateNumber → TrackNumber → Bool
   isInside s = climb (λ t h r. eqb h s || r)
 
   -- "A track hosts the tracks of its states' scopes, and at a remove those that these host": u hosts t, at any remove
-  unfoldable pub isAbove : ℕ → ℕ → Bool
+  unfoldable pub isAbove : TrackNumber → TrackNumber → Bool
   isAbove u = climb (λ t h r. eqb (owner h) u || r)

@@ -1,45 +1,56 @@
 -- The plan file as a run of records, and refusals 2 to 7, judged record by record. Assumes nothing.
 use mathlib.Core.Bool.{true, false, cond, not, _&&_, _||_}
-use mathlib.Core.List.{List, [], _∷_}
+use mathlib.Core.List.{[], _∷_}
 use Prim.Native.Nat.{ℕ, zero, suc, _+_, _*_}
 use lib.ListN.{length, getD}
 use lib.Dec.{leb, ltb, eqb}
+use Rattle.rules.specs.Names.{Bytes, Place, Kind, Refusal}
 use Rattle.rules.specs.declared.Counts.{Counts}
 use Rattle.rules.specs.Fold.{firstRefusal}
 
 -- the 16-bit little-endian number at a place of the bytes
-unfoldable pub word : List ℕ → ℕ → ℕ
+unfoldable pub word : Bytes → Place → ℕ
 word bs at = getD bs at 0 + 256 * getD bs (at + 1) 0
 
 -- "Each has a 16-bit length in bytes (itself included), a 16-bit kind, then 16-bit fields"
-unfoldable pub sizeAt : List ℕ → ℕ → ℕ
+unfoldable pub sizeAt : Bytes → Place → ℕ
 sizeAt bs at = word bs at
 
-unfoldable pub kindAt : List ℕ → ℕ → ℕ
+unfoldable pub kindAt : Bytes → Place → Kind
 kindAt bs at = word bs (at + 2)
 
+-- "Kind 1, track"; "Kind 2, state"; "Kind 3, transition"; "Kind 4, end"
+abbrev pub trackKind : Kind
+trackKind = 1
+
+abbrev pub stateKind : Kind
+stateKind = 2
+
+abbrev pub transitionKind : Kind
+transitionKind = 3
+
+abbrev pub endKind : Kind
+endKind = 4
+
 -- 1 track, 2 state, 3 transition, 4 end: the length of a kind's records, 0 where there is no such kind
-unfoldable pub lengthOf : ℕ → ℕ
+unfoldable pub lengthOf : Kind → ℕ
 lengthOf kind = getD (0 ∷ 6 ∷ 10 ∷ 14 ∷ 4 ∷ []) kind 0
 
 -- "At most 32 tracks, 128 states, 256 transitions", and one end
-unfoldable pub mostOf : ℕ → ℕ
+unfoldable pub mostOf : Kind → ℕ
 mostOf kind = getD (0 ∷ 32 ∷ 128 ∷ 256 ∷ 1 ∷ []) kind 0
 
-abbrev pub endKind : ℕ
-endKind = 4
-
 -- how many records of a kind were counted
-unfoldable pub countOf : Counts → ℕ → ℕ
+unfoldable pub countOf : Counts → Kind → ℕ
 countOf c kind = getD (0 ∷ c .tracks ∷ c .states ∷ c .transitions ∷ 0 ∷ []) kind 0
 
 -- with one more record of a kind
-unfoldable pub oneMore : Counts → ℕ → Counts
+unfoldable pub oneMore : Counts → Kind → Counts
 oneMore c kind =
     record {
-      tracks = c .tracks + cond (eqb kind 1) 1 0;
-      states = c .states + cond (eqb kind 2) 1 0;
-      transitions = c .transitions + cond (eqb kind 3) 1 0;
+      tracks = c .tracks + cond (eqb kind trackKind) 1 0;
+      states = c .states + cond (eqb kind stateKind) 1 0;
+      transitions = c .transitions + cond (eqb kind transitionKind) 1 0;
     }
 
 unfoldable pub noCounts : Counts
@@ -48,7 +59,7 @@ noCounts = record { tracks = 0; states = 0; transitions = 0 }
 -- Refusals 2 to 7 of the record at a place, after a record of kind `last`, with `c` counted before it:
 -- 2 "fewer than 4 bytes remain where a record must start", 3 "the kind is not 1 to 4, or falls", 4 "the length is not its kind's",
 -- 5 "the record runs past the last byte", 6 "it is the 33rd track, 129th state or 257th transition", 7 "bytes follow the end record"
-unfoldable pub judgeRecord : List ℕ → ℕ → ℕ → Counts → ℕ
+unfoldable pub judgeRecord : Bytes → Place → Kind → Counts → Refusal
 judgeRecord bs at last c =
     firstRefusal
     ((2, ltb (length bs) (at + 4))
@@ -65,7 +76,7 @@ pub data Scan : Type 0 where
   counted : Counts → Scan
 
 -- the records from a place on, up to the end record. A record has 4 bytes or more, so as many turns as bytes never run out
-unfoldable pub scanFrom : ℕ → List ℕ → ℕ → ℕ → Counts → Scan
+unfoldable pub scanFrom : ℕ → Bytes → Place → Kind → Counts → Scan
 scanFrom zero bs at last c = refused 2
 scanFrom (suc n) bs at last c =
     elim (judgeRecord bs at last c) [
@@ -78,5 +89,5 @@ scanFrom (suc n) bs at last c =
     ]
 
 -- nothing falls below kind 0, so the first record may have any kind
-unfoldable pub scan : List ℕ → Scan
+unfoldable pub scan : Bytes → Scan
 scan bs = scanFrom (length bs) bs 0 0 noCounts

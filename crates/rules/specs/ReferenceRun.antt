@@ -4,6 +4,7 @@ use mathlib.Core.Path.{_≡_}
 use mathlib.Core.Bool.{true, false}
 use mathlib.Core.List.{List, [], _∷_}
 use Prim.Native.Nat.{ℕ, _<_}
+use Rattle.rules.specs.Names.{Bytes, Words, TrackNumber}
 use Rattle.rules.specs.declared.Mode.the-variants.{Undoing}
 use Rattle.rules.specs.Plan.{Plan, trackCount, isRoot}
 use Rattle.rules.specs.Ledger.{Ledger, ledgerAt}
@@ -13,26 +14,26 @@ use Rattle.rules.specs.Call.{Answer, refusal, done, Call, event, signal,
 use Rattle.rules.specs.FinishedRun.{movesOf}
 use Rattle.rules.specs.Books.{Books, act}
 
-module _ (limit : ℕ) (bs : List ℕ) where
+module _ (limit : ℕ) (bs : Bytes) where
   -- her words after the begin, and after a list of calls
-  unfoldable pub wordsFrom : List ℕ → List Call → List ℕ
+  unfoldable pub wordsFrom : Words → List Call → Words
   wordsFrom ws [] = ws
   wordsFrom ws (c ∷ cs) = wordsFrom (callOutcome limit bs ws c .words) cs
 
-  unfoldable pub wordsAfter : List ℕ → List Call → List ℕ
+  unfoldable pub wordsAfter : Words → List Call → Words
   wordsAfter lent cs = wordsFrom (beginOutcome limit bs lent .words) cs
 
   -- what document 01 answers to each call for her ledger as it stood before that call
-  unfoldable pub answersFrom : List ℕ → List Call → List Answer
+  unfoldable pub answersFrom : Words → List Call → List Answer
   answersFrom ws [] = []
   answersFrom ws (c ∷ cs) = callOutcome limit bs ws c .answer ∷ answersFrom (callOutcome limit bs ws c .words) cs
 
-  unfoldable pub answersAfter : List ℕ → List Call → List Answer
+  unfoldable pub answersAfter : Words → List Call → List Answer
   answersAfter lent cs = answersFrom (beginOutcome limit bs lent .words) cs
 
   module _ (p : Plan) (k : Books p limit) where
-    -- "Event: she chooses the moves on her ledger; their transitions change the books, in track order. Signal: only her ledger alters.
-    -- Fire: the code of the entry removed changes the books."
+    -- "Event: she chooses the moves on her ledger; their transitions change the books, in track order"; "Signal: only her ledger
+    -- alters"; "Fire: the code of the entry removed changes the books"
     unfoldable pub bookedCall : Ledger → Call → k .State → k .State
     bookedCall l (event a) b = act (k .changed) (movesOf p (λ t. true) l (a .event)) b
     bookedCall l (signal a) b = b
@@ -43,24 +44,24 @@ module _ (limit : ℕ) (bs : List ℕ) where
     booked l c (refusal n) b = b
     booked l c (done figures) b = bookedCall l c b
 
-    unfoldable pub booksFrom : List ℕ → List Call → k .State → k .State
+    unfoldable pub booksFrom : Words → List Call → k .State → k .State
     booksFrom ws [] b = b
     booksFrom ws (c ∷ cs) b =
         booksFrom (callOutcome limit bs ws c .words) cs
         (booked (ledgerAt limit ws (trackCount p)) c (callOutcome limit bs ws c .answer) b)
 
-    unfoldable pub booksAfter : List ℕ → List Call → k .State → k .State
+    unfoldable pub booksAfter : Words → List Call → k .State → k .State
     booksAfter lent cs b = booksFrom (beginOutcome limit bs lent .words) cs b
 
   -- her ledger after a list of calls
-  unfoldable pub ledgerAfter : Plan → List ℕ → List Call → Ledger
+  unfoldable pub ledgerAfter : Plan → Words → List Call → Ledger
   ledgerAfter p lent cs = ledgerAt limit (wordsAfter lent cs) (trackCount p)
 
 -- "if every root is undoing, holds nothing and has no open scope"
-pub record Withdrawn (p : Plan) (l : Ledger) (t : ℕ) : Type 0 where
+pub record Withdrawn (p : Plan) (l : Ledger) (t : TrackNumber) : Type 0 where
   pub undoing : l t .mode ≡ Undoing
   pub empty : l t .held ≡ []
   pub shut : hasOpenScope p l t ≡ false
 
 abbrev pub AllWithdrawn : Plan → Ledger → Type 0
-AllWithdrawn p l = (t : ℕ) → t < trackCount p → isRoot p t ≡ true → Withdrawn p l t
+AllWithdrawn p l = (t : TrackNumber) → t < trackCount p → isRoot p t ≡ true → Withdrawn p l t

@@ -2,6 +2,7 @@
 use mathlib.Core.Bool.{Bool, true, false, cond, not, _&&_, _||_}
 use mathlib.Core.Option.{none, some}
 use Prim.Native.Nat.{ℕ, zero, suc}
+use Rattle.rules.specs.Names.{TrackNumber, StateNumber}
 use Rattle.rules.specs.declared.Mode.the-variants.{Undoing}
 use Rattle.rules.specs.Fold.{everyBelow, countBelow}
 use Rattle.rules.specs.Plan.{Plan, trackCount, host, isHostedBy, everyIn}
@@ -21,18 +22,18 @@ module _ (p : Plan) (l : Ledger) where
   turnings = countBelow (trackCount p) (λ t. isForward (l t .mode))
 
   -- undoing, holding nothing and without an open scope
-  unfoldable pub isBare : ℕ → Bool
+  unfoldable pub isBare : TrackNumber → Bool
   isBare t = isUndoing (l t .mode) && isEmpty (l t .held) && not (hasOpenScope p l t)
 
   -- "an open scope goes to sleep, with nothing installed, if its tracks are all undoing, hold nothing and have no open scope": abandoning
   -- is due to the scope of s
-  unfoldable pub isAbandoning : ℕ → Bool
+  unfoldable pub isAbandoning : StateNumber → Bool
   isAbandoning s = isOpen p l s && everyIn p s isBare
 
   -- Abandoning "climbs from scope to host until nothing changes". In the end each open scope is asleep whose tracks are all spent:
   -- undoing, holding nothing, and hosting no track awake that is not spent itself, as far as n levels show it.
   -- (That any order of single steps ends so is shown with the laws of abandoning)
-  unfoldable pub isSpentTo : ℕ → ℕ → Bool
+  unfoldable pub isSpentTo : ℕ → TrackNumber → Bool
   isSpentTo zero t = true
   isSpentTo (suc n) t =
       let inner : Bool =
@@ -40,14 +41,14 @@ module _ (p : Plan) (l : Ledger) where
       isUndoing (l t .mode) && isEmpty (l t .held) && inner
 
   -- a hosted track's number is above its host's, so as many levels as tracks are all there are
-  unfoldable pub isSpent : ℕ → Bool
+  unfoldable pub isSpent : TrackNumber → Bool
   isSpent t = isSpentTo (trackCount p) t
 
-  unfoldable pub isLeft : ℕ → Bool
+  unfoldable pub isLeft : StateNumber → Bool
   isLeft s = isOpen p l s && everyIn p s isSpent
 
   -- the track is in a scope that is abandoned
-  unfoldable pub isAbandoned : ℕ → Bool
+  unfoldable pub isAbandoned : TrackNumber → Bool
   isAbandoned t = elim (host p t) [ none ↦ false | some h ↦ isLeft h ]
 
   unfoldable pub abandoned : Ledger

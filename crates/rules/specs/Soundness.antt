@@ -5,6 +5,7 @@ use mathlib.Core.Option.{none, some}
 use Prim.Native.Nat.{ℕ, _+_, _*_}
 use lib.ListN.{getD}
 use lib.Dec.{leb, ltb, eqb}
+use Rattle.rules.specs.Names.{Words, Place, TrackNumber, StateNumber}
 use Rattle.rules.specs.declared.Mode.{Mode}
 use Rattle.rules.specs.declared.Mode.the-variants.{Asleep, Forward, Undoing}
 use Rattle.rules.specs.Fold.{someBelow, everyBelow}
@@ -16,7 +17,7 @@ use Rattle.rules.specs.Event.{isClosing, isFinishing}
 use Rattle.rules.specs.Signal.{isAbandoning}
 
 -- "its words are as just described", of the track whose words start at a place
-module _ (limit : ℕ) (ws : List ℕ) (at : ℕ) where
+module _ (limit : ℕ) (ws : Words) (at : Place) where
   -- "mode (0 asleep, 1 forward, 2 undoing)"
   unfoldable pub goodMode : Bool
   goodMode = leb (getD ws at 0) 2
@@ -38,7 +39,7 @@ module _ (limit : ℕ) (ws : List ℕ) (at : ℕ) where
   unfoldable pub isTidy : Bool
   isTidy = goodMode && goodCount && unusedZero && asleepZero
 
-unfoldable pub areTidy : ℕ → List ℕ → ℕ → Bool
+unfoldable pub areTidy : ℕ → Words → ℕ → Bool
 areTidy limit ws tracks = everyBelow tracks (λ t. isTidy limit ws (trackPlace limit t))
 
 unfoldable pub everyHeld : (Entry → Bool) → List Entry → Bool
@@ -64,21 +65,21 @@ module _ (p : Plan) (l : Ledger) where
   codesReal = everyBelow (trackCount p) (λ t. everyHeld (λ e. not (eqb (e .code) 0)) (l t .held))
 
   -- "a deviation held is 65535, or, in a root, a non-final state of that root"
-  unfoldable pub goodDeviation : ℕ → ℕ → Bool
+  unfoldable pub goodDeviation : TrackNumber → StateNumber → Bool
   goodDeviation t d = eqb d noState || (isRoot p t && isStateOf p t d && not (isFinal p d))
 
   unfoldable pub deviationsGood : Bool
   deviationsGood = everyBelow (trackCount p) (λ t. everyHeld (λ e. goodDeviation t (e .deviation)) (l t .held))
 
   -- "a scope is awake as a whole or asleep as a whole"
-  unfoldable pub isWhole : ℕ → Bool
+  unfoldable pub isWhole : StateNumber → Bool
   isWhole s = everyIn p s (λ t. isAwake (l t .mode)) || everyIn p s (λ t. not (isAwake (l t .mode)))
 
   unfoldable pub scopesWhole : Bool
   scopesWhole = everyBelow (stateCount p) isWhole
 
   -- "an awake one's host is awake in that hosting state and in the same mode"
-  unfoldable pub isHostedWell : ℕ → Bool
+  unfoldable pub isHostedWell : TrackNumber → Bool
   isHostedWell t =
       elim (host p t) [
         | none ↦ true
@@ -105,7 +106,7 @@ module _ (p : Plan) (l : Ledger) where
       && closingDone && finishDone && abandoningDone
 
 -- "A ledger is sound if its words are as just described and it is all asleep ("over"), or: .."
-unfoldable pub isSound : ℕ → Plan → List ℕ → Bool
+unfoldable pub isSound : ℕ → Plan → Words → Bool
 isSound limit p ws =
     areTidy limit ws (trackCount p)
     && (isOver p (ledgerAt limit ws (trackCount p)) || isLive p (ledgerAt limit ws (trackCount p)))

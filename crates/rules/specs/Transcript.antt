@@ -4,9 +4,10 @@ use mathlib.Core.List.{List, [], _∷_, _++_}
 use Prim.Native.Nat.{ℕ, zero, suc, _+_}
 use lib.ListN.{length, getD, replicate}
 use lib.Dec.{ltb, eqb}
+use Rattle.rules.specs.Names.{Bytes, Words, Place, Refusal, StateNumber}
 use Rattle.rules.specs.declared.Counts.{Counts}
 use Rattle.rules.specs.Fold.{sumBelow}
-use Rattle.rules.specs.Record.{sizeAt, mostOf}
+use Rattle.rules.specs.Record.{trackKind, sizeAt, mostOf}
 use Rattle.rules.specs.Plan.{Plan, trackCount, noState, planOf}
 use Rattle.rules.specs.Acceptance.{turnedBack, accepted, readPlan}
 use Rattle.rules.specs.Layout.{entryLimit, wordCount}
@@ -16,29 +17,29 @@ use Rattle.rules.specs.Text.{ascii, decimal, line}
 use Rattle.rules.specs.Journal.{ended, broken, fireLowest, called, enteredAt, fireLowestCall}
 
 -- "`R` number"
-unfoldable pub refusalLine : ℕ → List ℕ
+unfoldable pub refusalLine : Refusal → Bytes
 refusalLine n = line (ascii "R") (decimal n ∷ [])
 
 -- "`PLAN` tracks states transitions"
-unfoldable pub planLine : Counts → List ℕ
+unfoldable pub planLine : Counts → Bytes
 planLine c = line (ascii "PLAN") (decimal (c .tracks) ∷ decimal (c .states) ∷ decimal (c .transitions) ∷ [])
 
 -- "`H` entries held, firings done"
-unfoldable pub tallyLine : ℕ → ℕ → List ℕ
+unfoldable pub tallyLine : ℕ → ℕ → Bytes
 tallyLine held fired = line (ascii "H") (decimal held ∷ decimal fired ∷ [])
 
 -- "deviation (`-` for 65535)"
-unfoldable pub deviationText : ℕ → List ℕ
+unfoldable pub deviationText : StateNumber → Bytes
 deviationText d = cond (eqb d noState) (ascii "-") (decimal d)
 
 -- "`E` event moved closed, `S` turned, `F` track code deviation"
-unfoldable pub doneLine : Call → List ℕ → List ℕ
+unfoldable pub doneLine : Call → List ℕ → Bytes
 doneLine (event a) figures = line (ascii "E") (decimal (a .event) ∷ decimal (getD figures 0 0) ∷ decimal (getD figures 1 0) ∷ [])
 doneLine (signal a) figures = line (ascii "S") (decimal (getD figures 0 0) ∷ [])
 doneLine (fire a) figures =
     line (ascii "F") (decimal (a .track) ∷ decimal (getD figures 0 0) ∷ deviationText (getD figures 1 0) ∷ [])
 
-unfoldable pub callLine : Call → Answer → List ℕ
+unfoldable pub callLine : Call → Answer → Bytes
 callLine c (refusal n) = refusalLine n
 callLine c (done figures) = doneLine c figures
 
@@ -53,15 +54,15 @@ firingsOf (fire a) (done figures) = 1
 unfoldable pub heldTotal : Plan → Ledger → ℕ
 heldTotal p l = sumBelow (trackCount p) (λ t. length (l t .held))
 
-module _ (bs js : List ℕ) (p : Plan) where
-  unfoldable pub ledgerOf : List ℕ → Ledger
+module _ (bs js : Bytes) (p : Plan) where
+  unfoldable pub ledgerOf : Words → Ledger
   ledgerOf ws = ledgerAt entryLimit ws (trackCount p)
 
-  unfoldable pub lastLine : List ℕ → ℕ → List ℕ
+  unfoldable pub lastLine : Words → ℕ → Bytes
   lastLine ws fired = tallyLine (heldTotal p (ledgerOf ws)) fired
 
   -- the line of a call, and what `rest` prints from the words and the firings after it
-  unfoldable pub callText : (List ℕ → ℕ → List ℕ) → List ℕ → ℕ → Call → List ℕ
+  unfoldable pub callText : (Words → ℕ → Bytes) → Words → ℕ → Call → Bytes
   callText rest ws fired c =
       let o : Outcome = callOutcome entryLimit bs ws c in
       callLine c (o .answer) ++ rest (o .words) (fired + firingsOf c (o .answer))
@@ -69,7 +70,7 @@ module _ (bs js : List ℕ) (p : Plan) where
   -- The lines of the records from a place on, with the ledger's words and the firings done so far. A record has 4 bytes or more, so as
   -- many turns as bytes, and one for the end, never run out.
   -- "23 prints its `R` line and ends the reading, then `H` follows."
-  unfoldable pub replay : ℕ → ℕ → List ℕ → ℕ → List ℕ
+  unfoldable pub replay : ℕ → Place → Words → ℕ → Bytes
   replay zero at ws fired = []
   replay (suc n) at ws fired =
       elim (enteredAt js at) [
@@ -84,11 +85,11 @@ abbrev pub mostBytes : ℕ
 mostBytes = 32768
 
 -- the program's own ledger, before it begins
-unfoldable pub ownWords : List ℕ
-ownWords = replicate (wordCount entryLimit (mostOf 1)) 0
+unfoldable pub ownWords : Words
+ownWords = replicate (wordCount entryLimit (mostOf trackKind)) 0
 
 -- "It begins, then prints `PLAN` ..; a line for each record ..; last `H` .." "A refusal 1 to 16 prints its `R` line alone."
-unfoldable pub transcript : List ℕ → List ℕ → List ℕ
+unfoldable pub transcript : Bytes → Bytes → Bytes
 transcript bs js =
     elim (ltb mostBytes (length bs) || ltb mostBytes (length js)) [
       | true ↦ refusalLine 1
