@@ -31,7 +31,7 @@ use Rattle.automaton.specs.Semantics.{Act, Run, stop}
 use Rattle.automaton.specs.View.{isOnTop, viewOf, view, actsOf}
 use Rattle.automaton.specs.Exactly.{ended}
 use Rattle.automaton.specs.Along.{made, actsFrom, actsAfter}
-use Rattle.automaton.specs.SelfCancelling.{projected, cancOut, Perfect}
+use Rattle.automaton.specs.SelfCancelling.{projected, cancOut, PerfectAt}
 use Rattle.automaton.proofs.Listings.{listed-some, run-then, run-same}
 use Rattle.automaton.proofs.Frames.{top-parts, top-of}
 use Rattle.automaton.proofs.Entered.{begin-init}
@@ -52,7 +52,7 @@ module _ (p : Plan) (ok : Accepted p) where
       clash (sym (ap (someOf (λ n. true)) q) ∙ y) (unfold someOf in refl)
 
   -- unless the call finishes, the steps lead to the view afterwards
-  goes-on : (limit : ℕ) (m : Ledger) (c : Call) (reached : Conf) → Sound limit p m → view p m ≡ ended p c reached → reached ≡ view p m
+  pub goes-on : (limit : ℕ) (m : Ledger) (c : Call) (reached : Conf) → Sound limit p m → view p m ≡ ended p c reached → reached ≡ view p m
   unfolding ended
   goes-on limit m (event a) reached s e =
       elim (look (everyOf (isTerminated p) (members reached))) [
@@ -163,15 +163,15 @@ module _ (limit : ℕ) (bs : List ℕ) (k : Counts) (read : readPlan bs ≡ acce
   kept-nested l (inr s) t a = s .formed .nested
 
   -- Self-cancelling, of lists of calls: where every root is withdrawn, what the calls did and took back of each root cancels out.
-  pub calls-cancel : (comp : ℕ → ℕ) → Perfect comp p → (lent : List ℕ) (cs : List Call) → beginOutcome limit bs lent .answer ≡ done []
+  pub calls-cancel : (comp : ℕ → ℕ) (lent : List ℕ) (cs : List Call) → beginOutcome limit bs lent .answer ≡ done []
       → AllWithdrawn p (ledgerAfter limit bs p lent cs)
-      → (A : ℕ) → A < trackCount p → isRoot p A ≡ true → cancOut comp (projected A (actsAfter limit bs p lent cs)) ≡ []
-  calls-cancel comp perfect lent cs h w A b r =
+      → (A : ℕ) → PerfectAt comp p A → A < trackCount p → isRoot p A ≡ true → cancOut comp (projected A (actsAfter limit bs p lent cs)) ≡ []
+  calls-cancel comp lent cs h w A perfect b r =
       let l = ledgerAfter limit bs p lent cs in
       let a : Awake l A = undoing-awake (l A .mode) (is-undoing (l A .mode) (w A b r .undoing)) in
       elim (list-run lent cs h) [
         | inl o ↦ clash a (ap (λ (c : Configuration). isAwake (c .mode)) (o A) ∙ sleeping-asleep)
-        | inr q ↦ corollary1 p ok comp perfect (actsAfter limit bs p lent cs) (view p l) q (withdrawn-compensated p ok l (nested-after a) w) A b r
+        | inr q ↦ corollary1 p ok comp A perfect (actsAfter limit bs p lent cs) (view p l) q (withdrawn-compensated p ok l (nested-after a) w) b r
       ]
     where
       nested-after : Awake (ledgerAfter limit bs p lent cs) A → Nested p (ledgerAfter limit bs p lent cs)

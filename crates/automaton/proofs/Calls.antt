@@ -63,7 +63,7 @@ module _ (p : Plan) (ok : Accepted p) where
       ∙ ap (everyOf (isTerminated p)) (sym (members-vect (listed (trackCount p) (isOnTop p l) (viewOf p l))))
 
   -- a ledger that is over shows nothing
-  over-view : (l : Ledger) → ((t : ℕ) → l t ≡ sleeping) → view p l ≡ Vect []
+  pub over-view : (l : Ledger) → ((t : ℕ) → l t ≡ sleeping) → view p l ≡ Vect []
   unfolding view isOnTop
   over-view l o =
       ap Vect
@@ -74,7 +74,7 @@ module _ (p : Plan) (ok : Accepted p) where
       none-of true = refl
       none-of false = refl
 
-  finished-view : (l : Ledger) → Nested p l → RootsAwake p l → view p (finished p l) ≡ cond (everyOf (isTerminated p) (members (view p l))) (Vect []) (view p l)
+  pub finished-view : (l : Ledger) → Nested p l → RootsAwake p l → view p (finished p l) ≡ cond (everyOf (isTerminated p) (members (view p l))) (Vect []) (view p l)
   unfolding finished
   finished-view l n roots =
       elim (look (isFinishing p l)) [

@@ -3,7 +3,7 @@
 -- after the other it takes no silent step; and such a view is calm. Assumes nothing.
 use mathlib.Core.Path.{_≡_, refl, sym, ap, _∙_}
 use mathlib.Core.Logic.{inl, inr}
-use mathlib.Core.Bool.{Bool, true, false, not, _&&_}
+use mathlib.Core.Bool.{Bool, true, false, not, _&&_, _||_}
 use mathlib.Core.List.{List, [], _∷_, _++_}
 use Prim.Native.Nat.{ℕ, _<_}
 use borrow.Author.Tests.{not-true}
@@ -24,7 +24,7 @@ use Rattle.automaton.proofs.Listings.{listed-every}
 use Rattle.automaton.proofs.Frames.{down, within-parts, top-parts, shown-free, shown-busy, view-law}
 use Rattle.automaton.proofs.Terminated.{busy-open, closing-terminated, abandoning-compensated}
 
-deviates : Stack → Bool
+unfoldable pub deviates : Stack → Bool
 deviates [] = false
 deviates (Comp c ∷ S) = false
 deviates (Dev d ∷ S) = true
@@ -36,12 +36,12 @@ isSilent γ = false
 isSilent τ = true
 
 module _ (p : Plan) where
-  mutual
-    calm : NConf → Bool
+  unfoldable mutual
+    pub calm : NConf → Bool
     calm (Basic A q r S) = not (deviates S)
-    calm (Nest A q r S c) = isForwards r && not (hasTerminated p c) && not (hasCompensated p c) && calms c
+    calm (Nest A q r S c) = not (hasTerminated p c) && not (hasCompensated p c) && calms c
 
-    calms : Conf → Bool
+    pub calms : Conf → Bool
     calms end = true
     calms (next n c) = calm n && calms c
 
@@ -55,19 +55,20 @@ module _ (p : Plan) where
   member-calm [] β n h = and-true (calm n) (calms (Vect β)) h .0
   member-calm (x ∷ α) β n h = member-calm α β n (and-true (calm x) (calms (Vect (α ++ (n ∷ β)))) h .1)
 
-  record Waits (r : Direction) (c : Conf) : Type 0 where
-    going : isForwards r ≡ true
+  record Waits (c : Conf) : Type 0 where
     unterminated : hasTerminated p c ≡ false
     uncompensated : hasCompensated p c ≡ false
     inner : calms c ≡ true
 
-  calm-nest : (A q : ℕ) (r : Direction) (S : Stack) (c : Conf) → calm (Nest A q r S c) ≡ true → Waits r c
+  calm-nest : (A q : ℕ) (r : Direction) (S : Stack) (c : Conf) → calm (Nest A q r S c) ≡ true → Waits c
   unfolding calm
   calm-nest A q r S c h =
-      let (x, d) = and-true (isForwards r && not (hasTerminated p c) && not (hasCompensated p c)) (calms c) h in
-      let (y, u) = and-true (isForwards r && not (hasTerminated p c)) (not (hasCompensated p c)) x in
-      let (g, t) = and-true (isForwards r) (not (hasTerminated p c)) y in
-      record { going = g; unterminated = not-true (hasTerminated p c) t; uncompensated = not-true (hasCompensated p c) u; inner = d }
+      let (x, d) = and-true (not (hasTerminated p c) && not (hasCompensated p c)) (calms c) h in
+      let (t, u) = and-true (not (hasTerminated p c)) (not (hasCompensated p c)) x in
+      record { unterminated = not-true (hasTerminated p c) t; uncompensated = not-true (hasCompensated p c) u; inner = d }
+
+  neither : (a b : Bool) → a ≡ false → b ≡ false → (a || b) ≡ false
+  neither a b h k = rw (h, k)
 
   no-step : {c d : Conf} {a : Act} → VStep p c a d → calms c ≡ true → trace a ≡ τ → ⊥
   unfolding calm deviates trace isSilent isForwards
@@ -79,12 +80,12 @@ module _ (p : Plan) where
         | DEV A q d S ↦ λ k h. clash k refl
         | NESTSUC A q S c t ↦ λ k h. clash t (calm-nest A q forward S c k .unterminated)
         | NESTFAIL A q S c t ↦ λ k h. clash t (calm-nest A q forward S c k .uncompensated)
-        | NESTCOMP A q S c t ↦ λ k h. clash (calm-nest A q backward S c k .going) refl
+        | NESTCOMP A q S c t ↦ λ k h. let w = calm-nest A q backward S c k in clash t (neither (hasTerminated p c) (hasCompensated p c) (w .unterminated) (w .uncompensated))
         | NEST A q r S {c = c} (s → ih) ↦ λ k h. ih (calm-nest A q r S c k .inner) h
         | VECT α β {n = n} (s → ih) ↦ λ k h. ih (member-calm α β n k) h
       ]
 
-  calm-settled : (c : Conf) → calms c ≡ true → Settled p c
+  pub calm-settled : (c : Conf) → calms c ≡ true → Settled p c
   calm-settled c k a d s h = no-step s k h
 
   -- nothing at all happens to an empty vector
@@ -126,10 +127,12 @@ module _ (p : Plan) where
               (λ u c y. let (i, v) = within-parts p l t u y in ih u c (hosts-higher p ok t u i) v))
         ])
 
+    pub view-calms : calms (view p l) ≡ true
+    unfolding view
+    view-calms =
+        calms-of (listed (trackCount p) (isOnTop p l) (viewOf p l))
+        ∙ listed-every calm (trackCount p) (isOnTop p l) (viewOf p l) (λ t b y. view-calm t b (top-parts p l t y .1))
+
     -- "no other rule of the settling kind applies afterwards"
     pub view-settled : Settled p (view p l)
-    unfolding view
-    view-settled =
-        calm-settled (view p l)
-        (calms-of (listed (trackCount p) (isOnTop p l) (viewOf p l))
-        ∙ listed-every calm (trackCount p) (isOnTop p l) (viewOf p l) (λ t b y. view-calm t b (top-parts p l t y .1)))
+    view-settled = calm-settled (view p l) view-calms

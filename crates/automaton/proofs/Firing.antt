@@ -25,8 +25,9 @@ use Rattle.theory.proofs.Entries.{Good}
 use Rattle.theory.proofs.Entering.{Fate, enters, wakens, stays, fate, arrived-awake}
 use Rattle.theory.proofs.Firing.{fired-is, removed-mode, removed-state, removed-here, removed-other, removed-awake, deviates-known, deviates-here, removed-nested, deviates-free, fired-nested, fired-still}
 use Rattle.restoration.proofs.Theorems01.{may-fire}
-use Rattle.automaton.specs.Configuration.{backward, Comp, Dev, Stack, NConf, Basic, pushComp, pushDev, goto}
-use Rattle.automaton.specs.Semantics.{compAt, devAt, Step, COMP, DEV, VStep, Run, stop, step}
+use Rattle.automaton.specs.Listing.{someOf, everyOf}
+use Rattle.automaton.specs.Configuration.{backward, Comp, Dev, Stack, NConf, Basic, Nest, end, members, pushComp, pushDev, hasTerminated, hasCompensated, goto}
+use Rattle.automaton.specs.Semantics.{compAt, devAt, nestcompAt, Step, COMP, DEV, NESTCOMP, VStep, Run, stop, step}
 use Rattle.automaton.specs.View.{stackOf, directionOf, isWithin, basic, shown, viewOf, isOnTop, view, abandonings, deviating}
 use Rattle.automaton.proofs.Listings.{alike, run-then}
 use Rattle.automaton.proofs.Frames.{same-conf, frame, frames, instead-some, top-parts, top-of, shown-free, busy-alike, view-frame, view-frames, view-law, frame-law, replaced}
@@ -69,7 +70,7 @@ module _ (p : Plan) (ok : Accepted p) (l : Ledger) (n : Nested p l) (t : ℕ) (g
   fired-on = fired-nested p l t ok n g free awake
 
   -- the view with another configuration of the track fired
-  only : NConf → ℕ → Option NConf
+  pub only : NConf → ℕ → Option NConf
   only c u = cond (eqb u t) (some c) none
 
   only-here : (c : NConf) → only c t ≡ some c
@@ -93,8 +94,11 @@ module _ (p : Plan) (ok : Accepted p) (l : Ledger) (n : Nested p l) (t : ℕ) (g
   above-other : (u : ℕ) → isAbove p u t ≡ true → u ≡ t → ⊥
   above-other u a e = let b = above-lower p ok u t a in absurd (omega arith)
 
-  -- after COMP, and after DEV
-  popped : NConf
+  -- after COMP, after NESTCOMP, and after DEV
+  pub begun : NConf
+  begun = Nest t (l t .state) backward (pushDev leads rest) end
+
+  pub popped : NConf
   popped = Basic t (l t .state) backward (pushDev leads rest)
 
   before : viewOf p l t ≡ Basic t (l t .state) backward (Comp code ∷ pushDev leads rest)
@@ -103,14 +107,24 @@ module _ (p : Plan) (ok : Accepted p) (l : Ledger) (n : Nested p l) (t : ℕ) (g
       view-law p l ok t low ∙ shown-free p l t (viewOf p l) free
       ∙ ap₂ (λ x S. Basic t (l t .state) (directionOf x) S) back (stack-newest (l t .held) (may-fire 0 p l t may .2))
 
-  comp-step : VStep p (view p l) (compAt t code) (frames p l (only popped))
-  unfolding popped
+  pub comp-step : VStep p (view p l) (compAt t code) (frames p l (only begun))
+  unfolding begun
   comp-step =
-      subst (λ z. VStep p z (compAt t code) (frames p l (only popped))) (sym (view-frames p l))
-      (replaced p l ok n (λ u. none) (only popped) t (λ u d. sym (only-other popped u d)) (λ u a. refl) (compAt t code) awake
-      (subst (λ z. Step p z (compAt t code) (frame p l (only popped) t)) (sym before ∙ view-frame p l t)
-      (subst (λ z. Step p (Basic t (l t .state) backward (Comp code ∷ pushDev leads rest)) (compAt t code) z) (sym (only-frame popped))
+      subst (λ z. VStep p z (compAt t code) (frames p l (only begun))) (sym (view-frames p l))
+      (replaced p l ok n (λ u. none) (only begun) t (λ u d. sym (only-other begun u d)) (λ u a. refl) (compAt t code) awake
+      (subst (λ z. Step p z (compAt t code) (frame p l (only begun) t)) (sym before ∙ view-frame p l t)
+      (subst (λ z. Step p (Basic t (l t .state) backward (Comp code ∷ pushDev leads rest)) (compAt t code) z) (sym (only-frame begun))
       (COMP t (l t .state) code (pushDev leads rest)))))
+
+  -- the empty vector has compensated
+  back-step : VStep p (frames p l (only begun)) (nestcompAt t) (frames p l (only popped))
+  unfolding begun popped hasTerminated hasCompensated members someOf everyOf
+  back-step =
+      replaced p l ok n (only begun) (only popped) t (λ u x. only-other begun u x ∙ sym (only-other popped u x))
+      (λ u a. only-other begun u (above-other u a)) (nestcompAt t) awake
+      (subst (λ z. Step p z (nestcompAt t) (frame p l (only popped) t)) (sym (only-frame begun))
+      (subst (λ z. Step p (Nest t (l t .state) backward (pushDev leads rest) end) (nestcompAt t) z) (sym (only-frame popped))
+      (NESTCOMP t (l t .state) (pushDev leads rest) end refl)))
 
   dev-step : (d : ℕ) → leads ≡ some d → VStep p (frames p l (only popped)) (devAt t) (frames p l (only (goto p t d rest)))
   unfolding popped pushDev
@@ -192,16 +206,16 @@ module _ (p : Plan) (ok : Accepted p) (l : Ledger) (n : Nested p l) (t : ℕ) (g
       ∙ sym (shown-free p m t (viewOf p m) (sym (busy-alike p l m t (λ u b. same-within t awake k u)) ∙ free))
       ∙ sym (view-law p m ok t low)
 
-  pub firing-run : Run p (view p l) (compAt t code ∷ deviating p t leads) (view p m)
+  pub firing-run : Run p (view p l) (compAt t code ∷ nestcompAt t ∷ deviating p t leads) (view p m)
   firing-run = go leads refl
     where
-      go : (o : Option ℕ) → leads ≡ o → Run p (view p l) (compAt t code ∷ deviating p t o) (view p m)
-      go none e = unfold deviating in subst (λ z. Run p (view p l) (compAt t code ∷ []) z) (in-place popped (stayed e)) (step comp-step stop)
+      go : (o : Option ℕ) → leads ≡ o → Run p (view p l) (compAt t code ∷ nestcompAt t ∷ deviating p t o) (view p m)
+      go none e = unfold deviating in subst (λ z. Run p (view p l) (compAt t code ∷ nestcompAt t ∷ []) z) (in-place popped (stayed e)) (step comp-step (step back-step stop))
       go (some d) e =
           unfold deviating in
-          subst (λ z. Run p (view p l) (compAt t code ∷ devAt t ∷ []) z) (in-place (goto p t d rest) (deviated d e)) (step comp-step (step (dev-step d e) stop))
+          subst (λ z. Run p (view p l) (compAt t code ∷ nestcompAt t ∷ devAt t ∷ []) z) (in-place (goto p t d rest) (deviated d e)) (step comp-step (step back-step (step (dev-step d e) stop)))
 
-  -- "fire: COMP, then DEV if the entry deviates, then the abandoning rule"
-  pub fire-run : Run p (view p l) (compAt t code ∷ (deviating p t leads ++ abandonings p m)) (view p (afterFire p l t))
+  -- "fire: COMP and NESTCOMP, then DEV if the entry deviates, then the abandoning rule"
+  pub fire-run : Run p (view p l) (compAt t code ∷ nestcompAt t ∷ (deviating p t leads ++ abandonings p m)) (view p (afterFire p l t))
   unfolding afterFire
   fire-run = run-then p firing-run (abandoning-run p ok m fired-on)

@@ -157,7 +157,7 @@ module _ (p : Plan) (l : Ledger) where
           | inr f ↦ let c = above-lower p ok k (owner p h) f in let z : owner p h ≡ x = q in omega arith
         ]
 
-    beside : (x k t u : ℕ) → isHostedBy p x k ≡ true → isHostedBy p x t ≡ true → (k ≡ t → ⊥) → Reaches p ok t u → Reaches p ok k u → ⊥
+    pub beside : (x k t u : ℕ) → isHostedBy p x k ≡ true → isHostedBy p x t ≡ true → (k ≡ t → ⊥) → Reaches p ok t u → Reaches p ok k u → ⊥
     beside x k t u i j n r s =
         elim (look (ltb k t)) [
           | inl b ↦ not-above x k t i j (in-line p ok k t u (ltb-true k t b) s r)
@@ -167,7 +167,7 @@ module _ (p : Plan) (l : Ledger) where
     root-not-below : (k t : ℕ) → host p t ≡ none → isAbove p k t ≡ true → ⊥
     root-not-below k t e a = let (h, f, r) = above-hosted p ok k t a in none-some e f
 
-    roots-beside : (k t u : ℕ) → host p k ≡ none → host p t ≡ none → (k ≡ t → ⊥) → Reaches p ok t u → Reaches p ok k u → ⊥
+    pub roots-beside : (k t u : ℕ) → host p k ≡ none → host p t ≡ none → (k ≡ t → ⊥) → Reaches p ok t u → Reaches p ok k u → ⊥
     roots-beside k t u e f n r s =
         elim (look (ltb k t)) [
           | inl b ↦ root-not-below k t f (in-line p ok k t u (ltb-true k t b) s r)

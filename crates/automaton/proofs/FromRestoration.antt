@@ -29,7 +29,7 @@ use Rattle.theory.proofs.Nesting.{Nested}
 use Rattle.restoration.proofs.SoundWords.{Holds, begin-holds, call-holds, call-accepted, call-refused}
 use Rattle.restoration.proofs.Restoration.{restored}
 use Rattle.automaton.specs.Listing.{listedFrom, listed, listedDown}
-use Rattle.automaton.specs.Semantics.{Act, sucAt, failAt, compAt, nestsucAt, nestfailAt, trace}
+use Rattle.automaton.specs.Semantics.{Act, sucAt, failAt, compAt, nestsucAt, nestfailAt, nestcompAt, trace}
 use Rattle.automaton.specs.View.{leavesScope, isGoing, abandonings, deviating, movings, closers, turners, actsOf}
 use Rattle.automaton.specs.Along.{made, actsFrom, actsAfter}
 use Rattle.automaton.specs.SelfCancelling.{Symbol, activity, symbol, projected, leftAfter, leftOf, onto, cancOut, Perfect, Tagged}
@@ -169,7 +169,7 @@ module _ (limit : ℕ) (p : Plan) (ok : Accepted p) (comp : ℕ → ℕ) (perfec
 
   -- a firing: the code is of the track fired
   fire-string : (l m : Ledger) (t c : ℕ) (o : Option ℕ) → isCodeOf p t c ≡ true → (v : List Symbol)
-      → takes p ok comp perfect tagged A root limit c v ≡ leftOf comp v (projected A (compAt t c ∷ (deviating p t o ++ abandonings p m)))
+      → takes p ok comp perfect tagged A root limit c v ≡ leftOf comp v (projected A (compAt t c ∷ nestcompAt t ∷ (deviating p t o ++ abandonings p m)))
   unfolding projected symbol trace leftOf
   fire-string l m t c o h v =
       elim (look (eqb t A)) [

@@ -57,12 +57,12 @@ module _ (p : Plan) (l : Ledger) (e : ℕ) where
       ]
 
   -- where a track goes
-  arrives : ℕ → Option ℕ → NConf
+  pub arrives : ℕ → Option ℕ → NConf
   arrives t none = basic p l t
   arrives t (some x) =
       goto p t (transition p x .destination) (push (transition p x .code) (optional (transition p x .deviation)) (stackOf (l t .held)))
 
-  arrival : ℕ → NConf
+  pub arrival : ℕ → NConf
   arrival t = arrives t (move p l e t)
 
   arrival-is : (t x : ℕ) → move p l e t ≡ some x
@@ -77,10 +77,10 @@ module _ (p : Plan) (l : Ledger) (e : ℕ) where
     awake : (t : ℕ) → moves p l e t ≡ true → Awake l t
     awake t h = let (x, q) = moves-some t h in mover-awake p l e t x q
 
-    apart : (t u : ℕ) → moves p l e t ≡ true → moves p l e u ≡ true → isAbove p t u ≡ true → ⊥
+    pub apart : (t u : ℕ) → moves p l e t ≡ true → moves p l e u ≡ true → isAbove p t u ≡ true → ⊥
     apart t u h k a = let (x, q) = moves-some t h in clash (awake u k) (free-below p ok l n t (move-takes p l e t x q .free) u a)
 
-    takes : (t : ℕ) → moves p l e t ≡ true → Step p (viewOf p l t) (sucAt t e) (arrival t)
+    pub takes : (t : ℕ) → moves p l e t ≡ true → Step p (viewOf p l t) (sucAt t e) (arrival t)
     unfolding basic directionOf
     takes t h =
         let (x, q) = moves-some t h in

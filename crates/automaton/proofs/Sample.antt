@@ -11,7 +11,7 @@ use Rattle.starred.specs.SamplePlan.{planP, lentFor}
 use Rattle.starred.specs.Computing.{computing}
 use Rattle.automaton.specs.Listing.{listedFrom, listed, listedDown}
 use Rattle.automaton.specs.Configuration.{forward, backward, Comp, Basic, Nest, Vect, pushComp, pushDev, initBy, gotoTo, goto, init}
-use Rattle.automaton.specs.Semantics.{sucAt, failAt, compAt, nestsucAt, nestfailAt}
+use Rattle.automaton.specs.Semantics.{sucAt, failAt, compAt, nestsucAt, nestfailAt, nestcompAt}
 use Rattle.automaton.specs.View.{stackOf, directionOf, isWithin, basic, nested, shown, viewTo, viewOf, isOnTop, view, leavesScope, isGoing, abandonings, deviating, movings, closers, turners, actsOf}
 
 abbrev P : Plan
@@ -70,7 +70,7 @@ unfolding computing
 turned-told = refl
 
 -- The second firing: COMP, and the vector has compensated: NESTFAIL.
-pub left-acts : actsOf P (ledger (e 10 ∷ e 11 ∷ e 12 ∷ s ∷ f 1 ∷ [])) (f 2) ≡ compAt 2 52 ∷ nestfailAt 0 ∷ []
+pub left-acts : actsOf P (ledger (e 10 ∷ e 11 ∷ e 12 ∷ s ∷ f 1 ∷ [])) (f 2) ≡ compAt 2 52 ∷ nestcompAt 2 ∷ nestfailAt 0 ∷ []
 unfolding computing listedFrom listed listedDown isWithin leavesScope isGoing abandonings deviating actsOf
 left-acts = refl
 

@@ -36,7 +36,7 @@ module _ (p : Plan) (ok : Accepted p) (l : Ledger) (n : Nested p l) where
   unfolding isGoing
   going-of t f b = rw (f, b)
 
-  turnedBasic : ℕ → NConf
+  pub turnedBasic : ℕ → NConf
   turnedBasic t = Basic t (l t .state) backward (stackOf (l t .held))
 
   awake : (t : ℕ) → isGoing p l t ≡ true → Awake l t
@@ -45,7 +45,7 @@ module _ (p : Plan) (ok : Accepted p) (l : Ledger) (n : Nested p l) where
   apart : (t u : ℕ) → isGoing p l t ≡ true → isGoing p l u ≡ true → isAbove p t u ≡ true → ⊥
   apart t u h k x = clash (awake u k) (free-below p ok l n t (going-parts t h .1) u x)
 
-  fails : (t : ℕ) → isGoing p l t ≡ true → Step p (viewOf p l t) (failAt t) (turnedBasic t)
+  pub fails : (t : ℕ) → isGoing p l t ≡ true → Step p (viewOf p l t) (failAt t) (turnedBasic t)
   unfolding basic turnedBasic directionOf
   fails t h =
       let (f, b) = going-parts t h in

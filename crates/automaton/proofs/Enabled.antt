@@ -1,0 +1,273 @@
+-- Which steps the view of a nested ledger allows: SUC exactly at the tracks that move, COMP exactly at those that may be fired and of their
+-- newest code alone, FAIL exactly at the forward tracks without an open scope. By the rules one after the other: whatever a basic
+-- configuration within the view is, its track is so on the ledger. Assumes nothing.
+use mathlib.Core.Path.{_≡_, refl, sym, ap, _∙_, subst}
+use mathlib.Core.Logic.{_↔_, inl, inr}
+use mathlib.Core.Bool.{Bool, true, false, cond, not, _&&_, _||_}
+use mathlib.Core.List.{List, [], _∷_, _++_}
+use mathlib.Core.Option.{Option, none, some}
+use Prim.{Unit, tt}
+use Prim.Native.Nat.{ℕ, zero, suc, _+_, _<_}
+use native.Mathlib.Omega.{arith}
+use lib.Dec.{eqb, leb}
+use borrow.Author.Tests.{eq-eqb, ne-eqb, lt-ltb, not-true}
+use Rattle.rules.specs.declared.Mode.{Mode}
+use Rattle.rules.specs.declared.Mode.the-variants.{Asleep, Forward, Undoing}
+use Rattle.rules.specs.Fold.{everyBelow, firstRefusal}
+use Rattle.rules.specs.Plan.{Plan, trackCount, stateCount, owner, isFinal, host, transitionCount, transition, transitionFor}
+use Rattle.rules.specs.Acceptance.{badTransition}
+use Rattle.rules.specs.Ledger.{sleeping, Entry, Ledger, isAwake, isForward, isUndoing, isEmpty}
+use Rattle.rules.specs.Scope.{hasOpenScope, isOver}
+use Rattle.rules.specs.Event.{isMove, move, moves}
+use Rattle.rules.specs.Fire.{newest, mayFire}
+use Rattle.rules.specs.Call.{SignalArguments, FireArguments, signal, fire, callRefusals, callRefusal}
+use Rattle.rules.proofs.Tests.{look, look-option, clash, refuted, and-true, and-both, or-false}
+use Rattle.rules.proofs.Folds.{first-none, some-at, every-at}
+use Rattle.rules.proofs.Acceptance.{Passed, Accepted, accepted-facts}
+use Rattle.rules.proofs.Abandoning.{hosts-higher}
+use Rattle.theory.proofs.Modes.{forward-awake}
+use Rattle.theory.proofs.Nesting.{Awake, Nested}
+use Rattle.theory.proofs.Entries.{Good}
+use Rattle.automaton.specs.Listing.{listedFrom, listed}
+use Rattle.automaton.specs.Configuration.{forward, backward, Comp, Stack, NConf, Basic, Nest, Conf, end, next, Vect, isForwards, pushComp}
+use Rattle.automaton.specs.Semantics.{Act, sucAt, failAt, compAt, devAt, nestsucAt, nestfailAt, nestcompAt, Step, SUC, FAIL, COMP, DEV, NESTSUC, NESTFAIL, NESTCOMP, NEST, VStep, VECT}
+use Rattle.automaton.specs.View.{stackOf, directionOf, isWithin, basic, nested, shown, viewOf, isOnTop, view, isGoing}
+use Rattle.restoration.proofs.Theorems01.{move-takes, mover-awake, fire-accepted, Sound}
+use Rattle.automaton.specs.Enabled.{Allows}
+use Rattle.automaton.proofs.Calm.{view-settled}
+use Rattle.automaton.proofs.Frames.{down, frame, frames, instead-some, within-parts, top-parts, shown-free, shown-busy, view-frame, view-frames, view-law, frame-law, replaced}
+use Rattle.automaton.proofs.Moving.{moves-some, on-event, takes, arrival}
+use Rattle.automaton.proofs.Turning.{fails, turnedBasic}
+use Rattle.automaton.proofs.Firing.{comp-step}
+use Rattle.automaton.proofs.Calls.{over-view}
+
+way-forward : (m : Mode) → forward ≡ directionOf (isForward m) → isForward m ≡ true
+unfolding directionOf isForward isForwards
+way-forward Asleep h = ap isForwards (sym h)
+way-forward Forward h = refl
+way-forward Undoing h = ap isForwards (sym h)
+
+way-backward : (m : Mode) → isAwake m ≡ true → backward ≡ directionOf (isForward m) → isUndoing m ≡ true
+unfolding directionOf isForward isForwards isUndoing isAwake
+way-backward Asleep a h = a
+way-backward Forward a h = ap isForwards h
+way-backward Undoing a h = refl
+
+-- a compensation on top is the newest entry's
+top-newest : (es : List Entry) (c : ℕ) (S : Stack) → Comp c ∷ S ≡ stackOf es → (isEmpty es ≡ false) × (c ≡ newest es .code)
+unfolding stackOf pushComp isEmpty newest
+top-newest [] c S h = let z : _≡_ {A = ℕ} 0 1 = cc in absurd (omega arith)
+top-newest (e ∷ es) c S h = (refl, cc)
+
+module _ (p : Plan) (l : Ledger) where
+  -- as the ledger has it: each basic configuration is its track's, awake and without an open scope
+  mutual
+    Shows : NConf → Type 0
+    Shows (Basic A q r S) = Awake l A × (hasOpenScope p l A ≡ false) × (q ≡ l A .state) × (r ≡ directionOf (isForward (l A .mode))) × (S ≡ stackOf (l A .held))
+    Shows (Nest A q r S c) = ShowsAll c
+
+    ShowsAll : Conf → Type 0
+    ShowsAll end = Unit {0}
+    ShowsAll (next n c) = Shows n × ShowsAll c
+
+  -- what the ledger allows
+  Allowed : Act → Type 0
+  Allowed (sucAt A i) = moves p l i A ≡ true
+  Allowed (failAt A) = isGoing p l A ≡ true
+  Allowed (compAt A c) = (mayFire p l A ≡ true) × (c ≡ newest (l A .held) .code)
+  Allowed (devAt A) = Unit {0}
+  Allowed (nestsucAt A) = Unit {0}
+  Allowed (nestfailAt A) = Unit {0}
+  Allowed (nestcompAt A) = Unit {0}
+
+  member-shows : (α β : List NConf) (n : NConf) → ShowsAll (Vect (α ++ (n ∷ β))) → Shows n
+  unfolding ShowsAll Vect
+  member-shows [] β n h = h .0
+  member-shows (x ∷ α) β n h = member-shows α β n (h .1)
+
+  moves-of : (A i x : ℕ) → isForward (l A .mode) ≡ true → hasOpenScope p l A ≡ false → x < transitionCount p → transition p x .source ≡ l A .state
+      → transition p x .event ≡ i → moves p l i A ≡ true
+  unfolding moves move transitionFor isMove
+  moves-of A i x f b c s e =
+      rw (f, b)
+      (elim (look-option (transitionFor p (l A .state) i)) [
+        | inl q ↦
+            clash
+            (some-at (transitionCount p) (λ x. eqb (transition p x .source) (l A .state) && eqb (transition p x .event) i) x c
+            (and-both (eqb (transition p x .source) (l A .state)) (eqb (transition p x .event) i) (eq-eqb _ _ s) (eq-eqb _ _ e)))
+            (first-none (transitionCount p) (λ x. eqb (transition p x .source) (l A .state) && eqb (transition p x .event) i) (unfold transitionFor in q))
+        | inr q ↦ rw (q .1, isMove)
+      ])
+
+  step-allowed : (ok : Accepted p) (n : Nested p l) {c d : Conf} {a : Act} → VStep p c a d → ShowsAll c → Allowed a
+  unfolding Shows ShowsAll Allowed isGoing mayFire
+  step-allowed ok n s =
+      elim s as (λ n a m x. Shows n → Allowed a) (λ c a d x. ShowsAll c → Allowed a) [
+        | SUC A q i x S b e f g ↦
+            λ h. let (w, free, st, r, hd) = h in moves-of A i x (way-forward (l A .mode) r) free b (f ∙ st) g
+        | FAIL A q S ↦ λ h. let (w, free, st, r, hd) = h in rw (way-forward (l A .mode) r, free)
+        | COMP A q c S ↦
+            λ h.
+            let (w, free, st, r, hd) = h in
+            let (e, k) = top-newest (l A .held) c S hd in
+            (rw (lt-ltb A (trackCount p) (n .below A w), way-backward (l A .mode) w r, e, free), k)
+        | DEV A q d S ↦ λ h. tt
+        | NESTSUC A q S c t ↦ λ h. tt
+        | NESTFAIL A q S c t ↦ λ h. tt
+        | NESTCOMP A q S c t ↦ λ h. tt
+        | NEST A q r S (s → ih) ↦ λ h. ih h
+        | VECT α β {n = n} (s → ih) ↦ λ h. ih (member-shows α β n h)
+      ]
+
+  shows-listed : (n i : ℕ) (f : ℕ → Bool) (g : ℕ → NConf) → ((k : ℕ) → k < i + n → f k ≡ true → Shows (g k)) → ShowsAll (Vect (listedFrom n i f g))
+  unfolding listedFrom Vect ShowsAll
+  shows-listed zero i f g h = tt
+  shows-listed (suc n) i f g h = go (f i) refl (shows-listed n (suc i) f g (λ k b. h k (omega arith)))
+    where
+      go : (x : Bool) → f i ≡ x → ShowsAll (Vect (listedFrom n (suc i) f g)) → ShowsAll (Vect (cond x (g i ∷ listedFrom n (suc i) f g) (listedFrom n (suc i) f g)))
+      go true e r = (h i (omega arith) e, r)
+      go false e r = r
+
+  module _ (ok : Accepted p) (n : Nested p l) where
+    basic-shows : (t : ℕ) → Awake l t → hasOpenScope p l t ≡ false → Shows (basic p l t)
+    unfolding basic Shows
+    basic-shows t a f = (a, f, refl, refl, refl)
+
+    nested-shows : (t : ℕ) (c : Conf) → ShowsAll c → Shows (nested p l t c)
+    unfolding nested Shows
+    nested-shows t c h = h
+
+    track-shows : (t : ℕ) → t < trackCount p → Awake l t → Shows (viewOf p l t)
+    unfolding listed
+    track-shows =
+        down (trackCount p) (λ t. Awake l t → Shows (viewOf p l t))
+        (λ t b ih a.
+        subst Shows (sym (view-law p l ok t b))
+        (elim (look (hasOpenScope p l t)) [
+          | inr f ↦ subst Shows (sym (shown-free p l t (viewOf p l) f)) (basic-shows t a f)
+          | inl f ↦
+              subst Shows (sym (shown-busy p l t (viewOf p l) f))
+              (nested-shows t _
+              (shows-listed (trackCount p) 0 (isWithin p l t) (viewOf p l)
+              (λ k c y. let (i, w) = within-parts p l t k y in ih k (omega arith) (hosts-higher p ok t k i) w)))
+        ]))
+
+    view-shows : ShowsAll (view p l)
+    unfolding view listed
+    view-shows =
+        shows-listed (trackCount p) 0 (isOnTop p l) (viewOf p l) (λ k c y. track-shows k (omega arith) (top-parts p l k y .1))
+
+    -- a step of one track's configuration is a step of the view
+    put : ℕ → NConf → ℕ → Option NConf
+    put t c u = cond (eqb u t) (some c) none
+
+    put-here : (t : ℕ) (c : NConf) → put t c t ≡ some c
+    unfolding put
+    put-here t c = rw (eq-eqb t t refl)
+
+    put-other : (t : ℕ) (c : NConf) (u : ℕ) → (u ≡ t → ⊥) → put t c u ≡ none
+    unfolding put
+    put-other t c u d = rw (ne-eqb u t d)
+
+    pub track-step : (t : ℕ) (c : NConf) (a : Act) → Awake l t → Step p (viewOf p l t) a c → (d : Conf) × VStep p (view p l) a d
+    track-step t c a w s =
+        let q : frame p l (put t c) t ≡ c =
+        frame-law p l ok (put t c) t (n .below t w) ∙ instead-some p l (put t c t) (shown p l t (frame p l (put t c))) c (put-here t c) in (
+          frames p l (put t c),
+          subst (λ z. VStep p z a (frames p l (put t c))) (sym (view-frames p l))
+              (replaced p l ok n (λ u. none) (put t c) t (λ u d. sym (put-other t c u d)) (λ u x. refl) a w
+              (subst (λ z. Step p z a (frame p l (put t c) t)) (view-frame p l t)
+              (subst (λ z. Step p (viewOf p l t) a z) (sym q) s))),
+        )
+
+    -- "SUC at an automaton exactly if document 01's rule moves its track"
+    pub suc-enabled : (t e : ℕ) → ((d : Conf) × VStep p (view p l) (sucAt t e) d) ↔ (moves p l e t ≡ true)
+    suc-enabled t e = (λ s. suc-only (s .0) (s .1), λ h. track-step t (arrival p l e t) (sucAt t e) (moving-awake h) (takes p l e ok n t h))
+      where
+        suc-only : (d : Conf) → VStep p (view p l) (sucAt t e) d → moves p l e t ≡ true
+        suc-only d s = unfold Allowed in step-allowed ok n s view-shows
+
+        moving-awake : moves p l e t ≡ true → Awake l t
+        moving-awake h = let (x, q) = moves-some p l e t h in mover-awake p l e t x q
+
+    -- "FAIL exactly at the forward tracks without an open scope"
+    pub fail-enabled : (t : ℕ) → ((d : Conf) × VStep p (view p l) (failAt t) d) ↔ (isGoing p l t ≡ true)
+    fail-enabled t = (λ s. fail-only (s .0) (s .1), λ h. track-step t (turnedBasic p ok l n t) (failAt t) (going-awake h) (fails p ok l n t h))
+      where
+        fail-only : (d : Conf) → VStep p (view p l) (failAt t) d → isGoing p l t ≡ true
+        fail-only d s = unfold Allowed in step-allowed ok n s view-shows
+
+        going-awake : isGoing p l t ≡ true → Awake l t
+        going-awake h = unfold isGoing in forward-awake (l t .mode) (and-true (isForward (l t .mode)) (not (hasOpenScope p l t)) h .0)
+
+    -- "COMP exactly at the tracks that may be fired", and of the newest code alone
+    pub comp-newest : (t c : ℕ) (d : Conf) → VStep p (view p l) (compAt t c) d → (mayFire p l t ≡ true) × (c ≡ newest (l t .held) .code)
+    unfolding Allowed
+    comp-newest t c d s = step-allowed ok n s view-shows
+
+    pub comp-enabled : ((u : ℕ) → Good p u (l u .held)) → (t : ℕ) → ((c : ℕ) × (d : Conf) × VStep p (view p l) (compAt t c) d) ↔ (mayFire p l t ≡ true)
+    comp-enabled g t = (λ s. comp-newest t (s .0) (s .1) (s .2) .0, λ h. (_, _, comp-step p ok l n t (g t) h))
+
+module _ (p : Plan) (ok : Accepted p) (limit : ℕ) (l : Ledger) (s : Sound limit p l) where
+  abbrev n′ : Nested p l
+  n′ = s .formed .nested
+
+  -- of every sound ledger
+  pub allows : Allows p l
+  allows =
+      record {
+        suc = λ t e. suc-enabled p l ok n′ t e;
+        fail = λ t. fail-enabled p l ok n′ t;
+        comp = λ t. comp-enabled p l ok n′ (s .formed .good) t;
+        code = λ t c d v. comp-newest p l ok n′ t c d v .1;
+        silent = view-settled p ok l n′ (s .closing) (s .abandoning);
+      }
+
+  not-over : isOver p l ≡ false
+  unfolding isOver
+  not-over =
+      refuted (everyBelow (trackCount p) (λ t. not (isAwake (l t .mode))))
+      (λ h.
+      elim (look-option (host p 0)) [
+        | inr q ↦ let c = ok .lower 0 (q .0) (q .1) in omega arith
+        | inl e ↦ clash (s .roots 0 (ok .some-track) e) (not-true (isAwake (l 0 .mode)) (every-at (trackCount p) (λ t. not (isAwake (l t .mode))) h 0 (ok .some-track)))
+      ])
+
+  -- a firing is accepted exactly if COMP applies at its automaton; a signal always is
+  pub fire-accepted-if : (a : FireArguments) → ((c : ℕ) × (d : Conf) × VStep p (view p l) (compAt (a .track) c) d) ↔ (callRefusal limit p l (fire a) ≡ 0)
+  fire-accepted-if a = (λ v. accepting (allows .comp (a .track) .0 v), λ h. allows .comp (a .track) .1 (fire-accepted limit p l a h .1))
+    where
+      accepting : mayFire p l (a .track) ≡ true → callRefusal limit p l (fire a) ≡ 0
+      accepting may = unfold callRefusal callRefusals firstRefusal in rw (not-over, may)
+
+  pub signal-accepted-always : (a : SignalArguments) → callRefusal limit p l (signal a) ≡ 0
+  unfolding callRefusal callRefusals firstRefusal
+  signal-accepted-always a = rw not-over
+
+-- 19: no automaton has a SUC on 0
+pub zero-none : (p : Plan) → Passed p → (l : Ledger) → Nested p l → (t : ℕ) (d : Conf) → VStep p (view p l) (sucAt t 0) d → ⊥
+unfolding badTransition
+zero-none p a l n t d v =
+    let (x, q) = moves-some p l 0 t (suc-enabled p l (accepted-facts p a) n t 0 .0 (d, v)) in
+    let e = on-event p l 0 t x q in
+    clash (eq-eqb (transition p x .event) 0 e) (or-false (leb (stateCount p) (transition p x .source) || leb (stateCount p) (transition p x .destination) || not (eqb (owner p (transition p x .source)) (owner p (transition p x .destination))) || isFinal p (transition p x .source)) (eqb (transition p x .event) 0) (a .transitions x (move-takes p l 0 t x q .real)) .1)
+
+-- 20: where the ledger is over no rule applies at all
+pub over-none : (p : Plan) → Accepted p → (l : Ledger) → ((t : ℕ) → l t ≡ sleeping) → (a : Act) (d : Conf) → VStep p (view p l) a d → ⊥
+unfolding Vect
+over-none p ok l o a d v =
+    elim v as (λ n a m x. Unit {0}) (λ c a d x. c ≡ end → ⊥) [
+      | SUC A q i x S b e f g ↦ tt
+      | FAIL A q S ↦ tt
+      | COMP A q c S ↦ tt
+      | DEV A q d S ↦ tt
+      | NESTSUC A q S c t ↦ tt
+      | NESTFAIL A q S c t ↦ tt
+      | NESTCOMP A q S c t ↦ tt
+      | NEST A q r S (s → ih) ↦ tt
+      | VECT α β {n = n} (s → ih) ↦ λ e. filled α n β e
+    ] (over-view p ok l o)
+  where
+    filled : (α : List NConf) (n : NConf) (β : List NConf) → Vect (α ++ (n ∷ β)) ≡ end → ⊥
+    filled [] n β e = let z : _≡_ {A = ℕ} 0 1 = cc in absurd (omega arith)
+    filled (x ∷ α) n β e = let z : _≡_ {A = ℕ} 0 1 = cc in absurd (omega arith)
