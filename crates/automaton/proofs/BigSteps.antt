@@ -1,5 +1,5 @@
--- Every accepted call on every sound ledger is the big step of its view, and the only one: the report's Proposition 1 for these
--- configurations. Assumes nothing.
+-- An accepted call's big steps end in the view of the ledger afterwards and nowhere else: there is one, since its steps are a run, and there is
+-- one only, since SUC in any order, FAIL, COMP and silent steps each lead to one configuration. Assumes nothing.
 use mathlib.Core.Path.{_≡_, refl, sym, ap, _∙_, subst, fun-ext}
 use mathlib.Core.Logic.{_↔_, inl, inr}
 use mathlib.Core.Bool.{Bool, true, false, cond, not, _&&_}
@@ -7,63 +7,36 @@ use mathlib.Core.List.{List, [], _∷_, _++_}
 use mathlib.Core.Option.{Option, none, some}
 use Prim.Native.Nat.{ℕ, zero, suc, _+_, _<_, _≤_}
 use native.Mathlib.Omega.{arith}
-use lib.Dec.{eqb, ltb}
-use borrow.Author.Tests.{eqb-true, eqb-false, eq-eqb, ltb-true, ltb-false}
-use Rattle.rules.specs.declared.Counts.{Counts}
-use Rattle.rules.specs.Plan.{Plan, trackCount, transition, planOf, optional}
-use Rattle.rules.specs.Acceptance.{repeatsEvent, accepted, readPlan}
-use Rattle.rules.specs.Ledger.{Ledger, isForward, ledgerAt}
-use Rattle.rules.specs.Scope.{hasOpenScope}
+use lib.Dec.{eqb}
+use borrow.Author.Tests.{eqb-true, eqb-false}
+use Rattle.rules.specs.Plan.{Plan, trackCount, optional}
+use Rattle.rules.specs.Ledger.{Ledger, isForward}
 use Rattle.rules.specs.Event.{moves, moved, closesScope, closed, afterEvent}
 use Rattle.rules.specs.Signal.{turned, abandoned, afterSignal}
 use Rattle.rules.specs.Fire.{newest, mayFire, fired, afterFire}
-use Rattle.rules.specs.Call.{SignalArguments, FireArguments, nothing, Call, event, signal, fire, refusal, done, callRefusal, after, callOutcome}
+use Rattle.rules.specs.Call.{SignalArguments, FireArguments, nothing, Call, event, signal, fire, callRefusal, after}
 use Rattle.rules.proofs.Tests.{look, clash, refuted, and-true, and-both, or-true, or-right}
-use Rattle.rules.proofs.Folds.{some-at}
-use Rattle.rules.proofs.Acceptance.{Passed, passed-all, read-passed, Accepted, accepts}
+use Rattle.rules.proofs.Acceptance.{Accepted}
 use Rattle.rules.proofs.Closing.{closed-done}
 use Rattle.theory.proofs.Nesting.{Nested}
-use Rattle.restoration.proofs.SoundWords.{Holds, not-refused, passed-ledger, sound-holds, call-holds, call-refused}
-use Rattle.restoration.proofs.Theorems01.{fire-accepted, over-refused, over-is, next-accepted, Kept, moved-nested, closed-nested, turned-forward, turned-nested, mover-awake, Sound, event-roots, event-abandoning, signal-sound, fire-sound, unfinished}
+use Rattle.restoration.proofs.Theorems01.{fire-accepted, moved-nested, closed-nested, turned-forward, turned-nested, mover-awake, Sound, event-roots, event-abandoning, signal-sound, fire-sound, unfinished}
 use Rattle.automaton.specs.Listing.{listedFrom, listed, listedDown, everyOf}
 use Rattle.automaton.specs.Configuration.{Conf}
-use Rattle.automaton.specs.Semantics.{Act, sucAt, failAt, compAt, devAt, nestsucAt, nestfailAt, nestcompAt, trace, VStep, Run, stop, step}
-use Rattle.automaton.specs.View.{view, leavesScope, isGoing, abandonings, deviating, movings, closers, turners}
+use Rattle.automaton.specs.Semantics.{Reading, basicAlone, nestedToo, Act, sucAt, failAt, compAt, devAt, nestsucAt, nestfailAt, nestcompAt, trace, VStep, Run, stop, step}
+use Rattle.automaton.specs.View.{view, leavesScope, isGoing, leaveAt, abandonings, deviationStep, movings, closers, turners}
 use Rattle.automaton.specs.Exactly.{isFail, ended}
-use Rattle.automaton.specs.BigSteps.{isMute, isSilent, has, isOnceEach, sucs, Deterministic, Exhausted, Exhausts, OnEvent, OnSignal, OnFiring, Big, Ends}
+use Rattle.automaton.specs.BigSteps.{isMute, isSilent, has, isOnceEach, sucs, Exhausted, Exhausts, OnEvent, OnSignal, OnFiring, Big, Ends}
 use Rattle.automaton.proofs.Listings.{alike, from-every}
 use Rattle.automaton.proofs.Calm.{view-settled}
 use Rattle.automaton.proofs.Moving.{moves-some, apart, moving-run}
 use Rattle.automaton.proofs.Closing.{closing-run}
 use Rattle.automaton.proofs.Leaving.{abandoning-run}
-use Rattle.automaton.proofs.Turning.{turning-run}
+use Rattle.automaton.proofs.Turning.{going-forward, turning-run}
 use Rattle.automaton.proofs.Firing.{fire-run}
 use Rattle.automaton.proofs.Calls.{finished-view}
-use Rattle.automaton.proofs.Faithful.{kept-faithful}
 use Rattle.automaton.proofs.Enabled.{suc-enabled, fail-enabled, comp-newest}
 use Rattle.automaton.proofs.Silence.{silent-unique, fail-unique, run-steps, settled-exhausted}
 use Rattle.automaton.proofs.Places.{comp-unique, suc-unique, view-once}
-
--- Refusal 15 is the report's determinism.
-pub passed-deterministic : (p : Plan) → Passed p → Deterministic p
-passed-deterministic p a x y b c s e =
-    elim (look (ltb x y)) [
-      | inl h ↦ clash (twice x y (ltb-true x y h) s e) (a .events y c)
-      | inr h ↦
-          elim (look (ltb y x)) [
-            | inl k ↦ clash (twice y x (ltb-true y x k) (sym s) (sym e)) (a .events x b)
-            | inr k ↦ let i = ltb-false x y h in let j = ltb-false y x k in omega arith
-          ]
-    ]
-  where
-    twice : (x y : ℕ) → x < y → transition p x .source ≡ transition p y .source → transition p x .event ≡ transition p y .event → repeatsEvent p y ≡ true
-    twice x y l s e =
-        unfold repeatsEvent in
-        some-at y (λ z. eqb (transition p z .source) (transition p y .source) && eqb (transition p z .event) (transition p y .event)) x l
-        (and-both (eqb (transition p x .source) (transition p y .source)) (eqb (transition p x .event) (transition p y .event)) (eq-eqb _ _ s) (eq-eqb _ _ e))
-
-pub read-deterministic : (bs : List ℕ) (k : Counts) → readPlan bs ≡ accepted k → Deterministic (planOf bs k)
-read-deterministic bs k h = passed-deterministic (planOf bs k) (passed-all (planOf bs k) (read-passed bs k h))
 
 -- The automata of a sequence in track order.
 module _ (f : ℕ → Bool) where
@@ -136,56 +109,58 @@ every-join test [] w h k = k
 every-join test (x ∷ v) w h k =
     let (a, b) = and-true (test x) (everyOf test v) h in and-both (test x) (everyOf test (v ++ w)) a (every-join test v w b k)
 
-module _ (p : Plan) where
-  abandonings-silent : (l : Ledger) → everyOf isSilent (abandonings p l) ≡ true
-  unfolding abandonings isSilent isMute trace
-  abandonings-silent l = down-every isSilent (trackCount p) (leavesScope p l) nestfailAt (λ k. refl)
+leave-silent : (ρ : Reading) (k : ℕ) → isSilent (leaveAt ρ k) ≡ true
+unfolding leaveAt isSilent isMute trace
+leave-silent basicAlone k = refl
+leave-silent nestedToo k = refl
+
+deviation-silent : (t : ℕ) (o : Option ℕ) → everyOf isSilent (deviationStep t o) ≡ true
+unfolding deviationStep everyOf isSilent isMute trace
+deviation-silent t none = refl
+deviation-silent t (some d) = refl
+
+module _ (p : Plan) (ρ : Reading) where
+  abandonings-silent : (l : Ledger) → everyOf isSilent (abandonings p ρ l) ≡ true
+  unfolding abandonings
+  abandonings-silent l = down-every isSilent (trackCount p) (leavesScope p l) (leaveAt ρ) (leave-silent ρ)
 
   closers-silent : (l : Ledger) → everyOf isSilent (closers p l) ≡ true
   unfolding closers listed isSilent isMute trace
   closers-silent l = from-every isSilent (trackCount p) 0 (closesScope p l) nestsucAt (λ k b c y. refl)
 
-  deviating-silent : (t : ℕ) (o : Option ℕ) → everyOf isSilent (deviating p t o) ≡ true
-  unfolding deviating everyOf isSilent isMute trace
-  deviating-silent t none = refl
-  deviating-silent t (some d) = refl
-
   back-silent : (t : ℕ) (w : List Act) → everyOf isSilent w ≡ true → everyOf isSilent (nestcompAt t ∷ w) ≡ true
   unfolding everyOf isSilent isMute trace
   back-silent t w h = h
 
-  pub turners-fail : (l : Ledger) → everyOf isFail (turners p l) ≡ true
-  unfolding turners listed isFail
-  turners-fail l = from-every isFail (trackCount p) 0 (isGoing p l) failAt (λ k b c y. refl)
+  turners-fail : (l : Ledger) → everyOf isFail (turners p ρ l) ≡ true
+  unfolding turners isFail
+  turners-fail l = down-every isFail (trackCount p) (isGoing p ρ l) failAt (λ k. refl)
 
-  pub first-of : {c d : Conf} {w : List Act} → Run p c w d → (a : Act) (v : List Act) → w ≡ a ∷ v → (b : Conf) × VStep p c a b × Run p b v d
+  first-of : {c d : Conf} {w : List Act} → Run p ρ c w d → (a : Act) (v : List Act) → w ≡ a ∷ v → (b : Conf) × VStep p ρ c a b × Run p ρ b v d
   first-of stop a v e = let z : _≡_ {A = ℕ} 0 1 = cc in absurd (omega arith)
   first-of {c} {d} (step {d = b} {a = a′} {w = w} s r) a v e =
-      let x : a′ ≡ a = cc in let y : w ≡ v = cc in (b, subst (λ z. VStep p c z b) x s, subst (λ z. Run p b z d) y r)
+      let x : a′ ≡ a = cc in let y : w ≡ v = cc in (b, subst (λ z. VStep p ρ c z b) x s, subst (λ z. Run p ρ b z d) y r)
 
-module _ (p : Plan) (ok : Accepted p) (l : Ledger) (n : Nested p l) where
+module _ (p : Plan) (ρ : Reading) (ok : Accepted p) (l : Ledger) (n : Nested p l) where
   -- after a signal nothing is forward
-  pub none-going : Exhausted p isFail (view p (turned l))
-  unfolding isFail isGoing
+  none-going : Exhausted p ρ isFail (view p ρ (turned l))
+  unfolding isFail
   none-going = go
     where
       nt : Nested p (turned l)
       nt = turned-nested p ok l n nothing
 
-      going-forward : (A : ℕ) → isGoing p (turned l) A ≡ true → isForward (turned l A .mode) ≡ true
-      going-forward A q = and-true (isForward (turned l A .mode)) (not (hasOpenScope p (turned l) A)) q .0
-
-      go : (a : Act) (d : Conf) → VStep p (view p (turned l)) a d → isFail a ≡ true → ⊥
+      go : (a : Act) (d : Conf) → VStep p ρ (view p ρ (turned l)) a d → isFail a ≡ true → ⊥
       go (failAt A) d r h =
-          clash (going-forward A (fail-enabled p (turned l) ok nt A .0 (d, r))) (turned-forward p ok nothing l A)
+          clash (going-forward p (turned l) ρ A (fail-enabled p ρ (turned l) ok nt A .0 (d, r))) (turned-forward p ok nothing l A)
       go (sucAt A i) d r h = clash h refl
       go (compAt A c) d r h = clash h refl
-      go (devAt A) d r h = clash h refl
+      go (devAt A q) d r h = clash h refl
       go (nestsucAt A) d r h = clash h refl
       go (nestfailAt A) d r h = clash h refl
       go (nestcompAt A) d r h = clash h refl
 
-module _ (p : Plan) (ok : Accepted p) (det : Deterministic p) (limit : ℕ) (l : Ledger) (s : Sound limit p l) where
+module _ (p : Plan) (ρ : Reading) (ok : Accepted p) (limit : ℕ) (l : Ledger) (s : Sound limit p l) where
   abbrev n : Nested p l
   n = s .formed .nested
 
@@ -203,7 +178,7 @@ module _ (p : Plan) (ok : Accepted p) (det : Deterministic p) (limit : ℕ) (l :
         from-has (moves p l e) (trackCount p) 0 A (omega arith) (omega arith) h,
   )
 
-  event-big : (e : ℕ) → OnEvent p e (view p l) (view p (closed p (moved p l e)))
+  event-big : (e : ℕ) → OnEvent p ρ e (view p ρ l) (view p ρ (closed p (moved p l e)))
   unfolding movings order listed
   event-big e =
       let m = moved p l e in
@@ -211,152 +186,109 @@ module _ (p : Plan) (ok : Accepted p) (det : Deterministic p) (limit : ℕ) (l :
       record {
         order = order e;
         once = from-once (moves p l e) (trackCount p) 0;
-        those = λ A. (λ c. order-has e A .1 (suc-enabled p l ok n A e .0 c), λ h. suc-enabled p l ok n A e .1 (order-has e A .0 h));
-        between = view p m;
-        moving = subst (λ w. Run p (view p l) w (view p m)) (sym (from-sucs (moves p l e) e (trackCount p) 0)) (moving-run p l e ok n);
+        those = λ A. (λ c. order-has e A .1 (suc-enabled p ρ l ok n A e .0 c), λ h. suc-enabled p ρ l ok n A e .1 (order-has e A .0 h));
+        between = view p ρ m;
+        moving = subst (λ w. Run p ρ (view p ρ l) w (view p ρ m)) (sym (from-sucs (moves p l e) e (trackCount p) 0)) (moving-run p l e ρ ok n);
         settling = (
-          run-steps p isSilent (closing-run p ok m nm) (closers-silent p m),
-          settled-exhausted p (view p (closed p m))
-              (view-settled p ok (closed p m) (closed-nested p ok m nm) (closed-done p m) (event-abandoning limit p ok l (s .formed) e (s .abandoning))),
+          run-steps p ρ isSilent (closing-run p ρ ok m nm) (closers-silent p ρ m),
+          settled-exhausted p ρ (view p ρ (closed p m))
+              (view-settled p ρ ok (closed p m) (closed-nested p ok m nm) (closed-done p m) (event-abandoning limit p ok l (s .formed) e (s .abandoning))),
         );
       }
 
-  event-one : (e : ℕ) (c d : Conf) → OnEvent p e (view p l) c → OnEvent p e (view p l) d → c ≡ d
+  event-one : (e : ℕ) (c d : Conf) → OnEvent p ρ e (view p ρ l) c → OnEvent p ρ e (view p ρ l) d → c ≡ d
   event-one e c d x y =
       let same : x .between ≡ y .between =
-      suc-unique p ok det e (view p l) (x .between) (y .between) (x .order) (y .order) (x .moving) (y .moving) (x .once) (y .once)
+      suc-unique p ρ ok e (view p ρ l) (x .between) (y .between) (x .order) (y .order) (x .moving) (y .moving) (x .once) (y .once)
       (fun-ext
       (λ A.
       alike (has (x .order) A) (has (y .order) A) (λ h. y .those A .0 (x .those A .1 h)) (λ h. x .those A .0 (y .those A .1 h))))
-      (λ A. view-once p ok l n A)
-      (λ A B h k. apart p l e ok n A B (suc-enabled p l ok n A e .0 (x .those A .1 h)) (suc-enabled p l ok n B e .0 (x .those B .1 k))) in
-      silent-unique p ok (y .between) c d (subst (λ z. Exhausts p isSilent z c) same (x .settling)) (y .settling)
+      (λ A. view-once p ρ ok l n A)
+      (λ A B h k. apart p l e ρ ok n A B (suc-enabled p ρ l ok n A e .0 (x .those A .1 h)) (suc-enabled p ρ l ok n B e .0 (x .those B .1 k))) in
+      silent-unique p ρ ok (y .between) c d (subst (λ z. Exhausts p ρ isSilent z c) same (x .settling)) (y .settling)
 
   -- A signal.
-  signal-big : (a : SignalArguments) → callRefusal limit p l (signal a) ≡ 0 → OnSignal p (view p l) (view p (afterSignal p l))
+  signal-big : (a : SignalArguments) → callRefusal limit p l (signal a) ≡ 0 → OnSignal p ρ (view p ρ l) (view p ρ (afterSignal p l))
   unfolding afterSignal
   signal-big a h =
       let k = signal-sound limit p ok l s a (unfinished limit p ok l s (signal a) h refl) in
       record {
-        between = view p (turned l);
-        turning = (run-steps p isFail (turning-run p ok l n) (turners-fail p l), none-going p ok l n);
+        between = view p ρ (turned l);
+        turning = (run-steps p ρ isFail (turning-run p ρ ok l n) (turners-fail p ρ l), none-going p ρ ok l n);
         settling = (
-          run-steps p isSilent (abandoning-run p ok (turned l) (turned-nested p ok l n nothing)) (abandonings-silent p (turned l)),
-          settled-exhausted p (view p (abandoned p (turned l)))
-              (view-settled p ok (abandoned p (turned l)) (k .formed .nested) (k .closing) (k .abandoning)),
+          run-steps p ρ isSilent (abandoning-run p ρ ok (turned l) (turned-nested p ok l n nothing)) (abandonings-silent p ρ (turned l)),
+          settled-exhausted p ρ (view p ρ (abandoned p (turned l)))
+              (view-settled p ρ ok (abandoned p (turned l)) (k .formed .nested) (k .closing) (k .abandoning)),
         );
       }
 
-  signal-one : (c d e : Conf) → OnSignal p c d → OnSignal p c e → d ≡ e
+  signal-one : (c d e : Conf) → OnSignal p ρ c d → OnSignal p ρ c e → d ≡ e
   signal-one c d e x y =
-      let same = fail-unique p c (x .between) (y .between) (x .turning) (y .turning) in
-      silent-unique p ok (y .between) d e (subst (λ z. Exhausts p isSilent z d) same (x .settling)) (y .settling)
+      let same = fail-unique p ρ c (x .between) (y .between) (x .turning) (y .turning) in
+      silent-unique p ρ ok (y .between) d e (subst (λ z. Exhausts p ρ isSilent z d) same (x .settling)) (y .settling)
 
   -- A firing.
   fire-big : (a : FireArguments) → callRefusal limit p l (fire a) ≡ 0
-      → OnFiring p (a .track) (newest (l (a .track) .held) .code) (view p l) (view p (afterFire p l (a .track)))
+      → OnFiring p ρ (a .track) (newest (l (a .track) .held) .code) (view p ρ l) (view p ρ (afterFire p l (a .track)))
   unfolding afterFire
   fire-big a h =
       let t = a .track in
       let may = fire-accepted limit p l a h .1 in
       let k = fire-sound limit p ok l s t may (unfinished limit p ok l s (fire a) h refl) in
-      let (b, v, r) = first-of p (fire-run p ok l n t (s .formed .good t) may) _ _ refl in
+      let (b, v, r) = first-of p ρ (fire-run p ρ ok l n t (s .formed .good t) may) _ _ refl in
       record {
         between = b;
         firing = v;
         settling = (
-          run-steps p isSilent r
-              (back-silent p t (deviating p t (optional (newest (l t .held) .deviation)) ++ abandonings p (fired p l t))
-              (every-join isSilent (deviating p t (optional (newest (l t .held) .deviation))) (abandonings p (fired p l t))
-              (deviating-silent p t (optional (newest (l t .held) .deviation))) (abandonings-silent p (fired p l t)))),
-          settled-exhausted p (view p (afterFire p l t))
-              (view-settled p ok (abandoned p (fired p l t)) (k .formed .nested) (k .closing) (k .abandoning)),
+          run-steps p ρ isSilent r
+              (back-silent p ρ t (deviationStep t (optional (newest (l t .held) .deviation)) ++ abandonings p ρ (fired p l t))
+              (every-join isSilent (deviationStep t (optional (newest (l t .held) .deviation))) (abandonings p ρ (fired p l t))
+              (deviation-silent t (optional (newest (l t .held) .deviation))) (abandonings-silent p ρ (fired p l t)))),
+          settled-exhausted p ρ (view p ρ (afterFire p l t))
+              (view-settled p ρ ok (abandoned p (fired p l t)) (k .formed .nested) (k .closing) (k .abandoning)),
         );
       }
 
-  fire-one : (A j k : ℕ) (c d : Conf) → OnFiring p A j (view p l) c → OnFiring p A k (view p l) d → c ≡ d
+  fire-one : (A j k : ℕ) (c d : Conf) → OnFiring p ρ A j (view p ρ l) c → OnFiring p ρ A k (view p ρ l) d → c ≡ d
   fire-one A j k c d x y =
-      let same = comp-unique p A j k (view p l) (x .between) (y .between) (view-once p ok l n A) (x .firing) (y .firing) in
-      silent-unique p ok (y .between) c d (subst (λ z. Exhausts p isSilent z c) same (x .settling)) (y .settling)
+      let same = comp-unique p ρ A j k (view p ρ l) (x .between) (y .between) (view-once p ρ ok l n A) (x .firing) (y .firing) in
+      silent-unique p ρ ok (y .between) c d (subst (λ z. Exhausts p ρ isSilent z c) same (x .settling)) (y .settling)
 
   -- the code fired is the newest
-  pub fire-code : (A k : ℕ) (d : Conf) → OnFiring p A k (view p l) d → (mayFire p l A ≡ true) × (k ≡ newest (l A .held) .code)
-  fire-code A k d x = comp-newest p l ok n A k (x .between) (x .firing)
+  pub fire-code : (A k : ℕ) (d : Conf) → OnFiring p ρ A k (view p ρ l) d → (mayFire p l A ≡ true) × (k ≡ newest (l A .held) .code)
+  fire-code A k d x = comp-newest p ρ l ok n A k (x .between) (x .firing)
 
   -- what is reached before finish is looked for
   worked : Call → Conf
-  worked (event a) = view p (closed p (moved p l (a .event)))
-  worked (signal a) = view p (afterSignal p l)
-  worked (fire a) = view p (afterFire p l (a .track))
+  worked (event a) = view p ρ (closed p (moved p l (a .event)))
+  worked (signal a) = view p ρ (afterSignal p l)
+  worked (fire a) = view p ρ (afterFire p l (a .track))
 
-  big : (c : Call) → callRefusal limit p l c ≡ 0 → Big p c (view p l) (worked c)
+  big : (c : Call) → callRefusal limit p l c ≡ 0 → Big p ρ c (view p ρ l) (worked c)
   unfolding Big worked
   big (event a) h = event-big (a .event)
   big (signal a) h = signal-big a h
   big (fire a) h = (newest (l (a .track) .held) .code, fire-big a h)
 
-  -- the report's Proposition 1: "only one configuration can be reached"
-  pub one-only : (c : Call) (d e : Conf) → Big p c (view p l) d → Big p c (view p l) e → d ≡ e
+  -- the report's Proposition 1: only one configuration is reached
+  pub one-only : (c : Call) (d e : Conf) → Big p ρ c (view p ρ l) d → Big p ρ c (view p ρ l) e → d ≡ e
   unfolding Big
   one-only (event a) d e x y = event-one (a .event) d e x y
-  one-only (signal a) d e x y = signal-one (view p l) d e x y
+  one-only (signal a) d e x y = signal-one (view p ρ l) d e x y
   one-only (fire a) d e x y = fire-one (a .track) (x .0) (y .0) d e (x .1) (y .1)
 
-  worked-ended : (c : Call) → view p (after limit p l c) ≡ ended p c (worked c)
+  worked-ended : (c : Call) → view p ρ (after limit p l c) ≡ ended p c (worked c)
   unfolding worked after afterEvent ended
   worked-ended (event a) =
       let m = moved p l (a .event) in
-      finished-view p ok (closed p m) (closed-nested p ok m (moved-nested p l (a .event) ok n)) (event-roots limit p ok l (s .formed) (a .event) (s .roots))
+      finished-view p ρ ok (closed p m) (closed-nested p ok m (moved-nested p l (a .event) ok n)) (event-roots limit p ok l (s .formed) (a .event) (s .roots))
   worked-ended (signal a) = refl
   worked-ended (fire a) = refl
 
   -- an accepted call leads exactly where the automaton's big step does
-  pub exactly-big : (c : Call) → callRefusal limit p l c ≡ 0 → (d : Conf) → Ends p c (view p l) d ↔ (d ≡ view p (after limit p l c))
+  pub exactly-big : (c : Call) → callRefusal limit p l c ≡ 0 → (d : Conf) → Ends p ρ c (view p ρ l) d ↔ (d ≡ view p ρ (after limit p l c))
   unfolding Ends
   exactly-big c h d = (
     λ x. let (e, b, q) = x in q ∙ ap (ended p c) (one-only c e (worked c) b (big c h)) ∙ sym (worked-ended c),
     λ q. (worked c, big c h, q ∙ worked-ended c),
   )
-
--- On words, as the calls' contracts speak of them.
-module _ (limit : ℕ) (bs : List ℕ) (k : Counts) (read : readPlan bs ≡ accepted k) where
-  abbrev thePlan : Plan
-  thePlan = planOf bs k
-
-  abbrev theLedger : List ℕ → Ledger
-  theLedger ws = ledgerAt limit ws (trackCount thePlan)
-
-  good : Accepted thePlan
-  good = accepts bs k read
-
-  pub record BigWords (ws : List ℕ) (c : Call) : Type 0 where
-    -- the view of the words afterwards is what the automaton's big step leads to, and all that it leads to
-    pub exactly : (d : Conf) → Ends thePlan c (view thePlan (theLedger ws)) d ↔ (d ≡ view thePlan (theLedger (callOutcome limit bs ws c .words)))
-    -- and no other sound ledger is shown so
-    pub only : (m : Ledger) → Kept limit thePlan m → Ends thePlan c (view thePlan (theLedger ws)) (view thePlan m) → m ≡ theLedger (callOutcome limit bs ws c .words)
-
-  pub words-big : (ws : List ℕ) (c : Call) (told : List ℕ) → callOutcome limit bs ws c .answer ≡ done told → BigWords ws c
-  words-big ws c told h =
-      let (b, s) = passed-ledger limit bs k read ws c (not-refused limit bs k read ws c told h _ refl) in
-      go (sound-holds limit bs k read ws b s) (callRefusal limit thePlan (theLedger ws) c) refl
-    where
-      not-both : (u : List ℕ) (r : ℕ) → done u ≡ refusal r → ⊥
-      not-both u r e = let z : _≡_ {A = ℕ} 0 1 = cc in absurd (omega arith)
-
-      go : Holds limit bs k read ws (theLedger ws) → (r : ℕ) → callRefusal limit thePlan (theLedger ws) c ≡ r → BigWords ws c
-      go w (suc r) e = absurd (not-both told (suc r) (sym h ∙ ap (λ o. o .answer) (call-refused limit bs k read ws (theLedger ws) w c r e)))
-      go w zero e =
-          elim (w .kept) [
-            | inl o ↦ absurd (over-refused limit thePlan (theLedger ws) (over-is thePlan (theLedger ws) o) c e)
-            | inr v ↦
-                let x = call-holds limit bs k read ws (theLedger ws) w c in
-                let q : theLedger (callOutcome limit bs ws c .words) ≡ after limit thePlan (theLedger ws) c = x .reads ∙ next-accepted limit thePlan (theLedger ws) c e in
-                let big = exactly-big thePlan good (read-deterministic bs k read) limit (theLedger ws) v c e in
-                record {
-                  exactly = λ d. (λ y. big d .0 y ∙ ap (view thePlan) (sym q), λ y. big d .1 (y ∙ ap (view thePlan) q));
-                  only =
-                      λ m s y.
-                      kept-faithful thePlan good limit m (theLedger (callOutcome limit bs ws c .words)) s
-                      (subst (Kept limit thePlan) (sym (x .reads)) (x .kept)) (big (view thePlan m) .0 y ∙ ap (view thePlan) (sym q));
-                }
-          ]

@@ -10,34 +10,33 @@ use Prim.{Unit, tt}
 use Prim.Native.Nat.{ℕ, zero, suc, _+_, _<_}
 use native.Mathlib.Omega.{arith}
 use lib.Dec.{eqb, leb}
-use borrow.Author.Tests.{eq-eqb, ne-eqb, lt-ltb, not-true}
+use borrow.Author.Tests.{eqb-true, eq-eqb, ne-eqb, lt-ltb, not-true}
 use Rattle.rules.specs.declared.Mode.{Mode}
 use Rattle.rules.specs.declared.Mode.the-variants.{Asleep, Forward, Undoing}
 use Rattle.rules.specs.Fold.{everyBelow, firstRefusal}
-use Rattle.rules.specs.Plan.{Plan, trackCount, stateCount, owner, isFinal, host, transitionCount, transition, transitionFor}
-use Rattle.rules.specs.Acceptance.{badTransition}
-use Rattle.rules.specs.Ledger.{sleeping, Entry, Ledger, isAwake, isForward, isUndoing, isEmpty}
+use Rattle.rules.specs.Plan.{Plan, trackCount, host, transitionCount, transition, transitionFor}
+use Rattle.rules.specs.Ledger.{Entry, Ledger, isAwake, isForward, isUndoing, isEmpty}
 use Rattle.rules.specs.Scope.{hasOpenScope, isOver}
-use Rattle.rules.specs.Event.{isMove, move, moves}
+use Rattle.rules.specs.Event.{isMove, move, moves, isFull}
 use Rattle.rules.specs.Fire.{newest, mayFire}
-use Rattle.rules.specs.Call.{SignalArguments, FireArguments, signal, fire, callRefusals, callRefusal}
+use Rattle.rules.specs.Call.{FireArguments, Call, event, signal, fire, callRefusals, callRefusal}
 use Rattle.rules.proofs.Tests.{look, look-option, clash, refuted, and-true, and-both, or-false}
 use Rattle.rules.proofs.Folds.{first-none, some-at, every-at}
-use Rattle.rules.proofs.Acceptance.{Passed, Accepted, accepted-facts}
+use Rattle.rules.proofs.Acceptance.{Passed, Accepted, accepted-facts, sane}
 use Rattle.rules.proofs.Abandoning.{hosts-higher}
 use Rattle.theory.proofs.Modes.{forward-awake}
 use Rattle.theory.proofs.Nesting.{Awake, Nested}
 use Rattle.theory.proofs.Entries.{Good}
 use Rattle.automaton.specs.Listing.{listedFrom, listed}
 use Rattle.automaton.specs.Configuration.{forward, backward, Comp, Stack, NConf, Basic, Nest, Conf, end, next, Vect, isForwards, pushComp}
-use Rattle.automaton.specs.Semantics.{Act, sucAt, failAt, compAt, devAt, nestsucAt, nestfailAt, nestcompAt, Step, SUC, FAIL, COMP, DEV, NESTSUC, NESTFAIL, NESTCOMP, NEST, VStep, VECT}
-use Rattle.automaton.specs.View.{stackOf, directionOf, isWithin, basic, nested, shown, viewOf, isOnTop, view, isGoing}
-use Rattle.restoration.proofs.Theorems01.{move-takes, mover-awake, fire-accepted, Sound}
-use Rattle.automaton.specs.Enabled.{Allows}
+use Rattle.automaton.specs.Semantics.{Reading, basicAlone, nestedToo, Act, sucAt, failAt, compAt, devAt, nestsucAt, nestfailAt, nestcompAt, Step, SUC, FAIL, FAILNEST, COMP, DEV, NESTSUC, NESTFAIL, NESTCOMP, NEST, VStep, VECT}
+use Rattle.automaton.specs.View.{stackOf, directionOf, facing, isWithin, basic, nested, shown, viewOf, isOnTop, view, isGoing}
+use Rattle.restoration.proofs.Theorems01.{move-takes, mover-awake, fire-accepted, Sound, Over, Kept}
+use Rattle.automaton.specs.Enabled.{Allows, Asked}
 use Rattle.automaton.proofs.Calm.{view-settled}
 use Rattle.automaton.proofs.Frames.{down, frame, frames, instead-some, within-parts, top-parts, shown-free, shown-busy, view-frame, view-frames, view-law, frame-law, replaced}
 use Rattle.automaton.proofs.Moving.{moves-some, on-event, takes, arrival}
-use Rattle.automaton.proofs.Turning.{fails, turnedBasic}
+use Rattle.automaton.proofs.Turning.{going-forward, going-of, fails}
 use Rattle.automaton.proofs.Firing.{comp-step}
 use Rattle.automaton.proofs.Calls.{over-view}
 
@@ -53,18 +52,23 @@ way-backward Asleep a h = a
 way-backward Forward a h = ap isForwards h
 way-backward Undoing a h = refl
 
+facing-going : (p : Plan) (l : Ledger) (ρ : Reading) (t : ℕ) → ρ ≡ nestedToo → forward ≡ facing ρ (l t .mode) → isGoing p ρ l t ≡ true
+unfolding facing isGoing
+facing-going p l basicAlone t w h = let z : _≡_ {A = ℕ} 0 1 = cc in absurd (omega arith)
+facing-going p l nestedToo t w h = way-forward (l t .mode) h
+
 -- a compensation on top is the newest entry's
 top-newest : (es : List Entry) (c : ℕ) (S : Stack) → Comp c ∷ S ≡ stackOf es → (isEmpty es ≡ false) × (c ≡ newest es .code)
 unfolding stackOf pushComp isEmpty newest
 top-newest [] c S h = let z : _≡_ {A = ℕ} 0 1 = cc in absurd (omega arith)
 top-newest (e ∷ es) c S h = (refl, cc)
 
-module _ (p : Plan) (l : Ledger) where
-  -- as the ledger has it: each basic configuration is its track's, awake and without an open scope
+module _ (p : Plan) (ρ : Reading) (l : Ledger) where
+  -- as the ledger has it: each basic configuration is its track's, awake and without an open scope, and each host has its track's direction
   mutual
     Shows : NConf → Type 0
     Shows (Basic A q r S) = Awake l A × (hasOpenScope p l A ≡ false) × (q ≡ l A .state) × (r ≡ directionOf (isForward (l A .mode))) × (S ≡ stackOf (l A .held))
-    Shows (Nest A q r S c) = ShowsAll c
+    Shows (Nest A q r S c) = (r ≡ facing ρ (l A .mode)) × ShowsAll c
 
     ShowsAll : Conf → Type 0
     ShowsAll end = Unit {0}
@@ -73,9 +77,9 @@ module _ (p : Plan) (l : Ledger) where
   -- what the ledger allows
   Allowed : Act → Type 0
   Allowed (sucAt A i) = moves p l i A ≡ true
-  Allowed (failAt A) = isGoing p l A ≡ true
+  Allowed (failAt A) = isGoing p ρ l A ≡ true
   Allowed (compAt A c) = (mayFire p l A ≡ true) × (c ≡ newest (l A .held) .code)
-  Allowed (devAt A) = Unit {0}
+  Allowed (devAt A d) = Unit {0}
   Allowed (nestsucAt A) = Unit {0}
   Allowed (nestfailAt A) = Unit {0}
   Allowed (nestcompAt A) = Unit {0}
@@ -99,13 +103,14 @@ module _ (p : Plan) (l : Ledger) where
         | inr q ↦ rw (q .1, isMove)
       ])
 
-  step-allowed : (ok : Accepted p) (n : Nested p l) {c d : Conf} {a : Act} → VStep p c a d → ShowsAll c → Allowed a
-  unfolding Shows ShowsAll Allowed isGoing mayFire
+  step-allowed : (ok : Accepted p) (n : Nested p l) {c d : Conf} {a : Act} → VStep p ρ c a d → ShowsAll c → Allowed a
+  unfolding Shows ShowsAll Allowed mayFire
   step-allowed ok n s =
       elim s as (λ n a m x. Shows n → Allowed a) (λ c a d x. ShowsAll c → Allowed a) [
         | SUC A q i x S b e f g ↦
             λ h. let (w, free, st, r, hd) = h in moves-of A i x (way-forward (l A .mode) r) free b (f ∙ st) g
-        | FAIL A q S ↦ λ h. let (w, free, st, r, hd) = h in rw (way-forward (l A .mode) r, free)
+        | FAIL A q S ↦ λ h. let (w, free, st, r, hd) = h in going-of p l ρ A (way-forward (l A .mode) r) free
+        | FAILNEST A q S c w ↦ λ h. facing-going p l ρ A w (h .0)
         | COMP A q c S ↦
             λ h.
             let (w, free, st, r, hd) = h in
@@ -115,7 +120,7 @@ module _ (p : Plan) (l : Ledger) where
         | NESTSUC A q S c t ↦ λ h. tt
         | NESTFAIL A q S c t ↦ λ h. tt
         | NESTCOMP A q S c t ↦ λ h. tt
-        | NEST A q r S (s → ih) ↦ λ h. ih h
+        | NEST A q r S (s → ih) ↦ λ h. ih (h .1)
         | VECT α β {n = n} (s → ih) ↦ λ h. ih (member-shows α β n h)
       ]
 
@@ -133,29 +138,29 @@ module _ (p : Plan) (l : Ledger) where
     unfolding basic Shows
     basic-shows t a f = (a, f, refl, refl, refl)
 
-    nested-shows : (t : ℕ) (c : Conf) → ShowsAll c → Shows (nested p l t c)
+    nested-shows : (t : ℕ) (c : Conf) → ShowsAll c → Shows (nested p ρ l t c)
     unfolding nested Shows
-    nested-shows t c h = h
+    nested-shows t c h = (refl, h)
 
-    track-shows : (t : ℕ) → t < trackCount p → Awake l t → Shows (viewOf p l t)
+    track-shows : (t : ℕ) → t < trackCount p → Awake l t → Shows (viewOf p ρ l t)
     unfolding listed
     track-shows =
-        down (trackCount p) (λ t. Awake l t → Shows (viewOf p l t))
+        down (trackCount p) (λ t. Awake l t → Shows (viewOf p ρ l t))
         (λ t b ih a.
-        subst Shows (sym (view-law p l ok t b))
+        subst Shows (sym (view-law p ρ l ok t b))
         (elim (look (hasOpenScope p l t)) [
-          | inr f ↦ subst Shows (sym (shown-free p l t (viewOf p l) f)) (basic-shows t a f)
+          | inr f ↦ subst Shows (sym (shown-free p ρ l t (viewOf p ρ l) f)) (basic-shows t a f)
           | inl f ↦
-              subst Shows (sym (shown-busy p l t (viewOf p l) f))
+              subst Shows (sym (shown-busy p ρ l t (viewOf p ρ l) f))
               (nested-shows t _
-              (shows-listed (trackCount p) 0 (isWithin p l t) (viewOf p l)
+              (shows-listed (trackCount p) 0 (isWithin p l t) (viewOf p ρ l)
               (λ k c y. let (i, w) = within-parts p l t k y in ih k (omega arith) (hosts-higher p ok t k i) w)))
         ]))
 
-    view-shows : ShowsAll (view p l)
+    view-shows : ShowsAll (view p ρ l)
     unfolding view listed
     view-shows =
-        shows-listed (trackCount p) 0 (isOnTop p l) (viewOf p l) (λ k c y. track-shows k (omega arith) (top-parts p l k y .1))
+        shows-listed (trackCount p) 0 (isOnTop p l) (viewOf p ρ l) (λ k c y. track-shows k (omega arith) (top-parts p l k y .1))
 
     -- a step of one track's configuration is a step of the view
     put : ℕ → NConf → ℕ → Option NConf
@@ -169,60 +174,47 @@ module _ (p : Plan) (l : Ledger) where
     unfolding put
     put-other t c u d = rw (ne-eqb u t d)
 
-    pub track-step : (t : ℕ) (c : NConf) (a : Act) → Awake l t → Step p (viewOf p l t) a c → (d : Conf) × VStep p (view p l) a d
+    pub track-step : (t : ℕ) (c : NConf) (a : Act) → Awake l t → Step p ρ (viewOf p ρ l t) a c → (d : Conf) × VStep p ρ (view p ρ l) a d
     track-step t c a w s =
-        let q : frame p l (put t c) t ≡ c =
-        frame-law p l ok (put t c) t (n .below t w) ∙ instead-some p l (put t c t) (shown p l t (frame p l (put t c))) c (put-here t c) in (
-          frames p l (put t c),
-          subst (λ z. VStep p z a (frames p l (put t c))) (sym (view-frames p l))
-              (replaced p l ok n (λ u. none) (put t c) t (λ u d. sym (put-other t c u d)) (λ u x. refl) a w
-              (subst (λ z. Step p z a (frame p l (put t c) t)) (view-frame p l t)
-              (subst (λ z. Step p (viewOf p l t) a z) (sym q) s))),
+        let q : frame p ρ l (put t c) t ≡ c =
+        frame-law p ρ l ok (put t c) t (n .below t w) ∙ instead-some (put t c t) (shown p ρ l t (frame p ρ l (put t c))) c (put-here t c) in (
+          frames p ρ l (put t c),
+          subst (λ z. VStep p ρ z a (frames p ρ l (put t c))) (sym (view-frames p ρ l))
+              (replaced p ρ l ok n (λ u. none) (put t c) t (λ u d. sym (put-other t c u d)) (λ u x. refl) a w
+              (subst (λ z. Step p ρ z a (frame p ρ l (put t c) t)) (view-frame p ρ l t)
+              (subst (λ z. Step p ρ (viewOf p ρ l t) a z) (sym q) s))),
         )
 
-    -- "SUC at an automaton exactly if document 01's rule moves its track"
-    pub suc-enabled : (t e : ℕ) → ((d : Conf) × VStep p (view p l) (sucAt t e) d) ↔ (moves p l e t ≡ true)
-    suc-enabled t e = (λ s. suc-only (s .0) (s .1), λ h. track-step t (arrival p l e t) (sucAt t e) (moving-awake h) (takes p l e ok n t h))
+    -- SUC at an automaton exactly if the event moves its track
+    pub suc-enabled : (t e : ℕ) → ((d : Conf) × VStep p ρ (view p ρ l) (sucAt t e) d) ↔ (moves p l e t ≡ true)
+    suc-enabled t e = (λ s. suc-only (s .0) (s .1), λ h. track-step t (arrival p l e t) (sucAt t e) (moving-awake h) (takes p l e ρ ok n t h))
       where
-        suc-only : (d : Conf) → VStep p (view p l) (sucAt t e) d → moves p l e t ≡ true
+        suc-only : (d : Conf) → VStep p ρ (view p ρ l) (sucAt t e) d → moves p l e t ≡ true
         suc-only d s = unfold Allowed in step-allowed ok n s view-shows
 
         moving-awake : moves p l e t ≡ true → Awake l t
         moving-awake h = let (x, q) = moves-some p l e t h in mover-awake p l e t x q
 
-    -- "FAIL exactly at the forward tracks without an open scope"
-    pub fail-enabled : (t : ℕ) → ((d : Conf) × VStep p (view p l) (failAt t) d) ↔ (isGoing p l t ≡ true)
-    fail-enabled t = (λ s. fail-only (s .0) (s .1), λ h. track-step t (turnedBasic p ok l n t) (failAt t) (going-awake h) (fails p ok l n t h))
+    -- FAIL exactly at the tracks that it turns
+    pub fail-enabled : (t : ℕ) → ((d : Conf) × VStep p ρ (view p ρ l) (failAt t) d) ↔ (isGoing p ρ l t ≡ true)
+    fail-enabled t = (λ s. fail-only (s .0) (s .1), λ h. let (c, v) = fails p ρ ok l n t h in track-step t c (failAt t) (going-awake h) v)
       where
-        fail-only : (d : Conf) → VStep p (view p l) (failAt t) d → isGoing p l t ≡ true
+        fail-only : (d : Conf) → VStep p ρ (view p ρ l) (failAt t) d → isGoing p ρ l t ≡ true
         fail-only d s = unfold Allowed in step-allowed ok n s view-shows
 
-        going-awake : isGoing p l t ≡ true → Awake l t
-        going-awake h = unfold isGoing in forward-awake (l t .mode) (and-true (isForward (l t .mode)) (not (hasOpenScope p l t)) h .0)
+        going-awake : isGoing p ρ l t ≡ true → Awake l t
+        going-awake h = forward-awake (l t .mode) (going-forward p l ρ t h)
 
-    -- "COMP exactly at the tracks that may be fired", and of the newest code alone
-    pub comp-newest : (t c : ℕ) (d : Conf) → VStep p (view p l) (compAt t c) d → (mayFire p l t ≡ true) × (c ≡ newest (l t .held) .code)
+    -- COMP exactly at the tracks that may be fired, and of the newest code alone
+    pub comp-newest : (t c : ℕ) (d : Conf) → VStep p ρ (view p ρ l) (compAt t c) d → (mayFire p l t ≡ true) × (c ≡ newest (l t .held) .code)
     unfolding Allowed
     comp-newest t c d s = step-allowed ok n s view-shows
 
-    pub comp-enabled : ((u : ℕ) → Good p u (l u .held)) → (t : ℕ) → ((c : ℕ) × (d : Conf) × VStep p (view p l) (compAt t c) d) ↔ (mayFire p l t ≡ true)
-    comp-enabled g t = (λ s. comp-newest t (s .0) (s .1) (s .2) .0, λ h. (_, _, comp-step p ok l n t (g t) h))
+    pub comp-enabled : ((u : ℕ) → Good p u (l u .held)) → (t : ℕ) → ((c : ℕ) × (d : Conf) × VStep p ρ (view p ρ l) (compAt t c) d) ↔ (mayFire p l t ≡ true)
+    comp-enabled g t = (λ s. comp-newest t (s .0) (s .1) (s .2) .0, λ h. (_, _, comp-step p ρ ok l n t (g t) h))
 
+-- a sound ledger is not over: track 0 is a root
 module _ (p : Plan) (ok : Accepted p) (limit : ℕ) (l : Ledger) (s : Sound limit p l) where
-  abbrev n′ : Nested p l
-  n′ = s .formed .nested
-
-  -- of every sound ledger
-  pub allows : Allows p l
-  allows =
-      record {
-        suc = λ t e. suc-enabled p l ok n′ t e;
-        fail = λ t. fail-enabled p l ok n′ t;
-        comp = λ t. comp-enabled p l ok n′ (s .formed .good) t;
-        code = λ t c d v. comp-newest p l ok n′ t c d v .1;
-        silent = view-settled p ok l n′ (s .closing) (s .abandoning);
-      }
-
   not-over : isOver p l ≡ false
   unfolding isOver
   not-over =
@@ -233,41 +225,77 @@ module _ (p : Plan) (ok : Accepted p) (limit : ℕ) (l : Ledger) (s : Sound limi
         | inl e ↦ clash (s .roots 0 (ok .some-track) e) (not-true (isAwake (l 0 .mode)) (every-at (trackCount p) (λ t. not (isAwake (l t .mode))) h 0 (ok .some-track)))
       ])
 
-  -- a firing is accepted exactly if COMP applies at its automaton; a signal always is
-  pub fire-accepted-if : (a : FireArguments) → ((c : ℕ) × (d : Conf) × VStep p (view p l) (compAt (a .track) c) d) ↔ (callRefusal limit p l (fire a) ≡ 0)
-  fire-accepted-if a = (λ v. accepting (allows .comp (a .track) .0 v), λ h. allows .comp (a .track) .1 (fire-accepted limit p l a h .1))
+module _ (p : Plan) (ρ : Reading) (ok : Accepted p) (limit : ℕ) (l : Ledger) (s : Sound limit p l) where
+  abbrev n′ : Nested p l
+  n′ = s .formed .nested
+
+  -- of every sound ledger
+  pub allows : Allows p ρ l
+  allows =
+      record {
+        suc = λ t e. suc-enabled p ρ l ok n′ t e;
+        fail = λ t. fail-enabled p ρ l ok n′ t;
+        comp = λ t. comp-enabled p ρ l ok n′ (s .formed .good) t;
+        code = λ t c d v. comp-newest p ρ l ok n′ t c d v .1;
+        silent = view-settled p ρ ok l n′ (s .closing) (s .abandoning);
+      }
+
+-- Refusals 19, 20 and 22: no step that the call asks for applies. 21 alone refuses one that would.
+module _ (p : Plan) (passed : Passed p) (ρ : Reading) where
+  ok : Accepted p
+  ok = accepted-facts p passed
+
+  -- no transition is on event 0 (refusal 13)
+  zero-none : (l : Ledger) → Nested p l → (t : ℕ) (d : Conf) → VStep p ρ (view p ρ l) (sucAt t 0) d → ⊥
+  zero-none l n t d v =
+      let (x, q) = moves-some p l 0 t (suc-enabled p ρ l ok n t 0 .0 (d, v)) in
+      clash (eq-eqb (transition p x .event) 0 (on-event p l 0 t x q)) (sane p passed x (move-takes p l 0 t x q .real) .event)
+
+  -- an over ledger shows the empty vector, to which no rule applies
+  over-none : (l : Ledger) → Over l → (a : Act) (d : Conf) → VStep p ρ (view p ρ l) a d → ⊥
+  unfolding Vect
+  over-none l o a d v = go (over-view p ρ ok l o) v
+    where
+      filled : (α : List NConf) (n : NConf) (β : List NConf) → Vect (α ++ (n ∷ β)) ≡ end → ⊥
+      filled [] n β e = let z : _≡_ {A = ℕ} 0 1 = cc in absurd (omega arith)
+      filled (x ∷ α) n β e = let z : _≡_ {A = ℕ} 0 1 = cc in absurd (omega arith)
+
+      go : {c d : Conf} {a : Act} → c ≡ end → VStep p ρ c a d → ⊥
+      go e (VECT α β {n = n} s) = filled α n β e
+
+  sound-none : (limit : ℕ) (l : Ledger) → Sound limit p l → (c : Call) (r : ℕ) → callRefusal limit p l c ≡ suc r → (suc r ≡ 21 → ⊥)
+      → Asked p ρ c (view p ρ l) → ⊥
+  unfolding Asked callRefusal callRefusals firstRefusal
+  sound-none limit l s (event a) r e f v =
+      elim (look (eqb (a .event) 0)) [
+        | inl z ↦ let (A, d, w) = v in zero-none l (s .formed .nested) A d (subst (λ i. VStep p ρ (view p ρ l) (sucAt A i) d) (eqb-true (a .event) 0 z) w)
+        | inr z ↦ full (isFull p limit l (a .event)) (rw (z, not-over p ok limit l s) at e)
+      ]
+    where
+      full : (b : Bool) → _≡_ {A = ℕ} (cond b 21 0) (suc r) → ⊥
+      full true e = f (sym e)
+      full false e = omega arith
+  sound-none limit l s (signal a) r e f v = let q : 0 ≡ suc r = rw (not-over p ok limit l s) at e in omega arith
+  sound-none limit l s (fire a) r e f v =
+      let may = allows p ρ ok limit l s .comp (a .track) .0 v in let q : 0 ≡ suc r = rw (not-over p ok limit l s, may) at e in omega arith
+
+  -- of every sound ledger, over ones too
+  pub refused-none : (limit : ℕ) (l : Ledger) → Kept limit p l → (c : Call) (r : ℕ) → callRefusal limit p l c ≡ suc r → (suc r ≡ 21 → ⊥)
+      → Asked p ρ c (view p ρ l) → ⊥
+  unfolding Asked
+  refused-none limit l (inr s) c r e f v = sound-none limit l s c r e f v
+  refused-none limit l (inl o) (event a) r e f v = let (A, d, w) = v in over-none l o (sucAt A (a .event)) d w
+  refused-none limit l (inl o) (signal a) r e f v = let (A, d, w) = v in over-none l o (failAt A) d w
+  refused-none limit l (inl o) (fire a) r e f v = let (k, d, w) = v in over-none l o (compAt (a .track) k) d w
+
+  -- and a firing is accepted wherever its COMP applies
+  pub fire-accepted-if : (limit : ℕ) (l : Ledger) → Sound limit p l → (a : FireArguments)
+      → Asked p ρ (fire a) (view p ρ l) ↔ (callRefusal limit p l (fire a) ≡ 0)
+  unfolding Asked
+  fire-accepted-if limit l s a = (
+    λ v. accepting (allows p ρ ok limit l s .comp (a .track) .0 v),
+    λ h. allows p ρ ok limit l s .comp (a .track) .1 (fire-accepted limit p l a h .1),
+  )
     where
       accepting : mayFire p l (a .track) ≡ true → callRefusal limit p l (fire a) ≡ 0
-      accepting may = unfold callRefusal callRefusals firstRefusal in rw (not-over, may)
-
-  pub signal-accepted-always : (a : SignalArguments) → callRefusal limit p l (signal a) ≡ 0
-  unfolding callRefusal callRefusals firstRefusal
-  signal-accepted-always a = rw not-over
-
--- 19: no automaton has a SUC on 0
-pub zero-none : (p : Plan) → Passed p → (l : Ledger) → Nested p l → (t : ℕ) (d : Conf) → VStep p (view p l) (sucAt t 0) d → ⊥
-unfolding badTransition
-zero-none p a l n t d v =
-    let (x, q) = moves-some p l 0 t (suc-enabled p l (accepted-facts p a) n t 0 .0 (d, v)) in
-    let e = on-event p l 0 t x q in
-    clash (eq-eqb (transition p x .event) 0 e) (or-false (leb (stateCount p) (transition p x .source) || leb (stateCount p) (transition p x .destination) || not (eqb (owner p (transition p x .source)) (owner p (transition p x .destination))) || isFinal p (transition p x .source)) (eqb (transition p x .event) 0) (a .transitions x (move-takes p l 0 t x q .real)) .1)
-
--- 20: where the ledger is over no rule applies at all
-pub over-none : (p : Plan) → Accepted p → (l : Ledger) → ((t : ℕ) → l t ≡ sleeping) → (a : Act) (d : Conf) → VStep p (view p l) a d → ⊥
-unfolding Vect
-over-none p ok l o a d v =
-    elim v as (λ n a m x. Unit {0}) (λ c a d x. c ≡ end → ⊥) [
-      | SUC A q i x S b e f g ↦ tt
-      | FAIL A q S ↦ tt
-      | COMP A q c S ↦ tt
-      | DEV A q d S ↦ tt
-      | NESTSUC A q S c t ↦ tt
-      | NESTFAIL A q S c t ↦ tt
-      | NESTCOMP A q S c t ↦ tt
-      | NEST A q r S (s → ih) ↦ tt
-      | VECT α β {n = n} (s → ih) ↦ λ e. filled α n β e
-    ] (over-view p ok l o)
-  where
-    filled : (α : List NConf) (n : NConf) (β : List NConf) → Vect (α ++ (n ∷ β)) ≡ end → ⊥
-    filled [] n β e = let z : _≡_ {A = ℕ} 0 1 = cc in absurd (omega arith)
-    filled (x ∷ α) n β e = let z : _≡_ {A = ℕ} 0 1 = cc in absurd (omega arith)
+      accepting may = unfold callRefusal callRefusals firstRefusal in rw (not-over p ok limit l s, may)

@@ -22,7 +22,8 @@ use Rattle.theory.proofs.Nesting.{Awake, Nested, host-awake, host-busy}
 use Rattle.theory.proofs.Soundness.{RootsAwake}
 use Rattle.restoration.proofs.Theorems01.{Sound, Kept}
 use Rattle.automaton.specs.Listing.{listedFrom, listed, someOf}
-use Rattle.automaton.specs.Configuration.{Direction, forward, Dev, Stack, NConf, Basic, Nest, Conf, Vect, members, pushComp, pushDev}
+use Rattle.automaton.specs.Configuration.{Direction, Dev, Stack, NConf, Basic, Nest, Conf, Vect, members, pushComp, pushDev}
+use Rattle.automaton.specs.Semantics.{Reading}
 use Rattle.automaton.specs.View.{stackOf, directionOf, isWithin, basic, nested, viewOf, isOnTop, view}
 use Rattle.automaton.proofs.Listings.{alike, listed-some}
 use Rattle.automaton.proofs.Frames.{down, within-parts, within-of, top-parts, top-of, shown-free, shown-busy, view-law}
@@ -120,40 +121,40 @@ nest-parts A B q r d e S T c k h = (cc, cc, cc)
 basic-nest {ℓ} : {Z : Type ℓ} (A B q r : ℕ) (d e : Direction) (S T : Stack) (c : Conf) → Basic A q d S ≡ Nest B r e T c → Z
 basic-nest A B q r d e S T c h = let z : _≡_ {A = ℕ} 0 1 = cc in absurd (omega arith)
 
-module _ (p : Plan) (ok : Accepted p) where
+module _ (p : Plan) (ρ : Reading) (ok : Accepted p) where
   -- two tracks shown alike
   record Same (l m : Ledger) (t : ℕ) : Type 0 where
     busy : hasOpenScope p l t ≡ hasOpenScope p m t
     state : l t .state ≡ m t .state
     held : l t .held ≡ m t .held
     way : hasOpenScope p l t ≡ false → directionOf (isForward (l t .mode)) ≡ directionOf (isForward (m t .mode))
-    within : hasOpenScope p l t ≡ true → listed (trackCount p) (isWithin p l t) (viewOf p l) ≡ listed (trackCount p) (isWithin p m t) (viewOf p m)
+    within : hasOpenScope p l t ≡ true → listed (trackCount p) (isWithin p l t) (viewOf p ρ l) ≡ listed (trackCount p) (isWithin p m t) (viewOf p ρ m)
 
-  same-shown : (l m : Ledger) (t : ℕ) → t < trackCount p → viewOf p l t ≡ viewOf p m t → Same l m t
+  same-shown : (l m : Ledger) (t : ℕ) → t < trackCount p → viewOf p ρ l t ≡ viewOf p ρ m t → Same l m t
   unfolding basic nested
   same-shown l m t b h =
       elim (look (hasOpenScope p l t)) [
         | inl x ↦
             elim (look (hasOpenScope p m t)) [
               | inl y ↦
-                  let (q, S, c) = nest-parts t t (l t .state) (m t .state) forward forward (stackOf (l t .held)) (stackOf (m t .held)) _ _ (sym (one l x) ∙ h ∙ one m y) in
+                  let (q, S, c) = nest-parts t t (l t .state) (m t .state) _ _ (stackOf (l t .held)) (stackOf (m t .held)) _ _ (sym (one l x) ∙ h ∙ one m y) in
                   record { busy = x ∙ sym y; state = q; held = stack-same (l t .held) (m t .held) S; way = λ f. clash x f; within = λ f. vect-same _ _ c }
-              | inr y ↦ basic-nest t t (m t .state) (l t .state) _ forward (stackOf (m t .held)) (stackOf (l t .held)) _ (sym (two m y) ∙ sym h ∙ one l x)
+              | inr y ↦ basic-nest t t (m t .state) (l t .state) _ _ (stackOf (m t .held)) (stackOf (l t .held)) _ (sym (two m y) ∙ sym h ∙ one l x)
             ]
         | inr x ↦
             elim (look (hasOpenScope p m t)) [
-              | inl y ↦ basic-nest t t (l t .state) (m t .state) _ forward (stackOf (l t .held)) (stackOf (m t .held)) _ (sym (two l x) ∙ h ∙ one m y)
+              | inl y ↦ basic-nest t t (l t .state) (m t .state) _ _ (stackOf (l t .held)) (stackOf (m t .held)) _ (sym (two l x) ∙ h ∙ one m y)
               | inr y ↦
                   let (q, d, S) = basic-parts t t (l t .state) (m t .state) _ _ (stackOf (l t .held)) (stackOf (m t .held)) (sym (two l x) ∙ h ∙ two m y) in
                   record { busy = x ∙ sym y; state = q; held = stack-same (l t .held) (m t .held) S; way = λ f. d; within = λ f. clash f x }
             ]
       ]
     where
-      one : (k : Ledger) → hasOpenScope p k t ≡ true → viewOf p k t ≡ nested p k t (Vect (listed (trackCount p) (isWithin p k t) (viewOf p k)))
-      one k x = view-law p k ok t b ∙ shown-busy p k t (viewOf p k) x
+      one : (k : Ledger) → hasOpenScope p k t ≡ true → viewOf p ρ k t ≡ nested p ρ k t (Vect (listed (trackCount p) (isWithin p k t) (viewOf p ρ k)))
+      one k x = view-law p ρ k ok t b ∙ shown-busy p ρ k t (viewOf p ρ k) x
 
-      two : (k : Ledger) → hasOpenScope p k t ≡ false → viewOf p k t ≡ basic p k t
-      two k x = view-law p k ok t b ∙ shown-free p k t (viewOf p k) x
+      two : (k : Ledger) → hasOpenScope p k t ≡ false → viewOf p ρ k t ≡ basic p k t
+      two k x = view-law p ρ k ok t b ∙ shown-free p ρ k t (viewOf p ρ k) x
 
   -- the tracks of an open scope
   module _ (k : Ledger) (n : Nested p k) where
@@ -167,23 +168,23 @@ module _ (p : Plan) (ok : Accepted p) where
         let (j, e, o) = by-host p x u i in
         e ∙ ap some (sym (n .hosted u j a e .0) ∙ ap (λ z. k z .state) o ∙ s)
 
-  module _ (l m : Ledger) (nl : Nested p l) (nm : Nested p m) (rl : RootsAwake p l) (rm : RootsAwake p m) (same : view p l ≡ view p m) where
+  module _ (l m : Ledger) (nl : Nested p l) (nm : Nested p m) (rl : RootsAwake p l) (rm : RootsAwake p m) (same : view p ρ l ≡ view p ρ m) where
     top-same : (k : ℕ) → k < trackCount p → isOnTop p l k ≡ isOnTop p m k
     top-same k b =
         alike (isOnTop p l k) (isOnTop p m k) (λ y. let (e, a) = top-parts p l k y in top-of p m k e (rm k b e))
         (λ y. let (e, a) = top-parts p m k y in top-of p l k e (rl k b e))
 
-    listings : listed (trackCount p) (isOnTop p l) (viewOf p l) ≡ listed (trackCount p) (isOnTop p m) (viewOf p m)
+    listings : listed (trackCount p) (isOnTop p l) (viewOf p ρ l) ≡ listed (trackCount p) (isOnTop p m) (viewOf p ρ m)
     listings = unfold view in vect-same _ _ same
 
     -- what is awake on the one is awake on the other, and shown alike
-    lifted : (t : ℕ) → Awake l t → Awake m t × (viewOf p l t ≡ viewOf p m t)
+    lifted : (t : ℕ) → Awake l t → Awake m t × (viewOf p ρ l t ≡ viewOf p ρ m t)
     lifted =
-        strong (λ t. Awake l t → Awake m t × (viewOf p l t ≡ viewOf p m t))
+        strong (λ t. Awake l t → Awake m t × (viewOf p ρ l t ≡ viewOf p ρ m t))
         (λ t ih a.
         let b = nl .below t a in
         elim (look-option (host p t)) [
-          | inl e ↦ (rm t b e, listed-members (trackCount p) (isOnTop p l) (isOnTop p m) (viewOf p l) (viewOf p m) top-same listings t b (top-of p l t e a))
+          | inl e ↦ (rm t b e, listed-members (trackCount p) (isOnTop p l) (isOnTop p m) (viewOf p ρ l) (viewOf p ρ m) top-same listings t b (top-of p l t e a))
           | inr q ↦
               let h = q .0 in
               let e = q .1 in
@@ -201,7 +202,7 @@ module _ (p : Plan) (ok : Accepted p) where
               (λ y. within-of p m x k (within-parts p l x k y .0) (scope-awake m nm x h k bm sm (within-state l nl x h k sl y)))
               (λ y. within-of p l x k (within-parts p m x k y .0) (scope-awake l nl x h k by sl (within-state m nm x h k sm y))) in (
                 scope-awake m nm x h t bm sm e,
-                listed-members (trackCount p) (isWithin p l x) (isWithin p m x) (viewOf p l) (viewOf p m) tests (s .within by) t b
+                listed-members (trackCount p) (isWithin p l x) (isWithin p m x) (viewOf p ρ l) (viewOf p ρ m) tests (s .within by) t b
                     (within-of p l x t (host-by p t h e) a),
               )
         ])
@@ -234,7 +235,7 @@ module _ (p : Plan) (ok : Accepted p) where
             ∙ ap₂ (λ (w : ℕ) (v : List Entry). record { mode = d .mode; state = w; held = v }) y z
 
   -- two ledgers with the same view are the same
-  pub view-faithful : (l m : Ledger) → Nested p l → Nested p m → RootsAwake p l → RootsAwake p m → view p l ≡ view p m → l ≡ m
+  pub view-faithful : (l m : Ledger) → Nested p l → Nested p m → RootsAwake p l → RootsAwake p m → view p ρ l ≡ view p ρ m → l ≡ m
   view-faithful l m nl nm rl rm h =
       fun-ext
       (λ t.
@@ -248,24 +249,24 @@ module _ (p : Plan) (ok : Accepted p) where
       ])
 
   -- as soundness has it
-  pub sound-faithful : (limit : ℕ) (l m : Ledger) → Sound limit p l → Sound limit p m → view p l ≡ view p m → l ≡ m
+  pub sound-faithful : (limit : ℕ) (l m : Ledger) → Sound limit p l → Sound limit p m → view p ρ l ≡ view p ρ m → l ≡ m
   sound-faithful limit l m s r h = view-faithful l m (s .formed .nested) (r .formed .nested) (s .roots) (r .roots) h
 
   -- one that is not over is not shown as one that is
-  pub over-unlike : (limit : ℕ) (l : Ledger) → Sound limit p l → view p l ≡ Vect [] → ⊥
+  pub over-unlike : (limit : ℕ) (l : Ledger) → Sound limit p l → view p ρ l ≡ Vect [] → ⊥
   over-unlike limit l s h =
       elim (look-option (host p 0)) [
         | inr q ↦ let c = ok .lower 0 (q .0) (q .1) in omega arith
         | inl e ↦
             let a = s .roots 0 (ok .some-track) e in
-            let w : listed (trackCount p) (isOnTop p l) (viewOf p l) ≡ [] = unfold view in vect-same _ [] h in
-            clash (listed-some (λ c. true) (trackCount p) (isOnTop p l) (viewOf p l) 0 (ok .some-track) (top-of p l 0 e a) refl)
+            let w : listed (trackCount p) (isOnTop p l) (viewOf p ρ l) ≡ [] = unfold view in vect-same _ [] h in
+            clash (listed-some (λ c. true) (trackCount p) (isOnTop p l) (viewOf p ρ l) 0 (ok .some-track) (top-of p l 0 e a) refl)
             (ap (someOf (λ c. true)) w ∙ (unfold someOf in refl))
       ]
 
   -- sound or over
-  pub kept-faithful : (limit : ℕ) (l m : Ledger) → Kept limit p l → Kept limit p m → view p l ≡ view p m → l ≡ m
+  pub kept-faithful : (limit : ℕ) (l m : Ledger) → Kept limit p l → Kept limit p m → view p ρ l ≡ view p ρ m → l ≡ m
   kept-faithful limit l m (inl a) (inl b) h = fun-ext (λ t. a t ∙ sym (b t))
-  kept-faithful limit l m (inl a) (inr b) h = absurd (over-unlike limit m b (sym h ∙ over-view p ok l a))
-  kept-faithful limit l m (inr a) (inl b) h = absurd (over-unlike limit l a (h ∙ over-view p ok m b))
+  kept-faithful limit l m (inl a) (inr b) h = absurd (over-unlike limit m b (sym h ∙ over-view p ρ ok l a))
+  kept-faithful limit l m (inr a) (inl b) h = absurd (over-unlike limit l a (h ∙ over-view p ρ ok m b))
   kept-faithful limit l m (inr a) (inr b) h = sound-faithful limit l m a b h

@@ -22,9 +22,9 @@ use Rattle.rules.proofs.Abandoning.{hosts-higher}
 use Rattle.theory.proofs.Nesting.{Awake, Nested, state-of}
 use Rattle.automaton.specs.Listing.{listedFrom, listed}
 use Rattle.automaton.specs.Configuration.{forward, backward, Comp, Dev, Stack, NConf, Basic, Nest, Conf, end, next, Vect, push, initBy, gotoTo, goto}
-use Rattle.automaton.specs.Semantics.{Act, sucAt, failAt, compAt, devAt, nestsucAt, nestfailAt, nestcompAt, SUC, FAIL, COMP, DEV, NESTSUC, NESTFAIL, NESTCOMP, NEST, VStep, VECT, Run, stop, step}
+use Rattle.automaton.specs.Semantics.{Reading, Act, sucAt, failAt, compAt, devAt, nestsucAt, nestfailAt, nestcompAt, SUC, FAIL, FAILNEST, COMP, DEV, NESTSUC, NESTFAIL, NESTCOMP, NEST, VStep, VECT, Run, stop, step}
 use Rattle.automaton.specs.Exactly.{isSuc}
-use Rattle.automaton.specs.BigSteps.{has, isOnceEach, sucs, Deterministic}
+use Rattle.automaton.specs.BigSteps.{has, isOnceEach, sucs}
 use Rattle.automaton.specs.View.{isWithin, basic, nested, viewOf, isOnTop, view}
 use Rattle.automaton.proofs.Frames.{down, reach-up, beside, roots-beside, within-parts, top-parts, shown-free, shown-busy, view-law}
 
@@ -52,7 +52,7 @@ isComp : Act → Bool
 isComp (sucAt A i) = false
 isComp (failAt A) = false
 isComp (compAt A c) = true
-isComp (devAt A) = false
+isComp (devAt A d) = false
 isComp (nestsucAt A) = false
 isComp (nestfailAt A) = false
 isComp (nestcompAt A) = false
@@ -96,13 +96,14 @@ cut-join A (k ∷ α) β n m x y h =
     let u : ℕ = count A k in let v : ℕ = countAll A (Vect α) in let e : u + v ≡ 0 = x in
     ap₂ next (cut-none A k (omega arith)) (cut-join A α β n m (omega arith) y h)
 
-module _ (p : Plan) where
-  comp-cut : (A k : ℕ) {c d : Conf} {a : Act} → VStep p c a d → a ≡ compAt A k → (1 ≤ countAll A c) × (countAll A c ≤ 1 → cutAll A c ≡ d)
+module _ (p : Plan) (ρ : Reading) where
+  comp-cut : (A k : ℕ) {c d : Conf} {a : Act} → VStep p ρ c a d → a ≡ compAt A k → (1 ≤ countAll A c) × (countAll A c ≤ 1 → cutAll A c ≡ d)
   unfolding count countAll cut cutAll isComp
   comp-cut A k s =
       elim s as (λ n a m x. a ≡ compAt A k → (1 ≤ count A n) × (count A n ≤ 1 → cut A n ≡ m)) (λ c a d x. a ≡ compAt A k → (1 ≤ countAll A c) × (countAll A c ≤ 1 → cutAll A c ≡ d)) [
         | SUC B q i x S b e f g ↦ λ h. clash (ap isComp h) refl
         | FAIL B q S ↦ λ h. clash (ap isComp h) refl
+        | FAILNEST B q S c w ↦ λ h. clash (ap isComp h) refl
         | COMP B q c S ↦ λ h. let z : B ≡ A = cc in rw (eq-eqb B A z) (omega arith, λ w. refl)
         | DEV B q d S ↦ λ h. clash (ap isComp h) refl
         | NESTSUC B q S c t ↦ λ h. clash (ap isComp h) refl
@@ -126,7 +127,7 @@ module _ (p : Plan) where
       ]
 
   -- COMP at an automaton that stands at one place
-  pub comp-unique : (A k j : ℕ) (c d e : Conf) → countAll A c ≤ 1 → VStep p c (compAt A k) d → VStep p c (compAt A j) e → d ≡ e
+  pub comp-unique : (A k j : ℕ) (c d e : Conf) → countAll A c ≤ 1 → VStep p ρ c (compAt A k) d → VStep p ρ c (compAt A j) e → d ≡ e
   comp-unique A k j c d e h s r = sym (comp-cut A k s refl .1 h) ∙ comp-cut A j r refl .1 h
 
 -- SUC on an event at the automata of a set, all at once
@@ -191,7 +192,7 @@ module _ (p : Plan) (i : ℕ) where
       (went-join f g α β n m
       (λ B (b : 1 ≤ countAll B (Vect α)). x B (let u : ℕ = count B k in let v : ℕ = countAll B (Vect α) in let g : 1 ≤ u + v = omega arith in g)) y h)
 
-module _ (p : Plan) (ok : Accepted p) where
+module _ (p : Plan) (ρ : Reading) (ok : Accepted p) where
   -- what goto enters is below
   listed-none-there : (A n i : ℕ) (f : ℕ → Bool) (g : ℕ → NConf) → ((k : ℕ) → i ≤ k → k < i + n → f k ≡ true → count A (g k) ≡ 0) → countAll A (Vect (listedFrom n i f g)) ≡ 0
   unfolding listedFrom Vect countAll
@@ -217,7 +218,7 @@ module _ (p : Plan) (ok : Accepted p) where
             (λ z. r (reach-up p ok A C B (subst (λ x. isHostedBy p x C ≡ true) (state-of p A q o .1) (host-by p C q (in-host p q C y))) z))))
       ]
 
-  module _ (det : Deterministic p) (i A : ℕ) (f g : ℕ → Bool) (agree : (B : ℕ) → (B ≡ A → ⊥) → f B ≡ g B) (here : f A ≡ true)
+  module _ (i A : ℕ) (f g : ℕ → Bool) (agree : (B : ℕ) → (B ≡ A → ⊥) → f B ≡ g B) (here : f A ≡ true)
       (clear : (B : ℕ) → Reaches p ok A B → g B ≡ false) where
     -- the transition is the state's
     takes-it : (q x : ℕ) → x < transitionCount p → transition p x .source ≡ q → transition p x .event ≡ i → transitionFor p q i ≡ some x
@@ -230,7 +231,7 @@ module _ (p : Plan) (ok : Accepted p) where
               (first-none (transitionCount p) (λ x. eqb (transition p x .source) q && eqb (transition p x .event) i) (unfold transitionFor in h))
           | inr h ↦
               let (c, t, u) = transition-for p q i (h .0) (h .1) in
-              h .1 ∙ ap some (det (h .0) x c b (t ∙ sym s) (u ∙ sym e))
+              h .1 ∙ ap some (ok .deterministic (h .0) x c b (t ∙ sym s) (u ∙ sym e))
         ]
 
     goto-quiet : (q : ℕ) (S : Stack) → isStateOf p A q ≡ true → went p i g (goto p A q S) ≡ goto p A q S
@@ -271,7 +272,7 @@ module _ (p : Plan) (ok : Accepted p) where
           rest = λ B y. let z = goto-absent B t S′ own y in let w : ℕ = count B (goto p A t S′) in let z′ : w ≡ 0 = z in let k : ℕ = cond (eqb A B) 1 0 in let g : w ≤ k = omega arith in g;
         }
 
-    suc-went : {c d : Conf} {a : Act} → VStep p c a d → a ≡ sucAt A i → WentAll c d
+    suc-went : {c d : Conf} {a : Act} → VStep p ρ c a d → a ≡ sucAt A i → WentAll c d
     unfolding count countAll went wentAll isSuc
     suc-went s =
         elim s as (λ n a m x. a ≡ sucAt A i → Went n m) (λ c a d x. a ≡ sucAt A i → WentAll c d) [
@@ -282,6 +283,7 @@ module _ (p : Plan) (ok : Accepted p) where
               subst (λ C. Went (Basic C q forward S) (goto p C (transition p x .destination) (push (transition p x .code) (optional (transition p x .deviation)) S))) z
               (suc-went-basic q x S b (e ∙ sym z) k (v ∙ sym w))
           | FAIL B q S ↦ λ h. clash (ap isSuc h) refl
+          | FAILNEST B q S c w ↦ λ h. clash (ap isSuc h) refl
           | COMP B q c S ↦ λ h. clash (ap isSuc h) refl
           | DEV B q d S ↦ λ h. clash (ap isSuc h) refl
           | NESTSUC B q S c t ↦ λ h. clash (ap isSuc h) refl
@@ -337,32 +339,32 @@ module _ (p : Plan) (ok : Accepted p) where
         absent A c z B b e = let b′ : 1 ≤ countAll A c = subst (λ x. 1 ≤ countAll x c) e b in omega arith
 
   -- SUC at the automata of a list one after the other, each standing at one place and none nested in another
-  suc-run : (det : Deterministic p) (i : ℕ) {c d : Conf} {w : List Act} → Run p c w d → (order : List ℕ) → w ≡ sucs i order → isOnceEach order ≡ true
+  suc-run : (i : ℕ) {c d : Conf} {w : List Act} → Run p ρ c w d → (order : List ℕ) → w ≡ sucs i order → isOnceEach order ≡ true
       → ((A : ℕ) → has order A ≡ true → countAll A c ≤ 1) → ((A B : ℕ) → has order A ≡ true → has order B ≡ true → isAbove p A B ≡ true → ⊥)
       → wentAll p i (has order) c ≡ d
   unfolding sucs has isOnceEach
-  suc-run det i {c} stop [] e o one apart = went-none-all p i c
-  suc-run det i stop (A ∷ order) e o one apart = let z : _≡_ {A = ℕ} 0 1 = cc in absurd (omega arith)
-  suc-run det i (step s r) [] e o one apart = let z : _≡_ {A = ℕ} 0 1 = cc in absurd (omega arith)
-  suc-run det i {c} (step {d = d} {a = a} {w = w} s r) (A ∷ order) e o one apart =
+  suc-run i {c} stop [] e o one apart = went-none-all p i c
+  suc-run i stop (A ∷ order) e o one apart = let z : _≡_ {A = ℕ} 0 1 = cc in absurd (omega arith)
+  suc-run i (step s r) [] e o one apart = let z : _≡_ {A = ℕ} 0 1 = cc in absurd (omega arith)
+  suc-run i {c} (step {d = d} {a = a} {w = w} s r) (A ∷ order) e o one apart =
       let ea : a ≡ sucAt A i = cc in
       let ew : w ≡ sucs i order = cc in
       let (x, y) = and-true (not (has order A)) (isOnceEach order) o in
       let here : (eqb A A || has order A) ≡ true = rw (eq-eqb A A refl) in
       let later : (B : ℕ) → has order B ≡ true → (eqb A B || has order B) ≡ true = λ B h. or-right (eqb A B) (has order B) h in
       let u =
-      suc-went det i A (λ B. eqb A B || has order B) (has order) (λ B n. rw (ne-eqb A B (λ z. n (sym z)))) here
+      suc-went i A (λ B. eqb A B || has order B) (has order) (λ B n. rw (ne-eqb A B (λ z. n (sym z)))) here
       (λ B q. elim q [ inl z ↦ subst (λ C. has order C ≡ false) z (not-true (has order A) x) | inr z ↦ refuted (has order B) (λ h. apart A B here (later B h) z) ]) s ea in
       u .same (one A here)
-      ∙ suc-run det i r order ew y
+      ∙ suc-run i r order ew y
       (λ B h. let v = u .rest B h in let k = one B (later B h) in let m : ℕ = countAll B c in let n : ℕ = countAll B d in let v′ : n ≤ m = v in let k′ : m ≤ 1 = k in let g : n ≤ 1 = omega arith in g)
       (λ B C h k z. apart B C (later B h) (later C k) z)
 
-  pub suc-unique : Deterministic p → (i : ℕ) (c d e : Conf) (v w : List ℕ) → Run p c (sucs i v) d → Run p c (sucs i w) e → isOnceEach v ≡ true → isOnceEach w ≡ true
+  pub suc-unique : (i : ℕ) (c d e : Conf) (v w : List ℕ) → Run p ρ c (sucs i v) d → Run p ρ c (sucs i w) e → isOnceEach v ≡ true → isOnceEach w ≡ true
       → has v ≡ has w → ((A : ℕ) → countAll A c ≤ 1) → ((A B : ℕ) → has v A ≡ true → has v B ≡ true → isAbove p A B ≡ true → ⊥) → d ≡ e
-  suc-unique det i c d e v w r s x y h one apart =
-      sym (suc-run det i r v refl x (λ A k. one A) apart) ∙ ap (λ f. wentAll p i f c) h
-      ∙ suc-run det i s w refl y (λ A k. one A) (λ A B j k z. apart A B (ap (λ f. f A) h ∙ j) (ap (λ f. f B) h ∙ k) z)
+  suc-unique i c d e v w r s x y h one apart =
+      sym (suc-run i r v refl x (λ A k. one A) apart) ∙ ap (λ f. wentAll p i f c) h
+      ∙ suc-run i s w refl y (λ A k. one A) (λ A B j k z. apart A B (ap (λ f. f A) h ∙ j) (ap (λ f. f B) h ∙ k) z)
 
   -- In a view each automaton stands at one place at most.
   listed-once : (A n i : ℕ) (f : ℕ → Bool) (g : ℕ → NConf) → ((k : ℕ) → k < i + n → f k ≡ true → count A (g k) ≤ 1)
@@ -403,21 +405,21 @@ module _ (p : Plan) (ok : Accepted p) where
 
   module _ (l : Ledger) (n : Nested p l) (A : ℕ) where
     record Placed (t : ℕ) : Type 0 where
-      once : count A (viewOf p l t) ≤ 1
-      below : (Reaches p ok t A → ⊥) → count A (viewOf p l t) ≡ 0
+      once : count A (viewOf p ρ l t) ≤ 1
+      below : (Reaches p ok t A → ⊥) → count A (viewOf p ρ l t) ≡ 0
 
-    there-reaches : (t : ℕ) → Placed t → 1 ≤ count A (viewOf p l t) → Reaches p ok t A
+    there-reaches : (t : ℕ) → Placed t → 1 ≤ count A (viewOf p ρ l t) → Reaches p ok t A
     there-reaches t w b =
         elim (reaches t A) [
           | inl r ↦ r
-          | inr r ↦ let x : ℕ = count A (viewOf p l t) in let b′ : 1 ≤ x = b in let z : x ≡ 0 = w .below r in absurd (omega arith)
+          | inr r ↦ let x : ℕ = count A (viewOf p ρ l t) in let b′ : 1 ≤ x = b in let z : x ≡ 0 = w .below r in absurd (omega arith)
         ]
 
     basic-count : (t : ℕ) → count A (basic p l t) ≡ cond (eqb t A) 1 0
     unfolding basic count
     basic-count t = refl
 
-    nested-count : (t : ℕ) (c : Conf) → count A (nested p l t c) ≡ cond (eqb t A) 1 0 + countAll A c
+    nested-count : (t : ℕ) (c : Conf) → count A (nested p ρ l t c) ≡ cond (eqb t A) 1 0 + countAll A c
     unfolding nested count
     nested-count t c = refl
 
@@ -428,10 +430,10 @@ module _ (p : Plan) (ok : Accepted p) where
     not-there : (t : ℕ) → (t ≡ A → ⊥) → _≡_ {A = ℕ} (cond (eqb t A) 1 0) 0
     not-there t d = rw (ne-eqb t A d)
 
-    free-placed : (t : ℕ) → viewOf p l t ≡ basic p l t → Placed t
+    free-placed : (t : ℕ) → viewOf p ρ l t ≡ basic p l t → Placed t
     free-placed t e =
         let q = ap (count A) e ∙ basic-count t in
-        let x : ℕ = count A (viewOf p l t) in
+        let x : ℕ = count A (viewOf p ρ l t) in
         let y : ℕ = cond (eqb t A) 1 0 in
         let q′ : x ≡ y = q in
         let m : y ≤ 1 = at-most (eqb t A) in
@@ -444,28 +446,28 @@ module _ (p : Plan) (ok : Accepted p) where
     self-below t k i e (inl z) = let c = hosts-higher p ok t k i in omega arith
     self-below t k i e (inr z) = let c = hosts-higher p ok t k i in let d = above-lower p ok k A z in omega arith
 
-    busy-placed : (t : ℕ) → viewOf p l t ≡ nested p l t (Vect (listed (trackCount p) (isWithin p l t) (viewOf p l)))
+    busy-placed : (t : ℕ) → viewOf p ρ l t ≡ nested p ρ l t (Vect (listed (trackCount p) (isWithin p l t) (viewOf p ρ l)))
         → ((k : ℕ) → k < trackCount p → isHostedBy p t k ≡ true → Awake l k → Placed k) → Placed t
     unfolding listed
     busy-placed t e inner =
-        let c : Conf = Vect (listed (trackCount p) (isWithin p l t) (viewOf p l)) in
+        let c : Conf = Vect (listed (trackCount p) (isWithin p l t) (viewOf p ρ l)) in
         let q = ap (count A) e ∙ nested-count t c in
-        let x : ℕ = count A (viewOf p l t) in
+        let x : ℕ = count A (viewOf p ρ l t) in
         let y : ℕ = cond (eqb t A) 1 0 in
         let z : ℕ = countAll A c in
         let q′ : x ≡ y + z = q in
         let m : y ≤ 1 = at-most (eqb t A) in
         let none-in : ((k : ℕ) → isHostedBy p t k ≡ true → Reaches p ok k A → ⊥) → z ≡ 0 =
         λ w.
-        listed-none-there A (trackCount p) 0 (isWithin p l t) (viewOf p l)
+        listed-none-there A (trackCount p) 0 (isWithin p l t) (viewOf p ρ l)
         (λ k a b f. let (i, v) = within-parts p l t k f in inner k (omega arith) i v .below (w k i)) in
         let inside : z ≤ 1 =
-        listed-once A (trackCount p) 0 (isWithin p l t) (viewOf p l)
+        listed-once A (trackCount p) 0 (isWithin p l t) (viewOf p ρ l)
         (λ k b f. let (i, v) = within-parts p l t k f in inner k (omega arith) i v .once)
         (λ k j b d f g u w.
         let (i, v) = within-parts p l t k f in
         let (i′, v′) = within-parts p l t j g in
-        inner j (omega arith) i′ v′ .below (λ r. beside p l ok t k j A i i′ u r (there-reaches k (inner k (omega arith) i v) w))) in
+        inner j (omega arith) i′ v′ .below (λ r. beside p ok t k j A i i′ u r (there-reaches k (inner k (omega arith) i v) w))) in
         record {
           once =
               elim (look (eqb t A)) [
@@ -485,14 +487,14 @@ module _ (p : Plan) (ok : Accepted p) where
         down (trackCount p) Placed
         (λ t b ih.
         elim (look (hasOpenScope p l t)) [
-          | inr f ↦ free-placed t (view-law p l ok t b ∙ shown-free p l t (viewOf p l) f)
-          | inl f ↦ busy-placed t (view-law p l ok t b ∙ shown-busy p l t (viewOf p l) f) (λ k c i a. ih k c (hosts-higher p ok t k i))
+          | inr f ↦ free-placed t (view-law p ρ l ok t b ∙ shown-free p ρ l t (viewOf p ρ l) f)
+          | inl f ↦ busy-placed t (view-law p ρ l ok t b ∙ shown-busy p ρ l t (viewOf p ρ l) f) (λ k c i a. ih k c (hosts-higher p ok t k i))
         ])
 
-    pub view-once : countAll A (view p l) ≤ 1
+    pub view-once : countAll A (view p ρ l) ≤ 1
     unfolding view listed
     view-once =
-        listed-once A (trackCount p) 0 (isOnTop p l) (viewOf p l) (λ k b f. placed k (omega arith) .once)
+        listed-once A (trackCount p) 0 (isOnTop p l) (viewOf p ρ l) (λ k b f. placed k (omega arith) .once)
         (λ k j b d f g u w.
         placed j (omega arith) .below
-        (λ r. roots-beside p l ok k j A (top-parts p l k f .0) (top-parts p l j g .0) u r (there-reaches k (placed k (omega arith)) w)))
+        (λ r. roots-beside p ok k j A (top-parts p l k f .0) (top-parts p l j g .0) u r (there-reaches k (placed k (omega arith)) w)))

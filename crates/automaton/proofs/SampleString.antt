@@ -18,8 +18,8 @@ use Rattle.rules.proofs.Folds.{every-at}
 use Rattle.starred.specs.SamplePlan.{bytesOf, lentFor}
 use Rattle.starred.specs.Computing.{computing}
 use Rattle.automaton.specs.Listing.{listedFrom, listed, listedDown}
-use Rattle.automaton.specs.Semantics.{trace}
-use Rattle.automaton.specs.View.{isWithin, leavesScope, isGoing, abandonings, deviating, movings, closers, turners, actsOf}
+use Rattle.automaton.specs.Semantics.{basicAlone, trace}
+use Rattle.automaton.specs.View.{isWithin, leavesScope, isGoing, leaveAt, abandonings, deviationStep, movings, closers, turners, actsOf}
 use Rattle.automaton.specs.Along.{made, actsFrom, actsAfter}
 use Rattle.automaton.specs.SelfCancelling.{activity, action, symbol, projected, isPair, leftAfter, leftOf, onto, cancOut, Perfect, Tagged}
 
@@ -110,10 +110,10 @@ f t = fire (record { track = t })
 abbrev calls : List Call
 calls = e 10 ∷ e 11 ∷ e 12 ∷ signal nothing ∷ f 1 ∷ f 2 ∷ f 0 ∷ []
 
-pub stringQ : projected 0 (actsAfter entryLimit planQ Q (lentFor 3) calls) ≡ activity 10 ∷ action 50 ∷ []
-unfolding computing listedFrom listed listedDown isWithin leavesScope isGoing abandonings deviating movings closers turners actsOf made actsFrom actsAfter trace symbol projected
+pub stringQ : projected 0 (actsAfter entryLimit planQ Q basicAlone (lentFor 3) calls) ≡ activity 10 ∷ action 50 ∷ []
+unfolding computing listedFrom listed listedDown isWithin leavesScope isGoing leaveAt abandonings deviationStep movings closers turners actsOf made actsFrom actsAfter trace symbol projected
 stringQ = refl
 
-pub cancelledQ : cancOut comp (projected 0 (actsAfter entryLimit planQ Q (lentFor 3) calls)) ≡ []
+pub cancelledQ : cancOut comp (projected 0 (actsAfter entryLimit planQ Q basicAlone (lentFor 3) calls)) ≡ []
 unfolding leftOf leftAfter isPair onto cancOut
 cancelledQ = ap (cancOut comp) stringQ

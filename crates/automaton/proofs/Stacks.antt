@@ -18,7 +18,7 @@ use Rattle.rules.proofs.Scopes.{in-host, host-by}
 use Rattle.theory.proofs.Nesting.{state-of}
 use Rattle.automaton.specs.Listing.{listed, everyOf}
 use Rattle.automaton.specs.Configuration.{Comp, Dev, Stack, NConf, Basic, Nest, Conf, end, next, Vect, pushComp, pushDev, push, initBy, gotoTo, goto}
-use Rattle.automaton.specs.Semantics.{Act, sucAt, failAt, compAt, devAt, nestsucAt, nestfailAt, nestcompAt, trace, Step, SUC, FAIL, COMP, DEV, NESTSUC, NESTFAIL, NESTCOMP, NEST, VECT, NRun, halt, then}
+use Rattle.automaton.specs.Semantics.{Reading, Act, sucAt, failAt, compAt, devAt, nestsucAt, nestfailAt, nestcompAt, trace, Step, SUC, FAIL, FAILNEST, COMP, DEV, NESTSUC, NESTFAIL, NESTCOMP, NEST, VECT, NRun, halt, then}
 use Rattle.automaton.specs.SelfCancelling.{Symbol, activity, symbol, projected, leftOf, PerfectAt}
 use Rattle.automaton.proofs.Listings.{listed-every}
 use Rattle.automaton.proofs.Frames.{hosted-above, reach-up}
@@ -37,7 +37,7 @@ unfoldable pub actor : Act → ℕ
 actor (sucAt A i) = A
 actor (failAt A) = A
 actor (compAt A c) = A
-actor (devAt A) = A
+actor (devAt A d) = A
 actor (nestsucAt A) = A
 actor (nestfailAt A) = A
 actor (nestcompAt A) = A
@@ -48,7 +48,7 @@ unfolding symbol trace actor
 symbol-other A (sucAt B i) d = rw (ne-eqb B A d)
 symbol-other A (failAt B) d = refl
 symbol-other A (compAt B c) d = rw (ne-eqb B A d)
-symbol-other A (devAt B) d = refl
+symbol-other A (devAt B q) d = refl
 symbol-other A (nestsucAt B) d = refl
 symbol-other A (nestfailAt B) d = refl
 symbol-other A (nestcompAt B) d = refl
@@ -195,7 +195,7 @@ module _ (p : Plan) where
       not-self A a h e = let b = above-lower p ok A (actor a) h in omega arith
 
       -- rule by rule
-      pub step-facts : {n m : NConf} {a : Act} → Step p n a m → tidy n ≡ true → Facts n a m
+      pub step-facts : {ρ : Reading} {n m : NConf} {a : Act} → Step p ρ n a m → tidy n ≡ true → Facts n a m
       unfolding automatonOf stackIn actor tidy ownDevs symbol trace
       step-facts s =
           elim s as (λ n a m x. tidy n ≡ true → Facts n a m) (λ c a d x. Within c a d) [
@@ -216,6 +216,7 @@ module _ (p : Plan) where
                       subst (λ z. Records z (afterStep A (sucAt A i) v)) (sym (goto-stack A t (push c d S))) (suc-records A i c d S v code r);
                 }
             | FAIL A q S ↦ λ h. record { tidied = h; same = refl; reach = inl refl; keeps = λ z v r. kept A (failAt A) S v refl r }
+            | FAILNEST A q S c w ↦ λ h. record { tidied = h; same = refl; reach = inl refl; keeps = λ z v r. kept A (failAt A) S v refl r }
             | COMP A q c S ↦
                 λ h. record { tidied = and-both (isStateOf p A q && ownDevs A S) true h refl; same = refl; reach = inl refl; keeps = λ z v r. comp-records A c S v r }
             | DEV A q d S ↦
@@ -226,7 +227,7 @@ module _ (p : Plan) where
                   tidied = goto-tidy-own A d S o k;
                   same = goto-automaton A d S;
                   reach = inl refl;
-                  keeps = λ z v r. subst (λ z. Records z (afterStep A (devAt A) v)) (sym (goto-stack A d S)) (kept A (devAt A) S v refl (unfold Records in r));
+                  keeps = λ z v r. subst (λ z. Records z (afterStep A (devAt A d) v)) (sym (goto-stack A d S)) (kept A (devAt A d) S v refl (unfold Records in r));
                 }
             | NESTSUC A q S c t ↦
                 λ h.
@@ -285,7 +286,7 @@ module _ (p : Plan) where
               let c = above-lower p ok A B (hosted-above p ok A B i) in let d = above-lower p ok B u e in omega arith
 
       -- Lemma 1: the stack reached records what is left of what was recorded and the string
-      pub lemma1 : {n m : NConf} {w : List Act} → NRun p n w m → tidy n ≡ true → automatonOf n ≡ Z → (v : List Symbol) → Records (stackIn n) v
+      pub lemma1 : {ρ : Reading} {n m : NConf} {w : List Act} → NRun p ρ n w m → tidy n ≡ true → automatonOf n ≡ Z → (v : List Symbol) → Records (stackIn n) v
           → Records (stackIn m) (leftOf comp v (projected (automatonOf n) w))
       unfolding projected leftOf
       lemma1 halt t z v r = r

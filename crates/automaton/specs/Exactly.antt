@@ -1,26 +1,23 @@
--- "exactly as a compensating automaton of report CS2012-01 does, narrowed by document 01": what is claimed of an accepted call.
--- Assumes nothing.
+-- The steps of an accepted call, and what its figures count of them. Assumes nothing.
 use mathlib.Core.Path.{_≡_}
-use mathlib.Core.Bool.{Bool, true, false, cond, _&&_}
+use mathlib.Core.Bool.{Bool, true, false, cond, not, _&&_}
 use mathlib.Core.List.{List, [], _∷_, _++_}
 use Prim.Native.Nat.{ℕ, _+_}
 use Rattle.rules.specs.Fold.{countBelow}
-use Rattle.rules.specs.Plan.{Plan, trackCount}
+use Rattle.rules.specs.Plan.{Plan, trackCount, noState}
 use Rattle.rules.specs.Ledger.{Ledger, isForward}
-use Rattle.rules.specs.Scope.{hasOpenScope}
-use Rattle.rules.specs.Fire.{newest}
 use Rattle.rules.specs.Call.{Call, event, signal, fire, figures, after}
 use Rattle.automaton.specs.Listing.{everyOf}
 use Rattle.automaton.specs.Configuration.{Conf, Vect, members, isTerminated}
-use Rattle.automaton.specs.Semantics.{Trace, Forw, Back, γ, τ, Act, sucAt, failAt, compAt, devAt, nestsucAt, nestfailAt, nestcompAt, trace, Run, Settled}
-use Rattle.automaton.specs.View.{view, actsOf}
+use Rattle.automaton.specs.Semantics.{Reading, Trace, Forw, Back, γ, τ, Act, sucAt, failAt, compAt, devAt, nestsucAt, nestfailAt, nestcompAt, trace, Run, Settled}
+use Rattle.automaton.specs.View.{isGoing, view, actsOf}
 
 -- steps by their rules
 unfoldable pub isSuc : Act → Bool
 isSuc (sucAt A i) = true
 isSuc (failAt A) = false
 isSuc (compAt A c) = false
-isSuc (devAt A) = false
+isSuc (devAt A d) = false
 isSuc (nestsucAt A) = false
 isSuc (nestfailAt A) = false
 isSuc (nestcompAt A) = false
@@ -29,7 +26,7 @@ unfoldable pub isNestsuc : Act → Bool
 isNestsuc (sucAt A i) = false
 isNestsuc (failAt A) = false
 isNestsuc (compAt A c) = false
-isNestsuc (devAt A) = false
+isNestsuc (devAt A d) = false
 isNestsuc (nestsucAt A) = true
 isNestsuc (nestfailAt A) = false
 isNestsuc (nestcompAt A) = false
@@ -38,7 +35,7 @@ unfoldable pub isFail : Act → Bool
 isFail (sucAt A i) = false
 isFail (failAt A) = true
 isFail (compAt A c) = false
-isFail (devAt A) = false
+isFail (devAt A d) = false
 isFail (nestsucAt A) = false
 isFail (nestfailAt A) = false
 isFail (nestcompAt A) = false
@@ -59,6 +56,17 @@ unfoldable pub codesIn : List Act → List ℕ
 codesIn [] = []
 codesIn (a ∷ w) = codeIn (trace a) ++ codesIn w
 
+-- the state that DEV deviates to, 65535 where none does
+unfoldable pub deviationIn : List Act → ℕ
+deviationIn [] = noState
+deviationIn (sucAt A i ∷ w) = deviationIn w
+deviationIn (failAt A ∷ w) = deviationIn w
+deviationIn (compAt A c ∷ w) = deviationIn w
+deviationIn (devAt A d ∷ w) = d
+deviationIn (nestsucAt A ∷ w) = deviationIn w
+deviationIn (nestfailAt A ∷ w) = deviationIn w
+deviationIn (nestcompAt A ∷ w) = deviationIn w
+
 module _ (p : Plan) where
   -- Finish, which is no rule of the report: "if all roots are forward in final states, every track goes to sleep". The vector has
   -- terminated in document 01's narrower sense: all of it, where the report asks it of one and of the rest that they be compensated
@@ -67,23 +75,26 @@ module _ (p : Plan) where
   ended (signal a) c = c
   ended (fire a) c = c
 
+module _ (p : Plan) (ρ : Reading) where
   module _ (l : Ledger) where
-    -- a forward track with an open scope: document 01's Signal turns it at once, the report only when its scope is gone
+    -- a forward track that FAIL does not turn: a host of an open scope, which document 01's Signal turns at once. There is none where FAIL turns
+    -- nested configurations too
     unfoldable pub isTurnedEarly : ℕ → Bool
-    isTurnedEarly t = isForward (l t .mode) && hasOpenScope p l t
+    isTurnedEarly t = isForward (l t .mode) && not (isGoing p ρ l t)
 
     -- The figures. Moved and closed are the numbers of SUC and NESTSUC; turned is the number of FAIL and of the hosts that turn early; a
-    -- firing's code is the label of its COMP
+    -- firing's code is the label of its COMP, its deviation the state of its DEV
     unfoldable pub counted : Call → List ℕ
-    counted (event a) = numberOf isSuc (actsOf p l (event a)) ∷ numberOf isNestsuc (actsOf p l (event a)) ∷ []
-    counted (signal a) = (numberOf isFail (actsOf p l (signal a)) + countBelow (trackCount p) isTurnedEarly) ∷ []
-    counted (fire a) = codesIn (actsOf p l (fire a)) ++ (newest (l (a .track) .held) .deviation ∷ [])
+    counted (event a) = numberOf isSuc (actsOf p ρ l (event a)) ∷ numberOf isNestsuc (actsOf p ρ l (event a)) ∷ []
+    counted (signal a) = (numberOf isFail (actsOf p ρ l (signal a)) + countBelow (trackCount p) isTurnedEarly) ∷ []
+    counted (fire a) = codesIn (actsOf p ρ l (fire a)) ++ (deviationIn (actsOf p ρ l (fire a)) ∷ [])
 
+  -- of an accepted call: its steps, one after the other
   pub record Exactly (limit : ℕ) (l : Ledger) (c : Call) : Type 0 where
     -- the configuration that the steps lead to
     pub reached : Conf
-    pub run : Run p (view p l) (actsOf p l c) reached
-    -- "no other rule of the settling kind applies afterwards"
-    pub settled : Settled p reached
-    pub left : view p (after limit p l c) ≡ ended c reached
+    pub run : Run p ρ (view p ρ l) (actsOf p ρ l c) reached
+    -- no silent rule applies afterwards
+    pub settled : Settled p ρ reached
+    pub left : view p ρ (after limit p l c) ≡ ended p c reached
     pub told : figures limit p l c ≡ counted l c
