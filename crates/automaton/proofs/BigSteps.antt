@@ -132,7 +132,7 @@ module _ (p : Plan) (ρ : Reading) where
   unfolding everyOf isSilent isMute trace
   back-silent t w h = h
 
-  turners-fail : (l : Ledger) → everyOf isFail (turners p ρ l) ≡ true
+  pub turners-fail : (l : Ledger) → everyOf isFail (turners p ρ l) ≡ true
   unfolding turners isFail
   turners-fail l = down-every isFail (trackCount p) (isGoing p ρ l) failAt (λ k. refl)
 
@@ -143,7 +143,7 @@ module _ (p : Plan) (ρ : Reading) where
 
 module _ (p : Plan) (ρ : Reading) (ok : Accepted p) (l : Ledger) (n : Nested p l) where
   -- after a signal nothing is forward
-  none-going : Exhausted p ρ isFail (view p ρ (turned l))
+  pub none-going : Exhausted p ρ isFail (view p ρ (turned l))
   unfolding isFail
   none-going = go
     where
@@ -253,10 +253,6 @@ module _ (p : Plan) (ρ : Reading) (ok : Accepted p) (limit : ℕ) (l : Ledger) 
   fire-one A j k c d x y =
       let same = comp-unique p ρ A j k (view p ρ l) (x .between) (y .between) (view-once p ρ ok l n A) (x .firing) (y .firing) in
       silent-unique p ρ ok (y .between) c d (subst (λ z. Exhausts p ρ isSilent z c) same (x .settling)) (y .settling)
-
-  -- the code fired is the newest
-  pub fire-code : (A k : ℕ) (d : Conf) → OnFiring p ρ A k (view p ρ l) d → (mayFire p l A ≡ true) × (k ≡ newest (l A .held) .code)
-  fire-code A k d x = comp-newest p ρ l ok n A k (x .between) (x .firing)
 
   -- what is reached before finish is looked for
   worked : Call → Conf

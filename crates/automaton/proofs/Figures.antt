@@ -2,7 +2,7 @@
 -- Assumes nothing.
 use mathlib.Core.Path.{_≡_, refl, sym, ap, ap₂, _∙_}
 use mathlib.Core.Logic.{inl, inr}
-use mathlib.Core.Bool.{Bool, true, false, cond, not, and-not-self, _&&_}
+use mathlib.Core.Bool.{Bool, true, false, cond, not, _&&_}
 use mathlib.Core.List.{List, [], _∷_, _++_}
 use mathlib.Core.Option.{Option, none, some}
 use Prim.Native.Nat.{ℕ, zero, suc, _+_}
@@ -16,7 +16,7 @@ use Rattle.rules.specs.Ledger.{Ledger, isForward}
 use Rattle.rules.specs.Event.{moves, moved, closesScope}
 use Rattle.rules.specs.Signal.{turned, turnings}
 use Rattle.rules.specs.Fire.{newest, fired}
-use Rattle.rules.specs.Call.{SignalArguments, Call, event, signal, fire, figures}
+use Rattle.rules.specs.Call.{Call, event, signal, fire, figures}
 use Rattle.rules.proofs.Tests.{look, clash}
 use Rattle.rules.proofs.Acceptance.{Accepted}
 use Rattle.theory.proofs.Nesting.{Nested}
@@ -62,7 +62,7 @@ module _ (f : Act → Bool) (h : ℕ → Bool) (g : ℕ → Act) where
       let r = none-down y n in
       elim (look (h n)) [ inl e ↦ rw (e, y n, r) (omega arith) | inr e ↦ rw e r ]
 
-  all-down : ((k : ℕ) → f (g k) ≡ true) → (n : ℕ) → numberOf f (listedDown n h g) ≡ countBelow n h
+  pub all-down : ((k : ℕ) → f (g k) ≡ true) → (n : ℕ) → numberOf f (listedDown n h g) ≡ countBelow n h
   unfolding numberOf listedDown countBelow
   all-down y zero = refl
   all-down y (suc n) =
@@ -137,6 +137,11 @@ count-split (suc n) f g h =
     let d : ℕ = cond (f n && not (g n)) 1 0 in
     ap₂ (λ x y. x + y) i j ∙ (let e : (a + b) + (c + d) ≡ (a + c) + (b + d) = omega arith in e)
 
+-- a signal turns the tracks that FAIL turns, and the hosts that turn early
+pub forward-split : (p : Plan) (l : Ledger) (ρ : Reading) → turnings p l ≡ countBelow (trackCount p) (isGoing p ρ l) + countBelow (trackCount p) (isTurnedEarly p ρ l)
+unfolding turnings isTurnedEarly
+forward-split p l ρ = count-split (trackCount p) (λ t. isForward (l t .mode)) (isGoing p ρ l) (λ t h. going-forward p l ρ t h)
+
 module _ (p : Plan) (ρ : Reading) (ok : Accepted p) (l : Ledger) (n : Nested p l) where
   right-none : (a b c : ℕ) → a ≡ c → b ≡ 0 → a + b ≡ c
   right-none a b c e f = omega arith
@@ -146,7 +151,7 @@ module _ (p : Plan) (ρ : Reading) (ok : Accepted p) (l : Ledger) (n : Nested p 
 
   -- moved and closed are the numbers of SUC and NESTSUC, turned that of FAIL and of the hosts that turn early; a firing tells its COMP and its DEV
   pub figures-counted : (limit : ℕ) (c : Call) → figures limit p l c ≡ counted p ρ l c
-  unfolding figures counted actsOf movings closers turners turnings isTurnedEarly abandonings
+  unfolding figures counted actsOf movings closers turners abandonings
   figures-counted limit (event a) =
       let m = moved p l (a .event) in
       let T = trackCount p in
@@ -160,7 +165,7 @@ module _ (p : Plan) (ρ : Reading) (ok : Accepted p) (l : Ledger) (n : Nested p 
   figures-counted limit (signal a) =
       let T = trackCount p in
       ap (λ x. x ∷ [])
-      (count-split T (λ t. isForward (l t .mode)) (isGoing p ρ l) (λ t h. going-forward p l ρ t h)
+      (forward-split p l ρ
       ∙ ap (λ x. x + countBelow T (isTurnedEarly p ρ l))
       (sym (number-joined isFail (listedDown T (isGoing p ρ l) failAt) (listedDown T (leavesScope p (turned l)) (leaveAt ρ))
       ∙ right-none _ _ _ (all-down isFail (isGoing p ρ l) failAt (λ k. unfold isFail in refl) T) (none-down isFail (leavesScope p (turned l)) (leaveAt ρ) (leave-fail ρ) T))))
@@ -171,21 +176,3 @@ module _ (p : Plan) (ρ : Reading) (ok : Accepted p) (l : Ledger) (n : Nested p 
       unfold codesIn codeIn trace deviationIn in
       ap₂ (λ x y. (e .code ∷ x) ++ (y ∷ [])) (sym (step-code t (optional (e .deviation)) w (no-codes-down ρ (leavesScope p (fired p l t)) (trackCount p))))
       (sym (step-deviation t (e .deviation) w (no-deviation-down ρ (leavesScope p (fired p l t)) (trackCount p))))
-
--- Where FAIL turns nested configurations too, turned is the number of FAIL.
-none-early : (p : Plan) (l : Ledger) (n : ℕ) → countBelow n (isTurnedEarly p nestedToo l) ≡ 0
-unfolding countBelow isTurnedEarly isGoing
-none-early p l zero = refl
-none-early p l (suc n) =
-    let x : ℕ = countBelow n (isTurnedEarly p nestedToo l) in
-    let e : x ≡ 0 = none-early p l n in
-    rw (and-not-self (isForward (l n .mode))) (let g : x + 0 ≡ 0 = omega arith in g)
-
-pub turned-fails : (p : Plan) → Accepted p → (l : Ledger) → Nested p l → (limit : ℕ) (a : SignalArguments)
-    → figures limit p l (signal a) ≡ numberOf isFail (actsOf p nestedToo l (signal a)) ∷ []
-unfolding counted
-turned-fails p ok l n limit a =
-    let x : ℕ = numberOf isFail (actsOf p nestedToo l (signal a)) in
-    let y : ℕ = countBelow (trackCount p) (isTurnedEarly p nestedToo l) in
-    let e : y ≡ 0 = none-early p l (trackCount p) in
-    figures-counted p nestedToo ok l n limit (signal a) ∙ ap (λ z. z ∷ []) (let g : x + y ≡ x = omega arith in g)
