@@ -30,14 +30,14 @@ use Rattle.automaton.specs.Listing.{everyOf}
 use Rattle.automaton.specs.Configuration.{Conf, Vect, members, isTerminated, hasCompensated, init}
 use Rattle.automaton.specs.Semantics.{Reading, Act, Run, stop}
 use Rattle.automaton.specs.View.{isOnTop, viewOf, view, actsOf}
-use Rattle.automaton.specs.Exactly.{ended}
+use Rattle.automaton.specs.BigSteps.{ended}
 use Rattle.automaton.specs.Along.{made, actsFrom, actsAfter, Played}
 use Rattle.automaton.specs.SelfCancelling.{projected, cancOut, PerfectAt}
 use Rattle.automaton.proofs.Listings.{run-then, run-same}
 use Rattle.automaton.proofs.Frames.{top-parts}
 use Rattle.automaton.proofs.Entered.{begin-init}
 use Rattle.automaton.proofs.Terminated.{view-compensated, compensated-of}
-use Rattle.automaton.proofs.Calls.{exactly}
+use Rattle.automaton.proofs.Calls.{stepwise}
 use Rattle.automaton.proofs.Faithful.{over-unlike}
 use Rattle.automaton.proofs.SelfCancelling.{corollary1}
 
@@ -147,11 +147,11 @@ module _ (ρ : Reading) (limit : ℕ) (bs : List ℕ) (k : Counts) (read : readP
 
       took : callRefusal limit p l c ≡ 0 → Kept limit p (next limit p l c) → Rest → Played p ρ (view p ρ l) (actsOf p ρ l c ++ rest) last
       took e (inr v) ih =
-          let x = exactly p ρ ok limit l s c e in
+          let x = stepwise p ρ ok limit l s c e in
           let q = ap (view p ρ) (next-accepted limit p l c e) ∙ x .left in
           joined p ρ ok (run-same p ρ (x .run) (goes-on p ρ ok limit (next limit p l c) c (x .reached) v q)) (ih (next limit p l c) (call-holds limit bs k read ws l h c) v)
       took e (inl o) ih =
-          let x = exactly p ρ ok limit l s c e in
+          let x = stepwise p ρ ok limit l s c e in
           let q = ap (view p ρ) (next-accepted limit p l c e) ∙ x .left in
           let (a, b) = over-rest cs (words ws l h c) (next limit p l c) (call-holds limit bs k read ws l h c) o in
           joined p ρ ok (x .run)

@@ -24,8 +24,9 @@ use Rattle.automaton.specs.Listing.{listedFrom, listed, listedDown, ever
 use Rattle.automaton.specs.Configuration.{Conf}
 use Rattle.automaton.specs.Semantics.{Reading, basicAlone, nestedToo, Act, sucAt, failAt, compAt, devAt, nestsucAt, nestfailAt, nestcompAt, trace, VStep, Run, stop, step}
 use Rattle.automaton.specs.View.{view, leavesScope, isGoing, leaveAt, abandonings, deviationStep, movings, closers, turners}
-use Rattle.automaton.specs.Exactly.{isFail, ended}
-use Rattle.automaton.specs.BigSteps.{isMute, isSilent, has, isOnceEach, sucs, Exhausted, Exhausts, OnEvent, OnSignal, OnFiring, Big, Ends}
+use Rattle.automaton.specs.CountedSteps.{isFail}
+use Rattle.automaton.specs.BigSteps.{ended, isMute, isSilent, has, isOnceEach, sucs, Exhausted, Exhausts, OnEvent, OnSignal, OnFiring, Big, Ends}
+use Rattle.automaton.specs.Exactly.{Exactly}
 use Rattle.automaton.proofs.Listings.{alike, from-every}
 use Rattle.automaton.proofs.Calm.{view-settled}
 use Rattle.automaton.proofs.Moving.{moves-some, apart, moving-run}
@@ -33,7 +34,7 @@ use Rattle.automaton.proofs.Closing.{closing-run}
 use Rattle.automaton.proofs.Leaving.{abandoning-run}
 use Rattle.automaton.proofs.Turning.{going-forward, turning-run}
 use Rattle.automaton.proofs.Firing.{fire-run}
-use Rattle.automaton.proofs.Calls.{finished-view}
+use Rattle.automaton.proofs.Calls.{finished-view, stepwise}
 use Rattle.automaton.proofs.Enabled.{suc-enabled, fail-enabled, comp-newest}
 use Rattle.automaton.proofs.Silence.{silent-unique, fail-unique, run-steps, settled-exhausted}
 use Rattle.automaton.proofs.Places.{comp-unique, suc-unique, view-once}
@@ -281,10 +282,14 @@ module _ (p : Plan) (ρ : Reading) (ok : Accepted p) (limit : ℕ) (l : Ledger) 
   worked-ended (signal a) = refl
   worked-ended (fire a) = refl
 
-  -- an accepted call leads exactly where the automaton's big step does
-  pub exactly-big : (c : Call) → callRefusal limit p l c ≡ 0 → (d : Conf) → Ends p ρ c (view p ρ l) d ↔ (d ≡ view p ρ (after limit p l c))
+  -- an accepted call leads exactly where the automaton's big steps end
+  exactly-big : (c : Call) → callRefusal limit p l c ≡ 0 → (d : Conf) → Ends p ρ c (view p ρ l) d ↔ (d ≡ view p ρ (after limit p l c))
   unfolding Ends
   exactly-big c h d = (
     λ x. let (e, b, q) = x in q ∙ ap (ended p c) (one-only c e (worked c) b (big c h)) ∙ sym (worked-ended c),
     λ q. (worked c, big c h, q ∙ worked-ended c),
   )
+
+  -- property 2's word, of every accepted call on every sound ledger
+  pub exactly : (c : Call) → callRefusal limit p l c ≡ 0 → Exactly p ρ limit l c
+  exactly c h = record { steps = stepwise p ρ ok limit l s c h; ends = exactly-big c h }

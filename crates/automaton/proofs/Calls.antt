@@ -28,7 +28,9 @@ use Rattle.automaton.specs.Listing.{listed, everyOf}
 use Rattle.automaton.specs.Configuration.{Vect, members, isTerminated, init}
 use Rattle.automaton.specs.Semantics.{Reading}
 use Rattle.automaton.specs.View.{isOnTop, viewOf, view, actsOf}
-use Rattle.automaton.specs.Exactly.{ended, counted, Exactly}
+use Rattle.automaton.specs.CountedSteps.{counted}
+use Rattle.automaton.specs.BigSteps.{ended}
+use Rattle.automaton.specs.Exactly.{Stepwise}
 use Rattle.automaton.proofs.Listings.{alike, listed-none, listed-every, listed-every-at, run-then}
 use Rattle.automaton.proofs.Frames.{top-parts, top-of}
 use Rattle.automaton.proofs.Terminated.{members-vect, view-terminated}
@@ -87,9 +89,9 @@ module _ (p : Plan) (ρ : Reading) (ok : Accepted p) where
     abbrev n : Nested p l
     n = s .formed .nested
 
-    event-exactly : (a : EventArguments) → callRefusal limit p l (event a) ≡ 0 → Exactly p ρ limit l (event a)
+    event-steps : (a : EventArguments) → callRefusal limit p l (event a) ≡ 0 → Stepwise p ρ limit l (event a)
     unfolding actsOf after afterEvent ended
-    event-exactly a h =
+    event-steps a h =
         let m = moved p l (a .event) in
         let nm = moved-nested p l (a .event) ok n in
         record {
@@ -102,9 +104,9 @@ module _ (p : Plan) (ρ : Reading) (ok : Accepted p) where
           told = figures-counted p ρ ok l n limit (event a);
         }
 
-    signal-exactly : (a : SignalArguments) → callRefusal limit p l (signal a) ≡ 0 → Exactly p ρ limit l (signal a)
+    signal-steps : (a : SignalArguments) → callRefusal limit p l (signal a) ≡ 0 → Stepwise p ρ limit l (signal a)
     unfolding actsOf after afterSignal ended
-    signal-exactly a h =
+    signal-steps a h =
         let k = signal-sound limit p ok l s a (unfinished limit p ok l s (signal a) h refl) in
         record {
           reached = view p ρ (abandoned p (turned l));
@@ -114,9 +116,9 @@ module _ (p : Plan) (ρ : Reading) (ok : Accepted p) where
           told = figures-counted p ρ ok l n limit (signal a);
         }
 
-    fire-exactly : (a : FireArguments) → callRefusal limit p l (fire a) ≡ 0 → Exactly p ρ limit l (fire a)
+    fire-steps : (a : FireArguments) → callRefusal limit p l (fire a) ≡ 0 → Stepwise p ρ limit l (fire a)
     unfolding actsOf after afterFire ended
-    fire-exactly a h =
+    fire-steps a h =
         let may = fire-accepted limit p l a h .1 in
         let k = fire-sound limit p ok l s (a .track) may (unfinished limit p ok l s (fire a) h refl) in
         record {
@@ -128,7 +130,7 @@ module _ (p : Plan) (ρ : Reading) (ok : Accepted p) where
         }
 
     -- every accepted call on every sound ledger
-    pub exactly : (c : Call) → callRefusal limit p l c ≡ 0 → Exactly p ρ limit l c
-    exactly (event a) h = event-exactly a h
-    exactly (signal a) h = signal-exactly a h
-    exactly (fire a) h = fire-exactly a h
+    pub stepwise : (c : Call) → callRefusal limit p l c ≡ 0 → Stepwise p ρ limit l c
+    stepwise (event a) h = event-steps a h
+    stepwise (signal a) h = signal-steps a h
+    stepwise (fire a) h = fire-steps a h

@@ -17,7 +17,7 @@ use Rattle.automaton.specs.Listing.{listedDown, everyOf}
 use Rattle.automaton.specs.Configuration.{Direction, forward, backward, NConf, Basic, Nest, Conf, end, next, Vect, isForwards}
 use Rattle.automaton.specs.Semantics.{Reading, basicAlone, nestedToo, Act, failAt, SUC, FAIL, FAILNEST, COMP, DEV, NESTSUC, NESTFAIL, NESTCOMP, NEST, VStep, VECT, Run, stop, step}
 use Rattle.automaton.specs.View.{view, isGoing, turners}
-use Rattle.automaton.specs.Exactly.{isFail, numberOf, isTurnedEarly}
+use Rattle.automaton.specs.CountedSteps.{isFail, numberOf, isTurnedEarly}
 use Rattle.automaton.specs.BigSteps.{Steps, stay, more, stepsIn, Exhausted}
 use Rattle.automaton.proofs.Figures.{all-down, forward-split}
 use Rattle.automaton.proofs.Turning.{turning-run}

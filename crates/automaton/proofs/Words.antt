@@ -21,14 +21,14 @@ use Rattle.restoration.proofs.Theorems01.{over-refused, next-accepted, Sound, K
 use Rattle.automaton.specs.Configuration.{Conf, init}
 use Rattle.automaton.specs.Semantics.{Reading}
 use Rattle.automaton.specs.View.{view}
-use Rattle.automaton.specs.Exactly.{ended, counted, Exactly}
+use Rattle.automaton.specs.CountedSteps.{counted}
+use Rattle.automaton.specs.Exactly.{Exactly}
 use Rattle.automaton.specs.Enabled.{Asked}
 use Rattle.automaton.specs.BigSteps.{Ends}
 use Rattle.automaton.proofs.Entered.{begin-init}
-use Rattle.automaton.proofs.Calls.{exactly}
 use Rattle.automaton.proofs.Enabled.{refused-none}
 use Rattle.automaton.proofs.Faithful.{kept-faithful}
-use Rattle.automaton.proofs.BigSteps.{exactly-big}
+use Rattle.automaton.proofs.BigSteps.{exactly}
 
 done-same : (u v : List ℕ) → done u ≡ done v → u ≡ v
 done-same u v e = cc
@@ -82,38 +82,30 @@ module _ (ρ : Reading) (limit : ℕ) (bs : List ℕ) (k : Counts) (read : readP
                 }
           ]
 
-  -- an accepted call: its steps on the ledger that the words hold, the view of the words afterwards, and its figures
+  -- an accepted call
   pub record ExactlyWords (ws : List ℕ) (c : Call) (told : List ℕ) : Type 0 where
-    pub steps : Exactly p ρ limit (theLedger ws) c
-    pub left : view p ρ (theLedger (callOutcome limit bs ws c .words)) ≡ ended p c (steps .reached)
+    -- it is so of the ledger that the words hold, and the words afterwards hold the ledger afterwards
+    pub before : Exactly p ρ limit (theLedger ws) c
+    pub afterwards : theLedger (callOutcome limit bs ws c .words) ≡ after limit p (theLedger ws) c
+    -- the figures are those of its steps
     pub figures : told ≡ counted p ρ (theLedger ws) c
+    -- the view of the words afterwards is where the automaton's big steps end, and they end nowhere else
+    pub ends : (d : Conf) → Ends p ρ c (view p ρ (theLedger ws)) d ↔ (d ≡ view p ρ (theLedger (callOutcome limit bs ws c .words)))
+    -- and no other sound ledger is shown so
+    pub only : (m : Ledger) → Kept limit p m → Ends p ρ c (view p ρ (theLedger ws)) (view p ρ m) → m ≡ theLedger (callOutcome limit bs ws c .words)
 
   pub words-exactly : (ws : List ℕ) (c : Call) (told : List ℕ) → callOutcome limit bs ws c .answer ≡ done told → ExactlyWords ws c told
   words-exactly ws c told h =
       let m = made ws c told h in
       let x = exactly p ρ ok limit (theLedger ws) (m .sound) c (m .taken) in
       record {
-        steps = x;
-        left = ap (view p ρ) (m .leaves) ∙ x .left;
-        figures = done-same told _ (sym h ∙ ap (λ o. o .answer) (call-accepted limit bs k read ws (theLedger ws) (m .holds) c (m .taken))) ∙ x .told;
-      }
-
-  -- and both ways
-  pub record BigStepWords (ws : List ℕ) (c : Call) : Type 0 where
-    -- the view of the words afterwards is where the automaton's big steps end, and they end nowhere else
-    pub exactly : (d : Conf) → Ends p ρ c (view p ρ (theLedger ws)) d ↔ (d ≡ view p ρ (theLedger (callOutcome limit bs ws c .words)))
-    -- and no other sound ledger is shown so
-    pub only : (m : Ledger) → Kept limit p m → Ends p ρ c (view p ρ (theLedger ws)) (view p ρ m) → m ≡ theLedger (callOutcome limit bs ws c .words)
-
-  pub words-big-step : (ws : List ℕ) (c : Call) (told : List ℕ) → callOutcome limit bs ws c .answer ≡ done told → BigStepWords ws c
-  words-big-step ws c told h =
-      let m = made ws c told h in
-      let big = exactly-big p ρ ok limit (theLedger ws) (m .sound) c (m .taken) in
-      record {
-        exactly = λ d. (λ y. big d .0 y ∙ ap (view p ρ) (sym (m .leaves)), λ y. big d .1 (y ∙ ap (view p ρ) (m .leaves)));
+        before = x;
+        afterwards = m .leaves;
+        figures = done-same told _ (sym h ∙ ap (λ o. o .answer) (call-accepted limit bs k read ws (theLedger ws) (m .holds) c (m .taken))) ∙ x .steps .told;
+        ends = λ d. (λ y. x .ends d .0 y ∙ ap (view p ρ) (sym (m .leaves)), λ y. x .ends d .1 (y ∙ ap (view p ρ) (m .leaves)));
         only =
             λ l s y.
-            kept-faithful p ρ ok limit l (theLedger (callOutcome limit bs ws c .words)) s (m .kept) (big (view p ρ l) .0 y ∙ ap (view p ρ) (sym (m .leaves)));
+            kept-faithful p ρ ok limit l (theLedger (callOutcome limit bs ws c .words)) s (m .kept) (x .ends (view p ρ l) .0 y ∙ ap (view p ρ) (sym (m .leaves)));
       }
 
   -- a refused call leaves every word, and so the view

@@ -21,9 +21,9 @@ pub data Element : Type 0 where
 abbrev pub Stack : Type 0
 Stack = List Element
 
--- "either (i) a basic configuration composed of an automaton, a state, a direction and a stack; (ii) a nested configuration consisting of
--- a basic configuration and the configuration of the nested automata vector; or (iii) a vector configuration encoded as a sequence of
--- nested configurations"
+-- "either (i) a basic configuration composed of an automaton .. a state .. a (forward or backward) direction .. and a stack .. (ii) a nested
+-- configuration consisting of a basic configuration and the configuration of the nested automata vector; or (iii) a vector configuration
+-- encoded as a sequence of nested configurations"
 mutual
   pub data NConf : Type 0 where
     Basic : ℕ → ℕ → Direction → Stack → NConf
