@@ -2,7 +2,7 @@
 -- one only, since SUC in any order, FAIL, COMP and silent steps each lead to one configuration. Assumes nothing.
 use mathlib.Core.Path.{_≡_, refl, sym, ap, _∙_, subst, fun-ext}
 use mathlib.Core.Logic.{_↔_, inl, inr}
-use mathlib.Core.Bool.{Bool, true, false, cond, not, _&&_}
+use mathlib.Core.Bool.{Bool, true, false, cond, not}
 use mathlib.Core.List.{List, [], _∷_, _++_}
 use mathlib.Core.Option.{Option, none, some}
 use Prim.Native.Nat.{ℕ, zero, suc, _+_, _<_, _≤_}
@@ -10,10 +10,10 @@ use native.Mathlib.Omega.{arith}
 use lib.Dec.{eqb}
 use borrow.Author.Tests.{eqb-true, eqb-false}
 use Rattle.rules.specs.Plan.{Plan, trackCount, optional}
-use Rattle.rules.specs.Ledger.{Ledger, isForward}
+use Rattle.rules.specs.Ledger.{Ledger}
 use Rattle.rules.specs.Event.{moves, moved, closesScope, closed, afterEvent}
 use Rattle.rules.specs.Signal.{turned, abandoned, afterSignal}
-use Rattle.rules.specs.Fire.{newest, mayFire, fired, afterFire}
+use Rattle.rules.specs.Fire.{newest, fired, afterFire}
 use Rattle.rules.specs.Call.{SignalArguments, FireArguments, nothing, Call, event, signal, fire, callRefusal, after}
 use Rattle.rules.proofs.Tests.{look, clash, refuted, and-true, and-both, or-true, or-right}
 use Rattle.rules.proofs.Acceptance.{Accepted}
@@ -28,16 +28,16 @@ use Rattle.automaton.specs.CountedSteps.{isFail}
 use Rattle.automaton.specs.BigSteps.{ended, isMute, isSilent, has, isOnceEach, sucs, Exhausted, Exhausts, OnEvent, OnSignal, OnFiring, Big, Ends}
 use Rattle.automaton.specs.Exactly.{Exactly}
 use Rattle.automaton.proofs.Listings.{alike, from-every}
-use Rattle.automaton.proofs.Calm.{view-settled}
+use Rattle.automaton.proofs.Settled.{view-settled}
 use Rattle.automaton.proofs.Moving.{moves-some, apart, moving-run}
 use Rattle.automaton.proofs.Closing.{closing-run}
 use Rattle.automaton.proofs.Leaving.{abandoning-run}
 use Rattle.automaton.proofs.Turning.{going-forward, turning-run}
 use Rattle.automaton.proofs.Firing.{fire-run}
 use Rattle.automaton.proofs.Calls.{finished-view, stepwise}
-use Rattle.automaton.proofs.Enabled.{suc-enabled, fail-enabled, comp-newest}
-use Rattle.automaton.proofs.Silence.{silent-unique, fail-unique, run-steps, settled-exhausted}
-use Rattle.automaton.proofs.Places.{comp-unique, suc-unique, view-once}
+use Rattle.automaton.proofs.Enabled.{suc-enabled, fail-enabled}
+use Rattle.automaton.proofs.Confluence.{silent-unique, fail-unique, run-steps, settled-exhausted}
+use Rattle.automaton.proofs.OnePlace.{comp-unique, suc-unique, view-once}
 
 -- The automata of a sequence in track order.
 module _ (f : ℕ → Bool) where

@@ -3,39 +3,32 @@
 use mathlib.Core.Path.{_≡_, refl, sym, ap, _∙_, fun-ext}
 use mathlib.Core.Logic.{inl, inr}
 use mathlib.Core.Bool.{cond, not, and-false, _&&_, _||_}
-use mathlib.Core.List.{List, [], _++_}
-use Prim.Native.Nat.{ℕ, zero, suc}
-use native.Mathlib.Omega.{arith}
-use Rattle.rules.specs.declared.Counts.{Counts}
-use Rattle.rules.specs.Fold.{firstRefusal}
-use Rattle.rules.specs.Plan.{Plan, trackCount, planOf, isRoot, isFinal}
-use Rattle.rules.specs.Acceptance.{accepted, readPlan}
-use Rattle.rules.specs.Ledger.{Configuration, Ledger, isAwake, isForward, sleeping, ledgerAt}
+use mathlib.Core.List.{[]}
+use Prim.Native.Nat.{ℕ}
+use Rattle.rules.specs.Plan.{Plan, trackCount, isRoot, isFinal}
+use Rattle.rules.specs.Ledger.{Configuration, Ledger, isAwake, isForward, sleeping}
 use Rattle.rules.specs.Event.{moved, closed, isFinishing, finished, afterEvent}
 use Rattle.rules.specs.Signal.{turned, abandoned, afterSignal}
 use Rattle.rules.specs.Fire.{fired, afterFire}
-use Rattle.rules.specs.Call.{EventArguments, SignalArguments, FireArguments, refusal, done, Call, event, signal, fire, refusedOr, ledgerRefusals, callRefusals, callRefusal, figures, after, callOutcome, beginOutcome}
+use Rattle.rules.specs.Call.{EventArguments, SignalArguments, FireArguments, Call, event, signal, fire, callRefusal, after}
 use Rattle.rules.proofs.Tests.{look, implies, implied}
 use Rattle.rules.proofs.Folds.{every-at, every-of}
-use Rattle.rules.proofs.Acceptance.{Accepted, accepts}
+use Rattle.rules.proofs.Acceptance.{Accepted}
 use Rattle.rules.proofs.Scopes.{root-of, root-none}
 use Rattle.rules.proofs.Closing.{closed-done}
 use Rattle.theory.proofs.Nesting.{Nested}
 use Rattle.theory.proofs.Soundness.{RootsAwake}
-use Rattle.restoration.proofs.SoundWords.{Holds, outcome, not-refused, passed-ledger, sound-holds, begin-holds, call-holds, call-accepted, call-refused}
-use Rattle.restoration.proofs.Theorems01.{fire-accepted, over-refused, next-accepted, moved-nested, sleeping-asleep, closed-nested, Sound, event-roots, event-abandoning, signal-sound, fire-sound, unfinished, over-is}
+use Rattle.restoration.proofs.Theorems01.{fire-accepted, moved-nested, sleeping-asleep, closed-nested, Sound, event-roots, event-abandoning, signal-sound, fire-sound, unfinished}
 use Rattle.automaton.specs.Listing.{listed, everyOf}
-use Rattle.automaton.specs.Configuration.{Vect, members, isTerminated, init}
+use Rattle.automaton.specs.Configuration.{Vect, members, isTerminated}
 use Rattle.automaton.specs.Semantics.{Reading}
 use Rattle.automaton.specs.View.{isOnTop, viewOf, view, actsOf}
-use Rattle.automaton.specs.CountedSteps.{counted}
 use Rattle.automaton.specs.BigSteps.{ended}
 use Rattle.automaton.specs.Exactly.{Stepwise}
 use Rattle.automaton.proofs.Listings.{alike, listed-none, listed-every, listed-every-at, run-then}
 use Rattle.automaton.proofs.Frames.{top-parts, top-of}
 use Rattle.automaton.proofs.Terminated.{members-vect, view-terminated}
-use Rattle.automaton.proofs.Entered.{begin-init}
-use Rattle.automaton.proofs.Calm.{view-settled}
+use Rattle.automaton.proofs.Settled.{view-settled}
 use Rattle.automaton.proofs.Moving.{moving-run}
 use Rattle.automaton.proofs.Closing.{closing-run}
 use Rattle.automaton.proofs.Turning.{signal-run}

@@ -21,7 +21,7 @@ use Rattle.theory.proofs.Closing.{closing-open, closes-known, closes-of, closin
 use Rattle.restoration.proofs.Theorems01.{installed-mode, installed-state, installed-held, closed-awake}
 use Rattle.automaton.specs.Configuration.{forward, NConf, Basic, Nest, push, hasTerminated}
 use Rattle.automaton.specs.Semantics.{Reading, nestsucAt, Step, NESTSUC, Run}
-use Rattle.automaton.specs.View.{facing, stackOf, directionOf, isWithin, basic, nested, viewOf, isOnTop, view, scopeView, closers}
+use Rattle.automaton.specs.View.{stackOf, directionOf, isWithin, basic, nested, viewOf, isOnTop, view, scopeView, closers}
 use Rattle.automaton.proofs.Listings.{alike, listed-length, run-same}
 use Rattle.automaton.proofs.Frames.{same-conf, within-parts, within-of, top-parts, top-of, hosted-above, shown-free, shown-busy, view-law}
 use Rattle.automaton.proofs.Entered.{facing-forward}

@@ -3,13 +3,13 @@
 -- configuration within the view is, its track is so on the ledger. Assumes nothing.
 use mathlib.Core.Path.{_≡_, refl, sym, ap, _∙_, subst}
 use mathlib.Core.Logic.{_↔_, inl, inr}
-use mathlib.Core.Bool.{Bool, true, false, cond, not, _&&_, _||_}
+use mathlib.Core.Bool.{Bool, true, false, cond, not, _&&_}
 use mathlib.Core.List.{List, [], _∷_, _++_}
 use mathlib.Core.Option.{Option, none, some}
 use Prim.{Unit, tt}
 use Prim.Native.Nat.{ℕ, zero, suc, _+_, _<_}
 use native.Mathlib.Omega.{arith}
-use lib.Dec.{eqb, leb}
+use lib.Dec.{eqb}
 use borrow.Author.Tests.{eqb-true, eq-eqb, ne-eqb, lt-ltb, not-true}
 use Rattle.rules.specs.declared.Mode.{Mode}
 use Rattle.rules.specs.declared.Mode.the-variants.{Asleep, Forward, Undoing}
@@ -20,7 +20,7 @@ use Rattle.rules.specs.Scope.{hasOpenScope, isOver}
 use Rattle.rules.specs.Event.{isMove, move, moves, isFull}
 use Rattle.rules.specs.Fire.{newest, mayFire}
 use Rattle.rules.specs.Call.{FireArguments, Call, event, signal, fire, callRefusals, callRefusal}
-use Rattle.rules.proofs.Tests.{look, look-option, clash, refuted, and-true, and-both, or-false}
+use Rattle.rules.proofs.Tests.{look, look-option, clash, refuted, and-both}
 use Rattle.rules.proofs.Folds.{first-none, some-at, every-at}
 use Rattle.rules.proofs.Acceptance.{Passed, Accepted, accepted-facts, sane}
 use Rattle.rules.proofs.Abandoning.{hosts-higher}
@@ -33,7 +33,7 @@ use Rattle.automaton.specs.Semantics.{Reading, basicAlone, nestedToo, Ac
 use Rattle.automaton.specs.View.{stackOf, directionOf, facing, isWithin, basic, nested, shown, viewOf, isOnTop, view, isGoing}
 use Rattle.restoration.proofs.Theorems01.{move-takes, mover-awake, fire-accepted, Sound, Over, Kept}
 use Rattle.automaton.specs.Enabled.{Allows, Asked}
-use Rattle.automaton.proofs.Calm.{view-settled}
+use Rattle.automaton.proofs.Settled.{view-settled}
 use Rattle.automaton.proofs.Frames.{down, frame, frames, instead-some, within-parts, top-parts, shown-free, shown-busy, view-frame, view-frames, view-law, frame-law, replaced}
 use Rattle.automaton.proofs.Moving.{moves-some, on-event, takes, arrival}
 use Rattle.automaton.proofs.Turning.{going-forward, going-of, fails}
@@ -174,7 +174,7 @@ module _ (p : Plan) (ρ : Reading) (l : Ledger) where
     unfolding put
     put-other t c u d = rw (ne-eqb u t d)
 
-    pub track-step : (t : ℕ) (c : NConf) (a : Act) → Awake l t → Step p ρ (viewOf p ρ l t) a c → (d : Conf) × VStep p ρ (view p ρ l) a d
+    track-step : (t : ℕ) (c : NConf) (a : Act) → Awake l t → Step p ρ (viewOf p ρ l t) a c → (d : Conf) × VStep p ρ (view p ρ l) a d
     track-step t c a w s =
         let q : frame p ρ l (put t c) t ≡ c =
         frame-law p ρ l ok (put t c) t (n .below t w) ∙ instead-some (put t c t) (shown p ρ l t (frame p ρ l (put t c))) c (put-here t c) in (
@@ -210,7 +210,7 @@ module _ (p : Plan) (ρ : Reading) (l : Ledger) where
     unfolding Allowed
     comp-newest t c d s = step-allowed ok n s view-shows
 
-    pub comp-enabled : ((u : ℕ) → Good p u (l u .held)) → (t : ℕ) → ((c : ℕ) × (d : Conf) × VStep p ρ (view p ρ l) (compAt t c) d) ↔ (mayFire p l t ≡ true)
+    comp-enabled : ((u : ℕ) → Good p u (l u .held)) → (t : ℕ) → ((c : ℕ) × (d : Conf) × VStep p ρ (view p ρ l) (compAt t c) d) ↔ (mayFire p l t ≡ true)
     comp-enabled g t = (λ s. comp-newest t (s .0) (s .1) (s .2) .0, λ h. (_, _, comp-step p ρ ok l n t (g t) h))
 
 -- a sound ledger is not over: track 0 is a root

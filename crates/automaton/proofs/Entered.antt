@@ -52,7 +52,7 @@ module _ (p : Plan) (ok : Accepted p) where
       let d = ok .lower B q (in-host p q B i) in
       goto-more n B (firstState p B) [] c (let z : owner p q ≡ A = e in omega arith) (state-of p B (firstState p B) (ok .first-own B c) .1)))
 
-  pub goto-law : (A q : ℕ) (S : Stack) → isStateOf p A q ≡ true → A < trackCount p
+  goto-law : (A q : ℕ) (S : Stack) → isStateOf p A q ≡ true → A < trackCount p
       → goto p A q S ≡ cond (isHosting p q) (Nest A q forward S (init p (isIn p q))) (Basic A q forward S)
   unfolding goto init gotoTo
   goto-law A q S h b = goto-more (trackCount p) A q S b (omega arith) (state-of p A q h .1)

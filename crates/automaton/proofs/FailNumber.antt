@@ -1,9 +1,9 @@
 -- FAIL until none applies is always the same number of steps: each turns one of the configurations that it may turn, and in the end none is
 -- left. So the figure turned is read off a signal's big step, in whatever order that takes them. Assumes nothing.
-use mathlib.Core.Path.{_≡_, refl, sym, ap, ap₂, _∙_}
-use mathlib.Core.Bool.{Bool, true, false, cond}
+use mathlib.Core.Path.{_≡_, refl, sym, ap, _∙_}
+use mathlib.Core.Bool.{true, cond}
 use mathlib.Core.List.{List, [], _∷_, _++_}
-use Prim.Native.Nat.{ℕ, zero, suc, _+_}
+use Prim.Native.Nat.{ℕ, suc, _+_}
 use native.Mathlib.Omega.{arith}
 use Rattle.rules.specs.Fold.{countBelow}
 use Rattle.rules.specs.Plan.{Plan, trackCount}
@@ -13,7 +13,7 @@ use Rattle.rules.specs.Call.{SignalArguments, signal, figures}
 use Rattle.rules.proofs.Tests.{clash, and-true}
 use Rattle.rules.proofs.Acceptance.{Accepted}
 use Rattle.theory.proofs.Nesting.{Nested}
-use Rattle.automaton.specs.Listing.{listedDown, everyOf}
+use Rattle.automaton.specs.Listing.{everyOf}
 use Rattle.automaton.specs.Configuration.{Direction, forward, backward, NConf, Basic, Nest, Conf, end, next, Vect, isForwards}
 use Rattle.automaton.specs.Semantics.{Reading, basicAlone, nestedToo, Act, failAt, SUC, FAIL, FAILNEST, COMP, DEV, NESTSUC, NESTFAIL, NESTCOMP, NEST, VStep, VECT, Run, stop, step}
 use Rattle.automaton.specs.View.{view, isGoing, turners}
@@ -21,7 +21,7 @@ use Rattle.automaton.specs.CountedSteps.{isFail, numberOf, isTurnedEarly
 use Rattle.automaton.specs.BigSteps.{Steps, stay, more, stepsIn, Exhausted}
 use Rattle.automaton.proofs.Figures.{all-down, forward-split}
 use Rattle.automaton.proofs.Turning.{turning-run}
-use Rattle.automaton.proofs.Silence.{Still, first-still, later-still, run-steps}
+use Rattle.automaton.proofs.Confluence.{Still, first-still, later-still, run-steps}
 use Rattle.automaton.proofs.BigSteps.{turners-fail, none-going}
 
 hostTurns : Reading → Direction → ℕ

@@ -201,7 +201,7 @@ module _ (p : Plan) (ρ : Reading) (ok : Accepted p) (l : Ledger) (n : Nested p 
       ∙ sym (shown-free p ρ m t (viewOf p ρ m) (sym (busy-alike p l m t (λ u b. same-within t awake k u)) ∙ free))
       ∙ sym (view-law p ρ m ok t low)
 
-  pub firing-run : Run p ρ (view p ρ l) (compAt t code ∷ nestcompAt t ∷ deviationStep t leads) (view p ρ m)
+  firing-run : Run p ρ (view p ρ l) (compAt t code ∷ nestcompAt t ∷ deviationStep t leads) (view p ρ m)
   firing-run = go leads refl
     where
       go : (o : Option ℕ) → leads ≡ o → Run p ρ (view p ρ l) (compAt t code ∷ nestcompAt t ∷ deviationStep t o) (view p ρ m)

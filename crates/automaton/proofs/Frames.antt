@@ -162,7 +162,7 @@ module _ (p : Plan) (ρ : Reading) (l : Ledger) where
         ∙ shown-same t (frame (λ u. none)) (viewOf p ρ l) (λ u c i a. sym (view-frame u))
 
     -- two that replace the same
-    pub frame-same : (o o′ : ℕ → Option NConf) → ((t : ℕ) → o t ≡ o′ t) → (t : ℕ) → t < trackCount p → frame o t ≡ frame o′ t
+    frame-same : (o o′ : ℕ → Option NConf) → ((t : ℕ) → o t ≡ o′ t) → (t : ℕ) → t < trackCount p → frame o t ≡ frame o′ t
     frame-same o o′ h =
         down (trackCount p) (λ t. frame o t ≡ frame o′ t)
         (λ t b ih.

@@ -3,7 +3,7 @@
 use mathlib.Core.Path.{_≡_, refl, sym, ap, ap₂, _∙_, subst}
 use mathlib.Core.Logic.{inl, inr}
 use mathlib.Core.Bool.{Bool, true, false, cond}
-use mathlib.Core.List.{List, [], _∷_, _++_}
+use mathlib.Core.List.{List, [], _∷_, _++_, append-assoc}
 use mathlib.Core.Option.{Option, none, some}
 use Prim.Native.Nat.{ℕ, zero, suc, _+_, _<_, _≤_}
 use native.Mathlib.Omega.{arith}
@@ -39,15 +39,11 @@ use Rattle.automaton.proofs.StringBooks.{isCodeOf, adds, takes, adds-he
 use Rattle.automaton.proofs.OwnCodes.{newest-own, reached-own}
 
 -- The string of joined steps, and of steps that leave no symbol.
-pub projected-joined : (A : ℕ) (v w : List Act) → projected A (v ++ w) ≡ projected A v ++ projected A w
+projected-joined : (A : ℕ) (v w : List Act) → projected A (v ++ w) ≡ projected A v ++ projected A w
 unfolding projected
 projected-joined A [] w = refl
 projected-joined A (a ∷ v) w =
-    ap (λ z. symbol A (trace a) ++ z) (projected-joined A v w) ∙ sym (append-append (symbol A (trace a)) (projected A v) (projected A w))
-  where
-    append-append : (u v w : List Symbol) → (u ++ v) ++ w ≡ u ++ (v ++ w)
-    append-append [] v w = refl
-    append-append (x ∷ u) v w = ap (λ z. x ∷ z) (append-append u v w)
+    ap (λ z. symbol A (trace a) ++ z) (projected-joined A v w) ∙ sym (append-assoc (symbol A (trace a)) (projected A v) (projected A w))
 
 no-symbols : (A n i : ℕ) (f : ℕ → Bool) (g : ℕ → Act) → ((k : ℕ) → symbol A (trace (g k)) ≡ []) → projected A (listedFrom n i f g) ≡ []
 unfolding listedFrom projected

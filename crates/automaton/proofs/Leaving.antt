@@ -3,12 +3,10 @@
 -- ledger after abandoning. Assumes nothing.
 use mathlib.Core.Path.{_≡_, sym, ap, _∙_, subst}
 use mathlib.Core.Logic.{inl, inr}
-use mathlib.Core.Bool.{true, false, cond, _&&_}
+use mathlib.Core.Bool.{true, false}
 use mathlib.Core.Option.{Option, none, some}
 use Prim.Native.Nat.{ℕ, suc, _<_, _≤_}
 use native.Mathlib.Omega.{arith}
-use lib.Dec.{eqb, leb}
-use borrow.Author.Tests.{eqb-true, eqb-false, leb-true, leb-false, le-leb}
 use Rattle.rules.specs.declared.Mode.{Mode}
 use Rattle.rules.specs.Plan.{Plan, trackCount, host, owner, isHostedBy, everyIn}
 use Rattle.rules.specs.Ledger.{Configuration, Ledger, isAwake, isForward, isUndoing, isEmpty}
@@ -17,17 +15,16 @@ use Rattle.rules.specs.Signal.{isSpent, isLeft, isAbandoned, abandoned}
 use Rattle.rules.proofs.Tests.{look, clash, none-some, refuted, and-true, and-both, or-right}
 use Rattle.rules.proofs.Acceptance.{Accepted}
 use Rattle.rules.proofs.Scopes.{in-host, host-in, host-by, by-host, every-in-at, every-in-of, open-find, busy-find}
-use Rattle.rules.proofs.Forest.{above-lower}
 use Rattle.rules.proofs.Abandoning.{spent-parts, abandoned-host, left-kept}
 use Rattle.theory.proofs.Modes.{undoing-forward}
 use Rattle.theory.proofs.Nesting.{Awake, Nested, state-of, host-busy}
 use Rattle.theory.proofs.Leaving.{left-awake, left-root}
-use Rattle.automaton.specs.Listing.{listed, listedDown}
+use Rattle.automaton.specs.Listing.{listed}
 use Rattle.automaton.specs.Configuration.{backward, Stack, NConf, Basic, Nest, Conf, Vect, isBackwards, isCompensated, hasTerminated, hasCompensated}
 use Rattle.automaton.specs.Semantics.{Reading, basicAlone, nestedToo, Step, NESTFAIL, NESTCOMP, Run}
 use Rattle.automaton.specs.View.{stackOf, directionOf, facing, isWithin, basic, nested, shown, viewOf, isOnTop, view, leavesScope, leaveAt, abandonings}
 use Rattle.automaton.proofs.Listings.{alike, run-same}
-use Rattle.automaton.proofs.Frames.{same-conf, frame, frames, instead-none, instead-some, within-parts, within-of, top-parts, top-of, shown-free, shown-busy, view-frames, view-law, frame-law, frames-same, replaced}
+use Rattle.automaton.proofs.Frames.{same-conf, frame, frames, instead-none, instead-some, within-parts, within-of, top-parts, top-of, shown-free, shown-busy, view-law, frame-law}
 use Rattle.automaton.proofs.Replacing.{unchanged, frames-view, steppedFrom, from-some, from-none, from-low, falling-run}
 use Rattle.automaton.proofs.Terminated.{busy-open, bare-stack, basic-compensated, within-host, compensated-of}
 

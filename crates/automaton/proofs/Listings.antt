@@ -172,7 +172,7 @@ module _ (p : Plan) (ρ : Reading) where
     pub now : ys ≡ front ++ (new ∷ back)
     pub by : Step p ρ old a new
 
-  pub split-step : {a : Act} {xs ys : List NConf} → Splits a xs ys → VStep p ρ (Vect xs) a (Vect ys)
+  split-step : {a : Act} {xs ys : List NConf} → Splits a xs ys → VStep p ρ (Vect xs) a (Vect ys)
   split-step {a} {xs} {ys} s =
       subst (λ z. VStep p ρ (Vect z) a (Vect ys)) (sym (s .was))
       (subst (λ z. VStep p ρ (Vect (s .front ++ (s .old ∷ s .back))) a (Vect z)) (sym (s .now)) (VECT (s .front) (s .back) (s .by)))

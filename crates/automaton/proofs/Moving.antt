@@ -44,7 +44,7 @@ module _ (p : Plan) (l : Ledger) (e : ℕ) where
   unfolding moves isMove
   some-moves t x q = rw (q, isMove)
 
-  pub none-moves : (t : ℕ) → moves p l e t ≡ false → move p l e t ≡ none
+  none-moves : (t : ℕ) → moves p l e t ≡ false → move p l e t ≡ none
   none-moves t h = elim (look-option (move p l e t)) [ inl q ↦ q | inr q ↦ clash (some-moves t (q .0) (q .1)) h ]
 
   -- the transition taken is one for the event

@@ -25,7 +25,7 @@ use Rattle.automaton.proofs.Frames.{down, frame, frames, instead-none, 
 
 module _ (p : Plan) (ρ : Reading) (ok : Accepted p) (l : Ledger) where
   -- where nothing at or below a track is replaced, it is as in the view
-  pub untouched : (o : ℕ → Option NConf) (t : ℕ) → t < trackCount p → o t ≡ none → ((u : ℕ) → isAbove p t u ≡ true → Awake l u → o u ≡ none)
+  untouched : (o : ℕ → Option NConf) (t : ℕ) → t < trackCount p → o t ≡ none → ((u : ℕ) → isAbove p t u ≡ true → Awake l u → o u ≡ none)
       → frame p ρ l o t ≡ viewOf p ρ l t
   untouched o =
       down (trackCount p) (λ t. o t ≡ none → ((u : ℕ) → isAbove p t u ≡ true → Awake l u → o u ≡ none) → frame p ρ l o t ≡ viewOf p ρ l t)

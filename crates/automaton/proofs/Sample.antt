@@ -1,4 +1,5 @@
--- The sample run on plan P, call by call, as configurations: both sides compute to the same value. Assumes nothing.
+-- The sample run on plan P, call by call, as configurations; where FAIL turns basic ones alone, and what differs where it turns nested ones too.
+-- Both sides compute to the same value. Assumes nothing.
 use mathlib.Core.Path.{_≡_, refl}
 use mathlib.Core.List.{List, [], _∷_}
 use Prim.Native.Nat.{ℕ}
@@ -11,7 +12,7 @@ use Rattle.starred.specs.SamplePlan.{planP, lentFor}
 use Rattle.starred.specs.Computing.{computing}
 use Rattle.automaton.specs.Listing.{listedFrom, listed, listedDown}
 use Rattle.automaton.specs.Configuration.{forward, backward, Comp, Basic, Nest, Vect, pushComp, pushDev, initBy, gotoTo, goto, init}
-use Rattle.automaton.specs.Semantics.{basicAlone, sucAt, failAt, compAt, nestsucAt, nestfailAt, nestcompAt}
+use Rattle.automaton.specs.Semantics.{basicAlone, nestedToo, sucAt, failAt, compAt, nestsucAt, nestfailAt, nestcompAt}
 use Rattle.automaton.specs.View.{stackOf, directionOf, facing, isWithin, basic, nested, shown, viewTo, viewOf, isOnTop, view, leavesScope, isGoing, leaveAt, abandonings, deviationStep, movings, closers, turners, actsOf}
 
 abbrev P : Plan
@@ -69,10 +70,25 @@ pub turned-told : figures entryLimit P (ledger (e 10 ∷ e 11 ∷ e 12 ∷ [])) 
 unfolding computing
 turned-told = refl
 
+-- Where FAIL turns nested configurations too, there are three, and the root is shown turned.
+pub turned-acts-too : actsOf P nestedToo (ledger (e 10 ∷ e 11 ∷ e 12 ∷ [])) s ≡ failAt 2 ∷ failAt 1 ∷ failAt 0 ∷ []
+unfolding computing listedFrom listed listedDown isWithin leavesScope isGoing leaveAt abandonings turners actsOf
+turned-acts-too = refl
+
+pub turned-view-too :
+    view P nestedToo (ledger (e 10 ∷ e 11 ∷ e 12 ∷ s ∷ []))
+    ≡ Vect (Nest 0 1 backward (Comp 50 ∷ []) (Vect (Basic 1 4 backward (Comp 51 ∷ []) ∷ Basic 2 6 backward (Comp 52 ∷ []) ∷ [])) ∷ [])
+unfolding computing listedFrom listed Vect pushComp pushDev stackOf directionOf isWithin basic facing nested shown viewTo viewOf isOnTop view
+turned-view-too = refl
+
 -- The second firing: COMP, and the vector has compensated: NESTFAIL.
 pub left-acts : actsOf P basicAlone (ledger (e 10 ∷ e 11 ∷ e 12 ∷ s ∷ f 1 ∷ [])) (f 2) ≡ compAt 2 52 ∷ nestcompAt 2 ∷ nestfailAt 0 ∷ []
 unfolding computing listedFrom listed listedDown isWithin leavesScope isGoing leaveAt abandonings deviationStep actsOf
 left-acts = refl
+
+pub left-acts-too : actsOf P nestedToo (ledger (e 10 ∷ e 11 ∷ e 12 ∷ s ∷ f 1 ∷ [])) (f 2) ≡ compAt 2 52 ∷ nestcompAt 2 ∷ nestcompAt 0 ∷ []
+unfolding computing listedFrom listed listedDown isWithin leavesScope isGoing leaveAt abandonings deviationStep actsOf
+left-acts-too = refl
 
 pub left-view : view P basicAlone (ledger (e 10 ∷ e 11 ∷ e 12 ∷ s ∷ f 1 ∷ f 2 ∷ [])) ≡ Vect (Basic 0 1 backward (Comp 50 ∷ []) ∷ [])
 unfolding computing listedFrom listed Vect pushComp pushDev stackOf directionOf isWithin basic facing nested shown viewTo viewOf isOnTop view

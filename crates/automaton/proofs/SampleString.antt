@@ -70,15 +70,15 @@ tracks-test = refl
 
 pub perfectQ : Perfect comp Q
 unfolding replacement state stateCount
-perfectQ =
+perfectQ A =
     record {
       non-empty = λ i e. omega arith;
       codes =
-          λ x b.
+          λ x b m.
           eqb-true (transition Q x .code) (comp (transition Q x .event))
           (every-at 5 (λ x. eqb (transition Q x .code) (comp (transition Q x .event))) codes-test x (subst (λ n. x < n) (counted .0) b));
       replacements =
-          λ s.
+          λ s o.
           elim (look (ltb s (stateCount Q))) [
             | inl h ↦
                 eqb-true (replacement Q s) 0

@@ -43,7 +43,7 @@ actor (nestfailAt A) = A
 actor (nestcompAt A) = A
 
 -- another automaton's step leaves no symbol
-pub symbol-other : (A : ℕ) (a : Act) → (actor a ≡ A → ⊥) → symbol A (trace a) ≡ []
+symbol-other : (A : ℕ) (a : Act) → (actor a ≡ A → ⊥) → symbol A (trace a) ≡ []
 unfolding symbol trace actor
 symbol-other A (sucAt B i) d = rw (ne-eqb B A d)
 symbol-other A (failAt B) d = refl

@@ -56,7 +56,7 @@ coming Undoing h = refl
 
 module _ (p : Plan) where
   -- of a basic configuration
-  pub basic-terminated : (l : Ledger) (t : ℕ) → isTerminated p (basic p l t) ≡ (isForward (l t .mode) && isFinal p (l t .state))
+  basic-terminated : (l : Ledger) (t : ℕ) → isTerminated p (basic p l t) ≡ (isForward (l t .mode) && isFinal p (l t .state))
   unfolding isTerminated basic
   basic-terminated l t = ap (λ x. isFinal p (l t .state) && x) (going (l t .mode)) ∙ and-comm (isFinal p (l t .state)) (isForward (l t .mode))
 
@@ -64,11 +64,11 @@ module _ (p : Plan) where
   unfolding isCompensated basic
   basic-compensated l t a = ap₂ (λ x y. x && y) (bare-stack (l t .held)) (coming (l t .mode) a) ∙ and-comm (isEmpty (l t .held)) (isUndoing (l t .mode))
 
-  pub nested-terminated : (ρ : Reading) (l : Ledger) (t : ℕ) (c : Conf) → isTerminated p (nested p ρ l t c) ≡ false
+  nested-terminated : (ρ : Reading) (l : Ledger) (t : ℕ) (c : Conf) → isTerminated p (nested p ρ l t c) ≡ false
   unfolding isTerminated nested
   nested-terminated ρ l t c = refl
 
-  pub nested-compensated : (ρ : Reading) (l : Ledger) (t : ℕ) (c : Conf) → isCompensated p (nested p ρ l t c) ≡ false
+  nested-compensated : (ρ : Reading) (l : Ledger) (t : ℕ) (c : Conf) → isCompensated p (nested p ρ l t c) ≡ false
   unfolding isCompensated nested
   nested-compensated ρ l t c = refl
 
@@ -77,7 +77,7 @@ module _ (p : Plan) where
     abbrev v : Conf
     v = Vect (listed (trackCount p) f g)
 
-    pub terminated-of : ((u : ℕ) → u < trackCount p → f u ≡ true → isTerminated p (g u) ≡ true) → (w : ℕ) → w < trackCount p → f w ≡ true → hasTerminated p v ≡ true
+    terminated-of : ((u : ℕ) → u < trackCount p → f u ≡ true → isTerminated p (g u) ≡ true) → (w : ℕ) → w < trackCount p → f w ≡ true → hasTerminated p v ≡ true
     unfolding hasTerminated
     terminated-of h w b y =
         rw (members-vect (listed (trackCount p) f g))
@@ -123,7 +123,7 @@ module _ (p : Plan) (ok : Accepted p) (l : Ledger) (n : Nested p l) where
         let z : k ≡ s = sym (n .hosted u k a e .0) ∙ ap (λ y. l y .state) o ∙ open-host p ok l n s open-s .2 in
         (e ∙ ap some z, a)
 
-    pub host-within : (u : ℕ) → host p u ≡ some s → isWithin p l x u ≡ true
+    host-within : (u : ℕ) → host p u ≡ some s → isWithin p l x u ≡ true
     host-within u e =
         let (t, b, f, a) = open-find p l s open-s in
         within-of p l x u (host-by p u s e) (n .whole u t s e f ∙ a)

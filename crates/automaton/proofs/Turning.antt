@@ -22,7 +22,7 @@ use Rattle.theory.proofs.Modes.{forward-awake}
 use Rattle.theory.proofs.Nesting.{Awake, Nested, busy-same}
 use Rattle.restoration.proofs.Theorems01.{turned-awake, turned-state, turned-held, turned-forward, turned-nested}
 use Rattle.automaton.specs.Listing.{listed}
-use Rattle.automaton.specs.Configuration.{forward, backward, Stack, NConf, Basic, Nest, Conf, Vect}
+use Rattle.automaton.specs.Configuration.{backward, NConf, Basic, Nest, Conf, Vect}
 use Rattle.automaton.specs.Semantics.{Reading, basicAlone, nestedToo, failAt, Step, FAIL, FAILNEST, Run}
 use Rattle.automaton.specs.View.{stackOf, directionOf, facing, isWithin, basic, nested, shown, viewOf, isOnTop, view, isGoing, abandonings, turners}
 use Rattle.automaton.proofs.Listings.{listed-same, run-then, run-same}

@@ -2,20 +2,18 @@
 -- `Meets (callOutcome limit bs ws c) told words`, `told` is the answer and `words` the words below. Assumes nothing.
 use mathlib.Core.Path.{_≡_, refl, sym, ap, _∙_, subst}
 use mathlib.Core.Logic.{_↔_, inl, inr}
-use mathlib.Core.Bool.{Bool, true, false, cond, not}
 use mathlib.Core.List.{List, [], _++_}
 use Prim.Native.Nat.{ℕ, zero, suc, _<_}
 use native.Mathlib.Omega.{arith}
-use borrow.Author.Tests.{not-false}
 use Rattle.rules.specs.declared.Counts.{Counts}
 use Rattle.rules.specs.Fold.{firstRefusal}
 use Rattle.rules.specs.Plan.{Plan, trackCount, planOf, isRoot}
 use Rattle.rules.specs.Acceptance.{accepted, readPlan}
 use Rattle.rules.specs.Ledger.{Ledger, ledgerAt}
 use Rattle.rules.specs.Soundness.{isSound}
-use Rattle.rules.specs.Call.{Answer, refusal, done, Call, refusedOr, tooShort, ledgerRefusals, callRefusals, callRefusal, after, callOutcome, beginOutcome}
+use Rattle.rules.specs.Call.{refusal, done, Call, refusedOr, tooShort, ledgerRefusals, callRefusals, callRefusal, after, callOutcome, beginOutcome}
 use Rattle.rules.proofs.Tests.{look}
-use Rattle.rules.proofs.Acceptance.{Passed, passed-all, read-passed, Accepted, accepts}
+use Rattle.rules.proofs.Acceptance.{passed-all, read-passed, Accepted, accepts}
 use Rattle.restoration.proofs.SoundWords.{Holds, outcome, not-refused, passed-ledger, sound-holds, begin-holds, call-holds, call-accepted, call-refused}
 use Rattle.restoration.proofs.Theorems01.{over-refused, next-accepted, Sound, Kept, over-is}
 use Rattle.automaton.specs.Configuration.{Conf, init}

@@ -1,7 +1,6 @@
 -- What is claimed of an accepted call: "exactly as a compensating automaton of report CS2012-01 does, narrowed by document 01". Assumes nothing.
 use mathlib.Core.Path.{_≡_}
 use mathlib.Core.Logic.{_↔_}
-use mathlib.Core.List.{List}
 use Prim.Native.Nat.{ℕ}
 use Rattle.rules.specs.Plan.{Plan}
 use Rattle.rules.specs.Ledger.{Ledger}
