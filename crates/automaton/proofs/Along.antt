@@ -1,8 +1,9 @@
 -- Every list of calls from a begin on is a run of the automaton from init, one call's steps after the other's. It leads to what the ledger
--- shows; where the list ends over, to a vector whose automata are all terminated, by the event that finishes. And where every root is
+-- shows; where the list ends over, to a vector whose automata are all terminated, by the event that finishes. The big steps of the calls end
+-- there and nowhere else. And where every root is
 -- withdrawn the vector has compensated, so that the calls' steps have cancelled out. Assumes nothing.
 use mathlib.Core.Path.{_≡_, refl, sym, ap, _∙_, subst}
-use mathlib.Core.Logic.{_⊎_, inl, inr}
+use mathlib.Core.Logic.{_↔_, _⊎_, inl, inr}
 use mathlib.Core.Bool.{true, cond}
 use mathlib.Core.List.{List, [], _∷_, _++_}
 use Prim.Native.Nat.{ℕ, zero, suc, _<_}
@@ -12,7 +13,7 @@ use Rattle.rules.specs.Plan.{Plan, trackCount, planOf, isRoot}
 use Rattle.rules.specs.Acceptance.{accepted, readPlan}
 use Rattle.rules.specs.Ledger.{Configuration, Ledger, isAwake, isEmpty, ledgerAt}
 use Rattle.rules.specs.Opening.{begun}
-use Rattle.rules.specs.Call.{done, Call, event, signal, fire, callRefusal, next, callOutcome, beginOutcome}
+use Rattle.rules.specs.Call.{done, Call, event, signal, fire, callRefusal, after, next, callOutcome, beginOutcome}
 use Rattle.rules.specs.ReferenceRun.{wordsFrom, wordsAfter, ledgerAfter, AllWithdrawn}
 use Rattle.rules.proofs.Tests.{look, clash}
 use Rattle.rules.proofs.Acceptance.{Accepted, accepts}
@@ -31,7 +32,7 @@ use Rattle.automaton.specs.Configuration.{Conf, Vect, members, isTermina
 use Rattle.automaton.specs.Semantics.{Reading, Act, Run, stop}
 use Rattle.automaton.specs.View.{isOnTop, viewOf, view, actsOf}
 use Rattle.automaton.specs.BigSteps.{ended}
-use Rattle.automaton.specs.Along.{made, actsFrom, actsAfter, Played}
+use Rattle.automaton.specs.Along.{made, actsFrom, actsAfter, Answered, EndsFrom, Played}
 use Rattle.automaton.specs.SelfCancelling.{projected, cancOut, PerfectAt}
 use Rattle.automaton.proofs.Listings.{run-then, run-same}
 use Rattle.automaton.proofs.Frames.{top-parts}
@@ -39,6 +40,7 @@ use Rattle.automaton.proofs.Entered.{begin-init}
 use Rattle.automaton.proofs.Terminated.{view-compensated, compensated-of}
 use Rattle.automaton.proofs.Calls.{stepwise}
 use Rattle.automaton.proofs.Faithful.{over-unlike}
+use Rattle.automaton.proofs.BigSteps.{exactly}
 use Rattle.automaton.proofs.SelfCancelling.{corollary1}
 
 module _ (p : Plan) (ρ : Reading) (ok : Accepted p) where
@@ -171,6 +173,47 @@ module _ (ρ : Reading) (limit : ℕ) (bs : List ℕ) (k : Counts) (read : readP
       let w = beginOutcome limit bs lent .words in
       subst (λ z. Played p ρ z (actsFrom limit bs p ρ w cs) (led (wordsFrom limit bs w cs))) (begin-init p ok ρ)
       (from-run cs w (begun p) (begin-holds limit bs k read lent h) (begun-sound laws01 limit p ok))
+
+  -- a call answers and leaves what its big steps end in, and nothing else; a refused one stays
+  answered : (ws : List ℕ) (l : Ledger) → Held ws l → (c : Call) (d : Conf)
+      → Answered p ρ (callOutcome limit bs ws c .answer) c (view p ρ l) d ↔ (d ≡ view p ρ (next limit p l c))
+  answered ws l h c d = go (h .kept) (callRefusal limit p l c) refl
+    where
+      go : Kept limit p l → (r : ℕ) → callRefusal limit p l c ≡ r
+          → Answered p ρ (callOutcome limit bs ws c .answer) c (view p ρ l) d ↔ (d ≡ view p ρ (next limit p l c))
+      go (inl o) zero e = absurd (over-refused limit p l (over-is p l o) c e)
+      go (inr s) zero e =
+          subst (λ m. Answered p ρ (callOutcome limit bs ws c .answer) c (view p ρ l) d ↔ (d ≡ view p ρ m)) (sym (next-accepted limit p l c e))
+          (subst (λ a. Answered p ρ a c (view p ρ l) d ↔ (d ≡ view p ρ (after limit p l c)))
+          (sym (ap (λ o. o .answer) (call-accepted limit bs k read ws l h c e)))
+          (unfold Answered in exactly p ρ ok limit l s c e .ends d))
+      go w (suc r) e =
+          subst (λ m. Answered p ρ (callOutcome limit bs ws c .answer) c (view p ρ l) d ↔ (d ≡ view p ρ m)) (sym (next-refused limit p l c (λ z. not-zero e z)))
+          (subst (λ a. Answered p ρ a c (view p ρ l) d ↔ (d ≡ view p ρ l))
+          (sym (ap (λ o. o .answer) (call-refused limit bs k read ws l h c r e)))
+          (unfold Answered in (λ q. q, λ q. q)))
+
+  from-ends : (cs : List Call) (ws : List ℕ) (l : Ledger) → Held ws l → (d : Conf)
+      → EndsFrom limit bs p ρ ws cs (view p ρ l) d ↔ (d ≡ view p ρ (led (wordsFrom limit bs ws cs)))
+  unfolding EndsFrom wordsFrom
+  from-ends [] ws l h d = let e = ap (view p ρ) (h .reads) in (λ q. q ∙ sym e, λ q. q ∙ e)
+  from-ends (c ∷ cs) ws l h d =
+      let m = next limit p l c in
+      let rest = from-ends cs (callOutcome limit bs ws c .words) m (call-holds limit bs k read ws l h c) d in (
+        λ x.
+            let (e, a, y) = x in
+            rest .0 (subst (λ z. EndsFrom limit bs p ρ (callOutcome limit bs ws c .words) cs z d) (answered ws l h c e .0 a) y),
+        λ q. (view p ρ m, answered ws l h c (view p ρ m) .1 refl, rest .1 q),
+      )
+
+  -- Proposition 1, over a list of calls: the big steps from init end in what the ledger shows, and nowhere else
+  pub list-ends : (lent : List ℕ) (cs : List Call) → beginOutcome limit bs lent .answer ≡ done [] → (d : Conf)
+      → EndsFrom limit bs p ρ (beginOutcome limit bs lent .words) cs (init p (isRoot p)) d ↔ (d ≡ view p ρ (ledgerAfter limit bs p lent cs))
+  unfolding ledgerAfter wordsAfter
+  list-ends lent cs h d =
+      let w = beginOutcome limit bs lent .words in
+      subst (λ z. EndsFrom limit bs p ρ w cs z d ↔ (d ≡ view p ρ (led (wordsFrom limit bs w cs)))) (begin-init p ok ρ)
+      (from-ends cs w (begun p) (begin-holds limit bs k read lent h) d)
 
   kept-sound : (l : Ledger) → Kept limit p l → (t : ℕ) → Awake l t → Sound limit p l
   kept-sound l (inl o) t a = clash a (ap (λ (c : Configuration). isAwake (c .mode)) (o t) ∙ sleeping-asleep)
