@@ -18,10 +18,10 @@ use Rattle.automaton.specs.Configuration.{Direction, forward, backward, 
 use Rattle.automaton.specs.Semantics.{Reading, basicAlone, nestedToo, Act, failAt, SUC, FAIL, FAILNEST, COMP, DEV, NESTSUC, NESTFAIL, NESTCOMP, NEST, VStep, VECT, Run, stop, step}
 use Rattle.automaton.specs.View.{view, isGoing, turners}
 use Rattle.automaton.specs.CountedSteps.{isFail, numberOf, isTurnedEarly}
-use Rattle.automaton.specs.BigSteps.{Steps, stay, more, stepsIn, Exhausted}
+use Rattle.automaton.specs.BigSteps.{Steps, stay, more, actsIn, Exhausted}
 use Rattle.automaton.proofs.Figures.{all-down, forward-split}
 use Rattle.automaton.proofs.Turning.{turning-run}
-use Rattle.automaton.proofs.Confluence.{Still, first-still, later-still, run-steps}
+use Rattle.automaton.proofs.Confluence.{Still, first-still, later-still, run-steps, run-acts}
 use Rattle.automaton.proofs.BigSteps.{turners-fail, none-going}
 
 hostTurns : Reading → Direction → ℕ
@@ -101,46 +101,39 @@ module _ (ρ : Reading) where
       none-left-all (next n c) h =
           both-none (turnsIn n) (turnsInAll c) (none-left n (first-still p ρ isFail n c h)) (none-left-all c (later-still p ρ isFail n c h))
 
-    steps-less : {c d : Conf} (s : Steps p ρ isFail c d) → turnsInAll c ≡ stepsIn p ρ s + turnsInAll d
-    unfolding stepsIn
+    steps-less : {c d : Conf} (s : Steps p ρ isFail c d) → turnsInAll c ≡ numberOf isFail (actsIn p ρ s) + turnsInAll d
+    unfolding actsIn numberOf
     steps-less {c} stay = let a : ℕ = turnsInAll c in let e : a ≡ 0 + a = omega arith in e
-    steps-less {c} {d} (more {d = b} v h s) =
+    steps-less {c} {d} (more {d = b} {a = a} v h s) =
         let i = steps-less s in
         let j = one-less v h in
-        let x : ℕ = turnsInAll c in let y : ℕ = turnsInAll b in let z : ℕ = turnsInAll d in let w : ℕ = stepsIn p ρ s in
-        let i′ : y ≡ w + z = i in let j′ : x ≡ suc y = j in let g : x ≡ suc w + z = omega arith in g
+        let x : ℕ = turnsInAll c in let y : ℕ = turnsInAll b in let z : ℕ = turnsInAll d in let w : ℕ = numberOf isFail (actsIn p ρ s) in
+        let u : ℕ = cond (isFail a) 1 0 in
+        let k : u ≡ 1 = ap (λ t. cond t 1 0) h in
+        let i′ : y ≡ w + z = i in let j′ : x ≡ suc y = j in let g : x ≡ (u + w) + z = omega arith in g
 
-    all-steps : {c d : Conf} (s : Steps p ρ isFail c d) → Exhausted p ρ isFail d → stepsIn p ρ s ≡ turnsInAll c
+    all-steps : {c d : Conf} (s : Steps p ρ isFail c d) → Exhausted p ρ isFail d → numberOf isFail (actsIn p ρ s) ≡ turnsInAll c
     all-steps {c} {d} s h =
         let i = steps-less s in
         let k = none-left-all d h in
-        let x : ℕ = turnsInAll c in let z : ℕ = turnsInAll d in let w : ℕ = stepsIn p ρ s in
+        let x : ℕ = turnsInAll c in let z : ℕ = turnsInAll d in let w : ℕ = numberOf isFail (actsIn p ρ s) in
         let i′ : x ≡ w + z = i in let k′ : z ≡ 0 = k in let g : w ≡ x = omega arith in g
 
-    run-number : {c d : Conf} {w : List Act} (r : Run p ρ c w d) (h : everyOf isFail w ≡ true) → stepsIn p ρ (run-steps p ρ isFail r h) ≡ numberOf isFail w
-    unfolding run-steps stepsIn numberOf everyOf
-    run-number stop h = refl
-    run-number (step {a = a} {w = w} v r) h =
-        let (x, y) = and-true (isFail a) (everyOf isFail w) h in
-        let i = run-number r y in
-        let u : ℕ = numberOf isFail w in
-        ap suc i ∙ (let g : suc u ≡ 1 + u = omega arith in g) ∙ ap (λ b. cond b 1 0 + numberOf isFail w) (sym x)
-
 module _ (p : Plan) (ρ : Reading) (ok : Accepted p) (l : Ledger) (n : Nested p l) where
-  fails-counted : (d : Conf) (s : Steps p ρ isFail (view p ρ l) d) → Exhausted p ρ isFail d → stepsIn p ρ s ≡ countBelow (trackCount p) (isGoing p ρ l)
+  fails-counted : (d : Conf) (s : Steps p ρ isFail (view p ρ l) d) → Exhausted p ρ isFail d → numberOf isFail (actsIn p ρ s) ≡ countBelow (trackCount p) (isGoing p ρ l)
   fails-counted d s h =
       all-steps ρ p s h ∙ sym (all-steps ρ p (run-steps p ρ isFail (turning-run p ρ ok l n) (turners-fail p ρ l)) (none-going p ρ ok l n))
-      ∙ run-number ρ p (turning-run p ρ ok l n) (turners-fail p ρ l)
+      ∙ ap (numberOf isFail) (run-acts p ρ isFail (turning-run p ρ ok l n) (turners-fail p ρ l))
       ∙ (unfold turners in all-down isFail (isGoing p ρ l) failAt (λ k. unfold isFail in refl) (trackCount p))
 
   -- turned is the number of FAIL in any big step, and of the hosts that turn early
   pub turned-counted : (d : Conf) (s : Steps p ρ isFail (view p ρ l) d) → Exhausted p ρ isFail d → (limit : ℕ) (a : SignalArguments)
-      → figures limit p l (signal a) ≡ (stepsIn p ρ s + countBelow (trackCount p) (isTurnedEarly p ρ l)) ∷ []
+      → figures limit p l (signal a) ≡ (numberOf isFail (actsIn p ρ s) + countBelow (trackCount p) (isTurnedEarly p ρ l)) ∷ []
   unfolding figures
   turned-counted d s h limit a = ap (λ x. x ∷ []) (forward-split p l ρ ∙ ap (λ x. x + countBelow (trackCount p) (isTurnedEarly p ρ l)) (sym (fails-counted d s h)))
 
 -- where FAIL turns nested configurations too, the number of FAIL alone
 pub turned-fails : (p : Plan) → Accepted p → (l : Ledger) → Nested p l → (d : Conf) (s : Steps p nestedToo isFail (view p nestedToo l) d) → Exhausted p nestedToo isFail d
-    → (limit : ℕ) (a : SignalArguments) → figures limit p l (signal a) ≡ stepsIn p nestedToo s ∷ []
+    → (limit : ℕ) (a : SignalArguments) → figures limit p l (signal a) ≡ numberOf isFail (actsIn p nestedToo s) ∷ []
 unfolding figures turnings isGoing
 turned-fails p ok l n d s h limit a = ap (λ x. x ∷ []) (sym (fails-counted p nestedToo ok l n d s h))
