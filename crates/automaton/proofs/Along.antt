@@ -1,7 +1,9 @@
--- A list of calls is a run of the automaton from init, unless it ends over; and where every root is withdrawn the vector has compensated,
--- so that the calls' steps have cancelled out. Assumes nothing.
+-- Every list of calls from a begin on is a run of the automaton from init, one call's steps after the other's. It leads to what the ledger
+-- shows; where the list ends over, to a vector whose automata are all terminated, by the event that finishes. The big steps of the calls end
+-- there and nowhere else. And where every root is
+-- withdrawn the vector has compensated, so that the calls' steps have cancelled out. Assumes nothing.
 use mathlib.Core.Path.{_≡_, refl, sym, ap, _∙_, subst}
-use mathlib.Core.Logic.{_⊎_, inl, inr}
+use mathlib.Core.Logic.{_↔_, _⊎_, inl, inr}
 use mathlib.Core.Bool.{true, cond}
 use mathlib.Core.List.{List, [], _∷_, _++_}
 use Prim.Native.Nat.{ℕ, zero, suc, _<_}
@@ -10,70 +12,76 @@ use Rattle.rules.specs.declared.Counts.{Counts}
 use Rattle.rules.specs.Plan.{Plan, trackCount, planOf, isRoot}
 use Rattle.rules.specs.Acceptance.{accepted, readPlan}
 use Rattle.rules.specs.Ledger.{Configuration, Ledger, isAwake, isEmpty, ledgerAt}
-use Rattle.rules.specs.Signal as signal
 use Rattle.rules.specs.Opening.{begun}
-use Rattle.rules.specs.Call.{refusal, done, Call, event, signal, fire, callRefusal, next, callOutcome, beginOutcome}
+use Rattle.rules.specs.Call.{done, Call, event, signal, fire, callRefusal, after, next, callOutcome, beginOutcome}
 use Rattle.rules.specs.ReferenceRun.{wordsFrom, wordsAfter, ledgerAfter, AllWithdrawn}
 use Rattle.rules.proofs.Tests.{look, clash}
 use Rattle.rules.proofs.Acceptance.{Accepted, accepts}
 use Rattle.rules.proofs.Scopes.{root-of}
-use Rattle.theory.proofs.Modes.{is-undoing}
 use Rattle.rules.proofs.Abandoning.{undoing-awake}
+use Rattle.theory.proofs.Modes.{is-undoing}
 use Rattle.theory.proofs.Nesting.{Awake, Nested}
-use Rattle.theory.proofs.SoundBegin.{root-zero}
+use Rattle.theory.proofs.SoundBegin.{begun-sound}
 use Rattle.theory.proofs.SoundEvent.{bare-of}
-use Rattle.restoration.proofs.SoundWords.{Holds, begin-holds, call-holds, call-accepted, call-refused}
+use Rattle.restoration.proofs.Document01.{laws01}
 use Rattle.restoration.proofs.Restoration.{list-holds}
+use Rattle.restoration.proofs.SoundWords.{Holds, begin-holds, call-holds, call-accepted, call-refused}
 use Rattle.restoration.proofs.Theorems01.{over-refused, next-accepted, next-refused, sleeping-asleep, Sound, Over, Kept, over-is}
-use Rattle.automaton.specs.Listing.{listed, someOf, everyOf}
+use Rattle.automaton.specs.Listing.{everyOf}
 use Rattle.automaton.specs.Configuration.{Conf, Vect, members, isTerminated, hasCompensated, init}
-use Rattle.automaton.specs.Semantics.{Act, Run, stop}
+use Rattle.automaton.specs.Semantics.{Reading, Act, Run, stop}
 use Rattle.automaton.specs.View.{isOnTop, viewOf, view, actsOf}
-use Rattle.automaton.specs.Exactly.{ended}
-use Rattle.automaton.specs.Along.{made, actsFrom, actsAfter}
-use Rattle.automaton.specs.SelfCancelling.{projected, cancOut, Perfect}
-use Rattle.automaton.proofs.Listings.{listed-some, run-then, run-same}
-use Rattle.automaton.proofs.Frames.{top-parts, top-of}
+use Rattle.automaton.specs.BigSteps.{ended}
+use Rattle.automaton.specs.Along.{made, actsFrom, actsAfter, Answered, EndsFrom, Played}
+use Rattle.automaton.specs.SelfCancelling.{projected, cancOut, PerfectAt}
+use Rattle.automaton.proofs.Listings.{run-then, run-same}
+use Rattle.automaton.proofs.Frames.{top-parts}
 use Rattle.automaton.proofs.Entered.{begin-init}
-use Rattle.automaton.proofs.Terminated.{members-vect, view-compensated, compensated-of}
-use Rattle.automaton.proofs.Calls.{exactly}
+use Rattle.automaton.proofs.Terminated.{view-compensated, compensated-of}
+use Rattle.automaton.proofs.Calls.{stepwise}
+use Rattle.automaton.proofs.Faithful.{over-unlike}
+use Rattle.automaton.proofs.BigSteps.{exactly}
 use Rattle.automaton.proofs.SelfCancelling.{corollary1}
 
-module _ (p : Plan) (ok : Accepted p) where
-  -- a sound ledger shows its roots
-  not-empty : (limit : ℕ) (l : Ledger) → Sound limit p l → view p l ≡ Vect [] → ⊥
-  unfolding view
-  not-empty limit l s e =
-      let z = root-zero p ok in
-      let b = ok .some-track in
-      let xs = listed (trackCount p) (isOnTop p l) (viewOf p l) in
-      let q : xs ≡ [] = sym (members-vect xs) ∙ ap members e ∙ members-vect [] in
-      let y : someOf (λ n. true) xs ≡ true = listed-some (λ n. true) (trackCount p) (isOnTop p l) (viewOf p l) 0 b (top-of p l 0 z (s .roots 0 b z)) refl in
-      clash (sym (ap (someOf (λ n. true)) q) ∙ y) (unfold someOf in refl)
-
+module _ (p : Plan) (ρ : Reading) (ok : Accepted p) where
   -- unless the call finishes, the steps lead to the view afterwards
-  goes-on : (limit : ℕ) (m : Ledger) (c : Call) (reached : Conf) → Sound limit p m → view p m ≡ ended p c reached → reached ≡ view p m
+  goes-on : (limit : ℕ) (m : Ledger) (c : Call) (reached : Conf) → Sound limit p m → view p ρ m ≡ ended p c reached → reached ≡ view p ρ m
   unfolding ended
   goes-on limit m (event a) reached s e =
       elim (look (everyOf (isTerminated p) (members reached))) [
-        | inl h ↦ absurd (not-empty limit m s (e ∙ ap (λ x. cond x (Vect []) reached) h))
+        | inl h ↦ absurd (over-unlike p ρ ok limit m s (e ∙ ap (λ x. cond x (Vect []) reached) h))
         | inr h ↦ sym (e ∙ ap (λ x. cond x (Vect []) reached) h)
       ]
   goes-on limit m (signal a) reached s e = sym e
   goes-on limit m (fire a) reached s e = sym e
 
+  shown-or-ended : (c : Call) (m : Ledger) (reached : Conf) → view p ρ m ≡ ended p c reached
+      → (view p ρ m ≡ reached) ⊎ ((everyOf (isTerminated p) (members reached) ≡ true) × (view p ρ m ≡ Vect []))
+  unfolding ended
+  shown-or-ended (event a) m reached e =
+      elim (look (everyOf (isTerminated p) (members reached))) [
+        | inl h ↦ inr (h, e ∙ ap (λ x. cond x (Vect []) reached) h)
+        | inr h ↦ inl (e ∙ ap (λ x. cond x (Vect []) reached) h)
+      ]
+  shown-or-ended (signal a) m reached e = inl e
+  shown-or-ended (fire a) m reached e = inl e
+
+  -- steps before it
+  joined : {c d : Conf} {v w : List Act} {l : Ledger} → Run p ρ c v d → Played p ρ d w l → Played p ρ c (v ++ w) l
+  joined r q = record { reached = q .reached; run = run-then p ρ r (q .run); shown = q .shown }
+
   -- "if every root is undoing, holds nothing and has no open scope": the vector has compensated
-  pub withdrawn-compensated : (l : Ledger) → Nested p l → AllWithdrawn p l → hasCompensated p (view p l) ≡ true
+  pub withdrawn-compensated : (l : Ledger) → Nested p l → AllWithdrawn p l → hasCompensated p (view p ρ l) ≡ true
   unfolding view isEmpty
   withdrawn-compensated l n w =
-      compensated-of p (isOnTop p l) (viewOf p l)
+      compensated-of p (isOnTop p l) (viewOf p ρ l)
       (λ t b y.
       let (e, a) = top-parts p l t y in
       let d = w t b (root-of p t e) in
-      view-compensated p ok l n t a
+      view-compensated p ρ ok l n t a
       ∙ bare-of p l t (is-undoing (l t .mode) (d .undoing)) (ap isEmpty (d .empty)) (d .shut))
 
-module _ (limit : ℕ) (bs : List ℕ) (k : Counts) (read : readPlan bs ≡ accepted k) where
+module _ (ρ : Reading) (limit : ℕ) (bs : List ℕ) (k : Counts) (read : readPlan bs ≡ accepted k) where
   abbrev p : Plan
   p = planOf bs k
 
@@ -83,99 +91,152 @@ module _ (limit : ℕ) (bs : List ℕ) (k : Counts) (read : readPlan bs ≡ acce
   abbrev led : List ℕ → Ledger
   led ws = ledgerAt limit ws (trackCount p)
 
-  -- over, it stays over
-  over-stays : (cs : List Call) (ws : List ℕ) (l : Ledger) → Holds limit bs k read ws l → Over l → Over (led (wordsFrom limit bs ws cs))
-  unfolding wordsFrom
-  over-stays [] ws l h o = subst Over (sym (h .reads)) o
-  over-stays (c ∷ cs) ws l h o =
-      over-stays cs (callOutcome limit bs ws c .words) (next limit p l c) (call-holds limit bs k read ws l h c)
-      (subst Over (sym (next-refused limit p l c (λ z. over-refused limit p l (over-is p l o) c z))) o)
+  abbrev Held : List ℕ → Ledger → Type 0
+  Held ws l = Holds limit bs k read ws l
 
-  -- one call, then the rest of the list
-  module _ (c : Call) (cs : List Call) (ws : List ℕ) (l : Ledger) (h : Holds limit bs k read ws l) where
+  not-zero : {r n : ℕ} → n ≡ suc r → n ≡ 0 → ⊥
+  not-zero {r} {n} e z = omega arith
+
+  -- one call
+  module _ (ws : List ℕ) (l : Ledger) (h : Held ws l) (c : Call) where
     abbrev words : List ℕ
     words = callOutcome limit bs ws c .words
 
-    abbrev last : Ledger
-    last = led (wordsFrom limit bs words cs)
-
-    abbrev rest : List Act
-    rest = actsFrom limit bs p words cs
-
     abbrev here : List Act
-    here = made (callOutcome limit bs ws c .answer) (actsOf p (led ws) c)
+    here = made (callOutcome limit bs ws c .answer) (actsOf p ρ (led ws) c)
 
-    after : Holds limit bs k read words (next limit p l c)
-    after = call-holds limit bs k read ws l h c
+    no-acts : (r : ℕ) → callRefusal limit p l c ≡ suc r → here ≡ []
+    no-acts r e =
+        ap (λ x. made x (actsOf p ρ (led ws) c)) (ap (λ o. o .answer) (call-refused limit bs k read ws l h c r e)) ∙ (unfold made in refl)
 
-    done-acts : (fs : List ℕ) → callOutcome limit bs ws c .answer ≡ done fs → here ≡ actsOf p l c
-    done-acts fs e = ap (λ x. made x (actsOf p (led ws) c)) e ∙ (unfold made in ap (λ m. actsOf p m c) (h .reads))
+    some-acts : callRefusal limit p l c ≡ 0 → here ≡ actsOf p ρ l c
+    some-acts e =
+        ap (λ x. made x (actsOf p ρ (led ws) c)) (ap (λ o. o .answer) (call-accepted limit bs k read ws l h c e))
+        ∙ (unfold made in ap (λ m. actsOf p ρ m c) (h .reads))
 
-    no-acts : (r : ℕ) → callOutcome limit bs ws c .answer ≡ refusal r → here ≡ []
-    no-acts r e = ap (λ x. made x (actsOf p (led ws) c)) e ∙ (unfold made in refl)
+    still : (r : ℕ) → callRefusal limit p l c ≡ suc r → Held words l
+    still r e = subst (Holds limit bs k read words) (next-refused limit p l c (λ z. not-zero e z)) (call-holds limit bs k read ws l h c)
 
-    took : Sound limit p l → callRefusal limit p l c ≡ 0 → Kept limit p (next limit p l c)
-        → Over last ⊎ Run p (view p (next limit p l c)) rest (view p last)
-        → Over last ⊎ Run p (view p l) (here ++ rest) (view p last)
-    took s e (inl o) r = inl (over-stays cs words (next limit p l c) after o)
-    took s e (inr v) (inl o) = inl o
-    took s e (inr v) (inr r) =
-        let x = exactly p ok limit l s c e in
-        let q = next-accepted limit p l c e in
-        let w = goes-on p ok limit (next limit p l c) c (x .reached) v (ap (view p) q ∙ x .left) in
-        inr
-        (subst (λ z. Run p (view p l) (z ++ rest) (view p last)) (sym (done-acts _ (ap (λ o. o .answer) (call-accepted limit bs k read ws l h c e))))
-        (run-then p (run-same p (x .run) w) r))
+    refused-of : Over l → (r : ℕ) × (callRefusal limit p l c ≡ suc r)
+    refused-of o = go (callRefusal limit p l c) refl
+      where
+        go : (n : ℕ) → callRefusal limit p l c ≡ n → (r : ℕ) × (callRefusal limit p l c ≡ suc r)
+        go zero e = absurd (over-refused limit p l (over-is p l o) c e)
+        go (suc r) e = (r, e)
 
-    stayed : (r : ℕ) → callRefusal limit p l c ≡ suc r → Over last ⊎ Run p (view p l) rest (view p last)
-        → Over last ⊎ Run p (view p l) (here ++ rest) (view p last)
-    stayed r e (inl o) = inl o
-    stayed r e (inr w) =
-        inr
-        (subst (λ z. Run p (view p l) (z ++ rest) (view p last)) (sym (no-acts (suc r) (ap (λ o. o .answer) (call-refused limit bs k read ws l h c r e)))) w)
-
-    go : Kept limit p l → (r : ℕ) → callRefusal limit p l c ≡ r
-        → ((m : Ledger) → Holds limit bs k read words m → Over last ⊎ Run p (view p m) rest (view p last))
-        → Over last ⊎ Run p (view p l) (here ++ rest) (view p last)
-    go (inl o) r e ih = inl (over-stays cs words (next limit p l c) after (subst Over (sym (next-refused limit p l c (λ z. over-refused limit p l (over-is p l o) c z))) o))
-    go (inr s) zero e ih = took s e (after .kept) (ih (next limit p l c) after)
-    go (inr s) (suc r) e ih =
-        stayed r e (ih l (subst (Holds limit bs k read words) (next-refused limit p l c (λ z. let w : suc r ≡ 0 = sym e ∙ z in omega arith)) after))
-
-  -- from words that hold a ledger
-  from-run : (cs : List Call) (ws : List ℕ) (l : Ledger) → Holds limit bs k read ws l
-      → Over (led (wordsFrom limit bs ws cs)) ⊎ Run p (view p l) (actsFrom limit bs p ws cs) (view p (led (wordsFrom limit bs ws cs)))
+  -- over: no more steps, and nothing changes
+  over-rest : (cs : List Call) (ws : List ℕ) (l : Ledger) → Held ws l → Over l → (actsFrom limit bs p ρ ws cs ≡ []) × (led (wordsFrom limit bs ws cs) ≡ l)
   unfolding wordsFrom actsFrom
-  from-run [] ws l h = inr (run-same p stop (ap (view p) (sym (h .reads))))
-  from-run (c ∷ cs) ws l h = go c cs ws l h (h .kept) (callRefusal limit p l c) refl (from-run cs (callOutcome limit bs ws c .words))
+  over-rest [] ws l h o = (refl, h .reads)
+  over-rest (c ∷ cs) ws l h o =
+      let (r, e) = refused-of ws l h c o in
+      let (x, y) = over-rest cs (words ws l h c) l (still ws l h c r e) o in
+      (ap (λ v. v ++ actsFrom limit bs p ρ (words ws l h c) cs) (no-acts ws l h c r e) ∙ x, y)
 
-  -- a list of calls is a run from init, one call's steps after the other's, unless it ends over
+  from-run : (cs : List Call) (ws : List ℕ) (l : Ledger) → Held ws l → Sound limit p l → Played p ρ (view p ρ l) (actsFrom limit bs p ρ ws cs) (led (wordsFrom limit bs ws cs))
+  unfolding wordsFrom actsFrom
+  from-run [] ws l h s = record { reached = view p ρ l; run = stop; shown = inl (ap (view p ρ) (h .reads)) }
+  from-run (c ∷ cs) ws l h s = go (callRefusal limit p l c) refl (λ m g v. from-run cs (words ws l h c) m g v)
+    where
+      rest : List Act
+      rest = actsFrom limit bs p ρ (words ws l h c) cs
+
+      last : Ledger
+      last = led (wordsFrom limit bs (words ws l h c) cs)
+
+      Rest : Type 0
+      Rest = (m : Ledger) → Held (words ws l h c) m → Sound limit p m → Played p ρ (view p ρ m) rest last
+
+      took : callRefusal limit p l c ≡ 0 → Kept limit p (next limit p l c) → Rest → Played p ρ (view p ρ l) (actsOf p ρ l c ++ rest) last
+      took e (inr v) ih =
+          let x = stepwise p ρ ok limit l s c e in
+          let q = ap (view p ρ) (next-accepted limit p l c e) ∙ x .left in
+          joined p ρ ok (run-same p ρ (x .run) (goes-on p ρ ok limit (next limit p l c) c (x .reached) v q)) (ih (next limit p l c) (call-holds limit bs k read ws l h c) v)
+      took e (inl o) ih =
+          let x = stepwise p ρ ok limit l s c e in
+          let q = ap (view p ρ) (next-accepted limit p l c e) ∙ x .left in
+          let (a, b) = over-rest cs (words ws l h c) (next limit p l c) (call-holds limit bs k read ws l h c) o in
+          joined p ρ ok (x .run)
+          (subst (λ z. Played p ρ (x .reached) z last) (sym a)
+          (subst (λ z. Played p ρ (x .reached) [] z) (sym b) (record { reached = x .reached; run = stop; shown = shown-or-ended p ρ ok c (next limit p l c) (x .reached) q })))
+
+      go : (n : ℕ) → callRefusal limit p l c ≡ n → Rest → Played p ρ (view p ρ l) (here ws l h c ++ rest) last
+      go zero e ih =
+          subst (λ z. Played p ρ (view p ρ l) (z ++ rest) last) (sym (some-acts ws l h c e)) (took e (call-holds limit bs k read ws l h c .kept) ih)
+      go (suc r) e ih = subst (λ z. Played p ρ (view p ρ l) (z ++ rest) last) (sym (no-acts ws l h c r e)) (ih l (still ws l h c r e) s)
+
+  -- every list of calls
   pub list-run : (lent : List ℕ) (cs : List Call) → beginOutcome limit bs lent .answer ≡ done []
-      → Over (ledgerAfter limit bs p lent cs) ⊎ Run p (init p (isRoot p)) (actsAfter limit bs p lent cs) (view p (ledgerAfter limit bs p lent cs))
+      → Played p ρ (init p (isRoot p)) (actsAfter limit bs p ρ lent cs) (ledgerAfter limit bs p lent cs)
   unfolding ledgerAfter wordsAfter actsAfter
   list-run lent cs h =
       let w = beginOutcome limit bs lent .words in
-      subst (λ z. Over (led (wordsFrom limit bs w cs)) ⊎ Run p z (actsFrom limit bs p w cs) (view p (led (wordsFrom limit bs w cs)))) (begin-init p ok)
-      (from-run cs w (begun p) (begin-holds limit bs k read lent h))
+      subst (λ z. Played p ρ z (actsFrom limit bs p ρ w cs) (led (wordsFrom limit bs w cs))) (begin-init p ok ρ)
+      (from-run cs w (begun p) (begin-holds limit bs k read lent h) (begun-sound laws01 limit p ok))
 
-  kept-nested : (l : Ledger) → Kept limit p l → (t : ℕ) → Awake l t → Nested p l
-  kept-nested l (inl o) t a = clash a (ap (λ (c : Configuration). isAwake (c .mode)) (o t) ∙ sleeping-asleep)
-  kept-nested l (inr s) t a = s .formed .nested
+  -- a call answers and leaves what its big steps end in, and nothing else; a refused one stays
+  answered : (ws : List ℕ) (l : Ledger) → Held ws l → (c : Call) (d : Conf)
+      → Answered p ρ (callOutcome limit bs ws c .answer) c (view p ρ l) d ↔ (d ≡ view p ρ (next limit p l c))
+  answered ws l h c d = go (h .kept) (callRefusal limit p l c) refl
+    where
+      go : Kept limit p l → (r : ℕ) → callRefusal limit p l c ≡ r
+          → Answered p ρ (callOutcome limit bs ws c .answer) c (view p ρ l) d ↔ (d ≡ view p ρ (next limit p l c))
+      go (inl o) zero e = absurd (over-refused limit p l (over-is p l o) c e)
+      go (inr s) zero e =
+          subst (λ m. Answered p ρ (callOutcome limit bs ws c .answer) c (view p ρ l) d ↔ (d ≡ view p ρ m)) (sym (next-accepted limit p l c e))
+          (subst (λ a. Answered p ρ a c (view p ρ l) d ↔ (d ≡ view p ρ (after limit p l c)))
+          (sym (ap (λ o. o .answer) (call-accepted limit bs k read ws l h c e)))
+          (unfold Answered in exactly p ρ ok limit l s c e .ends d))
+      go w (suc r) e =
+          subst (λ m. Answered p ρ (callOutcome limit bs ws c .answer) c (view p ρ l) d ↔ (d ≡ view p ρ m)) (sym (next-refused limit p l c (λ z. not-zero e z)))
+          (subst (λ a. Answered p ρ a c (view p ρ l) d ↔ (d ≡ view p ρ l))
+          (sym (ap (λ o. o .answer) (call-refused limit bs k read ws l h c r e)))
+          (unfold Answered in (λ q. q, λ q. q)))
+
+  from-ends : (cs : List Call) (ws : List ℕ) (l : Ledger) → Held ws l → (d : Conf)
+      → EndsFrom limit bs p ρ ws cs (view p ρ l) d ↔ (d ≡ view p ρ (led (wordsFrom limit bs ws cs)))
+  unfolding EndsFrom wordsFrom
+  from-ends [] ws l h d = let e = ap (view p ρ) (h .reads) in (λ q. q ∙ sym e, λ q. q ∙ e)
+  from-ends (c ∷ cs) ws l h d =
+      let m = next limit p l c in
+      let rest = from-ends cs (callOutcome limit bs ws c .words) m (call-holds limit bs k read ws l h c) d in (
+        λ x.
+            let (e, a, y) = x in
+            rest .0 (subst (λ z. EndsFrom limit bs p ρ (callOutcome limit bs ws c .words) cs z d) (answered ws l h c e .0 a) y),
+        λ q. (view p ρ m, answered ws l h c (view p ρ m) .1 refl, rest .1 q),
+      )
+
+  -- Proposition 1, over a list of calls: the big steps from init end in what the ledger shows, and nowhere else
+  pub list-ends : (lent : List ℕ) (cs : List Call) → beginOutcome limit bs lent .answer ≡ done [] → (d : Conf)
+      → EndsFrom limit bs p ρ (beginOutcome limit bs lent .words) cs (init p (isRoot p)) d ↔ (d ≡ view p ρ (ledgerAfter limit bs p lent cs))
+  unfolding ledgerAfter wordsAfter
+  list-ends lent cs h d =
+      let w = beginOutcome limit bs lent .words in
+      subst (λ z. EndsFrom limit bs p ρ w cs z d ↔ (d ≡ view p ρ (led (wordsFrom limit bs w cs)))) (begin-init p ok ρ)
+      (from-ends cs w (begun p) (begin-holds limit bs k read lent h) d)
+
+  kept-sound : (l : Ledger) → Kept limit p l → (t : ℕ) → Awake l t → Sound limit p l
+  kept-sound l (inl o) t a = clash a (ap (λ (c : Configuration). isAwake (c .mode)) (o t) ∙ sleeping-asleep)
+  kept-sound l (inr s) t a = s
 
   -- Self-cancelling, of lists of calls: where every root is withdrawn, what the calls did and took back of each root cancels out.
-  pub calls-cancel : (comp : ℕ → ℕ) → Perfect comp p → (lent : List ℕ) (cs : List Call) → beginOutcome limit bs lent .answer ≡ done []
+  pub calls-cancel : (comp : ℕ → ℕ) (lent : List ℕ) (cs : List Call) → beginOutcome limit bs lent .answer ≡ done []
       → AllWithdrawn p (ledgerAfter limit bs p lent cs)
-      → (A : ℕ) → A < trackCount p → isRoot p A ≡ true → cancOut comp (projected A (actsAfter limit bs p lent cs)) ≡ []
-  calls-cancel comp perfect lent cs h w A b r =
+      → (A : ℕ) → PerfectAt comp p A → A < trackCount p → isRoot p A ≡ true → cancOut comp (projected A (actsAfter limit bs p ρ lent cs)) ≡ []
+  calls-cancel comp lent cs h w A perfect b r =
       let l = ledgerAfter limit bs p lent cs in
       let a : Awake l A = undoing-awake (l A .mode) (is-undoing (l A .mode) (w A b r .undoing)) in
-      elim (list-run lent cs h) [
-        | inl o ↦ clash a (ap (λ (c : Configuration). isAwake (c .mode)) (o A) ∙ sleeping-asleep)
-        | inr q ↦ corollary1 p ok comp perfect (actsAfter limit bs p lent cs) (view p l) q (withdrawn-compensated p ok l (nested-after a) w) A b r
+      let s = sound-after a in
+      let q = list-run lent cs h in
+      elim (q .shown) [
+        | inr o ↦ absurd (over-unlike p ρ ok limit l s (o .1))
+        | inl e ↦
+            corollary1 p ρ ok comp A perfect (actsAfter limit bs p ρ lent cs) (view p ρ l) (run-same p ρ (q .run) (sym e))
+            (withdrawn-compensated p ρ ok l (s .formed .nested) w) b r
       ]
     where
-      nested-after : Awake (ledgerAfter limit bs p lent cs) A → Nested p (ledgerAfter limit bs p lent cs)
-      nested-after a =
+      sound-after : Awake (ledgerAfter limit bs p lent cs) A → Sound limit p (ledgerAfter limit bs p lent cs)
+      sound-after a =
           unfold ledgerAfter wordsAfter in
           let (m, g) = list-holds limit bs k read cs (beginOutcome limit bs lent .words) (begun p) (begin-holds limit bs k read lent h) in
-          kept-nested (ledgerAfter limit bs p lent cs) (subst (Kept limit p) (sym (g .reads)) (g .kept)) A a
+          kept-sound (ledgerAfter limit bs p lent cs) (subst (Kept limit p) (sym (g .reads)) (g .kept)) A a

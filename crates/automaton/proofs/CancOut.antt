@@ -2,7 +2,7 @@
 -- Assumes nothing.
 use mathlib.Core.Path.{_≡_, refl, sym, ap, _∙_}
 use mathlib.Core.Bool.{false}
-use mathlib.Core.List.{List, [], _∷_, _++_}
+use mathlib.Core.List.{List, [], _∷_, _++_, append-nil}
 use Prim.Native.Nat.{ℕ}
 use borrow.Author.Tests.{eq-eqb}
 use Rattle.rules.proofs.Tests.{or-false}
@@ -41,10 +41,6 @@ module _ (comp : ℕ → ℕ) where
   onto-onto [] u v = refl
   onto-onto (x ∷ w) u v = onto-onto w (x ∷ u) v
 
-  append-none : (w : List Symbol) → w ++ [] ≡ w
-  append-none [] = refl
-  append-none (x ∷ w) = ap (λ z. x ∷ z) (append-none w)
-
   left-none : (w : List Symbol) (x : Symbol) (v : List Symbol) → hasPair comp (x ∷ w) ≡ false → leftOf comp (x ∷ v) w ≡ onto w (x ∷ v)
   unfolding leftOf onto leftAfter hasPair
   left-none [] x v h = refl
@@ -60,4 +56,4 @@ module _ (comp : ℕ → ℕ) where
   -- "cancOut(w) = w otherwise"
   pub cancOut-none : (w : List Symbol) → hasPair comp w ≡ false → cancOut comp w ≡ w
   unfolding cancOut onto
-  cancOut-none w h = ap (λ z. onto z []) (left-whole w h) ∙ onto-onto w [] [] ∙ append-none w
+  cancOut-none w h = ap (λ z. onto z []) (left-whole w h) ∙ onto-onto w [] [] ∙ append-nil w

@@ -19,20 +19,21 @@ use Rattle.rules.proofs.Closing.{closing-final, closed-host, closed-root, close
 use Rattle.theory.proofs.Nesting.{Awake, Nested, state-of, open-host}
 use Rattle.theory.proofs.Closing.{closing-open, closes-known, closes-of, closing-busy, closing-open-track, closing-direct}
 use Rattle.restoration.proofs.Theorems01.{installed-mode, installed-state, installed-held, closed-awake}
-use Rattle.automaton.specs.Configuration.{forward, NConf, Basic, push, hasTerminated}
-use Rattle.automaton.specs.Semantics.{nestsucAt, Step, NESTSUC, Run}
+use Rattle.automaton.specs.Configuration.{forward, NConf, Basic, Nest, push, hasTerminated}
+use Rattle.automaton.specs.Semantics.{Reading, nestsucAt, Step, NESTSUC, Run}
 use Rattle.automaton.specs.View.{stackOf, directionOf, isWithin, basic, nested, viewOf, isOnTop, view, scopeView, closers}
 use Rattle.automaton.proofs.Listings.{alike, listed-length, run-same}
 use Rattle.automaton.proofs.Frames.{same-conf, within-parts, within-of, top-parts, top-of, hosted-above, shown-free, shown-busy, view-law}
+use Rattle.automaton.proofs.Entered.{facing-forward}
 use Rattle.automaton.proofs.Terminated.{closing-terminated}
-use Rattle.automaton.proofs.Replacing.{frames-view, allStepped, stepped-all, stepped-not, steps-run}
+use Rattle.automaton.proofs.Replacing.{unchanged, frames-view, allStepped, stepped-all, stepped-not, steps-run}
 use Rattle.automaton.proofs.Moving.{stack-install}
 
 no-state : optional noState ≡ none
 unfolding optional
 no-state = rw (eq-eqb noState noState refl)
 
-module _ (p : Plan) (ok : Accepted p) (l : Ledger) (n : Nested p l) where
+module _ (p : Plan) (ρ : Reading) (ok : Accepted p) (l : Ledger) (n : Nested p l) where
   abbrev m : Ledger
   m = closed p l
 
@@ -49,17 +50,25 @@ module _ (p : Plan) (ok : Accepted p) (l : Ledger) (n : Nested p l) where
   apart : (t u : ℕ) → closesScope p l t ≡ true → closesScope p l u ≡ true → isAbove p t u ≡ true → ⊥
   apart t u h k a = clash (closing-direct p ok l n t h u a (awake u k)) (closing-open-track p ok l n u k)
 
-  ends : (t : ℕ) → closesScope p l t ≡ true → Step p (viewOf p l t) (nestsucAt t) (replacedBy t)
+  going : (t : ℕ) → closesScope p l t ≡ true → isForward (l t .mode) ≡ true
+  going t h =
+      let (a, c) = closes-known p l t h in
+      let (u, b, e, w) = open-find p l (l t .state) (closing-open p l (l t .state) c) in
+      let same : l t .mode ≡ l u .mode = ap (λ x. l x .mode) (sym (own t a)) ∙ n .hosted u (l t .state) w e .1 in
+      ap isForward same ∙ closing-final p l (l t .state) u c b e .0
+
+  ends : (t : ℕ) → closesScope p l t ≡ true → Step p ρ (viewOf p ρ l t) (nestsucAt t) (replacedBy t)
   unfolding nested replacedBy scopeView
   ends t h =
       let (a, c) = closes-known p l t h in
       let o = closing-open p l (l t .state) c in
-      let one : viewOf p l t ≡ nested p l t (scopeView p l t) =
-      view-law p l ok t (n .below t a) ∙ shown-busy p l t (viewOf p l) (closing-busy p ok l n t h) in
-      let done : hasTerminated p (scopeView p l t) ≡ true =
-      ap (λ x. hasTerminated p (scopeView p l x)) (sym (own t a)) ∙ sym (closing-terminated p ok l n (l t .state) o) ∙ c in
-      subst (λ z. Step p z (nestsucAt t) (replacedBy t)) (sym one)
-      (NESTSUC t (l t .state) (stackOf (l t .held)) (scopeView p l t) done)
+      let one : viewOf p ρ l t ≡ nested p ρ l t (scopeView p ρ l t) =
+      view-law p ρ l ok t (n .below t a) ∙ shown-busy p ρ l t (viewOf p ρ l) (closing-busy p ok l n t h) in
+      let done : hasTerminated p (scopeView p ρ l t) ≡ true =
+      ap (λ x. hasTerminated p (scopeView p ρ l x)) (sym (own t a)) ∙ sym (closing-terminated p ρ ok l n (l t .state) o) ∙ c in
+      subst (λ z. Step p ρ z (nestsucAt t) (replacedBy t))
+      (sym (one ∙ ap (λ d. Nest t (l t .state) d (stackOf (l t .held)) (scopeView p ρ l t)) (facing-forward ρ (l t .mode) (going t h))))
+      (NESTSUC t (l t .state) (stackOf (l t .held)) (scopeView p ρ l t) done)
 
   closed-free : (t : ℕ) → closesScope p l t ≡ true → hasOpenScope p m t ≡ false
   closed-free t h =
@@ -69,14 +78,7 @@ module _ (p : Plan) (ok : Accepted p) (l : Ledger) (n : Nested p l) where
       let (d, w) = closed-awake p l u a in
       clash (closing-direct p ok l n t h u (hosted-above p ok t u (subst (λ x. isHostedBy p x u ≡ true) o (host-by p u k e))) w) d)
 
-  going : (t : ℕ) → closesScope p l t ≡ true → isForward (l t .mode) ≡ true
-  going t h =
-      let (a, c) = closes-known p l t h in
-      let (u, b, e, w) = open-find p l (l t .state) (closing-open p l (l t .state) c) in
-      let same : l t .mode ≡ l u .mode = ap (λ x. l x .mode) (sym (own t a)) ∙ n .hosted u (l t .state) w e .1 in
-      ap isForward same ∙ closing-final p l (l t .state) u c b e .0
-
-  replaced-view : (t : ℕ) → t < trackCount p → closesScope p l t ≡ true → replacedBy t ≡ viewOf p m t
+  replaced-view : (t : ℕ) → t < trackCount p → closesScope p l t ≡ true → replacedBy t ≡ viewOf p ρ m t
   unfolding replacedBy basic directionOf
   replaced-view t b h =
       let r = replacement p (l t .state) in
@@ -88,8 +90,8 @@ module _ (p : Plan) (ok : Accepted p) (l : Ledger) (n : Nested p l) where
       ∙ ap (λ d. push r d (stackOf (l t .held))) no-state in
       ap₂ (λ q S. Basic t q forward S) (sym st) (sym hd)
       ∙ ap (λ x. Basic t (m t .state) (directionOf x) (stackOf (m t .held))) (sym wy)
-      ∙ sym (shown-free p m t (viewOf p m) (closed-free t h))
-      ∙ sym (view-law p m ok t b)
+      ∙ sym (shown-free p ρ m t (viewOf p ρ m) (closed-free t h))
+      ∙ sym (view-law p ρ m ok t b)
 
   stays-awake : (t : ℕ) → isClosed p l t ≡ false → isAwake (m t .mode) ≡ isAwake (l t .mode)
   stays-awake t c = ap isAwake (closed-alike p l t c .0)
@@ -110,14 +112,14 @@ module _ (p : Plan) (ok : Accepted p) (l : Ledger) (n : Nested p l) where
   root-awake t e = stays-awake t (closed-root p l t e)
 
   abbrev all : ℕ → Option NConf
-  all = allStepped p ok l n (closesScope p l) nestsucAt replacedBy awake apart ends
+  all = allStepped p ρ ok l n (closesScope p l) nestsucAt replacedBy awake apart ends
 
-  -- "then one NESTSUC for each scope that closes"
-  pub closing-run : Run p (view p l) (closers p l) (view p m)
+  -- one NESTSUC for each scope that closes
+  pub closing-run : Run p ρ (view p ρ l) (closers p l) (view p ρ m)
   unfolding closers
   closing-run =
-      run-same p (steps-run p ok l n (closesScope p l) nestsucAt replacedBy awake apart ends)
-      (frames-view p ok l all m
+      run-same p ρ (steps-run p ρ ok l n (closesScope p l) nestsucAt replacedBy awake apart ends)
+      (frames-view p ρ ok l all m
       (λ t b.
       alike (isOnTop p l t) (isOnTop p m t)
       (λ y. let (h, a) = top-parts p l t y in top-of p m t h (root-awake t h ∙ a))
@@ -125,20 +127,14 @@ module _ (p : Plan) (ok : Accepted p) (l : Ledger) (n : Nested p l) where
       (λ t d b a w q.
       elim (look (closesScope p l t)) [
         | inl h ↦
-            same-conf d (replacedBy t) (sym q ∙ stepped-all p ok l n (closesScope p l) nestsucAt replacedBy awake apart ends t h) ∙ replaced-view t b h
-        | inr h ↦ none-some (stepped-not p ok l n (closesScope p l) nestsucAt replacedBy awake apart ends t h) q
+            same-conf d (replacedBy t) (sym q ∙ stepped-all p ρ ok l n (closesScope p l) nestsucAt replacedBy awake apart ends t h) ∙ replaced-view t b h
+        | inr h ↦ none-some (stepped-not p ρ ok l n (closesScope p l) nestsucAt replacedBy awake apart ends t h) q
       ])
       (λ t b a w q.
       elim (look (closesScope p l t)) [
-        | inl h ↦ none-some q (stepped-all p ok l n (closesScope p l) nestsucAt replacedBy awake apart ends t h)
+        | inl h ↦ none-some q (stepped-all p ρ ok l n (closesScope p l) nestsucAt replacedBy awake apart ends t h)
         | inr h ↦
-            let z = sym (closed-kept p l t (closed-awake p l t w .0) h) in
-            record {
-              within = λ u c. same-within t a h u;
-              state = ap (λ (c : Configuration). c .state) z;
-              held = ap (λ (c : Configuration). c .held) z;
-              way = λ f. ap (λ (c : Configuration). isForward (c .mode)) z;
-            }
+            unchanged p ρ ok l m t (λ u c. same-within t a h u) (closed-kept p l t (closed-awake p l t w .0) h)
       ]))
 
   -- each scope has one host: so many close as hosts have their scope closed

@@ -2,13 +2,14 @@
 -- on its first state. From the highest track down. So begin is init. Assumes nothing.
 use mathlib.Core.Path.{_≡_, refl, sym, ap, ap₂, _∙_, subst}
 use mathlib.Core.Logic.{inl, inr}
-use mathlib.Core.Bool.{Bool, true, false, cond, _&&_, _||_}
+use mathlib.Core.Bool.{true, false, cond, or-false, _&&_, _||_}
 use mathlib.Core.List.{List, []}
 use mathlib.Core.Option.{Option, none, some}
 use Prim.Native.Nat.{ℕ, zero, suc, _+_, _<_, _≤_}
 use native.Mathlib.Omega.{arith}
 use lib.Dec.{eqb}
 use borrow.Author.Tests.{eq-eqb}
+use Rattle.rules.specs.declared.Mode.{Mode}
 use Rattle.rules.specs.declared.Mode.the-variants.{Forward}
 use Rattle.rules.specs.Plan.{Plan, trackCount, host, owner, isRoot, isStateOf, isIn, isHostedBy, isHosting, firstState}
 use Rattle.rules.specs.Ledger.{Entry, Configuration, Ledger, isAwake, isForward, sleeping}
@@ -25,9 +26,16 @@ use Rattle.theory.proofs.Entering.{Enterable, fresh-awake, woken-asleep, awake-
 use Rattle.theory.proofs.SoundBegin.{all-asleep, asleep-formed, roots-free}
 use Rattle.automaton.specs.Listing.{listed}
 use Rattle.automaton.specs.Configuration.{forward, Stack, Basic, Nest, Vect, initBy, gotoTo, goto, init}
-use Rattle.automaton.specs.View.{stackOf, directionOf, isWithin, basic, nested, shown, viewOf, isOnTop, view}
+use Rattle.automaton.specs.Semantics.{Reading, basicAlone, nestedToo}
+use Rattle.automaton.specs.View.{stackOf, directionOf, facing, isWithin, basic, nested, shown, viewOf, isOnTop, view}
 use Rattle.automaton.proofs.Listings.{alike, listed-same}
 use Rattle.automaton.proofs.Frames.{down, within-parts, within-of, view-law}
+
+-- a forward host is shown forward in either reading
+pub facing-forward : (ρ : Reading) (m : Mode) → isForward m ≡ true → facing ρ m ≡ forward
+unfolding facing directionOf
+facing-forward basicAlone m h = refl
+facing-forward nestedToo m h = rw h
 
 module _ (p : Plan) (ok : Accepted p) where
   in-owner : (q u : ℕ) → isIn p q u ≡ true → isHostedBy p (owner p q) u ≡ true
@@ -44,24 +52,25 @@ module _ (p : Plan) (ok : Accepted p) where
       let d = ok .lower B q (in-host p q B i) in
       goto-more n B (firstState p B) [] c (let z : owner p q ≡ A = e in omega arith) (state-of p B (firstState p B) (ok .first-own B c) .1)))
 
-  pub goto-law : (A q : ℕ) (S : Stack) → isStateOf p A q ≡ true → A < trackCount p
+  goto-law : (A q : ℕ) (S : Stack) → isStateOf p A q ≡ true → A < trackCount p
       → goto p A q S ≡ cond (isHosting p q) (Nest A q forward S (init p (isIn p q))) (Basic A q forward S)
   unfolding goto init gotoTo
   goto-law A q S h b = goto-more (trackCount p) A q S b (omega arith) (state-of p A q h .1)
 
   -- a track forward in a state, with that state's scope open and all in it at the start
-  module _ (m : Ledger) (t q : ℕ) (es : List Entry) (b : t < trackCount p) (own : isStateOf p t q ≡ true)
+  module _ (ρ : Reading) (m : Ledger) (t q : ℕ) (es : List Entry) (b : t < trackCount p) (own : isStateOf p t q ≡ true)
       (at : m t ≡ record { mode = Forward; state = q; held = es })
       (same : (u : ℕ) → u < trackCount p → isWithin p m t u ≡ isIn p q u)
-      (inner : (u : ℕ) → u < trackCount p → isIn p q u ≡ true → viewOf p m u ≡ goto p u (firstState p u) []) where
-    pub opened : viewOf p m t ≡ goto p t q (stackOf es)
+      (inner : (u : ℕ) → u < trackCount p → isIn p q u ≡ true → viewOf p ρ m u ≡ goto p u (firstState p u) []) where
+    pub opened : viewOf p ρ m t ≡ goto p t q (stackOf es)
     unfolding shown nested basic init initBy directionOf isForward
     opened =
-        view-law p m ok t b
-        ∙ ap (λ (c : Configuration). cond (hasOpenScope p m t) (Nest t (c .state) forward (stackOf (c .held)) (Vect (listed (trackCount p) (isWithin p m t) (viewOf p m))))
+        view-law p ρ m ok t b
+        ∙ ap (λ (c : Configuration). cond (hasOpenScope p m t) (Nest t (c .state) (facing ρ (c .mode)) (stackOf (c .held)) (Vect (listed (trackCount p) (isWithin p m t) (viewOf p ρ m))))
         (Basic t (c .state) (directionOf (isForward (c .mode))) (stackOf (c .held)))) at
+        ∙ ap (λ d. cond (hasOpenScope p m t) (Nest t q d (stackOf es) (Vect (listed (trackCount p) (isWithin p m t) (viewOf p ρ m)))) (Basic t q forward (stackOf es))) (facing-forward ρ Forward refl)
         ∙ ap₂ (λ x y. cond x (Nest t q forward (stackOf es) (Vect y)) (Basic t q forward (stackOf es))) busy
-        (listed-same (trackCount p) (isWithin p m t) (isIn p q) (viewOf p m) (λ A. goto p A (firstState p A) []) same (λ k c y. inner k c (sym (same k c) ∙ y)))
+        (listed-same (trackCount p) (isWithin p m t) (isIn p q) (viewOf p ρ m) (λ A. goto p A (firstState p A) []) same (λ k c y. inner k c (sym (same k c) ∙ y)))
         ∙ sym (goto-law t q (stackOf es) own b)
       where
         busy : hasOpenScope p m t ≡ isHosting p q
@@ -101,14 +110,14 @@ module _ (p : Plan) (ok : Accepted p) where
         let e = in-host p q u i in
         within-of p m t u (subst (λ x. isHostedBy p x u ≡ true) (state-of p t q own .1) (in-owner q u i)) (woken-awake u q (w u i) e))
 
-    pub record Goes (t : ℕ) : Type 0 where
-      pub enters : (q : ℕ) → to t ≡ some q → viewOf p m t ≡ goto p t q (stackOf (l t .held))
-      pub wakens : to t ≡ none → wakes p to t ≡ true → viewOf p m t ≡ goto p t (firstState p t) []
+    pub record Goes (ρ : Reading) (t : ℕ) : Type 0 where
+      pub enters : (q : ℕ) → to t ≡ some q → viewOf p ρ m t ≡ goto p t q (stackOf (l t .held))
+      pub wakens : to t ≡ none → wakes p to t ≡ true → viewOf p ρ m t ≡ goto p t (firstState p t) []
 
-    pub goes : (t : ℕ) → t < trackCount p → Goes t
+    pub goes : (ρ : Reading) (t : ℕ) → t < trackCount p → Goes ρ t
     unfolding fresh stackOf
-    goes =
-        down (trackCount p) Goes
+    goes ρ =
+        down (trackCount p) (Goes ρ)
         (λ t b ih.
         record {
           enters =
@@ -118,7 +127,7 @@ module _ (p : Plan) (ok : Accepted p) where
               let ow = state-of p t q own .1 in
               let wake : (u : ℕ) → isIn p q u ≡ true → wakes p to u ≡ true =
               λ u i. wakes-entered p ok to u q q (in-host p q u i) (ap to ow ∙ e) ∙ eq-eqb q q refl in
-              opened m t q (l t .held) b own at (same-scope t q own (ap (λ (c : Configuration). c .state) at) wake)
+              opened ρ m t q (l t .held) b own at (same-scope t q own (ap (λ (c : Configuration). c .state) at) wake)
               (λ u c i. let f = in-host p q u i in ih u c (subst (λ x. x < u) ow (ok .lower u q f)) .wakens (woken-none u (wake u i) q f) (wake u i));
           wakens =
               λ e w.
@@ -130,7 +139,7 @@ module _ (p : Plan) (ok : Accepted p) where
               λ u i.
               wakes-woken p ok to u q (in-host p q u i) (ap to ow ∙ e)
               ∙ and-both (wakes p to (owner p q)) (eqb q (firstState p (owner p q))) (ap (wakes p to) ow ∙ w) (eq-eqb q (firstState p (owner p q)) (ap (firstState p) (sym ow))) in
-              opened m t q [] b own at (same-scope t q own (ap (λ (c : Configuration). c .state) at) wake)
+              opened ρ m t q [] b own at (same-scope t q own (ap (λ (c : Configuration). c .state) at) wake)
               (λ u c i. let f = in-host p q u i in ih u c (subst (λ x. x < u) ow (ok .lower u q f)) .wakens (woken-none u (wake u i) q f) (wake u i));
         })
 
@@ -146,22 +155,18 @@ module _ (p : Plan) (ok : Accepted p) where
               wakes-woken p ok to u h f (ap to o ∙ e)
               ∙ ap (λ x. x && eqb h (firstState p (owner p h)))
               (ap (wakes p to) o ∙ refuted (wakes p to t) (λ w. clash a (woken-asleep p ok l to n g t w))) in
-              ap (λ x. isHostedBy p t u && x) (sym (awake-or p ok l to n g u h f ∙ ap (λ x. isAwake (l u .mode) || x) still ∙ or-none (isAwake (l u .mode))))
+              ap (λ x. isHostedBy p t u && x) (sym (awake-or p ok l to n g u h f ∙ ap (λ x. isAwake (l u .mode) || x) still ∙ or-false (isAwake (l u .mode))))
         ]
-      where
-        or-none : (b : Bool) → (b || false) ≡ b
-        or-none true = refl
-        or-none false = refl
 
-  -- "begin gives init": the view of begin's ledger is the initial configuration of the vector of roots
-  pub begin-init : view p (begun p) ≡ init p (isRoot p)
+  -- the view of begin's ledger is the initial configuration of the vector of roots
+  pub begin-init : (ρ : Reading) → view p ρ (begun p) ≡ init p (isRoot p)
   unfolding view init initBy isOnTop sleeping
-  begin-init =
+  begin-init ρ =
       ap Vect
-      (listed-same (trackCount p) (isOnTop p (begun p)) (isRoot p) (viewOf p (begun p)) (λ A. goto p A (firstState p A) [])
+      (listed-same (trackCount p) (isOnTop p (begun p)) (isRoot p) (viewOf p ρ (begun p)) (λ A. goto p A (firstState p A) [])
       (λ t b.
       alike (isOnTop p (begun p) t) (isRoot p t) (λ h. and-true (isRoot p t) (isAwake (begun p t .mode)) h .0)
       (λ r. and-both (isRoot p t) (isAwake (begun p t .mode)) r (ap (λ (c : Configuration). isAwake (c .mode)) (begun-root p ok t b (root-none p t r)) ∙ fresh-awake p t)))
       (λ t b h.
       let e = root-none p t (and-true (isRoot p t) (isAwake (begun p t .mode)) h .0) in
-      (unfold begun stackOf in goes (all-asleep 0 p ok) (asleep-formed 0 p ok .nested) (rootsFirst p) (roots-free 0 p ok) t b .enters (firstState p t) (roots-to p ok t b e))))
+      (unfold begun stackOf in goes (all-asleep 0 p ok) (asleep-formed 0 p ok .nested) (rootsFirst p) (roots-free 0 p ok) ρ t b .enters (firstState p t) (roots-to p ok t b e))))

@@ -8,24 +8,26 @@ use mathlib.Core.Option.{Option, none, some}
 use Prim.Native.Nat.{ℕ, zero, suc, _+_}
 use native.Mathlib.Omega.{arith}
 use lib.ListN.{length}
+use lib.Dec.{eqb}
+use borrow.Author.Tests.{eqb-true}
 use Rattle.rules.specs.Fold.{countBelow}
-use Rattle.rules.specs.Plan.{Plan, trackCount, optional}
+use Rattle.rules.specs.Plan.{Plan, trackCount, noState, optional}
 use Rattle.rules.specs.Ledger.{Ledger, isForward}
-use Rattle.rules.specs.Scope.{hasOpenScope}
 use Rattle.rules.specs.Event.{moves, moved, closesScope}
 use Rattle.rules.specs.Signal.{turned, turnings}
 use Rattle.rules.specs.Fire.{newest, fired}
 use Rattle.rules.specs.Call.{Call, event, signal, fire, figures}
-use Rattle.rules.proofs.Tests.{look}
+use Rattle.rules.proofs.Tests.{look, clash}
 use Rattle.rules.proofs.Acceptance.{Accepted}
 use Rattle.theory.proofs.Nesting.{Nested}
 use Rattle.restoration.proofs.Theorems01.{moved-nested}
 use Rattle.automaton.specs.Listing.{listedFrom, listed, listedDown}
-use Rattle.automaton.specs.Semantics.{Act, sucAt, failAt, nestsucAt, nestfailAt, trace}
-use Rattle.automaton.specs.View.{leavesScope, isGoing, abandonings, deviating, movings, closers, turners, actsOf}
-use Rattle.automaton.specs.Exactly.{isSuc, isNestsuc, isFail, numberOf, codeIn, codesIn, isTurnedEarly, counted}
+use Rattle.automaton.specs.Semantics.{Reading, basicAlone, nestedToo, Act, sucAt, failAt, nestsucAt, trace}
+use Rattle.automaton.specs.View.{leavesScope, isGoing, leaveAt, abandonings, deviationStep, movings, closers, turners, actsOf}
+use Rattle.automaton.specs.CountedSteps.{isSuc, isNestsuc, isFail, numberOf, codeIn, codesIn, deviationIn, isTurnedEarly, counted}
 use Rattle.automaton.proofs.Listings.{listed-length}
 use Rattle.automaton.proofs.Closing.{closings-counted}
+use Rattle.automaton.proofs.Turning.{going-forward}
 
 -- Steps of joined lists, of a list all of one rule, and of one with none of it.
 number-joined : (f : Act → Bool) (v w : List Act) → numberOf f (v ++ w) ≡ numberOf f v + numberOf f w
@@ -60,6 +62,14 @@ module _ (f : Act → Bool) (h : ℕ → Bool) (g : ℕ → Act) where
       let r = none-down y n in
       elim (look (h n)) [ inl e ↦ rw (e, y n, r) (omega arith) | inr e ↦ rw e r ]
 
+  pub all-down : ((k : ℕ) → f (g k) ≡ true) → (n : ℕ) → numberOf f (listedDown n h g) ≡ countBelow n h
+  unfolding numberOf listedDown countBelow
+  all-down y zero = refl
+  all-down y (suc n) =
+      let r = all-down y n in
+      let x : ℕ = countBelow n h in
+      elim (look (h n)) [ inl e ↦ rw (e, y n, r) (let e : 1 + x ≡ x + 1 = omega arith in e) | inr e ↦ rw (e, r) (let e : x ≡ x + 0 = omega arith in e) ]
+
   all-listed : ((k : ℕ) → f (g k) ≡ true) → (n : ℕ) → numberOf f (listed n h g) ≡ countBelow n h
   unfolding listed
   all-listed y n = all-from y n 0 ∙ listed-length n h g
@@ -68,39 +78,80 @@ module _ (f : Act → Bool) (h : ℕ → Bool) (g : ℕ → Act) where
   unfolding listed
   none-listed y n = none-from y n 0
 
-no-codes-down : (h : ℕ → Bool) (n : ℕ) → codesIn (listedDown n h nestfailAt) ≡ []
-unfolding codesIn codeIn trace listedDown
-no-codes-down h zero = refl
-no-codes-down h (suc n) = elim (look (h n)) [ inl e ↦ rw e (no-codes-down h n) | inr e ↦ rw e (no-codes-down h n) ]
+-- An abandoned scope's step has no label of its own and deviates to nothing, by whichever rule it is.
+leave-code : (ρ : Reading) (k : ℕ) → codeIn (trace (leaveAt ρ k)) ≡ []
+unfolding codeIn trace leaveAt
+leave-code basicAlone k = refl
+leave-code nestedToo k = refl
 
--- a signal turns the forward tracks, with an open scope or without
-one-split : (a b : Bool) → cond a 1 0 ≡ cond (a && not b) 1 0 + cond (a && b) 1 0
-one-split true true = omega arith
-one-split true false = omega arith
-one-split false b = omega arith
+leave-fail : (ρ : Reading) (k : ℕ) → isFail (leaveAt ρ k) ≡ false
+unfolding isFail leaveAt
+leave-fail basicAlone k = refl
+leave-fail nestedToo k = refl
 
-count-split : (n : ℕ) (f g : ℕ → Bool) → countBelow n f ≡ countBelow n (λ t. f t && not (g t)) + countBelow n (λ t. f t && g t)
+leave-deviation : (ρ : Reading) (k : ℕ) (w : List Act) → deviationIn (leaveAt ρ k ∷ w) ≡ deviationIn w
+unfolding deviationIn leaveAt
+leave-deviation basicAlone k w = refl
+leave-deviation nestedToo k w = refl
+
+no-codes-down : (ρ : Reading) (h : ℕ → Bool) (n : ℕ) → codesIn (listedDown n h (leaveAt ρ)) ≡ []
+unfolding codesIn listedDown
+no-codes-down ρ h zero = refl
+no-codes-down ρ h (suc n) = elim (look (h n)) [ inl e ↦ rw (e, leave-code ρ n) (no-codes-down ρ h n) | inr e ↦ rw e (no-codes-down ρ h n) ]
+
+no-deviation-down : (ρ : Reading) (h : ℕ → Bool) (n : ℕ) → deviationIn (listedDown n h (leaveAt ρ)) ≡ noState
+unfolding deviationIn listedDown
+no-deviation-down ρ h zero = refl
+no-deviation-down ρ h (suc n) =
+    elim (look (h n)) [
+      | inl e ↦ rw e (leave-deviation ρ n (listedDown n h (leaveAt ρ)) ∙ no-deviation-down ρ h n)
+      | inr e ↦ rw e (no-deviation-down ρ h n)
+    ]
+
+-- the deviation of an entry is the state of its DEV, 65535 where it has none
+step-deviation : (t d : ℕ) (w : List Act) → deviationIn w ≡ noState → deviationIn (deviationStep t (optional d) ++ w) ≡ d
+unfolding optional deviationStep deviationIn
+step-deviation t d w h = elim (look (eqb d noState)) [ inl e ↦ rw e (h ∙ sym (eqb-true d noState e)) | inr e ↦ rw e ]
+
+step-code : (t : ℕ) (o : Option ℕ) (w : List Act) → codesIn w ≡ [] → codesIn (deviationStep t o ++ w) ≡ []
+unfolding deviationStep codesIn codeIn trace
+step-code t none w h = h
+step-code t (some d) w h = h
+
+-- those of a part, and the others of the whole
+one-split : (a b : Bool) → (b ≡ true → a ≡ true) → cond a 1 0 ≡ cond b 1 0 + cond (a && not b) 1 0
+one-split true true h = omega arith
+one-split true false h = omega arith
+one-split false true h = clash (h refl) refl
+one-split false false h = omega arith
+
+count-split : (n : ℕ) (f g : ℕ → Bool) → ((t : ℕ) → g t ≡ true → f t ≡ true) → countBelow n f ≡ countBelow n g + countBelow n (λ t. f t && not (g t))
 unfolding countBelow
-count-split zero f g = omega arith
-count-split (suc n) f g =
-    let i = count-split n f g in
-    let j = one-split (f n) (g n) in
-    let a : ℕ = countBelow n (λ t. f t && not (g t)) in
-    let b : ℕ = countBelow n (λ t. f t && g t) in
-    let c : ℕ = cond (f n && not (g n)) 1 0 in
-    let d : ℕ = cond (f n && g n) 1 0 in
+count-split zero f g h = omega arith
+count-split (suc n) f g h =
+    let i = count-split n f g h in
+    let j = one-split (f n) (g n) (h n) in
+    let a : ℕ = countBelow n g in
+    let b : ℕ = countBelow n (λ t. f t && not (g t)) in
+    let c : ℕ = cond (g n) 1 0 in
+    let d : ℕ = cond (f n && not (g n)) 1 0 in
     ap₂ (λ x y. x + y) i j ∙ (let e : (a + b) + (c + d) ≡ (a + c) + (b + d) = omega arith in e)
 
-module _ (p : Plan) (ok : Accepted p) (l : Ledger) (n : Nested p l) where
+-- a signal turns the tracks that FAIL turns, and the hosts that turn early
+pub forward-split : (p : Plan) (l : Ledger) (ρ : Reading) → turnings p l ≡ countBelow (trackCount p) (isGoing p ρ l) + countBelow (trackCount p) (isTurnedEarly p ρ l)
+unfolding turnings isTurnedEarly
+forward-split p l ρ = count-split (trackCount p) (λ t. isForward (l t .mode)) (isGoing p ρ l) (λ t h. going-forward p l ρ t h)
+
+module _ (p : Plan) (ρ : Reading) (ok : Accepted p) (l : Ledger) (n : Nested p l) where
   right-none : (a b c : ℕ) → a ≡ c → b ≡ 0 → a + b ≡ c
   right-none a b c e f = omega arith
 
   left-none : (a b c : ℕ) → a ≡ 0 → b ≡ c → a + b ≡ c
   left-none a b c e f = omega arith
 
-  -- "The figures moved, closed and turned are the numbers of those steps; the answer of fire is the label of COMP."
-  pub figures-counted : (limit : ℕ) (c : Call) → figures limit p l c ≡ counted p l c
-  unfolding figures counted actsOf movings closers turners turnings isGoing isTurnedEarly abandonings codesIn codeIn trace
+  -- moved and closed are the numbers of SUC and NESTSUC, turned that of FAIL and of the hosts that turn early; a firing tells its COMP and its DEV
+  pub figures-counted : (limit : ℕ) (c : Call) → figures limit p l c ≡ counted p ρ l c
+  unfolding figures counted actsOf movings closers turners abandonings
   figures-counted limit (event a) =
       let m = moved p l (a .event) in
       let T = trackCount p in
@@ -108,20 +159,20 @@ module _ (p : Plan) (ok : Accepted p) (l : Ledger) (n : Nested p l) where
       ap₂ (λ x y. x ∷ y ∷ [])
       (sym (number-joined isSuc (listed T (moves p l (a .event)) go) (listed T (closesScope p m) nestsucAt)
       ∙ right-none _ _ _ (all-listed isSuc (moves p l (a .event)) go (λ k. unfold isSuc in refl) T) (none-listed isSuc (closesScope p m) nestsucAt (λ k. unfold isSuc in refl) T)))
-      (closings-counted p ok m (moved-nested p l (a .event) ok n) ∙ listed-length T (closesScope p m) nestsucAt
+      (closings-counted p ρ ok m (moved-nested p l (a .event) ok n) ∙ listed-length T (closesScope p m) nestsucAt
       ∙ sym (number-joined isNestsuc (listed T (moves p l (a .event)) go) (listed T (closesScope p m) nestsucAt)
       ∙ left-none _ _ _ (none-listed isNestsuc (moves p l (a .event)) go (λ k. unfold isNestsuc in refl) T) (all-listed isNestsuc (closesScope p m) nestsucAt (λ k. unfold isNestsuc in refl) T)))
   figures-counted limit (signal a) =
       let T = trackCount p in
       ap (λ x. x ∷ [])
-      (count-split T (λ t. isForward (l t .mode)) (hasOpenScope p l)
-      ∙ ap (λ x. x + countBelow T (isTurnedEarly p l))
-      (sym (number-joined isFail (listed T (isGoing p l) failAt) (listedDown T (leavesScope p (turned l)) nestfailAt)
-      ∙ right-none _ _ _ (all-listed isFail (isGoing p l) failAt (λ k. unfold isFail in refl) T) (none-down isFail (leavesScope p (turned l)) nestfailAt (λ k. unfold isFail in refl) T))))
+      (forward-split p l ρ
+      ∙ ap (λ x. x + countBelow T (isTurnedEarly p ρ l))
+      (sym (number-joined isFail (listedDown T (isGoing p ρ l) failAt) (listedDown T (leavesScope p (turned l)) (leaveAt ρ))
+      ∙ right-none _ _ _ (all-down isFail (isGoing p ρ l) failAt (λ k. unfold isFail in refl) T) (none-down isFail (leavesScope p (turned l)) (leaveAt ρ) (leave-fail ρ) T))))
   figures-counted limit (fire a) =
       let t = a .track in
-      ap (λ z. (newest (l t .held) .code ∷ z) ++ (newest (l t .held) .deviation ∷ [])) (sym (none-after (optional (newest (l t .held) .deviation))))
-    where
-      none-after : (o : Option ℕ) → codesIn (deviating p (a .track) o ++ listedDown (trackCount p) (leavesScope p (fired p l (a .track))) nestfailAt) ≡ []
-      none-after none = unfold deviating in no-codes-down (leavesScope p (fired p l (a .track))) (trackCount p)
-      none-after (some d) = unfold deviating codesIn codeIn trace in no-codes-down (leavesScope p (fired p l (a .track))) (trackCount p)
+      let e = newest (l t .held) in
+      let w = listedDown (trackCount p) (leavesScope p (fired p l t)) (leaveAt ρ) in
+      unfold codesIn codeIn trace deviationIn in
+      ap₂ (λ x y. (e .code ∷ x) ++ (y ∷ [])) (sym (step-code t (optional (e .deviation)) w (no-codes-down ρ (leavesScope p (fired p l t)) (trackCount p))))
+      (sym (step-deviation t (e .deviation) w (no-deviation-down ρ (leavesScope p (fired p l t)) (trackCount p))))

@@ -1,5 +1,5 @@
--- A firing is COMP at the track fired, whose configuration is basic and in backward direction, then DEV where the entry deviates, then
--- NESTFAIL once for each scope abandoned. Assumes nothing.
+-- A firing is COMP at the track fired, whose configuration is basic and in backward direction, NESTCOMP, DEV where the entry deviates, then
+-- one step for each scope abandoned. Assumes nothing.
 use mathlib.Core.Path.{_≡_, refl, sym, ap, ap₂, _∙_, subst}
 use mathlib.Core.Logic.{inl, inr}
 use mathlib.Core.Bool.{true, false, cond, _&&_}
@@ -25,13 +25,14 @@ use Rattle.theory.proofs.Entries.{Good}
 use Rattle.theory.proofs.Entering.{Fate, enters, wakens, stays, fate, arrived-awake}
 use Rattle.theory.proofs.Firing.{fired-is, removed-mode, removed-state, removed-here, removed-other, removed-awake, deviates-known, deviates-here, removed-nested, deviates-free, fired-nested, fired-still}
 use Rattle.restoration.proofs.Theorems01.{may-fire}
-use Rattle.automaton.specs.Configuration.{backward, Comp, Dev, Stack, NConf, Basic, pushComp, pushDev, goto}
-use Rattle.automaton.specs.Semantics.{compAt, devAt, Step, COMP, DEV, VStep, Run, stop, step}
-use Rattle.automaton.specs.View.{stackOf, directionOf, isWithin, basic, shown, viewOf, isOnTop, view, abandonings, deviating}
+use Rattle.automaton.specs.Listing.{someOf, everyOf}
+use Rattle.automaton.specs.Configuration.{backward, Comp, Dev, Stack, NConf, Basic, Nest, end, members, pushComp, pushDev, hasTerminated, hasCompensated, goto}
+use Rattle.automaton.specs.Semantics.{Reading, compAt, devAt, nestcompAt, Step, COMP, DEV, NESTCOMP, VStep, Run, stop, step}
+use Rattle.automaton.specs.View.{stackOf, directionOf, isWithin, basic, shown, viewOf, isOnTop, view, abandonings, deviationStep}
 use Rattle.automaton.proofs.Listings.{alike, run-then}
 use Rattle.automaton.proofs.Frames.{same-conf, frame, frames, instead-some, top-parts, top-of, shown-free, busy-alike, view-frame, view-frames, view-law, frame-law, replaced}
 use Rattle.automaton.proofs.Entered as entered
-use Rattle.automaton.proofs.Replacing.{Alike, frames-view}
+use Rattle.automaton.proofs.Replacing.{Alike, unchanged, frames-view}
 use Rattle.automaton.proofs.Leaving.{abandoning-run}
 
 -- the newest entry is on top of the stack: its compensation above its deviation
@@ -40,7 +41,7 @@ unfolding stackOf newest older isEmpty pushComp
 stack-newest [] h = clash refl h
 stack-newest (e ∷ es) h = refl
 
-module _ (p : Plan) (ok : Accepted p) (l : Ledger) (n : Nested p l) (t : ℕ) (g : Good p t (l t .held)) (may : mayFire p l t ≡ true) where
+module _ (p : Plan) (ρ : Reading) (ok : Accepted p) (l : Ledger) (n : Nested p l) (t : ℕ) (g : Good p t (l t .held)) (may : mayFire p l t ≡ true) where
   abbrev m : Ledger
   m = fired p l t
 
@@ -69,7 +70,7 @@ module _ (p : Plan) (ok : Accepted p) (l : Ledger) (n : Nested p l) (t : ℕ) (g
   fired-on = fired-nested p l t ok n g free awake
 
   -- the view with another configuration of the track fired
-  only : NConf → ℕ → Option NConf
+  pub only : NConf → ℕ → Option NConf
   only c u = cond (eqb u t) (some c) none
 
   only-here : (c : NConf) → only c t ≡ some c
@@ -87,40 +88,53 @@ module _ (p : Plan) (ok : Accepted p) (l : Ledger) (n : Nested p l) (t : ℕ) (g
         | inr e ↦ none-some (only-other c u (eqb-false u t e)) h
       ]
 
-  only-frame : (c : NConf) → frame p l (only c) t ≡ c
-  only-frame c = frame-law p l ok (only c) t low ∙ instead-some p l (only c t) (shown p l t (frame p l (only c))) c (only-here c)
+  only-frame : (c : NConf) → frame p ρ l (only c) t ≡ c
+  only-frame c = frame-law p ρ l ok (only c) t low ∙ instead-some (only c t) (shown p ρ l t (frame p ρ l (only c))) c (only-here c)
 
   above-other : (u : ℕ) → isAbove p u t ≡ true → u ≡ t → ⊥
   above-other u a e = let b = above-lower p ok u t a in absurd (omega arith)
 
-  -- after COMP, and after DEV
-  popped : NConf
+  -- after COMP, after NESTCOMP, and after DEV
+  pub begun : NConf
+  begun = Nest t (l t .state) backward (pushDev leads rest) end
+
+  pub popped : NConf
   popped = Basic t (l t .state) backward (pushDev leads rest)
 
-  before : viewOf p l t ≡ Basic t (l t .state) backward (Comp code ∷ pushDev leads rest)
+  before : viewOf p ρ l t ≡ Basic t (l t .state) backward (Comp code ∷ pushDev leads rest)
   unfolding basic directionOf
   before =
-      view-law p l ok t low ∙ shown-free p l t (viewOf p l) free
+      view-law p ρ l ok t low ∙ shown-free p ρ l t (viewOf p ρ l) free
       ∙ ap₂ (λ x S. Basic t (l t .state) (directionOf x) S) back (stack-newest (l t .held) (may-fire 0 p l t may .2))
 
-  comp-step : VStep p (view p l) (compAt t code) (frames p l (only popped))
-  unfolding popped
+  pub comp-step : VStep p ρ (view p ρ l) (compAt t code) (frames p ρ l (only begun))
+  unfolding begun
   comp-step =
-      subst (λ z. VStep p z (compAt t code) (frames p l (only popped))) (sym (view-frames p l))
-      (replaced p l ok n (λ u. none) (only popped) t (λ u d. sym (only-other popped u d)) (λ u a. refl) (compAt t code) awake
-      (subst (λ z. Step p z (compAt t code) (frame p l (only popped) t)) (sym before ∙ view-frame p l t)
-      (subst (λ z. Step p (Basic t (l t .state) backward (Comp code ∷ pushDev leads rest)) (compAt t code) z) (sym (only-frame popped))
+      subst (λ z. VStep p ρ z (compAt t code) (frames p ρ l (only begun))) (sym (view-frames p ρ l))
+      (replaced p ρ l ok n (λ u. none) (only begun) t (λ u d. sym (only-other begun u d)) (λ u a. refl) (compAt t code) awake
+      (subst (λ z. Step p ρ z (compAt t code) (frame p ρ l (only begun) t)) (sym before ∙ view-frame p ρ l t)
+      (subst (λ z. Step p ρ (Basic t (l t .state) backward (Comp code ∷ pushDev leads rest)) (compAt t code) z) (sym (only-frame begun))
       (COMP t (l t .state) code (pushDev leads rest)))))
 
-  dev-step : (d : ℕ) → leads ≡ some d → VStep p (frames p l (only popped)) (devAt t) (frames p l (only (goto p t d rest)))
+  -- the empty vector has compensated
+  back-step : VStep p ρ (frames p ρ l (only begun)) (nestcompAt t) (frames p ρ l (only popped))
+  unfolding begun popped hasTerminated hasCompensated members someOf everyOf
+  back-step =
+      replaced p ρ l ok n (only begun) (only popped) t (λ u x. only-other begun u x ∙ sym (only-other popped u x))
+      (λ u a. only-other begun u (above-other u a)) (nestcompAt t) awake
+      (subst (λ z. Step p ρ z (nestcompAt t) (frame p ρ l (only popped) t)) (sym (only-frame begun))
+      (subst (λ z. Step p ρ (Nest t (l t .state) backward (pushDev leads rest) end) (nestcompAt t) z) (sym (only-frame popped))
+      (NESTCOMP t (l t .state) (pushDev leads rest) end refl)))
+
+  dev-step : (d : ℕ) → leads ≡ some d → VStep p ρ (frames p ρ l (only popped)) (devAt t d) (frames p ρ l (only (goto p t d rest)))
   unfolding popped pushDev
   dev-step d e =
-      let one : frame p l (only popped) t ≡ Basic t (l t .state) backward (Dev d ∷ rest) =
+      let one : frame p ρ l (only popped) t ≡ Basic t (l t .state) backward (Dev d ∷ rest) =
       only-frame popped ∙ ap (λ x. Basic t (l t .state) backward (pushDev x rest)) e in
-      replaced p l ok n (only popped) (only (goto p t d rest)) t (λ u x. only-other popped u x ∙ sym (only-other (goto p t d rest) u x))
-      (λ u a. only-other popped u (above-other u a)) (devAt t) awake
-      (subst (λ z. Step p z (devAt t) (frame p l (only (goto p t d rest)) t)) (sym one)
-      (subst (λ z. Step p (Basic t (l t .state) backward (Dev d ∷ rest)) (devAt t) z) (sym (only-frame (goto p t d rest)))
+      replaced p ρ l ok n (only popped) (only (goto p t d rest)) t (λ u x. only-other popped u x ∙ sym (only-other (goto p t d rest) u x))
+      (λ u a. only-other popped u (above-other u a)) (devAt t d) awake
+      (subst (λ z. Step p ρ z (devAt t d) (frame p ρ l (only (goto p t d rest)) t)) (sym one)
+      (subst (λ z. Step p ρ (Basic t (l t .state) backward (Dev d ∷ rest)) (devAt t d) z) (sym (only-frame (goto p t d rest)))
       (DEV t (l t .state) d rest)))
 
   -- the other tracks stay as they are
@@ -138,16 +152,11 @@ module _ (p : Plan) (ok : Accepted p) (l : Ledger) (n : Nested p l) (t : ℕ) (g
       ∙ entered.stays-within p ok (removed p l t) (removed-nested p l t ok n g free awake) (deviatesTo p l t) (deviates-free p l t ok n g free awake) u (removed-awake p l t u ∙ a) e v
       ∙ ap (λ k. isWithin p k u v) (sym (fired-is p l t))
 
-  others : (u : ℕ) → (u ≡ t → ⊥) → Awake l u → Alike p ok l m u
+  others : (u : ℕ) → (u ≡ t → ⊥) → Awake l u → Alike p ρ ok l m u
   others u d a =
       let e = to-other u d in
       let q : m u ≡ l u = fired-still p l t ok n g free awake u a e ∙ removed-other p l t u (ne-eqb u t d) in
-      record {
-        within = λ v b. same-within u a e v;
-        state = ap (λ (c : Configuration). c .state) (sym q);
-        held = ap (λ (c : Configuration). c .held) (sym q);
-        way = λ f. ap (λ (c : Configuration). isForward (c .mode)) (sym q);
-      }
+      unchanged p ρ ok l m u (λ v b. same-within u a e v) q
 
   root-awake : (u : ℕ) → host p u ≡ none → isAwake (m u .mode) ≡ isAwake (l u .mode)
   root-awake u h = ap (λ (k : Ledger). isAwake (k u .mode)) (fired-is p l t) ∙ go (fate p ok (removed p l t) (deviatesTo p l t) u)
@@ -166,19 +175,19 @@ module _ (p : Plan) (ok : Accepted p) (l : Ledger) (n : Nested p l) (t : ℕ) (g
       (λ y. let (h, a) = top-parts p m u y in top-of p l u h (sym (root-awake u h) ∙ a))
 
   -- with this configuration of the track fired, all is as on the ledger after the firing
-  in-place : (c : NConf) → c ≡ viewOf p m t → frames p l (only c) ≡ view p m
+  in-place : (c : NConf) → c ≡ viewOf p ρ m t → frames p ρ l (only c) ≡ view p ρ m
   in-place c h =
-      frames-view p ok l (only c) m (λ u b. same-top u)
-      (λ u d b a w e. let (q, r) = only-known c d u e in r ∙ h ∙ ap (viewOf p m) (sym q))
+      frames-view p ρ ok l (only c) m (λ u b. same-top u)
+      (λ u d b a w e. let (q, r) = only-known c d u e in r ∙ h ∙ ap (viewOf p ρ m) (sym q))
       (λ u b a w e. others u (λ q. none-some e (ap (only c) q ∙ only-here c)) a)
 
-  deviated : (d : ℕ) → leads ≡ some d → goto p t d rest ≡ viewOf p m t
+  deviated : (d : ℕ) → leads ≡ some d → goto p t d rest ≡ viewOf p ρ m t
   deviated d e =
       ap (λ es. goto p t d (stackOf es)) (sym (removed-here p l t t (eq-eqb t t refl)))
-      ∙ sym (entered.goes p ok (removed p l t) (removed-nested p l t ok n g free awake) (deviatesTo p l t) (deviates-free p l t ok n g free awake) t low .enters d (deviates-here p l t ∙ e))
-      ∙ ap (λ k. viewOf p k t) (sym (fired-is p l t))
+      ∙ sym (entered.goes p ok (removed p l t) (removed-nested p l t ok n g free awake) (deviatesTo p l t) (deviates-free p l t ok n g free awake) ρ t low .enters d (deviates-here p l t ∙ e))
+      ∙ ap (λ k. viewOf p ρ k t) (sym (fired-is p l t))
 
-  stayed : leads ≡ none → popped ≡ viewOf p m t
+  stayed : leads ≡ none → popped ≡ viewOf p ρ m t
   unfolding popped pushDev basic directionOf
   stayed e =
       let k = deviates-here p l t ∙ e in
@@ -189,19 +198,19 @@ module _ (p : Plan) (ok : Accepted p) (l : Ledger) (n : Nested p l) (t : ℕ) (g
       ap (λ x. Basic t (l t .state) backward (pushDev x rest)) e
       ∙ ap₂ (λ x S. Basic t x backward S) (sym st) (sym hd)
       ∙ ap (λ x. Basic t (m t .state) (directionOf x) (stackOf (m t .held))) (sym md)
-      ∙ sym (shown-free p m t (viewOf p m) (sym (busy-alike p l m t (λ u b. same-within t awake k u)) ∙ free))
-      ∙ sym (view-law p m ok t low)
+      ∙ sym (shown-free p ρ m t (viewOf p ρ m) (sym (busy-alike p l m t (λ u b. same-within t awake k u)) ∙ free))
+      ∙ sym (view-law p ρ m ok t low)
 
-  pub firing-run : Run p (view p l) (compAt t code ∷ deviating p t leads) (view p m)
+  firing-run : Run p ρ (view p ρ l) (compAt t code ∷ nestcompAt t ∷ deviationStep t leads) (view p ρ m)
   firing-run = go leads refl
     where
-      go : (o : Option ℕ) → leads ≡ o → Run p (view p l) (compAt t code ∷ deviating p t o) (view p m)
-      go none e = unfold deviating in subst (λ z. Run p (view p l) (compAt t code ∷ []) z) (in-place popped (stayed e)) (step comp-step stop)
+      go : (o : Option ℕ) → leads ≡ o → Run p ρ (view p ρ l) (compAt t code ∷ nestcompAt t ∷ deviationStep t o) (view p ρ m)
+      go none e = unfold deviationStep in subst (λ z. Run p ρ (view p ρ l) (compAt t code ∷ nestcompAt t ∷ []) z) (in-place popped (stayed e)) (step comp-step (step back-step stop))
       go (some d) e =
-          unfold deviating in
-          subst (λ z. Run p (view p l) (compAt t code ∷ devAt t ∷ []) z) (in-place (goto p t d rest) (deviated d e)) (step comp-step (step (dev-step d e) stop))
+          unfold deviationStep in
+          subst (λ z. Run p ρ (view p ρ l) (compAt t code ∷ nestcompAt t ∷ devAt t d ∷ []) z) (in-place (goto p t d rest) (deviated d e)) (step comp-step (step back-step (step (dev-step d e) stop)))
 
-  -- "fire: COMP, then DEV if the entry deviates, then the abandoning rule"
-  pub fire-run : Run p (view p l) (compAt t code ∷ (deviating p t leads ++ abandonings p m)) (view p (afterFire p l t))
+  -- and then the abandonings
+  pub fire-run : Run p ρ (view p ρ l) (compAt t code ∷ nestcompAt t ∷ (deviationStep t leads ++ abandonings p ρ m)) (view p ρ (afterFire p l t))
   unfolding afterFire
-  fire-run = run-then p firing-run (abandoning-run p ok m fired-on)
+  fire-run = run-then p ρ firing-run (abandoning-run p ρ ok m fired-on)

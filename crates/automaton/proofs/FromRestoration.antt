@@ -3,7 +3,7 @@
 use mathlib.Core.Path.{_≡_, refl, sym, ap, ap₂, _∙_, subst}
 use mathlib.Core.Logic.{inl, inr}
 use mathlib.Core.Bool.{Bool, true, false, cond}
-use mathlib.Core.List.{List, [], _∷_, _++_}
+use mathlib.Core.List.{List, [], _∷_, _++_, append-assoc}
 use mathlib.Core.Option.{Option, none, some}
 use Prim.Native.Nat.{ℕ, zero, suc, _+_, _<_, _≤_}
 use native.Mathlib.Omega.{arith}
@@ -29,8 +29,8 @@ use Rattle.theory.proofs.Nesting.{Nested}
 use Rattle.restoration.proofs.SoundWords.{Holds, begin-holds, call-holds, call-accepted, call-refused}
 use Rattle.restoration.proofs.Restoration.{restored}
 use Rattle.automaton.specs.Listing.{listedFrom, listed, listedDown}
-use Rattle.automaton.specs.Semantics.{Act, sucAt, failAt, compAt, nestsucAt, nestfailAt, trace}
-use Rattle.automaton.specs.View.{leavesScope, isGoing, abandonings, deviating, movings, closers, turners, actsOf}
+use Rattle.automaton.specs.Semantics.{Reading, basicAlone, nestedToo, Act, sucAt, failAt, compAt, nestsucAt, nestcompAt, trace}
+use Rattle.automaton.specs.View.{leavesScope, isGoing, leaveAt, abandonings, deviationStep, movings, closers, turners, actsOf}
 use Rattle.automaton.specs.Along.{made, actsFrom, actsAfter}
 use Rattle.automaton.specs.SelfCancelling.{Symbol, activity, symbol, projected, leftAfter, leftOf, onto, cancOut, Perfect, Tagged}
 use Rattle.automaton.proofs.CancOut.{left-joined}
@@ -39,15 +39,11 @@ use Rattle.automaton.proofs.StringBooks.{isCodeOf, adds, takes, adds-he
 use Rattle.automaton.proofs.OwnCodes.{newest-own, reached-own}
 
 -- The string of joined steps, and of steps that leave no symbol.
-pub projected-joined : (A : ℕ) (v w : List Act) → projected A (v ++ w) ≡ projected A v ++ projected A w
+projected-joined : (A : ℕ) (v w : List Act) → projected A (v ++ w) ≡ projected A v ++ projected A w
 unfolding projected
 projected-joined A [] w = refl
 projected-joined A (a ∷ v) w =
-    ap (λ z. symbol A (trace a) ++ z) (projected-joined A v w) ∙ sym (append-append (symbol A (trace a)) (projected A v) (projected A w))
-  where
-    append-append : (u v w : List Symbol) → (u ++ v) ++ w ≡ u ++ (v ++ w)
-    append-append [] v w = refl
-    append-append (x ∷ u) v w = ap (λ z. x ∷ z) (append-append u v w)
+    ap (λ z. symbol A (trace a) ++ z) (projected-joined A v w) ∙ sym (append-assoc (symbol A (trace a)) (projected A v) (projected A w))
 
 no-symbols : (A n i : ℕ) (f : ℕ → Bool) (g : ℕ → Act) → ((k : ℕ) → symbol A (trace (g k)) ≡ []) → projected A (listedFrom n i f g) ≡ []
 unfolding listedFrom projected
@@ -60,6 +56,11 @@ unfolding listedDown projected
 no-symbols-down A zero f g h = refl
 no-symbols-down A (suc n) f g h =
     elim (look (f n)) [ inl e ↦ rw (e, h n) (no-symbols-down A n f g h) | inr e ↦ rw e (no-symbols-down A n f g h) ]
+
+leave-symbol : (A : ℕ) (ρ : Reading) (k : ℕ) → symbol A (trace (leaveAt ρ k)) ≡ []
+unfolding symbol trace leaveAt
+leave-symbol A basicAlone k = refl
+leave-symbol A nestedToo k = refl
 
 past : (A e n i : ℕ) (f : ℕ → Bool) → A < i → projected A (listedFrom n i f (λ t. sucAt t e)) ≡ []
 unfolding listedFrom projected symbol trace
@@ -86,7 +87,7 @@ one-symbol A e (suc n) i f b c =
           elim (look (f i)) [ inl y ↦ rw (y, q, ih) | inr y ↦ rw (y, ih) ]
     ]
 
-module _ (limit : ℕ) (p : Plan) (ok : Accepted p) (comp : ℕ → ℕ) (perfect : Perfect comp p) (tagged : Tagged p)
+module _ (limit : ℕ) (p : Plan) (ρ : Reading) (ok : Accepted p) (comp : ℕ → ℕ) (perfect : Perfect comp p) (tagged : Tagged p)
     (A : ℕ) (low : A < trackCount p) (root : isRoot p A ≡ true) (bs : List ℕ) where
   abbrev books : Books p limit
   books = stringBooks p ok comp perfect tagged A root limit
@@ -155,34 +156,34 @@ module _ (limit : ℕ) (p : Plan) (ok : Accepted p) (comp : ℕ → ℕ) (perfec
         one-left : (v : List Symbol) → leftOf comp v (cond (moves p l e A) (activity e ∷ []) [] ++ []) ≡ added l e v
         one-left v = unfold leftOf added in elim (look (moves p l e A)) [ inl h ↦ rw h | inr h ↦ rw h ]
 
-  no-turns : (l : Ledger) → projected A (turners p l ++ abandonings p (turned l)) ≡ []
-  unfolding turners abandonings listed
+  no-turns : (l : Ledger) → projected A (turners p ρ l ++ abandonings p ρ (turned l)) ≡ []
+  unfolding turners abandonings
   no-turns l =
-      projected-joined A (listed (trackCount p) (isGoing p l) failAt) (listedDown (trackCount p) (leavesScope p (turned l)) nestfailAt)
-      ∙ ap₂ (λ x y. x ++ y) (no-symbols A (trackCount p) 0 (isGoing p l) failAt (λ k. unfold symbol trace in refl))
-      (no-symbols-down A (trackCount p) (leavesScope p (turned l)) nestfailAt (λ k. unfold symbol trace in refl))
+      projected-joined A (listedDown (trackCount p) (isGoing p ρ l) failAt) (listedDown (trackCount p) (leavesScope p (turned l)) (leaveAt ρ))
+      ∙ ap₂ (λ x y. x ++ y) (no-symbols-down A (trackCount p) (isGoing p ρ l) failAt (λ k. unfold symbol trace in refl))
+      (no-symbols-down A (trackCount p) (leavesScope p (turned l)) (leaveAt ρ) (leave-symbol A ρ))
 
-  no-deviating : (l : Ledger) (t : ℕ) (o : Option ℕ) → projected A (deviating p t o ++ abandonings p l) ≡ []
-  unfolding deviating abandonings projected symbol trace
-  no-deviating l t none = no-symbols-down A (trackCount p) (leavesScope p l) nestfailAt (λ k. refl)
-  no-deviating l t (some d) = no-symbols-down A (trackCount p) (leavesScope p l) nestfailAt (λ k. refl)
+  no-deviation : (l : Ledger) (t : ℕ) (o : Option ℕ) → projected A (deviationStep t o ++ abandonings p ρ l) ≡ []
+  unfolding deviationStep abandonings projected symbol trace
+  no-deviation l t none = no-symbols-down A (trackCount p) (leavesScope p l) (leaveAt ρ) (leave-symbol A ρ)
+  no-deviation l t (some d) = no-symbols-down A (trackCount p) (leavesScope p l) (leaveAt ρ) (leave-symbol A ρ)
 
   -- a firing: the code is of the track fired
   fire-string : (l m : Ledger) (t c : ℕ) (o : Option ℕ) → isCodeOf p t c ≡ true → (v : List Symbol)
-      → takes p ok comp perfect tagged A root limit c v ≡ leftOf comp v (projected A (compAt t c ∷ (deviating p t o ++ abandonings p m)))
+      → takes p ok comp perfect tagged A root limit c v ≡ leftOf comp v (projected A (compAt t c ∷ nestcompAt t ∷ (deviationStep t o ++ abandonings p ρ m)))
   unfolding projected symbol trace leftOf
   fire-string l m t c o h v =
       elim (look (eqb t A)) [
         | inl q ↦
-            rw (q, no-deviating m t o)
+            rw (q, no-deviation m t o)
             (takes-here p ok comp perfect tagged A root limit c v (subst (λ x. isCodeOf p x c ≡ true) (eqb-true t A q) h))
         | inr q ↦
-            rw (q, no-deviating m t o)
+            rw (q, no-deviation m t o)
             (takes-other p ok comp perfect tagged A root limit c v (other-code p ok comp perfect tagged A root limit t c h (eqb-false t A q)))
       ]
 
   call-string : (l : Ledger) → Reached p limit l → Sound limit p l → (c : Call) → callRefusal limit p l c ≡ 0 → (v : List Symbol)
-      → bookedCall limit bs p books l c v ≡ leftOf comp v (projected A (actsOf p l c))
+      → bookedCall limit bs p books l c v ≡ leftOf comp v (projected A (actsOf p ρ l c))
   unfolding bookedCall actsOf
   call-string l r s (event a) h v = event-string l (s .formed .nested) (a .event) v
   call-string l r s (signal a) h v = sym (ap (leftOf comp v) (no-turns l) ∙ (unfold leftOf in refl))
@@ -192,7 +193,7 @@ module _ (limit : ℕ) (p : Plan) (ok : Accepted p) (comp : ℕ → ℕ) (perfec
       fire-string l (fired p l t) t (newest (l t .held) .code) (optional (newest (l t .held) .deviation))
       (newest-own p t (l t .held) (reached-own p ok comp perfect limit r t) e) v
 
-module _ (limit : ℕ) (bs : List ℕ) (k : Counts) (read : readPlan bs ≡ accepted k) where
+module _ (ρ : Reading) (limit : ℕ) (bs : List ℕ) (k : Counts) (read : readPlan bs ≡ accepted k) where
   abbrev p : Plan
   p = planOf bs k
 
@@ -208,28 +209,28 @@ module _ (limit : ℕ) (bs : List ℕ) (k : Counts) (read : readPlan bs ≡ acce
 
     one-call : (c : Call) (ws : List ℕ) (l : Ledger) → Holds limit bs k read ws l → Reached p limit l → (v : List Symbol)
         → booked limit bs p theBooks (led ws) c (callOutcome limit bs ws c .answer) v
-        ≡ leftOf comp v (projected A (made (callOutcome limit bs ws c .answer) (actsOf p (led ws) c)))
+        ≡ leftOf comp v (projected A (made (callOutcome limit bs ws c .answer) (actsOf p ρ (led ws) c)))
     unfolding booked made
     one-call c ws l h r v = go (h .kept) (callRefusal limit p l c) refl
       where
         go : Kept limit p l → (x : ℕ) → callRefusal limit p l c ≡ x
             → booked limit bs p theBooks (led ws) c (callOutcome limit bs ws c .answer) v
-            ≡ leftOf comp v (projected A (made (callOutcome limit bs ws c .answer) (actsOf p (led ws) c)))
+            ≡ leftOf comp v (projected A (made (callOutcome limit bs ws c .answer) (actsOf p ρ (led ws) c)))
         go (inl o) zero e = absurd (over-refused limit p l (over-is p l o) c e)
         go (inr s) zero e =
             rw (call-accepted limit bs k read ws l h c e, h .reads)
-            (call-string limit p ok comp perfect tagged A low root bs l r s c e v)
+            (call-string limit p ρ ok comp perfect tagged A low root bs l r s c e v)
         go w (suc x) e = rw (call-refused limit bs k read ws l h c x e) (unfold projected leftOf in refl)
 
     -- the books along a list stand as the string of its steps leaves them
     along : (cs : List Call) (ws : List ℕ) (l : Ledger) → Holds limit bs k read ws l → Reached p limit l → (v : List Symbol)
-        → booksFrom limit bs p theBooks ws cs v ≡ leftOf comp v (projected A (actsFrom limit bs p ws cs))
+        → booksFrom limit bs p theBooks ws cs v ≡ leftOf comp v (projected A (actsFrom limit bs p ρ ws cs))
     unfolding booksFrom actsFrom
     along [] ws l h r v = unfold projected leftOf in refl
     along (c ∷ cs) ws l h r v =
         let words = callOutcome limit bs ws c .words in
-        let here = made (callOutcome limit bs ws c .answer) (actsOf p (led ws) c) in
-        let rest = actsFrom limit bs p words cs in
+        let here = made (callOutcome limit bs ws c .answer) (actsOf p ρ (led ws) c) in
+        let rest = actsFrom limit bs p ρ words cs in
         along cs words (next limit p l c) (call-holds limit bs k read ws l h c) (run.then r c)
         (booked limit bs p theBooks (led ws) c (callOutcome limit bs ws c .answer) v)
         ∙ ap (λ z. leftOf comp z (projected A rest)) (one-call c ws l h r v)
@@ -238,10 +239,10 @@ module _ (limit : ℕ) (bs : List ℕ) (k : Counts) (read : readPlan bs ≡ acce
 
     -- Corollary 1 of lists of calls, from "her books stand exactly as at that begin"
     pub restored-cancel : (lent : List ℕ) (cs : List Call) → beginOutcome limit bs lent .answer ≡ done []
-        → AllWithdrawn p (ledgerAfter limit bs p lent cs) → cancOut comp (projected A (actsAfter limit bs p lent cs)) ≡ []
+        → AllWithdrawn p (ledgerAfter limit bs p lent cs) → cancOut comp (projected A (actsAfter limit bs p ρ lent cs)) ≡ []
     unfolding cancOut onto actsAfter booksAfter
     restored-cancel lent cs h w =
         let words = beginOutcome limit bs lent .words in
-        let e : leftOf comp [] (projected A (actsFrom limit bs p words cs)) ≡ [] =
+        let e : leftOf comp [] (projected A (actsFrom limit bs p ρ words cs)) ≡ [] =
         sym (along cs words (begun p) (begin-holds limit bs k read lent h) run.start []) ∙ restored limit bs k read theBooks lent cs h [] w in
         rw e

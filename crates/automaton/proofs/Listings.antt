@@ -16,7 +16,7 @@ use Rattle.rules.proofs.Folds.{count-same}
 use Rattle.rules.proofs.Tests.{look, clash, and-true, and-both, or-true, or-right}
 use Rattle.automaton.specs.Listing.{listedFrom, listed, listedDown, someOf, everyOf}
 use Rattle.automaton.specs.Configuration.{NConf, Conf, Vect}
-use Rattle.automaton.specs.Semantics.{Act, Step, VStep, VECT, Run, stop, step}
+use Rattle.automaton.specs.Semantics.{Reading, Act, Step, VStep, VECT, Run, stop, step}
 
 -- two tests that imply each other
 pub alike : (a b : Bool) → (a ≡ true → b ≡ true) → (b ≡ true → a ≡ true) → a ≡ b
@@ -161,7 +161,7 @@ unfolding listed
 listed-length n f g = from-length n 0 f g ∙ count-same n (λ k. f (0 + k)) f (λ k b. ap f (omega arith))
 
 -- Steps of vectors.
-module _ (p : Plan) where
+module _ (p : Plan) (ρ : Reading) where
   -- one member takes a step
   pub record Splits (a : Act) (xs ys : List NConf) : Type 0 where
     pub front : List NConf
@@ -170,14 +170,14 @@ module _ (p : Plan) where
     pub new : NConf
     pub was : xs ≡ front ++ (old ∷ back)
     pub now : ys ≡ front ++ (new ∷ back)
-    pub by : Step p old a new
+    pub by : Step p ρ old a new
 
-  pub split-step : {a : Act} {xs ys : List NConf} → Splits a xs ys → VStep p (Vect xs) a (Vect ys)
+  split-step : {a : Act} {xs ys : List NConf} → Splits a xs ys → VStep p ρ (Vect xs) a (Vect ys)
   split-step {a} {xs} {ys} s =
-      subst (λ z. VStep p (Vect z) a (Vect ys)) (sym (s .was))
-      (subst (λ z. VStep p (Vect (s .front ++ (s .old ∷ s .back))) a (Vect z)) (sym (s .now)) (VECT (s .front) (s .back) (s .by)))
+      subst (λ z. VStep p ρ (Vect z) a (Vect ys)) (sym (s .was))
+      (subst (λ z. VStep p ρ (Vect (s .front ++ (s .old ∷ s .back))) a (Vect z)) (sym (s .now)) (VECT (s .front) (s .back) (s .by)))
 
-  here : (a : Act) (x y : NConf) (xs ys : List NConf) → Step p x a y → xs ≡ ys → Splits a (x ∷ xs) (y ∷ ys)
+  here : (a : Act) (x y : NConf) (xs ys : List NConf) → Step p ρ x a y → xs ≡ ys → Splits a (x ∷ xs) (y ∷ ys)
   here a x y xs ys s e = record { front = []; back = xs; old = x; new = y; was = refl; now = ap (λ z. y ∷ z) (sym e); by = s }
 
   there : (a : Act) (x y : NConf) (xs ys : List NConf) → x ≡ y → Splits a xs ys → Splits a (x ∷ xs) (y ∷ ys)
@@ -192,7 +192,7 @@ module _ (p : Plan) where
         by = s .by;
       }
 
-  from-step : (a : Act) (n i : ℕ) (f : ℕ → Bool) (g g′ : ℕ → NConf) (u : ℕ) → i ≤ u → u < i + n → f u ≡ true → Step p (g u) a (g′ u)
+  from-step : (a : Act) (n i : ℕ) (f : ℕ → Bool) (g g′ : ℕ → NConf) (u : ℕ) → i ≤ u → u < i + n → f u ≡ true → Step p ρ (g u) a (g′ u)
       → ((k : ℕ) → k < i + n → f k ≡ true → (k ≡ u → ⊥) → g k ≡ g′ k) → Splits a (listedFrom n i f g) (listedFrom n i f g′)
   unfolding listedFrom
   from-step a zero i f g g′ u b c y s h = absurd (omega arith)
@@ -204,7 +204,7 @@ module _ (p : Plan) where
           elim (look (eqb i u)) [
             | inl q ↦
                 let w : i ≡ u = eqb-true i u q in
-                here a (g i) (g′ i) (listedFrom n (suc i) f g) (listedFrom n (suc i) f g′) (subst (λ z. Step p (g z) a (g′ z)) (sym w) s)
+                here a (g i) (g′ i) (listedFrom n (suc i) f g) (listedFrom n (suc i) f g′) (subst (λ z. Step p ρ (g z) a (g′ z)) (sym w) s)
                 (from-same n (suc i) f f g g′ (λ k j m. refl) (λ k j m x. h k (omega arith) x (λ z. let v : k ≡ u = z in absurd (omega arith))))
             | inr q ↦
                 let d = eqb-false i u q in
@@ -217,44 +217,44 @@ module _ (p : Plan) where
           ]
 
   -- a step of one member is a step of the vector
-  pub listed-step : (a : Act) (n : ℕ) (f : ℕ → Bool) (g g′ : ℕ → NConf) (u : ℕ) → u < n → f u ≡ true → Step p (g u) a (g′ u)
-      → ((k : ℕ) → k < n → f k ≡ true → (k ≡ u → ⊥) → g k ≡ g′ k) → VStep p (Vect (listed n f g)) a (Vect (listed n f g′))
+  pub listed-step : (a : Act) (n : ℕ) (f : ℕ → Bool) (g g′ : ℕ → NConf) (u : ℕ) → u < n → f u ≡ true → Step p ρ (g u) a (g′ u)
+      → ((k : ℕ) → k < n → f k ≡ true → (k ≡ u → ⊥) → g k ≡ g′ k) → VStep p ρ (Vect (listed n f g)) a (Vect (listed n f g′))
   unfolding listed
   listed-step a n f g g′ u b y s h = split-step (from-step a n 0 f g g′ u (omega arith) (omega arith) y s (λ k c. h k (omega arith)))
 
   -- Runs: joined, and one step for each number that passes a test.
-  pub run-then : {c d e : Conf} {v w : List Act} → Run p c v d → Run p d w e → Run p c (v ++ w) e
+  pub run-then : {c d e : Conf} {v w : List Act} → Run p ρ c v d → Run p ρ d w e → Run p ρ c (v ++ w) e
   run-then stop r = r
   run-then (step s q) r = step s (run-then q r)
 
-  pub run-same : {c d e : Conf} {w : List Act} → Run p c w d → d ≡ e → Run p c w e
-  run-same {c} {d} {e} {w} r q = subst (λ z. Run p c w z) q r
+  pub run-same : {c d e : Conf} {w : List Act} → Run p ρ c w d → d ≡ e → Run p ρ c w e
+  run-same {c} {d} {e} {w} r q = subst (λ z. Run p ρ c w z) q r
 
   run-from : (n i : ℕ) (f : ℕ → Bool) (act : ℕ → Act) (C : ℕ → Conf)
-      → ((k : ℕ) → k < i + n → f k ≡ true → VStep p (C k) (act k) (C (suc k)))
-      → ((k : ℕ) → k < i + n → f k ≡ false → C k ≡ C (suc k)) → Run p (C i) (listedFrom n i f act) (C (n + i))
+      → ((k : ℕ) → k < i + n → f k ≡ true → VStep p ρ (C k) (act k) (C (suc k)))
+      → ((k : ℕ) → k < i + n → f k ≡ false → C k ≡ C (suc k)) → Run p ρ (C i) (listedFrom n i f act) (C (n + i))
   unfolding listedFrom
   run-from zero i f act C h e = run-same stop (ap C (sym (zero-add i)))
   run-from (suc n) i f act C h e =
       run-same (go (f i) refl (run-from n (suc i) f act C (λ k b. h k (omega arith)) (λ k b. e k (omega arith)))) (ap C (omega arith))
     where
-      go : (x : Bool) → f i ≡ x → Run p (C (suc i)) (listedFrom n (suc i) f act) (C (n + suc i))
-          → Run p (C i) (cond x (act i ∷ listedFrom n (suc i) f act) (listedFrom n (suc i) f act)) (C (n + suc i))
+      go : (x : Bool) → f i ≡ x → Run p ρ (C (suc i)) (listedFrom n (suc i) f act) (C (n + suc i))
+          → Run p ρ (C i) (cond x (act i ∷ listedFrom n (suc i) f act) (listedFrom n (suc i) f act)) (C (n + suc i))
       go true y r = step (h i (omega arith) y) r
-      go false y r = subst (λ z. Run p z (listedFrom n (suc i) f act) (C (n + suc i))) (sym (e i (omega arith) y)) r
+      go false y r = subst (λ z. Run p ρ z (listedFrom n (suc i) f act) (C (n + suc i))) (sym (e i (omega arith) y)) r
 
-  pub run-listed : (n : ℕ) (f : ℕ → Bool) (act : ℕ → Act) (C : ℕ → Conf) → ((k : ℕ) → k < n → f k ≡ true → VStep p (C k) (act k) (C (suc k)))
-      → ((k : ℕ) → k < n → f k ≡ false → C k ≡ C (suc k)) → Run p (C 0) (listed n f act) (C n)
+  pub run-listed : (n : ℕ) (f : ℕ → Bool) (act : ℕ → Act) (C : ℕ → Conf) → ((k : ℕ) → k < n → f k ≡ true → VStep p ρ (C k) (act k) (C (suc k)))
+      → ((k : ℕ) → k < n → f k ≡ false → C k ≡ C (suc k)) → Run p ρ (C 0) (listed n f act) (C n)
   unfolding listed
   run-listed n f act C h e = run-same (run-from n 0 f act C (λ k b. h k (omega arith)) (λ k b. e k (omega arith))) (ap C (omega arith))
 
-  pub run-down : (n : ℕ) (f : ℕ → Bool) (act : ℕ → Act) (C : ℕ → Conf) → ((k : ℕ) → k < n → f k ≡ true → VStep p (C (suc k)) (act k) (C k))
-      → ((k : ℕ) → k < n → f k ≡ false → C (suc k) ≡ C k) → Run p (C n) (listedDown n f act) (C 0)
+  pub run-down : (n : ℕ) (f : ℕ → Bool) (act : ℕ → Act) (C : ℕ → Conf) → ((k : ℕ) → k < n → f k ≡ true → VStep p ρ (C (suc k)) (act k) (C k))
+      → ((k : ℕ) → k < n → f k ≡ false → C (suc k) ≡ C k) → Run p ρ (C n) (listedDown n f act) (C 0)
   unfolding listedDown
   run-down zero f act C h e = stop
   run-down (suc n) f act C h e = go (f n) refl (run-down n f act C (λ k b. h k (omega arith)) (λ k b. e k (omega arith)))
     where
-      go : (x : Bool) → f n ≡ x → Run p (C n) (listedDown n f act) (C 0)
-          → Run p (C (suc n)) (cond x (act n ∷ listedDown n f act) (listedDown n f act)) (C 0)
+      go : (x : Bool) → f n ≡ x → Run p ρ (C n) (listedDown n f act) (C 0)
+          → Run p ρ (C (suc n)) (cond x (act n ∷ listedDown n f act) (listedDown n f act)) (C 0)
       go true y r = step (h n (omega arith) y) r
-      go false y r = subst (λ z. Run p z (listedDown n f act) (C 0)) (sym (e n (omega arith) y)) r
+      go false y r = subst (λ z. Run p ρ z (listedDown n f act) (C 0)) (sym (e n (omega arith) y)) r

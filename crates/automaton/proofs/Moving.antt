@@ -19,12 +19,12 @@ use Rattle.theory.proofs.Nesting.{Awake, Nested, free-below}
 use Rattle.theory.proofs.Entering.{Fate, enters, wakens, stays, fate, arrived-awake}
 use Rattle.restoration.proofs.Theorems01.{move-takes, by-some, to-none, to-some, to-destination, recorded, goes, moved-is, recorded-awake, mover-awake, mover-is, recorded-nested, goes-free, moved-still}
 use Rattle.automaton.specs.Configuration.{forward, NConf, Basic, push, goto}
-use Rattle.automaton.specs.Semantics.{sucAt, Step, SUC, Run}
+use Rattle.automaton.specs.Semantics.{Reading, sucAt, Step, SUC, Run}
 use Rattle.automaton.specs.View.{stackOf, directionOf, isWithin, basic, viewOf, isOnTop, view, movings}
 use Rattle.automaton.proofs.Listings.{alike, run-same}
 use Rattle.automaton.proofs.Frames.{same-conf, top-parts, top-of, shown-free, view-law}
 use Rattle.automaton.proofs.Entered as entered
-use Rattle.automaton.proofs.Replacing.{frames-view, allStepped, stepped-all, stepped-not, steps-run}
+use Rattle.automaton.proofs.Replacing.{unchanged, frames-view, allStepped, stepped-all, stepped-not, steps-run}
 
 -- installing is pushing
 pub stack-install : (c d : ℕ) (es : List Entry) → stackOf (install c d es) ≡ push c (optional d) (stackOf es)
@@ -44,7 +44,7 @@ module _ (p : Plan) (l : Ledger) (e : ℕ) where
   unfolding moves isMove
   some-moves t x q = rw (q, isMove)
 
-  pub none-moves : (t : ℕ) → moves p l e t ≡ false → move p l e t ≡ none
+  none-moves : (t : ℕ) → moves p l e t ≡ false → move p l e t ≡ none
   none-moves t h = elim (look-option (move p l e t)) [ inl q ↦ q | inr q ↦ clash (some-moves t (q .0) (q .1)) h ]
 
   -- the transition taken is one for the event
@@ -57,12 +57,12 @@ module _ (p : Plan) (l : Ledger) (e : ℕ) where
       ]
 
   -- where a track goes
-  arrives : ℕ → Option ℕ → NConf
+  pub arrives : ℕ → Option ℕ → NConf
   arrives t none = basic p l t
   arrives t (some x) =
       goto p t (transition p x .destination) (push (transition p x .code) (optional (transition p x .deviation)) (stackOf (l t .held)))
 
-  arrival : ℕ → NConf
+  pub arrival : ℕ → NConf
   arrival t = arrives t (move p l e t)
 
   arrival-is : (t x : ℕ) → move p l e t ≡ some x
@@ -70,26 +70,26 @@ module _ (p : Plan) (l : Ledger) (e : ℕ) where
   unfolding arrival arrives
   arrival-is t x q = rw (q, arrives)
 
-  module _ (ok : Accepted p) (n : Nested p l) where
+  module _ (ρ : Reading) (ok : Accepted p) (n : Nested p l) where
     abbrev m : Ledger
     m = moved p l e
 
     awake : (t : ℕ) → moves p l e t ≡ true → Awake l t
     awake t h = let (x, q) = moves-some t h in mover-awake p l e t x q
 
-    apart : (t u : ℕ) → moves p l e t ≡ true → moves p l e u ≡ true → isAbove p t u ≡ true → ⊥
+    pub apart : (t u : ℕ) → moves p l e t ≡ true → moves p l e u ≡ true → isAbove p t u ≡ true → ⊥
     apart t u h k a = let (x, q) = moves-some t h in clash (awake u k) (free-below p ok l n t (move-takes p l e t x q .free) u a)
 
-    takes : (t : ℕ) → moves p l e t ≡ true → Step p (viewOf p l t) (sucAt t e) (arrival t)
+    pub takes : (t : ℕ) → moves p l e t ≡ true → Step p ρ (viewOf p ρ l t) (sucAt t e) (arrival t)
     unfolding basic directionOf
     takes t h =
         let (x, q) = moves-some t h in
         let w = move-takes p l e t x q in
-        let one : viewOf p l t ≡ Basic t (l t .state) forward (stackOf (l t .held)) =
-        view-law p l ok t (n .below t (awake t h)) ∙ shown-free p l t (viewOf p l) (w .free)
+        let one : viewOf p ρ l t ≡ Basic t (l t .state) forward (stackOf (l t .held)) =
+        view-law p ρ l ok t (n .below t (awake t h)) ∙ shown-free p ρ l t (viewOf p ρ l) (w .free)
         ∙ ap (λ z. Basic t (l t .state) (directionOf z) (stackOf (l t .held))) (w .forward) in
-        subst (λ z. Step p z (sucAt t e) (arrival t)) (sym one)
-        (subst (λ z. Step p (Basic t (l t .state) forward (stackOf (l t .held))) (sucAt t e) z) (sym (arrival-is t x q))
+        subst (λ z. Step p ρ z (sucAt t e) (arrival t)) (sym one)
+        (subst (λ z. Step p ρ (Basic t (l t .state) forward (stackOf (l t .held))) (sucAt t e) z) (sym (arrival-is t x q))
         (SUC t (l t .state) e x (stackOf (l t .held)) (w .real) (mover-is p l e ok n t x q) (w .from) (on-event t x q)))
 
     root-awake : (t : ℕ) → host p t ≡ none → isAwake (m t .mode) ≡ isAwake (l t .mode)
@@ -102,12 +102,12 @@ module _ (p : Plan) (l : Ledger) (e : ℕ) where
         go (wakens f w q) = clash w (wakes-root p ok (goes p l e) t h)
         go (stays f w q) = ap (λ (c : Configuration). isAwake (c .mode)) q ∙ recorded-awake p l e t
 
-    arrived-view : (t x : ℕ) → t < trackCount p → move p l e t ≡ some x → arrival t ≡ viewOf p m t
+    arrived-view : (t x : ℕ) → t < trackCount p → move p l e t ≡ some x → arrival t ≡ viewOf p ρ m t
     arrived-view t x b q =
         arrival-is t x q
         ∙ ap (goto p t (transition p x .destination)) (sym (ap stackOf (by-some p (move p l e t) (l t) x q) ∙ stack-install (transition p x .code) (transition p x .deviation) (l t .held)))
-        ∙ sym (entered.goes p ok (recorded p l e) (recorded-nested p l e ok n) (goes p l e) (goes-free p l e ok n) t b .enters (transition p x .destination) (to-destination p (move p l e t) x q))
-        ∙ ap (λ k. viewOf p k t) (sym (moved-is p l e))
+        ∙ sym (entered.goes p ok (recorded p l e) (recorded-nested p l e ok n) (goes p l e) (goes-free p l e ok n) ρ t b .enters (transition p x .destination) (to-destination p (move p l e t) x q))
+        ∙ ap (λ k. viewOf p ρ k t) (sym (moved-is p l e))
 
     recorded-within : (t u : ℕ) → isWithin p l t u ≡ isWithin p (recorded p l e) t u
     unfolding isWithin
@@ -120,14 +120,14 @@ module _ (p : Plan) (l : Ledger) (e : ℕ) where
         ∙ ap (λ k. isWithin p k t u) (sym (moved-is p l e))
 
     abbrev all : ℕ → Option NConf
-    all = allStepped p ok l n (moves p l e) (λ t. sucAt t e) arrival awake apart takes
+    all = allStepped p ρ ok l n (moves p l e) (λ t. sucAt t e) arrival awake apart takes
 
-    -- "event: one SUC for each track that moves"
-    pub moving-run : Run p (view p l) (movings p l e) (view p m)
+    -- one SUC for each track that moves
+    pub moving-run : Run p ρ (view p ρ l) (movings p l e) (view p ρ m)
     unfolding movings
     moving-run =
-        run-same p (steps-run p ok l n (moves p l e) (λ t. sucAt t e) arrival awake apart takes)
-        (frames-view p ok l all m
+        run-same p ρ (steps-run p ρ ok l n (moves p l e) (λ t. sucAt t e) arrival awake apart takes)
+        (frames-view p ρ ok l all m
         (λ t b.
         alike (isOnTop p l t) (isOnTop p m t)
         (λ y. let (h, a) = top-parts p l t y in top-of p m t h (root-awake t h ∙ a))
@@ -136,20 +136,14 @@ module _ (p : Plan) (l : Ledger) (e : ℕ) where
         elim (look (moves p l e t)) [
           | inl h ↦
               let (x, k) = moves-some t h in
-              same-conf d (arrival t) (sym q ∙ stepped-all p ok l n (moves p l e) (λ t. sucAt t e) arrival awake apart takes t h)
+              same-conf d (arrival t) (sym q ∙ stepped-all p ρ ok l n (moves p l e) (λ t. sucAt t e) arrival awake apart takes t h)
               ∙ arrived-view t x b k
-          | inr h ↦ none-some (stepped-not p ok l n (moves p l e) (λ t. sucAt t e) arrival awake apart takes t h) q
+          | inr h ↦ none-some (stepped-not p ρ ok l n (moves p l e) (λ t. sucAt t e) arrival awake apart takes t h) q
         ])
         (λ t b a w q.
         elim (look (moves p l e t)) [
-          | inl h ↦ none-some q (stepped-all p ok l n (moves p l e) (λ t. sucAt t e) arrival awake apart takes t h)
+          | inl h ↦ none-some q (stepped-all p ρ ok l n (moves p l e) (λ t. sucAt t e) arrival awake apart takes t h)
           | inr h ↦
               let k = none-moves t h in
-              let z = sym (moved-still p l e ok n t a k) in
-              record {
-                within = λ u c. same-within t a k u;
-                state = ap (λ (c : Configuration). c .state) z;
-                held = ap (λ (c : Configuration). c .held) z;
-                way = λ f. ap (λ (c : Configuration). isForward (c .mode)) z;
-              }
+              unchanged p ρ ok l m t (λ u c. same-within t a k u) (moved-still p l e ok n t a k)
         ]))

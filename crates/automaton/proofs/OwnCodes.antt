@@ -8,7 +8,7 @@ use mathlib.Core.Option.{Option}
 use Prim.Native.Nat.{ℕ}
 use lib.Dec.{eqb}
 use borrow.Author.Tests.{eqb-true, eqb-false, eq-eqb}
-use Rattle.rules.specs.Plan.{Plan, transition, noState, replacement}
+use Rattle.rules.specs.Plan.{Plan, owner, transition, noState, replacement}
 use Rattle.rules.specs.Ledger.{Entry, Configuration, Ledger, isEmpty, sleeping}
 use Rattle.rules.specs.Opening.{begun, enter}
 use Rattle.rules.specs.Event.{install, move, moved, isClosed, closesScope, closed}
@@ -94,7 +94,7 @@ module _ (p : Plan) where
                   | inl d ↦
                       let r = replacement p (l t .state) in
                       ap (λ (k : Configuration). own t (k .held)) (closed-replaced p l t c d) ∙ ap (own t) (installed-held r noState (l t))
-                      ∙ install-own t r noState (l t .held) (λ z. clash (eq-eqb r 0 (perfect .replacements (l t .state))) z) (h t)
+                      ∙ install-own t r noState (l t .held) (λ z. clash (eq-eqb r 0 (perfect (owner p (l t .state)) .replacements (l t .state) refl)) z) (h t)
                   | inr d ↦ ap (λ (k : Configuration). own t (k .held)) (closed-kept p l t c d) ∙ h t
                 ]
           ]

@@ -18,8 +18,8 @@ use Rattle.rules.proofs.Folds.{every-at}
 use Rattle.starred.specs.SamplePlan.{bytesOf, lentFor}
 use Rattle.starred.specs.Computing.{computing}
 use Rattle.automaton.specs.Listing.{listedFrom, listed, listedDown}
-use Rattle.automaton.specs.Semantics.{trace}
-use Rattle.automaton.specs.View.{isWithin, leavesScope, isGoing, abandonings, deviating, movings, closers, turners, actsOf}
+use Rattle.automaton.specs.Semantics.{basicAlone, trace}
+use Rattle.automaton.specs.View.{isWithin, leavesScope, isGoing, leaveAt, abandonings, deviationStep, movings, closers, turners, actsOf}
 use Rattle.automaton.specs.Along.{made, actsFrom, actsAfter}
 use Rattle.automaton.specs.SelfCancelling.{activity, action, symbol, projected, isPair, leftAfter, leftOf, onto, cancOut, Perfect, Tagged}
 
@@ -70,15 +70,15 @@ tracks-test = refl
 
 pub perfectQ : Perfect comp Q
 unfolding replacement state stateCount
-perfectQ =
+perfectQ A =
     record {
       non-empty = λ i e. omega arith;
       codes =
-          λ x b.
+          λ x b m.
           eqb-true (transition Q x .code) (comp (transition Q x .event))
           (every-at 5 (λ x. eqb (transition Q x .code) (comp (transition Q x .event))) codes-test x (subst (λ n. x < n) (counted .0) b));
       replacements =
-          λ s.
+          λ s o.
           elim (look (ltb s (stateCount Q))) [
             | inl h ↦
                 eqb-true (replacement Q s) 0
@@ -110,10 +110,10 @@ f t = fire (record { track = t })
 abbrev calls : List Call
 calls = e 10 ∷ e 11 ∷ e 12 ∷ signal nothing ∷ f 1 ∷ f 2 ∷ f 0 ∷ []
 
-pub stringQ : projected 0 (actsAfter entryLimit planQ Q (lentFor 3) calls) ≡ activity 10 ∷ action 50 ∷ []
-unfolding computing listedFrom listed listedDown isWithin leavesScope isGoing abandonings deviating movings closers turners actsOf made actsFrom actsAfter trace symbol projected
+pub stringQ : projected 0 (actsAfter entryLimit planQ Q basicAlone (lentFor 3) calls) ≡ activity 10 ∷ action 50 ∷ []
+unfolding computing listedFrom listed listedDown isWithin leavesScope isGoing leaveAt abandonings deviationStep movings closers turners actsOf made actsFrom actsAfter trace symbol projected
 stringQ = refl
 
-pub cancelledQ : cancOut comp (projected 0 (actsAfter entryLimit planQ Q (lentFor 3) calls)) ≡ []
+pub cancelledQ : cancOut comp (projected 0 (actsAfter entryLimit planQ Q basicAlone (lentFor 3) calls)) ≡ []
 unfolding leftOf leftAfter isPair onto cancOut
 cancelledQ = ap (cancOut comp) stringQ

@@ -11,15 +11,15 @@ use native.Mathlib.Omega.{arith}
 use lib.Dec.{eqb}
 use borrow.Author.Tests.{eq-eqb, ne-eqb}
 use Rattle.rules.specs.Plan.{Plan, trackCount, transition, optional, replacement, isStateOf, isIn, isHostedBy, isHosting, isAbove, firstState}
-use Rattle.rules.proofs.Tests.{look, and-true, and-both}
+use Rattle.rules.proofs.Tests.{look, none-some, and-true, and-both}
 use Rattle.rules.proofs.Acceptance.{Accepted}
 use Rattle.rules.proofs.Forest.{Reaches, above-lower}
 use Rattle.rules.proofs.Scopes.{in-host, host-by}
 use Rattle.theory.proofs.Nesting.{state-of}
 use Rattle.automaton.specs.Listing.{listed, everyOf}
 use Rattle.automaton.specs.Configuration.{Comp, Dev, Stack, NConf, Basic, Nest, Conf, end, next, Vect, pushComp, pushDev, push, initBy, gotoTo, goto}
-use Rattle.automaton.specs.Semantics.{Act, sucAt, failAt, compAt, devAt, nestsucAt, nestfailAt, nestcompAt, trace, Step, SUC, FAIL, COMP, DEV, NESTSUC, NESTFAIL, NESTCOMP, NEST, VECT, NRun, halt, then}
-use Rattle.automaton.specs.SelfCancelling.{Symbol, activity, symbol, projected, leftOf, Perfect}
+use Rattle.automaton.specs.Semantics.{Reading, Act, sucAt, failAt, compAt, devAt, nestsucAt, nestfailAt, nestcompAt, trace, Step, SUC, FAIL, FAILNEST, COMP, DEV, NESTSUC, NESTFAIL, NESTCOMP, NEST, VECT, NRun, halt, then}
+use Rattle.automaton.specs.SelfCancelling.{Symbol, activity, symbol, projected, leftOf, PerfectAt}
 use Rattle.automaton.proofs.Listings.{listed-every}
 use Rattle.automaton.proofs.Frames.{hosted-above, reach-up}
 use Rattle.automaton.proofs.CancOut.{left-joined, left-activity, left-action}
@@ -37,18 +37,18 @@ unfoldable pub actor : Act → ℕ
 actor (sucAt A i) = A
 actor (failAt A) = A
 actor (compAt A c) = A
-actor (devAt A) = A
+actor (devAt A d) = A
 actor (nestsucAt A) = A
 actor (nestfailAt A) = A
 actor (nestcompAt A) = A
 
 -- another automaton's step leaves no symbol
-pub symbol-other : (A : ℕ) (a : Act) → (actor a ≡ A → ⊥) → symbol A (trace a) ≡ []
+symbol-other : (A : ℕ) (a : Act) → (actor a ≡ A → ⊥) → symbol A (trace a) ≡ []
 unfolding symbol trace actor
 symbol-other A (sucAt B i) d = rw (ne-eqb B A d)
 symbol-other A (failAt B) d = refl
 symbol-other A (compAt B c) d = rw (ne-eqb B A d)
-symbol-other A (devAt B) d = refl
+symbol-other A (devAt B q) d = refl
 symbol-other A (nestsucAt B) d = refl
 symbol-other A (nestfailAt B) d = refl
 symbol-other A (nestcompAt B) d = refl
@@ -63,8 +63,8 @@ module _ (p : Plan) where
   -- so throughout a configuration, and what is nested in an automaton is hosted by it
   mutual
     pub tidy : NConf → Bool
-    tidy (Basic A q r S) = ownDevs A S
-    tidy (Nest A q r S c) = ownDevs A S && tidyAll c A
+    tidy (Basic A q r S) = isStateOf p A q && ownDevs A S
+    tidy (Nest A q r S c) = (isStateOf p A q && ownDevs A S) && tidyAll c A
 
     tidyAll : Conf → ℕ → Bool
     tidyAll end A = true
@@ -123,12 +123,12 @@ module _ (p : Plan) where
   module _ (ok : Accepted p) where
     goto-tidy-to : (n A q : ℕ) (S : Stack) → isStateOf p A q ≡ true → ownDevs A S ≡ true → tidy (gotoTo p n A q S) ≡ true
     unfolding gotoTo initBy tidy ownDevs
-    goto-tidy-to zero A q S o s = s
+    goto-tidy-to zero A q S o s = and-both (isStateOf p A q) (ownDevs A S) o s
     goto-tidy-to (suc n) A q S o s =
         elim (look (isHosting p q)) [
-          | inr e ↦ rw e s
+          | inr e ↦ rw (e, o, s)
           | inl e ↦
-              rw (e, s)
+              rw (e, o, s)
               (tidy-all A (listed (trackCount p) (isIn p q) (λ B. gotoTo p n B (firstState p B) []))
               ∙ listed-every (λ m. isHostedBy p A (automatonOf m) && tidy m) (trackCount p) (isIn p q) (λ B. gotoTo p n B (firstState p B) [])
               (λ B b i.
@@ -147,7 +147,7 @@ module _ (p : Plan) where
     unfolding ownDevs
     goto-tidy A b = goto-tidy-own A (firstState p A) [] (ok .first-own A b) refl
 
-    module _ (comp : ℕ → ℕ) (perfect : Perfect comp p) where
+    module _ (comp : ℕ → ℕ) (Z : ℕ) (perfect : PerfectAt comp p Z) where
       -- a stack records the activities whose compensations it holds, the newest first; deviations leave no trace
       unfoldable pub Records : Stack → List Symbol → Type 0
       Records [] v = v ≡ []
@@ -162,7 +162,7 @@ module _ (p : Plan) where
         pub tidied : tidy m ≡ true
         pub same : automatonOf m ≡ automatonOf n
         pub reach : Reaches p ok (automatonOf n) (actor a)
-        pub keeps : (v : List Symbol) → Records (stackIn n) v → Records (stackIn m) (afterStep (automatonOf n) a v)
+        pub keeps : automatonOf n ≡ Z → (v : List Symbol) → Records (stackIn n) v → Records (stackIn m) (afterStep (automatonOf n) a v)
 
       kept : (A : ℕ) (a : Act) (S : Stack) (v : List Symbol) → symbol A (trace a) ≡ [] → Records S v → Records S (afterStep A a v)
       unfolding afterStep leftOf
@@ -195,7 +195,7 @@ module _ (p : Plan) where
       not-self A a h e = let b = above-lower p ok A (actor a) h in omega arith
 
       -- rule by rule
-      pub step-facts : {n m : NConf} {a : Act} → Step p n a m → tidy n ≡ true → Facts n a m
+      pub step-facts : {ρ : Reading} {n m : NConf} {a : Act} → Step p ρ n a m → tidy n ≡ true → Facts n a m
       unfolding automatonOf stackIn actor tidy ownDevs symbol trace
       step-facts s =
           elim s as (λ n a m x. tidy n ≡ true → Facts n a m) (λ c a d x. Within c a d) [
@@ -204,47 +204,68 @@ module _ (p : Plan) where
                 let c = transition p x .code in
                 let d = optional (transition p x .deviation) in
                 let t = transition p x .destination in
+                let (o, k) = and-true (isStateOf p A q) (ownDevs A S) h in
                 let dev : (z : ℕ) → d ≡ some z → isStateOf p A z ≡ true = λ z k. subst (λ y. isStateOf p y z ≡ true) e (ok .deviation-own x z b k) in
-                let code : c ≡ comp i = perfect .codes x b ∙ ap comp g in
                 record {
-                  tidied = goto-tidy-own A t (push c d S) (subst (λ y. isStateOf p y t ≡ true) e (ok .destination-own x b)) (own-push A c d S dev h);
+                  tidied = goto-tidy-own A t (push c d S) (subst (λ y. isStateOf p y t ≡ true) e (ok .destination-own x b)) (own-push A c d S dev k);
                   same = goto-automaton A t (push c d S);
                   reach = inl refl;
-                  keeps = λ v r. subst (λ z. Records z (afterStep A (sucAt A i) v)) (sym (goto-stack A t (push c d S))) (suc-records A i c d S v code r);
+                  keeps =
+                      λ z v r.
+                      let code : c ≡ comp i = perfect .codes x b (e ∙ z) ∙ ap comp g in
+                      subst (λ z. Records z (afterStep A (sucAt A i) v)) (sym (goto-stack A t (push c d S))) (suc-records A i c d S v code r);
                 }
-            | FAIL A q S ↦ λ h. record { tidied = h; same = refl; reach = inl refl; keeps = λ v r. kept A (failAt A) S v refl r }
-            | COMP A q c S ↦ λ h. record { tidied = h; same = refl; reach = inl refl; keeps = λ v r. comp-records A c S v r }
+            | FAIL A q S ↦ λ h. record { tidied = h; same = refl; reach = inl refl; keeps = λ z v r. kept A (failAt A) S v refl r }
+            | FAILNEST A q S c w ↦ λ h. record { tidied = h; same = refl; reach = inl refl; keeps = λ z v r. kept A (failAt A) S v refl r }
+            | COMP A q c S ↦
+                λ h. record { tidied = and-both (isStateOf p A q && ownDevs A S) true h refl; same = refl; reach = inl refl; keeps = λ z v r. comp-records A c S v r }
             | DEV A q d S ↦
                 λ h.
-                let (o, k) = and-true (isStateOf p A d) (ownDevs A S) h in
+                let (u, g) = and-true (isStateOf p A q) (isStateOf p A d && ownDevs A S) h in
+                let (o, k) = and-true (isStateOf p A d) (ownDevs A S) g in
                 record {
                   tidied = goto-tidy-own A d S o k;
                   same = goto-automaton A d S;
                   reach = inl refl;
-                  keeps = λ v r. subst (λ z. Records z (afterStep A (devAt A) v)) (sym (goto-stack A d S)) (kept A (devAt A) S v refl (unfold Records in r));
+                  keeps = λ z v r. subst (λ z. Records z (afterStep A (devAt A d) v)) (sym (goto-stack A d S)) (kept A (devAt A d) S v refl (unfold Records in r));
                 }
             | NESTSUC A q S c t ↦
                 λ h.
-                let e : push (replacement p q) none S ≡ S = empty-push S (replacement p q) (perfect .replacements q) in
+                let (u, k) = and-true (isStateOf p A q) (ownDevs A S) (and-true (isStateOf p A q && ownDevs A S) (tidyAll c A) h .0) in
                 record {
-                  tidied = subst (λ z. ownDevs A z ≡ true) (sym e) (and-true (ownDevs A S) (tidyAll c A) h .0);
+                  tidied = and-both (isStateOf p A q) (ownDevs A (push (replacement p q) none S)) u (own-push A (replacement p q) none S (λ e z. none-some refl z) k);
                   same = refl;
                   reach = inl refl;
-                  keeps = λ v r. subst (λ z. Records z (afterStep A (nestsucAt A) v)) (sym e) (kept A (nestsucAt A) S v refl r);
+                  keeps =
+                      λ z v r.
+                      let e : push (replacement p q) none S ≡ S = empty-push S (replacement p q) (perfect .replacements q (state-of p A q u .1 ∙ z)) in
+                      subst (λ z. Records z (afterStep A (nestsucAt A) v)) (sym e) (kept A (nestsucAt A) S v refl r);
                 }
             | NESTFAIL A q S c t ↦
-                λ h. record { tidied = and-true (ownDevs A S) (tidyAll c A) h .0; same = refl; reach = inl refl; keeps = λ v r. kept A (nestfailAt A) S v refl r }
+                λ h.
+                record {
+                  tidied = and-true (isStateOf p A q && ownDevs A S) (tidyAll c A) h .0;
+                  same = refl;
+                  reach = inl refl;
+                  keeps = λ z v r. kept A (nestfailAt A) S v refl r;
+                }
             | NESTCOMP A q S c t ↦
-                λ h. record { tidied = and-true (ownDevs A S) (tidyAll c A) h .0; same = refl; reach = inl refl; keeps = λ v r. kept A (nestcompAt A) S v refl r }
+                λ h.
+                record {
+                  tidied = and-true (isStateOf p A q && ownDevs A S) (tidyAll c A) h .0;
+                  same = refl;
+                  reach = inl refl;
+                  keeps = λ z v r. kept A (nestcompAt A) S v refl r;
+                }
             | NEST A q r S {c = c} {d = d} {a = a} (s → ih) ↦
                 λ h.
-                let (o, k) = and-true (ownDevs A S) (tidyAll c A) h in
+                let (o, k) = and-true (isStateOf p A q && ownDevs A S) (tidyAll c A) h in
                 let (t, b) = ih A k in
                 record {
-                  tidied = and-both (ownDevs A S) (tidyAll d A) o t;
+                  tidied = and-both (isStateOf p A q && ownDevs A S) (tidyAll d A) o t;
                   same = refl;
                   reach = inr b;
-                  keeps = λ v r. kept A a S v (symbol-other A a (not-self A a b)) r;
+                  keeps = λ z v r. kept A a S v (symbol-other A a (not-self A a b)) r;
                 }
             | VECT α β {n = n} {m = m} {a = a} (s → ih) ↦
                 λ A h.
@@ -265,13 +286,13 @@ module _ (p : Plan) where
               let c = above-lower p ok A B (hosted-above p ok A B i) in let d = above-lower p ok B u e in omega arith
 
       -- Lemma 1: the stack reached records what is left of what was recorded and the string
-      pub lemma1 : {n m : NConf} {w : List Act} → NRun p n w m → tidy n ≡ true → (v : List Symbol) → Records (stackIn n) v
+      pub lemma1 : {ρ : Reading} {n m : NConf} {w : List Act} → NRun p ρ n w m → tidy n ≡ true → automatonOf n ≡ Z → (v : List Symbol) → Records (stackIn n) v
           → Records (stackIn m) (leftOf comp v (projected (automatonOf n) w))
       unfolding projected leftOf
-      lemma1 halt t v r = r
-      lemma1 (then {n = n} {m = m} {k = k} {a = a} {w = w} s q) t v r =
+      lemma1 halt t z v r = r
+      lemma1 (then {n = n} {m = m} {k = k} {a = a} {w = w} s q) t z v r =
           let f = step-facts s t in
           subst (λ z. Records (stackIn k) z)
           (ap (λ A. leftOf comp (afterStep (automatonOf n) a v) (projected A w)) (f .same)
           ∙ (unfold afterStep in sym (left-joined comp v (symbol (automatonOf n) (trace a)) (projected (automatonOf n) w))))
-          (lemma1 q (f .tidied) (afterStep (automatonOf n) a v) (f .keeps v r))
+          (lemma1 q (f .tidied) (f .same ∙ z) (afterStep (automatonOf n) a v) (f .keeps z v r))

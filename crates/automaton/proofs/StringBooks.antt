@@ -8,7 +8,7 @@ use Prim.Native.Nat.{ℕ, zero, suc, _<_}
 use lib.Dec.{eqb}
 use borrow.Author.Tests.{eqb-true, eqb-false, eq-eqb, ne-eqb}
 use Rattle.rules.specs.Fold.{someBelow}
-use Rattle.rules.specs.Plan.{Plan, trackCount, transitionCount, transition, mover, isRoot, isInside}
+use Rattle.rules.specs.Plan.{Plan, owner, trackCount, transitionCount, transition, mover, isRoot, isInside}
 use Rattle.rules.specs.Ledger.{Ledger}
 use Rattle.rules.specs.Event.{move}
 use Rattle.rules.specs.Call.{event}
@@ -78,7 +78,7 @@ module _ (p : Plan) where
     pub no-code : (v : List Symbol) → takes 0 v ≡ v
     no-code v =
         takes-other 0 v
-        (refuted (isCodeOf A 0) (λ k. let (x, b, e, q) = code-find A 0 k in perfect .non-empty (transition p x .event) (sym (perfect .codes x b) ∙ q)))
+        (refuted (isCodeOf A 0) (λ k. let (x, b, e, q) = code-find A 0 k in perfect A .non-empty (transition p x .event) (sym (perfect (mover p x) .codes x b refl) ∙ q)))
 
     pub undone : (x : ℕ) → x < transitionCount p → (v : List Symbol) → takes (transition p x .code) (adds x v) ≡ v
     undone x b v =
@@ -88,7 +88,7 @@ module _ (p : Plan) where
               let i = transition p x .event in
               ap (takes (transition p x .code)) (adds-here x v e ∙ left-activity comp v i)
               ∙ takes-here (transition p x .code) (activity i ∷ v) (code-of A x b e)
-              ∙ ap (λ c. leftAfter comp (activity i ∷ v) (action c)) (perfect .codes x b)
+              ∙ ap (λ c. leftAfter comp (activity i ∷ v) (action c)) (perfect (mover p x) .codes x b refl)
               ∙ left-action comp v i
           | inr h ↦
               let d = eqb-false (mover p x) A h in
@@ -101,7 +101,7 @@ module _ (p : Plan) where
     unfolding does
     idle t n (change x b) v = adds-other x v n
     idle t n (retraction x b) v = takes-other (transition p x .code) v (other-code (mover p x) (transition p x .code) (code-of (mover p x) x b refl) n)
-    idle t n (replacing s u h) v = ap (λ c. takes c v) (perfect .replacements s) ∙ no-code v
+    idle t n (replacing s u h) v = ap (λ c. takes c v) (perfect (owner p s) .replacements s refl) ∙ no-code v
 
     pub commutes : (t u : ℕ) → Apart p t u → (d : Deed p t) (e : Deed p u) (v : List Symbol)
         → does p adds takes d (does p adds takes e v) ≡ does p adds takes e (does p adds takes d v)
@@ -166,6 +166,6 @@ module _ (p : Plan) where
           retracted = takes;
           nothing = no-code;
           undo = undone;
-          undo-run = λ s t h w f v. ap (λ c. takes c (act adds w v)) (perfect .replacements s) ∙ no-code (act adds w v) ∙ finished-idle s w f v;
+          undo-run = λ s t h w f v. ap (λ c. takes c (act adds w v)) (perfect (owner p s) .replacements s refl) ∙ no-code (act adds w v) ∙ finished-idle s w f v;
           commute = commutes;
         }

@@ -1,8 +1,9 @@
--- "A scope can close exactly if its vector has terminated, and be abandoned exactly if it has compensated." A scope's tracks are all in
+-- A scope can close exactly if its vector has terminated, and be abandoned exactly if it has compensated. A scope's tracks are all in
 -- one mode, so its vector is never mixed; a track in a final state has no open scope, so one that has is neither. Assumes nothing.
 use mathlib.Core.Path.{_≡_, refl, sym, ap, ap₂, _∙_, subst}
 use mathlib.Core.Logic.{inl, inr}
-use mathlib.Core.Bool.{Bool, true, false, _&&_, _||_}
+use mathlib.Core.Bool as bool
+use mathlib.Core.Bool.{Bool, true, false, and-false, and-comm, _&&_, _||_}
 use mathlib.Core.List.{List, [], _∷_}
 use mathlib.Core.Option.{some}
 use Prim.Native.Nat.{ℕ, _<_}
@@ -25,7 +26,8 @@ use Rattle.theory.proofs.Closing.{closing-of, final-free}
 use Rattle.theory.proofs.SoundBegin.{abandoning-bare}
 use Rattle.theory.proofs.SoundEvent.{abandoning-of}
 use Rattle.automaton.specs.Listing.{listed, someOf, everyOf}
-use Rattle.automaton.specs.Configuration.{NConf, Conf, Vect, members, pushComp, isForwards, isBackwards, isBare, isTerminated, isCompensated, hasTerminated, hasCompensated}
+use Rattle.automaton.specs.Configuration.{NConf, Conf, Vect, members, pushComp, isForwards, isBackwards, isEmptyStack, isTerminated, isCompensated, hasTerminated, hasCompensated}
+use Rattle.automaton.specs.Semantics.{Reading}
 use Rattle.automaton.specs.View.{stackOf, directionOf, isWithin, basic, nested, viewOf, scopeView}
 use Rattle.automaton.proofs.Listings.{alike, listed-every, listed-every-at, listed-some, listed-some-find}
 use Rattle.automaton.proofs.Frames.{within-parts, within-of, shown-free, shown-busy, view-law}
@@ -35,8 +37,8 @@ unfolding members Vect
 members-vect [] = refl
 members-vect (x ∷ xs) = ap (λ z. x ∷ z) (members-vect xs)
 
-pub bare-stack : (es : List Entry) → isBare (stackOf es) ≡ isEmpty es
-unfolding isBare stackOf isEmpty pushComp
+pub bare-stack : (es : List Entry) → isEmptyStack (stackOf es) ≡ isEmpty es
+unfolding isEmptyStack stackOf isEmpty pushComp
 bare-stack [] = refl
 bare-stack (e ∷ es) = refl
 
@@ -52,36 +54,30 @@ coming Asleep h = clash h refl
 coming Forward h = refl
 coming Undoing h = refl
 
-swap : (a b : Bool) → (a && b) ≡ (b && a)
-swap true true = refl
-swap true false = refl
-swap false true = refl
-swap false false = refl
-
 module _ (p : Plan) where
   -- of a basic configuration
-  pub basic-terminated : (l : Ledger) (t : ℕ) → isTerminated p (basic p l t) ≡ (isForward (l t .mode) && isFinal p (l t .state))
+  basic-terminated : (l : Ledger) (t : ℕ) → isTerminated p (basic p l t) ≡ (isForward (l t .mode) && isFinal p (l t .state))
   unfolding isTerminated basic
-  basic-terminated l t = ap (λ x. isFinal p (l t .state) && x) (going (l t .mode)) ∙ swap (isFinal p (l t .state)) (isForward (l t .mode))
+  basic-terminated l t = ap (λ x. isFinal p (l t .state) && x) (going (l t .mode)) ∙ and-comm (isFinal p (l t .state)) (isForward (l t .mode))
 
   pub basic-compensated : (l : Ledger) (t : ℕ) → Awake l t → isCompensated p (basic p l t) ≡ (isUndoing (l t .mode) && isEmpty (l t .held))
   unfolding isCompensated basic
-  basic-compensated l t a = ap₂ (λ x y. x && y) (bare-stack (l t .held)) (coming (l t .mode) a) ∙ swap (isEmpty (l t .held)) (isUndoing (l t .mode))
+  basic-compensated l t a = ap₂ (λ x y. x && y) (bare-stack (l t .held)) (coming (l t .mode) a) ∙ and-comm (isEmpty (l t .held)) (isUndoing (l t .mode))
 
-  pub nested-terminated : (l : Ledger) (t : ℕ) (c : Conf) → isTerminated p (nested p l t c) ≡ false
+  nested-terminated : (ρ : Reading) (l : Ledger) (t : ℕ) (c : Conf) → isTerminated p (nested p ρ l t c) ≡ false
   unfolding isTerminated nested
-  nested-terminated l t c = refl
+  nested-terminated ρ l t c = refl
 
-  pub nested-compensated : (l : Ledger) (t : ℕ) (c : Conf) → isCompensated p (nested p l t c) ≡ false
+  nested-compensated : (ρ : Reading) (l : Ledger) (t : ℕ) (c : Conf) → isCompensated p (nested p ρ l t c) ≡ false
   unfolding isCompensated nested
-  nested-compensated l t c = refl
+  nested-compensated ρ l t c = refl
 
   -- of the vector of some tracks
   module _ (f : ℕ → Bool) (g : ℕ → NConf) where
     abbrev v : Conf
     v = Vect (listed (trackCount p) f g)
 
-    pub terminated-of : ((u : ℕ) → u < trackCount p → f u ≡ true → isTerminated p (g u) ≡ true) → (w : ℕ) → w < trackCount p → f w ≡ true → hasTerminated p v ≡ true
+    terminated-of : ((u : ℕ) → u < trackCount p → f u ≡ true → isTerminated p (g u) ≡ true) → (w : ℕ) → w < trackCount p → f w ≡ true → hasTerminated p v ≡ true
     unfolding hasTerminated
     terminated-of h w b y =
         rw (members-vect (listed (trackCount p) f g))
@@ -109,43 +105,6 @@ module _ (p : Plan) where
         listed-every-at (isCompensated p) (trackCount p) f g (ap (everyOf (isCompensated p)) (sym (members-vect (listed (trackCount p) f g))) ∙ h)
 
 module _ (p : Plan) (ok : Accepted p) (l : Ledger) (n : Nested p l) where
-  -- a track's configuration is terminated exactly if the track is forward in a final state, compensated exactly if it is bare
-  pub view-terminated : (t : ℕ) → Awake l t → isTerminated p (viewOf p l t) ≡ (isForward (l t .mode) && isFinal p (l t .state))
-  view-terminated t a =
-      ap (isTerminated p) (view-law p l ok t (n .below t a))
-      ∙ elim (look (hasOpenScope p l t)) [
-        | inr b ↦ ap (isTerminated p) (shown-free p l t (viewOf p l) b) ∙ basic-terminated p l t
-        | inl b ↦
-            ap (isTerminated p) (shown-busy p l t (viewOf p l) b) ∙ nested-terminated p l t (scope t)
-            ∙ sym (refuted (isForward (l t .mode) && isFinal p (l t .state))
-            (λ h. clash b (final-free p ok l n t (and-true (isForward (l t .mode)) (isFinal p (l t .state)) h .1))))
-      ]
-    where
-      scope : ℕ → Conf
-      scope t = Vect (listed (trackCount p) (isWithin p l t) (viewOf p l))
-
-  pub view-compensated : (t : ℕ) → Awake l t → isCompensated p (viewOf p l t) ≡ signal.isBare p l t
-  unfolding signal.isBare
-  view-compensated t a =
-      ap (isCompensated p) (view-law p l ok t (n .below t a))
-      ∙ elim (look (hasOpenScope p l t)) [
-        | inr b ↦ ap (isCompensated p) (shown-free p l t (viewOf p l) b) ∙ basic-compensated p l t a ∙ sym (rw b (last (isUndoing (l t .mode) && isEmpty (l t .held))))
-        | inl b ↦
-            ap (isCompensated p) (shown-busy p l t (viewOf p l) b) ∙ nested-compensated p l t (scope t)
-            ∙ sym (rw b (none-of (isUndoing (l t .mode) && isEmpty (l t .held))))
-      ]
-    where
-      scope : ℕ → Conf
-      scope t = Vect (listed (trackCount p) (isWithin p l t) (viewOf p l))
-
-      last : (x : Bool) → (x && true) ≡ x
-      last true = refl
-      last false = refl
-
-      none-of : (x : Bool) → (x && false) ≡ false
-      none-of true = refl
-      none-of false = refl
-
   -- a track with an open scope has that of the state that it is in
   pub busy-open : (t : ℕ) → hasOpenScope p l t ≡ true → isOpen p l (l t .state) ≡ true
   busy-open t b =
@@ -164,7 +123,7 @@ module _ (p : Plan) (ok : Accepted p) (l : Ledger) (n : Nested p l) where
         let z : k ≡ s = sym (n .hosted u k a e .0) ∙ ap (λ y. l y .state) o ∙ open-host p ok l n s open-s .2 in
         (e ∙ ap some z, a)
 
-    pub host-within : (u : ℕ) → host p u ≡ some s → isWithin p l x u ≡ true
+    host-within : (u : ℕ) → host p u ≡ some s → isWithin p l x u ≡ true
     host-within u e =
         let (t, b, f, a) = open-find p l s open-s in
         within-of p l x u (host-by p u s e) (n .whole u t s e f ∙ a)
@@ -172,44 +131,75 @@ module _ (p : Plan) (ok : Accepted p) (l : Ledger) (n : Nested p l) where
     some-track : (w : ℕ) × (w < trackCount p) × (host p w ≡ some s) × Awake l w
     some-track = open-find p l s open-s
 
-    -- "A scope can close exactly if its vector has terminated"
-    pub closing-terminated : isClosing p l s ≡ hasTerminated p (scopeView p l x)
+module _ (p : Plan) (ρ : Reading) (ok : Accepted p) (l : Ledger) (n : Nested p l) where
+  -- a track's configuration is terminated exactly if the track is forward in a final state, compensated exactly if it is bare
+  pub view-terminated : (t : ℕ) → Awake l t → isTerminated p (viewOf p ρ l t) ≡ (isForward (l t .mode) && isFinal p (l t .state))
+  view-terminated t a =
+      ap (isTerminated p) (view-law p ρ l ok t (n .below t a))
+      ∙ elim (look (hasOpenScope p l t)) [
+        | inr b ↦ ap (isTerminated p) (shown-free p ρ l t (viewOf p ρ l) b) ∙ basic-terminated p l t
+        | inl b ↦
+            ap (isTerminated p) (shown-busy p ρ l t (viewOf p ρ l) b) ∙ nested-terminated p ρ l t (scope t)
+            ∙ sym (refuted (isForward (l t .mode) && isFinal p (l t .state))
+            (λ h. clash b (final-free p ok l n t (and-true (isForward (l t .mode)) (isFinal p (l t .state)) h .1))))
+      ]
+    where
+      scope : ℕ → Conf
+      scope t = Vect (listed (trackCount p) (isWithin p l t) (viewOf p ρ l))
+
+  pub view-compensated : (t : ℕ) → Awake l t → isCompensated p (viewOf p ρ l t) ≡ signal.isBare p l t
+  unfolding signal.isBare
+  view-compensated t a =
+      ap (isCompensated p) (view-law p ρ l ok t (n .below t a))
+      ∙ elim (look (hasOpenScope p l t)) [
+        | inr b ↦ ap (isCompensated p) (shown-free p ρ l t (viewOf p ρ l) b) ∙ basic-compensated p l t a ∙ sym (rw b (bool.and-true (isUndoing (l t .mode) && isEmpty (l t .held))))
+        | inl b ↦
+            ap (isCompensated p) (shown-busy p ρ l t (viewOf p ρ l) b) ∙ nested-compensated p ρ l t (scope t)
+            ∙ sym (rw b (and-false (isUndoing (l t .mode) && isEmpty (l t .held))))
+      ]
+    where
+      scope : ℕ → Conf
+      scope t = Vect (listed (trackCount p) (isWithin p l t) (viewOf p ρ l))
+
+  module _ (s : ℕ) (open-s : isOpen p l s ≡ true) where
+    -- A scope can close exactly if its vector has terminated
+    pub closing-terminated : isClosing p l s ≡ hasTerminated p (scopeView p ρ l (owner p s))
     unfolding scopeView
     closing-terminated =
-        alike (isClosing p l s) (hasTerminated p (Vect (listed (trackCount p) (isWithin p l x) (viewOf p l))))
+        alike (isClosing p l s) (hasTerminated p (Vect (listed (trackCount p) (isWithin p l (owner p s)) (viewOf p ρ l))))
         (λ c.
-        let (w, b, e, a) = some-track in
-        terminated-of p (isWithin p l x) (viewOf p l)
+        let (w, b, e, a) = some-track p ok l n s open-s in
+        terminated-of p (isWithin p l (owner p s)) (viewOf p ρ l)
         (λ u d y.
-        let (f, v) = within-host u y in
+        let (f, v) = within-host p ok l n s open-s u y in
         let (i, j) = closing-final p l s u c d f in
         view-terminated u v ∙ and-both (isForward (l u .mode)) (isFinal p (l u .state)) i j)
-        w b (host-within w e))
+        w b (host-within p ok l n s open-s w e))
         (λ h.
-        let (q, all) = terminated-at p (isWithin p l x) (viewOf p l) h in
+        let (q, all) = terminated-at p (isWithin p l (owner p s)) (viewOf p ρ l) h in
         let (w, b, y, k) = q in
-        let (e, a) = within-host w y in
+        let (e, a) = within-host p ok l n s open-s w y in
         let fw = and-true (isForward (l w .mode)) (isFinal p (l w .state)) (sym (view-terminated w a) ∙ k) .0 in
         closing-of p l s open-s
         (λ u f.
-        let y′ = host-within u f in
-        let a′ = within-host u y′ .1 in
+        let y′ = host-within p ok l n s open-s u f in
+        let a′ = within-host p ok l n s open-s u y′ .1 in
         let same : l u .mode ≡ l w .mode = sym (n .hosted u s a′ f .1) ∙ n .hosted w s a e .1 in
-        elim (or-true (isTerminated p (viewOf p l u)) (isCompensated p (viewOf p l u)) (all u (ok .hosted u s f) y′)) [
+        elim (or-true (isTerminated p (viewOf p ρ l u)) (isCompensated p (viewOf p ρ l u)) (all u (ok .hosted u s f) y′)) [
           | inl g ↦ and-true (isForward (l u .mode)) (isFinal p (l u .state)) (sym (view-terminated u a′) ∙ g)
           | inr g ↦ clash (ap isForward same ∙ fw) (undoing-forward (l u .mode) (bare-parts p ok l u (sym (view-compensated u a′) ∙ g) .0))
         ]))
 
-    -- "and be abandoned exactly if it has compensated"
-    pub abandoning-compensated : isAbandoning p l s ≡ hasCompensated p (scopeView p l x)
+    -- and be abandoned exactly if it has compensated
+    pub abandoning-compensated : isAbandoning p l s ≡ hasCompensated p (scopeView p ρ l (owner p s))
     unfolding scopeView
     abandoning-compensated =
-        alike (isAbandoning p l s) (hasCompensated p (Vect (listed (trackCount p) (isWithin p l x) (viewOf p l))))
+        alike (isAbandoning p l s) (hasCompensated p (Vect (listed (trackCount p) (isWithin p l (owner p s)) (viewOf p ρ l))))
         (λ c.
-        compensated-of p (isWithin p l x) (viewOf p l)
-        (λ u d y. let (f, v) = within-host u y in view-compensated u v ∙ abandoning-bare p ok l s u c f))
+        compensated-of p (isWithin p l (owner p s)) (viewOf p ρ l)
+        (λ u d y. let (f, v) = within-host p ok l n s open-s u y in view-compensated u v ∙ abandoning-bare p ok l s u c f))
         (λ h.
         abandoning-of p l s open-s
         (λ u f.
-        let y = host-within u f in
-        sym (view-compensated u (within-host u y .1)) ∙ compensated-at p (isWithin p l x) (viewOf p l) h u (ok .hosted u s f) y))
+        let y = host-within p ok l n s open-s u f in
+        sym (view-compensated u (within-host p ok l n s open-s u y .1)) ∙ compensated-at p (isWithin p l (owner p s)) (viewOf p ρ l) h u (ok .hosted u s f) y))

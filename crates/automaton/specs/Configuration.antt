@@ -21,9 +21,9 @@ pub data Element : Type 0 where
 abbrev pub Stack : Type 0
 Stack = List Element
 
--- "either (i) a basic configuration composed of an automaton, a state, a direction and a stack; (ii) a nested configuration consisting of
--- a basic configuration and the configuration of the nested automata vector; or (iii) a vector configuration encoded as a sequence of
--- nested configurations"
+-- "either (i) a basic configuration composed of an automaton .. a state .. a (forward or backward) direction .. and a stack .. (ii) a nested
+-- configuration consisting of a basic configuration and the configuration of the nested automata vector; or (iii) a vector configuration
+-- encoded as a sequence of nested configurations"
 mutual
   pub data NConf : Type 0 where
     Basic : ℕ → ℕ → Direction → Stack → NConf
@@ -63,9 +63,9 @@ unfoldable pub isBackwards : Direction → Bool
 isBackwards forward = false
 isBackwards backward = true
 
-unfoldable pub isBare : Stack → Bool
-isBare [] = true
-isBare (s ∷ S) = false
+unfoldable pub isEmptyStack : Stack → Bool
+isEmptyStack [] = true
+isEmptyStack (s ∷ S) = false
 
 module _ (p : Plan) where
   -- Definition 6. "terminated .. if and only if it has reached a final state and it is in forward direction: q ∈ F ∧ ~ = →"
@@ -76,7 +76,7 @@ module _ (p : Plan) where
 
   -- "compensated .. if and only if it has an empty stack and it is in backward direction: S = [] ∧ ~ = ←"
   unfoldable pub isCompensated : NConf → Bool
-  isCompensated (Basic A q r S) = isBare S && isBackwards r
+  isCompensated (Basic A q r S) = isEmptyStack S && isBackwards r
   isCompensated (Nest A q r S c) = false
 
   -- "A vector configuration is said to have terminated if all sub-configurations are either terminated or compensated and at least one

@@ -84,6 +84,9 @@ pub record Accepted (p : Plan) : Type 0 where
   pub deviation-own : (x d : ℕ) → x < transitionCount p → optional (transition p x .deviation) ≡ some d → isStateOf p (mover p x) d ≡ true
   pub deviation-open : (x d : ℕ) → x < transitionCount p → optional (transition p x .deviation) ≡ some d → isFinal p d ≡ false
   pub deviation-root : (x d : ℕ) → x < transitionCount p → optional (transition p x .deviation) ≡ some d → isRoot p (mover p x) ≡ true
+  -- the report's Definition 8
+  pub deterministic : (x y : ℕ) → x < transitionCount p → y < transitionCount p → transition p x .source ≡ transition p y .source
+      → transition p x .event ≡ transition p y .event → x ≡ y
   pub unhosting : (s : ℕ) → s < stateCount p → isHosting p s ≡ false → replacement p s ≡ 0
 
 -- 65535 is no state, any other word is
@@ -202,6 +205,23 @@ module _ (p : Plan) (a : Passed p) where
       let q1 = or-false A B (q2 .0) in
       (not-false _ (q1 .0), q1 .1, not-false _ (q2 .1))
 
+  repeated : (x y : ℕ) → x < y → transition p x .source ≡ transition p y .source → transition p x .event ≡ transition p y .event
+      → repeatsEvent p y ≡ true
+  unfolding repeatsEvent
+  repeated x y l s e =
+      some-at y (λ z. eqb (transition p z .source) (transition p y .source) && eqb (transition p z .event) (transition p y .event)) x l
+      (and-both (eqb (transition p x .source) (transition p y .source)) (eqb (transition p x .event) (transition p y .event))
+      (borrow.Author.Tests.eq-eqb _ _ s) (borrow.Author.Tests.eq-eqb _ _ e))
+
+  deterministic : (x y : ℕ) → x < transitionCount p → y < transitionCount p → transition p x .source ≡ transition p y .source
+      → transition p x .event ≡ transition p y .event → x ≡ y
+  deterministic x y b c s e =
+      ⊎-elim (λ l. clash (repeated x y (ltb-true x y l) s e) (a .events y c))
+      (λ l.
+      ⊎-elim (λ m. clash (repeated y x (ltb-true y x m) (sym s) (sym e)) (a .events x b))
+      (λ m. let i = ltb-false x y l in let j = ltb-false y x m in omega arith) (look (ltb y x)))
+      (look (ltb x y))
+
   pub accepted-facts : Accepted p
   unfolding noTrack
   accepted-facts =
@@ -220,6 +240,7 @@ module _ (p : Plan) (a : Passed p) where
         deviation-own = λ x d l h. deviation-facts x d l h .0;
         deviation-open = λ x d l h. deviation-facts x d l h .1;
         deviation-root = λ x d l h. deviation-facts x d l h .2;
+        deterministic = deterministic;
         unhosting = unhosting;
       }
 

@@ -1,0 +1,295 @@
+-- An accepted call's big steps end in the view of the ledger afterwards and nowhere else: there is one, since its steps are a run, and there is
+-- one only, since SUC in any order, FAIL, COMP and silent steps each lead to one configuration. Assumes nothing.
+use mathlib.Core.Path.{_≡_, refl, sym, ap, _∙_, subst, fun-ext}
+use mathlib.Core.Logic.{_↔_, inl, inr}
+use mathlib.Core.Bool.{Bool, true, false, cond, not}
+use mathlib.Core.List.{List, [], _∷_, _++_}
+use mathlib.Core.Option.{Option, none, some}
+use Prim.Native.Nat.{ℕ, zero, suc, _+_, _<_, _≤_}
+use native.Mathlib.Omega.{arith}
+use lib.Dec.{eqb}
+use borrow.Author.Tests.{eqb-true, eqb-false}
+use Rattle.rules.specs.Plan.{Plan, trackCount, optional}
+use Rattle.rules.specs.Ledger.{Ledger}
+use Rattle.rules.specs.Event.{moves, moved, closesScope, closed, afterEvent}
+use Rattle.rules.specs.Signal.{turned, abandoned, afterSignal}
+use Rattle.rules.specs.Fire.{newest, fired, afterFire}
+use Rattle.rules.specs.Call.{SignalArguments, FireArguments, nothing, Call, event, signal, fire, callRefusal, after}
+use Rattle.rules.proofs.Tests.{look, clash, refuted, and-true, and-both, or-true, or-right}
+use Rattle.rules.proofs.Acceptance.{Accepted}
+use Rattle.rules.proofs.Closing.{closed-done}
+use Rattle.theory.proofs.Nesting.{Nested}
+use Rattle.restoration.proofs.Theorems01.{fire-accepted, moved-nested, closed-nested, turned-forward, turned-nested, mover-awake, Sound, event-roots, event-abandoning, signal-sound, fire-sound, unfinished}
+use Rattle.automaton.specs.Listing.{listedFrom, listed, listedDown, everyOf}
+use Rattle.automaton.specs.Configuration.{Conf}
+use Rattle.automaton.specs.Semantics.{Reading, basicAlone, nestedToo, Act, sucAt, failAt, compAt, devAt, nestsucAt, nestfailAt, nestcompAt, trace, VStep, Run, stop, step}
+use Rattle.automaton.specs.View.{view, leavesScope, isGoing, leaveAt, abandonings, deviationStep, movings, closers, turners}
+use Rattle.automaton.specs.CountedSteps.{isFail}
+use Rattle.automaton.specs.BigSteps.{ended, isMute, isSilent, has, isOnceEach, sucs, Exhausted, Exhausts, OnEvent, OnSignal, OnFiring, Big, Ends}
+use Rattle.automaton.specs.Exactly.{Exactly}
+use Rattle.automaton.proofs.Listings.{alike, from-every}
+use Rattle.automaton.proofs.Settled.{view-settled}
+use Rattle.automaton.proofs.Moving.{moves-some, apart, moving-run}
+use Rattle.automaton.proofs.Closing.{closing-run}
+use Rattle.automaton.proofs.Leaving.{abandoning-run}
+use Rattle.automaton.proofs.Turning.{going-forward, turning-run}
+use Rattle.automaton.proofs.Firing.{fire-run}
+use Rattle.automaton.proofs.Calls.{finished-view, stepwise}
+use Rattle.automaton.proofs.Enabled.{suc-enabled, fail-enabled}
+use Rattle.automaton.proofs.Confluence.{silent-unique, fail-unique, run-steps, settled-exhausted}
+use Rattle.automaton.proofs.OnePlace.{comp-unique, suc-unique, view-once}
+
+-- The automata of a sequence in track order.
+module _ (f : ℕ → Bool) where
+  from-has : (n i A : ℕ) → i ≤ A → A < i + n → f A ≡ true → has (listedFrom n i f (λ t. t)) A ≡ true
+  unfolding listedFrom has
+  from-has zero i A b c y = absurd (omega arith)
+  from-has (suc n) i A b c y = go (f i) refl (λ d. from-has n (suc i) A d (omega arith) y)
+    where
+      go : (x : Bool) → f i ≡ x → (suc i ≤ A → has (listedFrom n (suc i) f (λ t. t)) A ≡ true)
+          → has (cond x (i ∷ listedFrom n (suc i) f (λ t. t)) (listedFrom n (suc i) f (λ t. t))) A ≡ true
+      go true e ih =
+          elim (look (eqb i A)) [
+            | inl q ↦ rw q
+            | inr q ↦ let d = eqb-false i A q in or-right (eqb i A) (has (listedFrom n (suc i) f (λ t. t)) A) (ih (omega arith))
+          ]
+      go false e ih =
+          elim (look (eqb i A)) [
+            | inl q ↦ clash y (subst (λ z. f z ≡ false) (eqb-true i A q) e)
+            | inr q ↦ let d = eqb-false i A q in ih (omega arith)
+          ]
+
+  has-from : (n i A : ℕ) → has (listedFrom n i f (λ t. t)) A ≡ true → (i ≤ A) × (f A ≡ true)
+  unfolding listedFrom has
+  has-from zero i A h = clash h refl
+  has-from (suc n) i A h = go (f i) refl h (λ r. let (b, y) = has-from n (suc i) A r in (omega arith, y))
+    where
+      go : (x : Bool) → f i ≡ x → has (cond x (i ∷ listedFrom n (suc i) f (λ t. t)) (listedFrom n (suc i) f (λ t. t))) A ≡ true
+          → (has (listedFrom n (suc i) f (λ t. t)) A ≡ true → (i ≤ A) × (f A ≡ true)) → (i ≤ A) × (f A ≡ true)
+      go true e r ih =
+          elim (or-true (eqb i A) (has (listedFrom n (suc i) f (λ t. t)) A) r) [
+            | inl q ↦ let z = eqb-true i A q in (omega arith, subst (λ w. f w ≡ true) z e)
+            | inr q ↦ ih q
+          ]
+      go false e r ih = ih r
+
+  from-once : (n i : ℕ) → isOnceEach (listedFrom n i f (λ t. t)) ≡ true
+  unfolding listedFrom isOnceEach
+  from-once zero i = refl
+  from-once (suc n) i = go (f i) (from-once n (suc i))
+    where
+      go : (x : Bool) → isOnceEach (listedFrom n (suc i) f (λ t. t)) ≡ true → isOnceEach (cond x (i ∷ listedFrom n (suc i) f (λ t. t)) (listedFrom n (suc i) f (λ t. t))) ≡ true
+      go true r =
+          and-both (not (has (listedFrom n (suc i) f (λ t. t)) i)) (isOnceEach (listedFrom n (suc i) f (λ t. t)))
+          (ap not (refuted (has (listedFrom n (suc i) f (λ t. t)) i) (λ h. let (b, y) = has-from n (suc i) i h in omega arith))) r
+      go false r = r
+
+  from-sucs : (e n i : ℕ) → sucs e (listedFrom n i f (λ t. t)) ≡ listedFrom n i f (λ t. sucAt t e)
+  unfolding listedFrom sucs
+  from-sucs e zero i = refl
+  from-sucs e (suc n) i = go (f i) (from-sucs e n (suc i))
+    where
+      go : (x : Bool) → sucs e (listedFrom n (suc i) f (λ t. t)) ≡ listedFrom n (suc i) f (λ t. sucAt t e)
+          → sucs e (cond x (i ∷ listedFrom n (suc i) f (λ t. t)) (listedFrom n (suc i) f (λ t. t)))
+          ≡ cond x (sucAt i e ∷ listedFrom n (suc i) f (λ t. sucAt t e)) (listedFrom n (suc i) f (λ t. sucAt t e))
+      go true r = ap (λ w. sucAt i e ∷ w) r
+      go false r = r
+
+down-every : {A : Type 0} (test : A → Bool) (n : ℕ) (f : ℕ → Bool) (g : ℕ → A) → ((k : ℕ) → test (g k) ≡ true) → everyOf test (listedDown n f g) ≡ true
+unfolding listedDown everyOf
+down-every test zero f g h = refl
+down-every test (suc n) f g h = go (f n) (down-every test n f g h)
+  where
+    go : (x : Bool) → everyOf test (listedDown n f g) ≡ true → everyOf test (cond x (g n ∷ listedDown n f g) (listedDown n f g)) ≡ true
+    go true r = and-both (test (g n)) (everyOf test (listedDown n f g)) (h n) r
+    go false r = r
+
+every-join : {A : Type 0} (test : A → Bool) (v w : List A) → everyOf test v ≡ true → everyOf test w ≡ true → everyOf test (v ++ w) ≡ true
+unfolding everyOf
+every-join test [] w h k = k
+every-join test (x ∷ v) w h k =
+    let (a, b) = and-true (test x) (everyOf test v) h in and-both (test x) (everyOf test (v ++ w)) a (every-join test v w b k)
+
+leave-silent : (ρ : Reading) (k : ℕ) → isSilent (leaveAt ρ k) ≡ true
+unfolding leaveAt isSilent isMute trace
+leave-silent basicAlone k = refl
+leave-silent nestedToo k = refl
+
+deviation-silent : (t : ℕ) (o : Option ℕ) → everyOf isSilent (deviationStep t o) ≡ true
+unfolding deviationStep everyOf isSilent isMute trace
+deviation-silent t none = refl
+deviation-silent t (some d) = refl
+
+module _ (p : Plan) (ρ : Reading) where
+  abandonings-silent : (l : Ledger) → everyOf isSilent (abandonings p ρ l) ≡ true
+  unfolding abandonings
+  abandonings-silent l = down-every isSilent (trackCount p) (leavesScope p l) (leaveAt ρ) (leave-silent ρ)
+
+  closers-silent : (l : Ledger) → everyOf isSilent (closers p l) ≡ true
+  unfolding closers listed isSilent isMute trace
+  closers-silent l = from-every isSilent (trackCount p) 0 (closesScope p l) nestsucAt (λ k b c y. refl)
+
+  back-silent : (t : ℕ) (w : List Act) → everyOf isSilent w ≡ true → everyOf isSilent (nestcompAt t ∷ w) ≡ true
+  unfolding everyOf isSilent isMute trace
+  back-silent t w h = h
+
+  pub turners-fail : (l : Ledger) → everyOf isFail (turners p ρ l) ≡ true
+  unfolding turners isFail
+  turners-fail l = down-every isFail (trackCount p) (isGoing p ρ l) failAt (λ k. refl)
+
+  first-of : {c d : Conf} {w : List Act} → Run p ρ c w d → (a : Act) (v : List Act) → w ≡ a ∷ v → (b : Conf) × VStep p ρ c a b × Run p ρ b v d
+  first-of stop a v e = let z : _≡_ {A = ℕ} 0 1 = cc in absurd (omega arith)
+  first-of {c} {d} (step {d = b} {a = a′} {w = w} s r) a v e =
+      let x : a′ ≡ a = cc in let y : w ≡ v = cc in (b, subst (λ z. VStep p ρ c z b) x s, subst (λ z. Run p ρ b z d) y r)
+
+module _ (p : Plan) (ρ : Reading) (ok : Accepted p) (l : Ledger) (n : Nested p l) where
+  -- after a signal nothing is forward
+  pub none-going : Exhausted p ρ isFail (view p ρ (turned l))
+  unfolding isFail
+  none-going = go
+    where
+      nt : Nested p (turned l)
+      nt = turned-nested p ok l n nothing
+
+      go : (a : Act) (d : Conf) → VStep p ρ (view p ρ (turned l)) a d → isFail a ≡ true → ⊥
+      go (failAt A) d r h =
+          clash (going-forward p (turned l) ρ A (fail-enabled p ρ (turned l) ok nt A .0 (d, r))) (turned-forward p ok nothing l A)
+      go (sucAt A i) d r h = clash h refl
+      go (compAt A c) d r h = clash h refl
+      go (devAt A q) d r h = clash h refl
+      go (nestsucAt A) d r h = clash h refl
+      go (nestfailAt A) d r h = clash h refl
+      go (nestcompAt A) d r h = clash h refl
+
+module _ (p : Plan) (ρ : Reading) (ok : Accepted p) (limit : ℕ) (l : Ledger) (s : Sound limit p l) where
+  abbrev n : Nested p l
+  n = s .formed .nested
+
+  -- An event.
+  order : ℕ → List ℕ
+  order e = listed (trackCount p) (moves p l e) (λ t. t)
+
+  order-has : (e A : ℕ) → (has (order e) A ≡ true) ↔ (moves p l e A ≡ true)
+  unfolding order listed
+  order-has e A = (
+    λ h. has-from (moves p l e) (trackCount p) 0 A h .1,
+    λ h.
+        let (x, q) = moves-some p l e A h in
+        let b = n .below A (mover-awake p l e A x q) in
+        from-has (moves p l e) (trackCount p) 0 A (omega arith) (omega arith) h,
+  )
+
+  event-big : (e : ℕ) → OnEvent p ρ e (view p ρ l) (view p ρ (closed p (moved p l e)))
+  unfolding movings order listed
+  event-big e =
+      let m = moved p l e in
+      let nm = moved-nested p l e ok n in
+      record {
+        order = order e;
+        once = from-once (moves p l e) (trackCount p) 0;
+        those = λ A. (λ c. order-has e A .1 (suc-enabled p ρ l ok n A e .0 c), λ h. suc-enabled p ρ l ok n A e .1 (order-has e A .0 h));
+        between = view p ρ m;
+        moving = subst (λ w. Run p ρ (view p ρ l) w (view p ρ m)) (sym (from-sucs (moves p l e) e (trackCount p) 0)) (moving-run p l e ρ ok n);
+        settling = (
+          run-steps p ρ isSilent (closing-run p ρ ok m nm) (closers-silent p ρ m),
+          settled-exhausted p ρ (view p ρ (closed p m))
+              (view-settled p ρ ok (closed p m) (closed-nested p ok m nm) (closed-done p m) (event-abandoning limit p ok l (s .formed) e (s .abandoning))),
+        );
+      }
+
+  event-one : (e : ℕ) (c d : Conf) → OnEvent p ρ e (view p ρ l) c → OnEvent p ρ e (view p ρ l) d → c ≡ d
+  event-one e c d x y =
+      let same : x .between ≡ y .between =
+      suc-unique p ρ ok e (view p ρ l) (x .between) (y .between) (x .order) (y .order) (x .moving) (y .moving) (x .once) (y .once)
+      (fun-ext
+      (λ A.
+      alike (has (x .order) A) (has (y .order) A) (λ h. y .those A .0 (x .those A .1 h)) (λ h. x .those A .0 (y .those A .1 h))))
+      (λ A. view-once p ρ ok l n A)
+      (λ A B h k. apart p l e ρ ok n A B (suc-enabled p ρ l ok n A e .0 (x .those A .1 h)) (suc-enabled p ρ l ok n B e .0 (x .those B .1 k))) in
+      silent-unique p ρ ok (y .between) c d (subst (λ z. Exhausts p ρ isSilent z c) same (x .settling)) (y .settling)
+
+  -- A signal.
+  signal-big : (a : SignalArguments) → callRefusal limit p l (signal a) ≡ 0 → OnSignal p ρ (view p ρ l) (view p ρ (afterSignal p l))
+  unfolding afterSignal
+  signal-big a h =
+      let k = signal-sound limit p ok l s a (unfinished limit p ok l s (signal a) h refl) in
+      record {
+        between = view p ρ (turned l);
+        turning = (run-steps p ρ isFail (turning-run p ρ ok l n) (turners-fail p ρ l), none-going p ρ ok l n);
+        settling = (
+          run-steps p ρ isSilent (abandoning-run p ρ ok (turned l) (turned-nested p ok l n nothing)) (abandonings-silent p ρ (turned l)),
+          settled-exhausted p ρ (view p ρ (abandoned p (turned l)))
+              (view-settled p ρ ok (abandoned p (turned l)) (k .formed .nested) (k .closing) (k .abandoning)),
+        );
+      }
+
+  signal-one : (c d e : Conf) → OnSignal p ρ c d → OnSignal p ρ c e → d ≡ e
+  signal-one c d e x y =
+      let same = fail-unique p ρ c (x .between) (y .between) (x .turning) (y .turning) in
+      silent-unique p ρ ok (y .between) d e (subst (λ z. Exhausts p ρ isSilent z d) same (x .settling)) (y .settling)
+
+  -- A firing.
+  fire-big : (a : FireArguments) → callRefusal limit p l (fire a) ≡ 0
+      → OnFiring p ρ (a .track) (newest (l (a .track) .held) .code) (view p ρ l) (view p ρ (afterFire p l (a .track)))
+  unfolding afterFire
+  fire-big a h =
+      let t = a .track in
+      let may = fire-accepted limit p l a h .1 in
+      let k = fire-sound limit p ok l s t may (unfinished limit p ok l s (fire a) h refl) in
+      let (b, v, r) = first-of p ρ (fire-run p ρ ok l n t (s .formed .good t) may) _ _ refl in
+      record {
+        between = b;
+        firing = v;
+        settling = (
+          run-steps p ρ isSilent r
+              (back-silent p ρ t (deviationStep t (optional (newest (l t .held) .deviation)) ++ abandonings p ρ (fired p l t))
+              (every-join isSilent (deviationStep t (optional (newest (l t .held) .deviation))) (abandonings p ρ (fired p l t))
+              (deviation-silent t (optional (newest (l t .held) .deviation))) (abandonings-silent p ρ (fired p l t)))),
+          settled-exhausted p ρ (view p ρ (afterFire p l t))
+              (view-settled p ρ ok (abandoned p (fired p l t)) (k .formed .nested) (k .closing) (k .abandoning)),
+        );
+      }
+
+  fire-one : (A j k : ℕ) (c d : Conf) → OnFiring p ρ A j (view p ρ l) c → OnFiring p ρ A k (view p ρ l) d → c ≡ d
+  fire-one A j k c d x y =
+      let same = comp-unique p ρ A j k (view p ρ l) (x .between) (y .between) (view-once p ρ ok l n A) (x .firing) (y .firing) in
+      silent-unique p ρ ok (y .between) c d (subst (λ z. Exhausts p ρ isSilent z c) same (x .settling)) (y .settling)
+
+  -- what is reached before finish is looked for
+  worked : Call → Conf
+  worked (event a) = view p ρ (closed p (moved p l (a .event)))
+  worked (signal a) = view p ρ (afterSignal p l)
+  worked (fire a) = view p ρ (afterFire p l (a .track))
+
+  big : (c : Call) → callRefusal limit p l c ≡ 0 → Big p ρ c (view p ρ l) (worked c)
+  unfolding Big worked
+  big (event a) h = event-big (a .event)
+  big (signal a) h = signal-big a h
+  big (fire a) h = (newest (l (a .track) .held) .code, fire-big a h)
+
+  -- the report's Proposition 1: only one configuration is reached
+  pub one-only : (c : Call) (d e : Conf) → Big p ρ c (view p ρ l) d → Big p ρ c (view p ρ l) e → d ≡ e
+  unfolding Big
+  one-only (event a) d e x y = event-one (a .event) d e x y
+  one-only (signal a) d e x y = signal-one (view p ρ l) d e x y
+  one-only (fire a) d e x y = fire-one (a .track) (x .0) (y .0) d e (x .1) (y .1)
+
+  worked-ended : (c : Call) → view p ρ (after limit p l c) ≡ ended p c (worked c)
+  unfolding worked after afterEvent ended
+  worked-ended (event a) =
+      let m = moved p l (a .event) in
+      finished-view p ρ ok (closed p m) (closed-nested p ok m (moved-nested p l (a .event) ok n)) (event-roots limit p ok l (s .formed) (a .event) (s .roots))
+  worked-ended (signal a) = refl
+  worked-ended (fire a) = refl
+
+  -- an accepted call leads exactly where the automaton's big steps end
+  exactly-big : (c : Call) → callRefusal limit p l c ≡ 0 → (d : Conf) → Ends p ρ c (view p ρ l) d ↔ (d ≡ view p ρ (after limit p l c))
+  unfolding Ends
+  exactly-big c h d = (
+    λ x. let (e, b, q) = x in q ∙ ap (ended p c) (one-only c e (worked c) b (big c h)) ∙ sym (worked-ended c),
+    λ q. (worked c, big c h, q ∙ worked-ended c),
+  )
+
+  -- property 2's word, of every accepted call on every sound ledger
+  pub exactly : (c : Call) → callRefusal limit p l c ≡ 0 → Exactly p ρ limit l c
+  exactly c h = record { steps = stepwise p ρ ok limit l s c h; ends = exactly-big c h }
