@@ -8,8 +8,7 @@ pub mod Restoration
 pub mod Bound
 pub mod LiteralRuns
 -- Books for the sample plan; what would be false.
-pub mod Potential
+pub mod SampleTracks
 pub mod SampleBooks
 pub mod SampleRun
-pub mod SampleFinished
 pub mod Counterexamples

@@ -1,5 +1,5 @@
 -- The runs of a scope, from its opening on: its ledgers are reached and sound, its tracks start in their first states, and each follows its
--- own transitions. So what the moves of one track add up to is known by the state it stands in. Assumes nothing.
+-- own transitions. So what the moves of one track do is known by the state it stands in. Assumes nothing.
 use mathlib.Core.Path.{_≡_, refl, sym, ap, _∙_, subst}
 use mathlib.Core.Logic.{inl, inr}
 use mathlib.Core.Bool.{true, false}
