@@ -1,14 +1,12 @@
 -- The conditions can be met on the sample plan P: by numbers, which a track's changes raise and its retractions lower again, and by piles, on
 -- which they put and from which they take. The piles see the order: what is not taken off newest first is not given back. Assumes nothing.
 use mathlib.Core.Path.{_≡_, refl, ap, _∙_}
-use mathlib.Core.Bool.{cond}
 use mathlib.Core.List.{List, [], _∷_}
-use Prim.Native.Nat.{ℕ, zero, suc, _+_, _-_, _<_}
+use Prim.Native.Nat.{ℕ, zero, suc, _<_}
 use native.Mathlib.Omega.{arith}
 use lib.ListN.{length, getD}
-use lib.Dec.{eqb}
 use borrow.Author.Tests.{ne-eqb}
-use Rattle.rules.specs.Plan.{transitionCount, transition, replacement, mover}
+use Rattle.rules.specs.Plan.{transitionCount, transition, mover}
 use Rattle.rules.specs.Books.{Books}
 use Rattle.starred.specs.Computing.{computing}
 use Rattle.restoration.specs.SampleAccount as account

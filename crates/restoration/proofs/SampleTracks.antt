@@ -72,7 +72,7 @@ unfolding computing
 hosts-P zero s e = none-some refl e
 hosts-P (suc zero) s e = sym (cc)
 hosts-P (suc (suc zero)) s e = sym (cc)
-hosts-P (suc (suc (suc t))) s e = let l : suc (suc (suc t)) < 3 = ok-P .hosted (suc (suc (suc t))) s e in absurd (omega arith)
+hosts-P (suc (suc (suc t))) s e = none-some refl e
 
 -- What a finished run of state 1 does where only one track's changes do anything.
 module _ {B : Type 0} (v : ℕ → B → B) where
