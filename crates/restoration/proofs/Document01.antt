@@ -24,18 +24,19 @@ use Rattle.rules.specs.Call as call
 use Rattle.rules.specs.Call.{EventArguments, SignalArguments, FireArguments, callRefusals, callRefusal, after, next}
 use Rattle.rules.specs.FinishedRun.{taken, movesBelow, movesOf}
 use Rattle.rules.proofs.Tests.{look, look-option, clash, none-some, and-true, or-false, passed, implies, implied}
+use Rattle.rules.proofs.Modes.{undoing-forward}
 use Rattle.rules.proofs.Folds.{some-not, every-at, every-of}
 use Rattle.rules.proofs.Acceptance.{Accepted, transition-for}
 use Rattle.rules.proofs.Scopes.{root-of, root-none}
 use Rattle.rules.proofs.Opening.{enter-to}
 use Rattle.rules.proofs.Closing as closing
+use Rattle.rules.proofs.Ready.{may-fire}
 use Rattle.theory.specs.Roots.{rootOf}
 use Rattle.theory.specs.Seams.{Seams, CallOf, event, signal, fire, isEvent, installed, installedBy, install, recorded, goes, changeOf, turned, work}
 use Rattle.theory.proofs.Composition.{when, join}
-use Rattle.theory.proofs.Modes.{undoing-forward}
 use Rattle.theory.proofs.Nesting.{Nested, root-above}
 use Rattle.theory.proofs.Entries.{deviates}
-use Rattle.theory.proofs.Firing.{may-fire, fired-is, removed-mode, deviates-here, deviates-not, fired-still}
+use Rattle.theory.proofs.Firing.{fired-is, removed-mode, deviates-here, deviates-not, fired-still}
 use Rattle.theory.proofs.Soundness.{Sound}
 use Rattle.theory.proofs.Laws.{Takes, ended, Settled, Roomy, Laws, Unfinished}
 use Rattle.theory.proofs.SoundRetraction.{spared-track, fired-awake, fired-root}

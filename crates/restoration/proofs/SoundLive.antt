@@ -18,12 +18,12 @@ use Rattle.rules.specs.Fire.{mayFire}
 use Rattle.rules.specs.Soundness.{areTidy, isLive, isSound}
 use Rattle.rules.specs.Call.{Call, callRefusal, after, next}
 use Rattle.rules.proofs.Tests.{look, clash, and-true, and-both, or-true, or-right}
+use Rattle.rules.proofs.Modes.{is-undoing}
 use Rattle.rules.proofs.Folds.{every-at}
 use Rattle.rules.proofs.Acceptance.{Accepted}
 use Rattle.rules.proofs.Abandoning.{undoing-awake}
 use Rattle.rules.proofs.Soundness.{Live, live-facts, live-of}
 use Rattle.rules.proofs.Stored.{Storable, read-written, tidy-written, storable-read}
-use Rattle.theory.proofs.Modes.{is-undoing}
 use Rattle.theory.proofs.Nesting.{Awake, Nested}
 use Rattle.theory.proofs.Entries.{Good, may-deviate}
 use Rattle.theory.proofs.Soundness.{Formed, Sound, Over, sleeping-asleep, sleeping-held, sleeping-few, sleeping-good}

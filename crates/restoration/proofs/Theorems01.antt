@@ -19,10 +19,10 @@ use Rattle.rules.specs.Books.{act}
 use Rattle.rules.specs.FinishedRun.{Reached, start, then, Running, by-begin, by-call, over-event, over-signal, over-fire, Finished}
 use Rattle.rules.proofs.Tests.{clash}
 use Rattle.rules.proofs.Acceptance.{Accepted}
+use Rattle.rules.proofs.Ready as fireable
 use Rattle.theory.specs.Seams as seam
 use Rattle.theory.proofs.Nesting.{Awake, Nested}
 use Rattle.theory.proofs.Entering.{Enterable}
-use Rattle.theory.proofs.Firing as firing
 use Rattle.theory.proofs.Soundness as theory
 use Rattle.theory.proofs.Soundness.{Formed, RootsAwake}
 use Rattle.theory.proofs.Settling as settling
@@ -158,7 +158,7 @@ module _ (p : Plan) (ok : Accepted p) (l : Ledger) (n : Nested p l) where
 -- Calls: who may be fired, what is over, what an accepted call does.
 pub may-fire : (limit : ℕ) (p : Plan) (l : Ledger) (t : ℕ) → mayFire p l t ≡ true
     → (t < trackCount p) × (isUndoing (l t .mode) ≡ true) × (isEmpty (l t .held) ≡ false) × (hasOpenScope p l t ≡ false)
-may-fire limit p l t h = firing.may-fire p l t h
+may-fire limit p l t h = fireable.may-fire p l t h
 
 pub over-refused : (limit : ℕ) (p : Plan) (l : Ledger) → isOver p l ≡ true → (c : Call) → callRefusal limit p l c ≡ 0 → ⊥
 over-refused limit p l o c =

@@ -12,6 +12,7 @@ use Rattle.rules.specs.Plan.{Plan, trackCount, transitionCount, transition, hos
 use Rattle.rules.specs.Ledger.{Configuration, Ledger}
 use Rattle.rules.specs.Scope.{isOpen}
 use Rattle.rules.proofs.Tests.{look, look-option, clash}
+use Rattle.rules.proofs.Modes.{forward-awake}
 use Rattle.rules.proofs.Acceptance.{Accepted}
 use Rattle.rules.proofs.Forest.{inside-host}
 use Rattle.rules.proofs.Closing.{closing-final}
@@ -19,7 +20,6 @@ use Rattle.theory.specs.Seams.{Seams, signal, fire, changeOf}
 use Rattle.theory.specs.Runs as run
 use Rattle.theory.specs.Runs.{act, Running, by-begin, by-call, over-event, over-signal, over-fire, Finished}
 use Rattle.theory.proofs.Composition.{when, act-append, join-still, join-alone}
-use Rattle.theory.proofs.Modes.{forward-awake}
 use Rattle.theory.proofs.Entering.{fresh-state}
 use Rattle.theory.proofs.Soundness.{Sound}
 use Rattle.theory.proofs.Laws.{Laws, Unfinished}

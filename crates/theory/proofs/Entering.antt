@@ -14,9 +14,9 @@ use Rattle.rules.specs.Ledger.{Configuration, Ledger, isAwake, sleeping}
 use Rattle.rules.specs.Scope.{hasOpenScope}
 use Rattle.rules.specs.Opening.{fresh, wakes, enter}
 use Rattle.rules.proofs.Tests.{look, look-option, clash, none-some, and-true, or-right, strong}
+use Rattle.rules.proofs.Modes.{forward-awake, is-forward}
 use Rattle.rules.proofs.Acceptance.{Accepted}
 use Rattle.rules.proofs.Opening.{wakes-root, wakes-together, wakes-entered, wakes-woken, enter-to, enter-woken, enter-kept}
-use Rattle.theory.proofs.Modes.{forward-awake, is-forward}
 use Rattle.theory.proofs.Nesting.{Awake, Sleeps, Nested, own-below, host-awake, host-busy}
 
 -- a track goes forward into a state

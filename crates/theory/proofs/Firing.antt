@@ -18,25 +18,6 @@ use Rattle.theory.proofs.Nesting.{Awake, Sleeps, Nested, busy-same}
 use Rattle.theory.proofs.Entering.{Enterable, kept, kept-busy, new-fresh, enter-nested}
 use Rattle.theory.proofs.Entries.{Good, deviates}
 
-module _ (p : Plan) (l : Ledger) where
-  -- what a track that may be fired is
-  pub may-fire : (t : ℕ) → mayFire p l t ≡ true
-      → (t < trackCount p) × (isUndoing (l t .mode) ≡ true) × (isEmpty (l t .held) ≡ false) × (hasOpenScope p l t ≡ false)
-  unfolding mayFire
-  may-fire t h =
-      let A = ltb t (trackCount p) in
-      let B = isUndoing (l t .mode) in
-      let C = not (isEmpty (l t .held)) in
-      let (x, d) = and-true (A && B && C) (not (hasOpenScope p l t)) h in
-      let (y, c) = and-true (A && B) C x in
-      let (a, b) = and-true A B y in
-      (ltb-true t (trackCount p) a, b, not-true (isEmpty (l t .held)) c, not-true (hasOpenScope p l t) d)
-
-  pub fire-may : (t : ℕ) → t < trackCount p → isUndoing (l t .mode) ≡ true → isEmpty (l t .held) ≡ false → hasOpenScope p l t ≡ false
-      → mayFire p l t ≡ true
-  unfolding mayFire
-  fire-may t a b c d = rw (lt-ltb t (trackCount p) a, b, c, d)
-
 module _ (p : Plan) (l : Ledger) (t : ℕ) where
   pub fired-is : fired p l t ≡ enter p (deviatesTo p l t) (removed p l t)
   unfolding fired

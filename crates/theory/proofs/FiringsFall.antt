@@ -20,11 +20,12 @@ use Rattle.rules.specs.Transcript.{heldTotal}
 use Rattle.rules.proofs.Tests.{look, clash, and-true}
 use Rattle.rules.proofs.Acceptance.{Accepted}
 use Rattle.rules.proofs.Abandoning.{left-asleep, left-kept}
+use Rattle.rules.proofs.Ready.{may-fire}
 use Rattle.theory.specs.Seams.{Seams, Call, event, signal, fire, isEvent, firingsOf, turned, work}
 use Rattle.theory.specs.Runs.{firingsFrom, isEventless}
 use Rattle.theory.proofs.Entering.{Fate, enters, wakens, stays, fate, fresh-held}
 use Rattle.theory.proofs.Entries.{older-length, older-less}
-use Rattle.theory.proofs.Firing.{may-fire, fired-is, removed-here, removed-other}
+use Rattle.theory.proofs.Firing.{fired-is, removed-here, removed-other}
 use Rattle.theory.proofs.Soundness.{sleeping-held}
 use Rattle.theory.proofs.Laws.{Laws}
 use Rattle.theory.proofs.Settling.{next-cases}

@@ -15,15 +15,16 @@ use Rattle.rules.specs.Opening.{enter}
 use Rattle.rules.specs.Signal.{isAbandoned, abandoned}
 use Rattle.rules.specs.Fire.{newest, older, mayFire, removed, deviatesTo, fired}
 use Rattle.rules.proofs.Tests.{look, look-option, clash}
+use Rattle.rules.proofs.Modes.{undoing-forward}
 use Rattle.rules.proofs.Acceptance.{Accepted}
 use Rattle.rules.proofs.Scopes.{open-at, open-find}
 use Rattle.rules.proofs.Abandoning.{spent-parts, abandoned-root, abandoned-spent, left-asleep, left-kept}
+use Rattle.rules.proofs.Ready.{may-fire}
 use Rattle.theory.specs.Seams.{Seams, turned}
 use Rattle.theory.specs.Runs.{act, Books}
 use Rattle.theory.proofs.Composition.{when, join, All, Swap, nil-swap, join-same, join-single, put-behind}
-use Rattle.theory.proofs.Modes.{undoing-forward}
 use Rattle.theory.proofs.Nesting.{Awake, Nested, open-same, mode-inside}
-use Rattle.theory.proofs.Firing.{may-fire, fired-is, removed-mode, removed-awake, removed-here, removed-other, removed-nested, deviates-free}
+use Rattle.theory.proofs.Firing.{fired-is, removed-mode, removed-awake, removed-here, removed-other, removed-nested, deviates-free}
 use Rattle.theory.proofs.Soundness.{Sound, sleeping-held}
 use Rattle.theory.proofs.Laws.{Laws}
 use Rattle.theory.proofs.Turning.{turned-awake, turned-held, spared}

@@ -14,13 +14,13 @@ use Rattle.rules.specs.Scope.{hasOpenScope}
 use Rattle.rules.specs.Signal.{isBare}
 use Rattle.rules.specs.Fire.{mayFire}
 use Rattle.rules.proofs.Tests.{look, clash, implies}
+use Rattle.rules.proofs.Modes.{is-undoing}
 use Rattle.rules.proofs.Acceptance.{Accepted}
 use Rattle.rules.proofs.Scopes.{in-host, host-in, open-at, busy-find}
 use Rattle.rules.proofs.Abandoning.{undoing-awake}
+use Rattle.rules.proofs.Ready.{fire-may}
 use Rattle.theory.specs.Seams.{Seams}
-use Rattle.theory.proofs.Modes.{is-undoing}
 use Rattle.theory.proofs.Nesting.{Awake, Nested}
-use Rattle.theory.proofs.Firing.{fire-may}
 use Rattle.theory.proofs.Soundness.{Sound}
 use Rattle.theory.proofs.SoundEvent.{bare-of, abandoning-of}
 

@@ -18,12 +18,13 @@ use Rattle.rules.proofs.Forest.{inside-host}
 use Rattle.rules.proofs.Scopes.{open-find, shut-at}
 use Rattle.rules.proofs.Opening.{enter-to}
 use Rattle.rules.proofs.Abandoning.{awake-kept}
+use Rattle.rules.proofs.Ready.{may-fire}
 use Rattle.theory.specs.Seams.{Seams, Call, event, signal, fire, isEvent, goes, recorded, turned, work}
 use Rattle.theory.specs.Runs as run
 use Rattle.theory.specs.Runs.{Reached, Running, by-begin, by-call, over-event, over-signal, over-fire}
 use Rattle.theory.proofs.Nesting.{Awake, Sleeps, Nested}
 use Rattle.theory.proofs.Entering.{fresh-state}
-use Rattle.theory.proofs.Firing.{may-fire, fired-new}
+use Rattle.theory.proofs.Firing.{fired-new}
 use Rattle.theory.proofs.Soundness.{Sound, sleeping-asleep}
 use Rattle.theory.proofs.Laws.{Laws, Unfinished}
 use Rattle.theory.proofs.Settling.{next-cases}

@@ -14,13 +14,13 @@ use Rattle.rules.specs.Opening.{fresh, wakes, rootsFirst, begun}
 use Rattle.rules.specs.Event.{isClosing}
 use Rattle.rules.specs.Signal.{isBare, isAbandoning}
 use Rattle.rules.proofs.Tests.{look, look-option, clash, none-some, refuted, and-true}
+use Rattle.rules.proofs.Modes.{is-forward, undoing-forward}
 use Rattle.rules.proofs.Acceptance.{Accepted}
 use Rattle.rules.proofs.Scopes.{root-none, host-in, every-in-at, open-find, busy-find}
 use Rattle.rules.proofs.Closing.{closing-final}
 use Rattle.rules.proofs.Abandoning.{bare-parts}
 use Rattle.rules.proofs.Opening.{begun-root, begun-woken, begun-asleep}
 use Rattle.theory.specs.Seams.{Seams}
-use Rattle.theory.proofs.Modes.{is-forward, undoing-forward}
 use Rattle.theory.proofs.Nesting.{Awake}
 use Rattle.theory.proofs.Entering.{Enterable, fresh-awake, fresh-mode, fresh-state}
 use Rattle.theory.proofs.Soundness.{Formed, RootsAwake, Sound, sleeping-held, sleeping-few, sleeping-good, sleeping-asleep}

@@ -16,16 +16,17 @@ use Rattle.rules.specs.Event.{isClosing}
 use Rattle.rules.specs.Signal.{abandoned}
 use Rattle.rules.specs.Fire.{mayFire, removed, deviatesTo, fired}
 use Rattle.rules.proofs.Tests.{look, clash, refuted}
+use Rattle.rules.proofs.Modes.{forward-awake}
 use Rattle.rules.proofs.Acceptance.{Accepted}
 use Rattle.rules.proofs.Scopes.{open-at, open-find}
 use Rattle.rules.proofs.Closing.{closing-final}
 use Rattle.rules.proofs.Abandoning.{undoing-awake, awake-kept, left-kept, abandoned-done}
+use Rattle.rules.proofs.Ready.{may-fire}
 use Rattle.theory.specs.Seams.{Seams, turned}
-use Rattle.theory.proofs.Modes.{forward-awake}
 use Rattle.theory.proofs.Nesting.{Awake, Nested}
 use Rattle.theory.proofs.Entering.{Fate, enters, wakens, stays, fate, arrived-awake, fresh-awake, fresh-state}
 use Rattle.theory.proofs.Entries.{Good, good-older, older-length}
-use Rattle.theory.proofs.Firing.{may-fire, fired-is, removed-mode, removed-state, removed-here, removed-other, removed-awake, deviates-hosted, deviates-free, removed-nested, fired-still, fired-new}
+use Rattle.theory.proofs.Firing.{fired-is, removed-mode, removed-state, removed-here, removed-other, removed-awake, deviates-hosted, deviates-free, removed-nested, fired-still, fired-new}
 use Rattle.theory.proofs.Soundness.{Formed, Sound}
 use Rattle.theory.proofs.Laws.{Laws}
 use Rattle.theory.proofs.Turning.{turned-awake, unturned}
