@@ -5,6 +5,8 @@ pub mod Runs01
 pub mod SoundLive
 pub mod SoundWords
 pub mod Restoration
+pub mod Allowed
+pub mod Continuation
 pub mod Bound
 pub mod LiteralRuns
 -- Books for the sample plan; what would be false.

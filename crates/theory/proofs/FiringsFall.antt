@@ -115,7 +115,7 @@ module _ {σ : Seams} (ω : Laws σ) (limit : ℕ) (p : Plan) (ok : Accepted p) 
       ]
 
   -- an accepted call that is no event: what it fires, and what is held afterwards, was held before
-  call-fewer : (h : Head) (l : Ledger) (c : Call σ) → refusal limit p h l c ≡ 0 → isEvent c ≡ false
+  pub call-fewer : (h : Head) (l : Ledger) (c : Call σ) → refusal limit p h l c ≡ 0 → isEvent c ≡ false
       → firingsOf c + heldTotal p (next limit p h l c) ≤ heldTotal p l
   call-fewer h l (event a) z n = clash refl n
   call-fewer h l (signal a) z n = let x = signal-fewer l a in let y = settled-fewer h l (signal a) z in omega arith

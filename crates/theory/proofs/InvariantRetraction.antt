@@ -26,16 +26,12 @@ use Rattle.theory.proofs.Composition.{when, join, All, Swap, nil-swap, 
 use Rattle.theory.proofs.Nesting.{Awake, Nested, open-same, mode-inside}
 use Rattle.theory.proofs.Firing.{fired-is, removed-mode, removed-awake, removed-here, removed-other, removed-nested, deviates-free}
 use Rattle.theory.proofs.Soundness.{Sound, sleeping-held}
+use Rattle.theory.proofs.Entries.{empty-nil}
 use Rattle.theory.proofs.Laws.{Laws}
 use Rattle.theory.proofs.Turning.{turned-awake, turned-held, spared}
 use Rattle.theory.proofs.Leaving.{left-awake, left-host-stays}
 use Rattle.theory.proofs.SoundRetraction.{fired-awake}
 use Rattle.theory.proofs.Invariant.{Undoes, Below, Held, inner, Blocks, swap-free, enter-blocks}
-
-empty-nil : (es : List Entry) → isEmpty es ≡ true → es ≡ []
-unfolding isEmpty
-empty-nil [] h = refl
-empty-nil (e ∷ es) h = clash h refl
 
 module _ {σ : Seams} (ω : Laws σ) (limit : ℕ) (p : Plan) (ok : Accepted p) (k : Books σ p limit) (l : Ledger) (n : Nested p l)
     (W R : ℕ → List (σ .Change)) (g : Blocks limit p ok k l W R) where
