@@ -1,6 +1,6 @@
 -- What calls on sound words are answered: a firing that is allowed is done, and no call of a list from an accepted begin is refused for the
 -- ledger that it got. The words hold the ledger of the rules, and of that ledger's refusals 19 is the lowest. Assumes nothing.
-use mathlib.Core.Path.{_≡_, refl, sym, ap, _∙_, subst}
+use mathlib.Core.Path.{_≡_, refl, sym, ap}
 use mathlib.Core.Logic.{_⊎_, inl, inr}
 use mathlib.Core.Bool.{Bool, true, false, cond, not}
 use mathlib.Core.List.{List, [], _∷_}
@@ -16,10 +16,10 @@ use Rattle.rules.specs.Scope.{isOver}
 use Rattle.rules.specs.Event.{isFull}
 use Rattle.rules.specs.Fire.{newest, mayFire}
 use Rattle.rules.specs.Soundness.{isSound}
-use Rattle.rules.specs.Call.{Answer, refusal, done, Call, event, signal, fire, nothing, tooShort, callRefusals, callRefusal, figures, callOutcome, beginOutcome}
+use Rattle.rules.specs.Call.{refusal, done, Call, event, signal, fire, nothing, tooShort, callRefusals, callRefusal, figures, callOutcome, beginOutcome}
 use Rattle.rules.specs.ReferenceRun.{wordsAfter, ledgerAfter}
 use Rattle.rules.proofs.Ready.{fireable-not-over}
-use Rattle.restoration.proofs.SoundWords.{theLedger, sound-holds, call-accepted, call-refused, begin-holds}
+use Rattle.restoration.proofs.SoundWords.{theLedger, sound-holds, call-accepted, call-refused}
 use Rattle.restoration.proofs.Restoration.{history-holds}
 
 module _ (limit : ℕ) (p : Plan) (l : Ledger) where

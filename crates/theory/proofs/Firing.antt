@@ -2,17 +2,17 @@
 -- its own. Assumes nothing.
 use mathlib.Core.Path.{_≡_, refl, sym, ap, _∙_, subst}
 use mathlib.Core.Logic.{inl, inr}
-use mathlib.Core.Bool.{true, false, not, _&&_}
+use mathlib.Core.Bool.{true, false}
 use mathlib.Core.Option.{none, some}
-use Prim.Native.Nat.{ℕ, _<_}
-use lib.Dec.{eqb, ltb}
-use borrow.Author.Tests.{eqb-true, eq-eqb, not-true, ltb-true, lt-ltb}
-use Rattle.rules.specs.Plan.{Plan, trackCount, optional, host, owner, isStateOf}
-use Rattle.rules.specs.Ledger.{Ledger, isAwake, isUndoing, isEmpty}
+use Prim.Native.Nat.{ℕ}
+use lib.Dec.{eqb}
+use borrow.Author.Tests.{eqb-true, eq-eqb}
+use Rattle.rules.specs.Plan.{Plan, optional, host, owner, isStateOf}
+use Rattle.rules.specs.Ledger.{Ledger, isAwake}
 use Rattle.rules.specs.Scope.{hasOpenScope}
 use Rattle.rules.specs.Opening.{fresh, enter}
-use Rattle.rules.specs.Fire.{newest, older, mayFire, removed, deviatesTo, fired}
-use Rattle.rules.proofs.Tests.{look, look-option, clash, none-some, and-true}
+use Rattle.rules.specs.Fire.{newest, older, removed, deviatesTo, fired}
+use Rattle.rules.proofs.Tests.{look, look-option, clash, none-some}
 use Rattle.rules.proofs.Acceptance.{Accepted}
 use Rattle.theory.proofs.Nesting.{Awake, Sleeps, Nested, busy-same}
 use Rattle.theory.proofs.Entering.{Enterable, kept, kept-busy, new-fresh, enter-nested}

@@ -32,7 +32,7 @@ use Rattle.theory.proofs.Firing.{removed-mode, fired-busy}
 use Rattle.theory.proofs.Soundness.{Sound, Over, sleeping-asleep, sleeping-held}
 use Rattle.theory.proofs.Laws.{Laws, Unfinished}
 use Rattle.theory.proofs.Settling.{next-cases, over-refused}
-use Rattle.theory.proofs.Turning.{turned-awake, spared}
+use Rattle.theory.proofs.Turning.{turned-awake, scope-untouched}
 use Rattle.theory.proofs.Moving.{moved-nested, moved-busy}
 use Rattle.theory.proofs.Closing.{closing-open, closed-alike, closed-awake}
 use Rattle.theory.proofs.Leaving.{turned-nested}
@@ -166,7 +166,7 @@ module _ {σ : Seams} (ω : Laws σ) (υ : Unfinished σ) (limit : ℕ) (p : Pla
                 λ z o f.
                 let f′ = subst (λ y. isForward (y (owner p z) .mode) ≡ true) q f in
                 let (c, r) = awake-kept p ok (turned σ p l a) (owner p z) (forward-awake (abandoned p (turned σ p l a) (owner p z) .mode) f′) in
-                let (w, i) = spared ω p l a ok z (ap (λ (y : Configuration). isForward (y .mode)) (sym r) ∙ f′) in
+                let (w, i) = scope-untouched ω p l a ok z (ap (λ (y : Configuration). isForward (y .mode)) (sym r) ∙ f′) in
                 over-signal (v .running z (signal-open z (subst (λ y. isOpen p y z ≡ true) q o)) w) a acc i o;
             books = v .books;
           }

@@ -28,7 +28,7 @@ use Rattle.theory.proofs.Firing.{fired-is, removed-mode, removed-awake,
 use Rattle.theory.proofs.Soundness.{Sound, sleeping-held}
 use Rattle.theory.proofs.Entries.{empty-nil}
 use Rattle.theory.proofs.Laws.{Laws}
-use Rattle.theory.proofs.Turning.{turned-awake, turned-held, spared}
+use Rattle.theory.proofs.Turning.{turned-awake, turned-held, scope-untouched}
 use Rattle.theory.proofs.Leaving.{left-awake, left-host-stays}
 use Rattle.theory.proofs.SoundRetraction.{fired-awake}
 use Rattle.theory.proofs.Invariant.{Undoes, Below, Held, inner, Blocks, swap-free, enter-blocks}
@@ -39,7 +39,7 @@ module _ {σ : Seams} (ω : Laws σ) (limit : ℕ) (p : Plan) (ok : Accepted p) 
   turned-blocks a =
       record {
         held = λ t. rw (turned-held ω p l a t) (g .held t);
-        runs = λ s o f. g .runs s (sym (open-same p (turned σ p l a) l (turned-awake ω p l a) s) ∙ o) (spared ω p l a ok s f .0);
+        runs = λ s o f. g .runs s (sym (open-same p (turned σ p l a) l (turned-awake ω p l a) s) ∙ o) (scope-untouched ω p l a ok s f .0);
       }
 
   -- an abandoned track held nothing

@@ -51,8 +51,8 @@ module _ {σ : Seams} (ω : Laws σ) (limit : ℕ) (p : Plan) (ok : Accepted p) 
     turned-root t e = left-root p ok T (turned-first .nested) t e
 
     -- what is forward after a signal is as it was
-    pub spared-track : (t : ℕ) → isForward (abandoned p T t .mode) ≡ true → abandoned p T t ≡ l t
-    spared-track t f =
+    pub track-untouched : (t : ℕ) → isForward (abandoned p T t .mode) ≡ true → abandoned p T t ≡ l t
+    track-untouched t f =
         let q = awake-kept p ok T t (forward-awake (abandoned p T t .mode) f) .1 in
         q ∙ unturned ω p l a t (ap (λ (c : Configuration). isForward (c .mode)) (sym q) ∙ f)
 
@@ -68,7 +68,7 @@ module _ {σ : Seams} (ω : Laws σ) (limit : ℕ) (p : Plan) (ok : Accepted p) 
               let final : (v : ℕ) → host p v ≡ some z → (isForward (l v .mode) ≡ true) × (isFinal p (l v .state) ≡ true) =
               λ v g.
               let h = closing-final p (abandoned p T) z v c (ok .hosted v z g) g in
-              subst (λ (k : Configuration). (isForward (k .mode) ≡ true) × (isFinal p (k .state) ≡ true)) (spared-track v (h .0)) h in
+              subst (λ (k : Configuration). (isForward (k .mode) ≡ true) × (isFinal p (k .state) ≡ true)) (track-untouched v (h .0)) h in
               let (u, b, e, w) = open-find p (abandoned p T) z (closing-open p (abandoned p T) z c) in
               clash (closing-of p l z (open-at p l z u b e (forward-awake (l u .mode) (final u e .0))) final) (s .closing z));
           finish = unfinished;
