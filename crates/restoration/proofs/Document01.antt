@@ -1,5 +1,5 @@
--- Document 01's rules are an instance of the seams: the parameters are the rules' own functions, and each law follows from their text. Only
--- here does the theory of restoration unfold what a later request may change. Assumes nothing.
+-- Document 01's rules are an instance of the seams: the parameters are the rules' own functions, and each law follows from their text. The
+-- theory itself unfolds nothing that a later request may change. Assumes nothing.
 use Prim.{Unit, tt}
 use mathlib.Core.Path.{_≡_, refl, sym, ap, _∙_, fun-ext}
 use mathlib.Core.Logic.{_⊎_, inl, inr}

@@ -179,7 +179,7 @@ module _ {C B : Type 0} (changed : C → B → B) where
       ∙ put-behind n (λ t. when (S t) (A t)) (λ t. when (S t) (M t))
       (λ t k l m. swap-when (S t) (S k) (M t) (A k) (λ c d. h t k l m)) b
 
-  -- List Cs gathered: where all words commute, they may be taken in groups, those of group t (the tracks u with `of u` t) together.
+  -- Words gathered: where all words commute, they may be taken in groups, those of group t (the tracks u with `of u` t) together.
   module _ (n : ℕ) (of : ℕ → ℕ) (M : ℕ → List C) (swaps : (t k : ℕ) → t < k → k < n → Swap (M t) (M k)) where
     abbrev group : ℕ → List C
     group t = join n (λ u. when (eqb (of u) t) (M u))

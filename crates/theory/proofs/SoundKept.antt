@@ -1,4 +1,5 @@
--- Every accepted call takes every sound ledger, a crafted one too, to a sound one or to all asleep. Assumes nothing.
+-- Every accepted call takes every sound ledger, a crafted one too, to a sound one or to all asleep; and a sound one is not over. Assumes
+-- nothing.
 use mathlib.Core.Path.{_≡_, sym, ap, _∙_, subst}
 use mathlib.Core.Logic.{_⊎_, inl, inr}
 use mathlib.Core.Bool.{true, false, not}
