@@ -1,9 +1,9 @@
--- Document 01's rules are an instance of the seams: the parameters are the rules' own functions, and each law follows from their text. Only
--- here does the theory of restoration unfold what a later request may change. Assumes nothing.
+-- Document 01's rules are an instance of the seams: the parameters are the rules' own functions, and each law follows from their text. The
+-- theory itself unfolds nothing that a later request may change. Assumes nothing.
 use Prim.{Unit, tt}
 use mathlib.Core.Path.{_≡_, refl, sym, ap, _∙_, fun-ext}
 use mathlib.Core.Logic.{_⊎_, inl, inr}
-use mathlib.Core.Bool.{Bool, true, false, not, _&&_, _||_}
+use mathlib.Core.Bool.{Bool, true, false, not, _&&_, _||_, and-false}
 use mathlib.Core.List.{_++_}
 use mathlib.Core.Option.{Option, none, some}
 use Prim.Native.Nat.{ℕ, zero, suc, _<_}
@@ -24,21 +24,22 @@ use Rattle.rules.specs.Call as call
 use Rattle.rules.specs.Call.{EventArguments, SignalArguments, FireArguments, callRefusals, callRefusal, after, next}
 use Rattle.rules.specs.FinishedRun.{taken, movesBelow, movesOf}
 use Rattle.rules.proofs.Tests.{look, look-option, clash, none-some, and-true, or-false, passed, implies, implied}
+use Rattle.rules.proofs.Modes.{undoing-forward}
 use Rattle.rules.proofs.Folds.{some-not, every-at, every-of}
 use Rattle.rules.proofs.Acceptance.{Accepted, transition-for}
 use Rattle.rules.proofs.Scopes.{root-of, root-none}
 use Rattle.rules.proofs.Opening.{enter-to}
 use Rattle.rules.proofs.Closing as closing
+use Rattle.rules.proofs.Ready.{may-fire}
 use Rattle.theory.specs.Roots.{rootOf}
 use Rattle.theory.specs.Seams.{Seams, CallOf, event, signal, fire, isEvent, installed, installedBy, install, recorded, goes, changeOf, turned, work}
 use Rattle.theory.proofs.Composition.{when, join}
-use Rattle.theory.proofs.Modes.{undoing-forward}
 use Rattle.theory.proofs.Nesting.{Nested, root-above}
 use Rattle.theory.proofs.Entries.{deviates}
-use Rattle.theory.proofs.Firing.{may-fire, fired-is, removed-mode, deviates-here, deviates-not, fired-still}
+use Rattle.theory.proofs.Firing.{fired-is, removed-mode, deviates-here, deviates-not, fired-still}
 use Rattle.theory.proofs.Soundness.{Sound}
-use Rattle.theory.proofs.Laws.{Takes, ended, Settled, Roomy, Laws, Unfinished}
-use Rattle.theory.proofs.SoundRetraction.{spared-track, fired-awake, fired-root}
+use Rattle.theory.proofs.Laws.{Takes, ended, Settled, Spare, Laws, Unfinished}
+use Rattle.theory.proofs.SoundRetraction.{track-untouched, fired-awake, fired-root}
 
 -- The rules' calls, as the theory's.
 abbrev Calls : Type 0
@@ -194,10 +195,10 @@ module _ (limit : ℕ) (p : Plan) (l : Ledger) where
   settled (signal a) z = inl (next-accepted (call.signal a) z ∙ ap (abandoned p) (turned-is a), λ h. clash h refl)
   settled (fire a) z = inl (next-accepted (call.fire a) z, λ h. clash h refl)
 
-  -- 21 leaves room
-  has-room : (a : EventArguments) → isFull p limit l (a .event) ≡ false → Roomy document01 limit p l a
+  -- 21 leaves room for an entry
+  has-spare : (a : EventArguments) → isFull p limit l (a .event) ≡ false → Spare document01 limit p l a
   unfolding isFull
-  has-room a r t b h =
+  has-spare a r t b h =
       let f : ℕ → Bool = λ t. (hasCode p (move p l (a .event) t) || isReplaced p (moved p l (a .event)) t) in
       let q = some-not (trackCount p) (λ t. f t && leb limit (length (l t .held))) r t b in
       let y : leb limit (length (l t .held)) ≡ false = rw h at q in
@@ -236,20 +237,13 @@ laws01 =
       goes-on = λ p l t b e n. not-ended p l t b e (or-false (ended p l t) (isBare p l t) n .0);
       settled = λ limit p h l c z. settled limit p l c z;
       refused = λ limit p h l c n. (next-refused limit p l (asRules c) n, refl);
-      event-accepted = λ limit p h l a z. let (o, r) = event-accepted limit p l a z in (o, has-room limit p l a r);
+      event-accepted = λ limit p h l a z. let (o, r) = event-accepted limit p l a z in (o, has-spare limit p l a r);
       signal-accepted = λ limit p h l. signal-accepted limit p l;
       fire-accepted = λ limit p h l. fire-accepted limit p l;
     }
 
 -- Where finish is not looked for after a call, it is not due: a signal ends no root, and after a firing the root above the fired track is
 -- undoing, or just went forward into a state that is not final.
-not-forward : (a b : Bool) → a ≡ false → (a && b) ≡ false
-not-forward a b h = rw h
-
-not-final : (a b : Bool) → b ≡ false → (a && b) ≡ false
-not-final true b h = h
-not-final false b h = refl
-
 module _ (limit : ℕ) (p : Plan) (ok : Accepted p) (l : Ledger) (s : Sound document01 limit p l) where
   abbrev n : Nested p l
   n = s .formed .nested
@@ -260,7 +254,7 @@ module _ (limit : ℕ) (p : Plan) (ok : Accepted p) (l : Ledger) (s : Sound docu
       finish-back p l (abandoned p T)
       (λ t e h.
       let f = and-true (isForward (abandoned p T t .mode)) (isFinal p (abandoned p T t .state)) h .0 in
-      ap (λ (c : Configuration). isForward (c .mode) && isFinal p (c .state)) (sym (spared-track laws01 limit p ok l s a t f)) ∙ h)
+      ap (λ (c : Configuration). isForward (c .mode) && isFinal p (c .state)) (sym (track-untouched laws01 limit p ok l s a t f)) ∙ h)
       (s .finish)
 
   fire-unfinished : (t : ℕ) → mayFire p l t ≡ true → isFinishing p (abandoned p (fired p l t)) ≡ false
@@ -277,7 +271,7 @@ module _ (limit : ℕ) (p : Plan) (ok : Accepted p) (l : Ledger) (s : Sound docu
             (fired-root laws01 limit p ok l s t may t e ∙ ap (λ m. m t) (fired-is p l t)
             ∙ enter-to p ok (deviatesTo p l t) (removed p l t) t (d .0) (deviates-here p l t ∙ d .1)) in
             not-ended p (abandoned p X) t b e
-            (not-final (isForward (abandoned p X t .mode)) (isFinal p (abandoned p X t .state)) (ap (isFinal p) st ∙ f))
+            (rw (ap (isFinal p) st ∙ f, and-false (isForward (abandoned p X t .mode))))
         | inl d ↦
             let r = rootOf p t in
             let (c, e, m) = root-above p ok l n t a in
@@ -285,8 +279,7 @@ module _ (limit : ℕ) (p : Plan) (ok : Accepted p) (l : Ledger) (s : Sound docu
             let md : abandoned p X r .mode ≡ l t .mode =
             ap (λ (c : Configuration). c .mode) (fired-root laws01 limit p ok l s t may r e ∙ q) ∙ removed-mode p l t r ∙ m in
             not-ended p (abandoned p X) r c e
-            (not-forward (isForward (abandoned p X r .mode)) (isFinal p (abandoned p X r .state))
-            (ap isForward md ∙ undoing-forward (l t .mode) u))
+            (rw (ap isForward md ∙ undoing-forward (l t .mode) u))
       ]
 
 pub unfinished01 : Unfinished document01

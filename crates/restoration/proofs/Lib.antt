@@ -5,11 +5,12 @@ pub mod Runs01
 pub mod SoundLive
 pub mod SoundWords
 pub mod Restoration
+pub mod Allowed
+pub mod Continuation
 pub mod Bound
 pub mod LiteralRuns
 -- Books for the sample plan; what would be false.
-pub mod Potential
+pub mod SampleTracks
 pub mod SampleBooks
 pub mod SampleRun
-pub mod SampleFinished
 pub mod Counterexamples

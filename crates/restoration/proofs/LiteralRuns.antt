@@ -16,16 +16,17 @@ use Rattle.rules.specs.Call.{EventArguments, SignalArguments, FireArguments, Ca
 use Rattle.rules.specs.FinishedRun.{movesOf, Reached, Running, Finished}
 use Rattle.rules.specs.FinishedRun as run
 use Rattle.rules.proofs.Tests.{clash}
+use Rattle.rules.proofs.Modes.{forward-awake}
 use Rattle.rules.proofs.Acceptance.{Accepted}
 use Rattle.rules.proofs.Scopes.{open-find}
 use Rattle.rules.proofs.Closing.{closing-final, closed-alike}
 use Rattle.rules.proofs.Abandoning.{awake-kept}
+use Rattle.rules.proofs.Ready.{may-fire}
 use Rattle.theory.specs.Seams as seam
 use Rattle.theory.specs.Seams.{turned}
 use Rattle.theory.proofs.Composition.{Word}
-use Rattle.theory.proofs.Modes.{forward-awake}
 use Rattle.theory.proofs.Nesting.{open-host}
-use Rattle.theory.proofs.Firing.{may-fire, removed-mode, fired-busy}
+use Rattle.theory.proofs.Firing.{removed-mode, fired-busy}
 use Rattle.theory.proofs.Soundness.{Sound}
 use Rattle.theory.proofs.Turning.{unturned}
 use Rattle.theory.proofs.Moving.{moved-nested, moved-busy}

@@ -84,6 +84,14 @@ module _ (limit : ℕ) (bs : List ℕ) (c : Counts) (read : readPlan bs ≡ acce
   pub list-holds : (cs : List Call) (ws : List ℕ) (l : Ledger) → Hold ws l → (m : Ledger) × Hold (wordsFrom limit bs ws cs) m
   list-holds cs ws l h = (ledgerBy l cs, list-follows cs ws l h)
 
+  -- the words after a list from an accepted begin hold the ledger that they read as
+  pub history-holds : (lent : List ℕ) (cs : List Call) → beginOutcome limit bs lent .answer ≡ done []
+      → Hold (wordsAfter limit bs lent cs) (ledgerAfter limit bs p lent cs)
+  unfolding ledgerAfter wordsAfter
+  history-holds lent cs h =
+      let (m, g) = list-holds cs (beginOutcome limit bs lent .words) (begun p) (begin-holds limit bs c read lent h) in
+      subst (Hold (wordsFrom limit bs (beginOutcome limit bs lent .words) cs)) (sym (g .reads)) g
+
   abbrev begun-by : List Call → Ledger
   begun-by cs = ledgerBy (begun p) cs
 

@@ -1,139 +1,101 @@
--- The conditions can be met: books for the sample plan P, of three numbers, on which the changes of each track raise that track's number and
--- the retractions lower it again; replacement 90 lowers what every finished run of state 1 has raised. Assumes nothing.
-use mathlib.Core.Path.{_≡_, refl, sym, ap, _∙_, subst}
-use mathlib.Core.Bool.{true}
+-- The conditions can be met on the sample plan P: by numbers, which a track's changes raise and its retractions lower again, and by piles, on
+-- which they put and from which they take. The piles see the order: what is not taken off newest first is not given back. Assumes nothing.
+use mathlib.Core.Path.{_≡_, refl, ap, _∙_}
 use mathlib.Core.List.{List, [], _∷_}
-use mathlib.Core.Option.{some}
-use Prim.Native.Nat.{ℕ, zero, suc, _+_, _-_, _<_}
+use Prim.Native.Nat.{ℕ, zero, suc, _<_}
 use native.Mathlib.Omega.{arith}
-use lib.ListN.{getD}
-use Rattle.rules.specs.Plan.{stateCount, transitionCount, transition, host, replacement, mover, isStateOf, isFinal, isInside}
-use Rattle.rules.specs.Acceptance.{accepted, readPlan}
-use Rattle.rules.specs.FinishedRun.{Finished}
-use Rattle.rules.specs.Books.{act}
-use Rattle.rules.proofs.Tests.{clash, none-some}
-use Rattle.rules.proofs.Acceptance.{Accepted, accepts}
-use Rattle.starred.specs.SamplePlan.{planP}
+use lib.ListN.{length, getD}
+use borrow.Author.Tests.{ne-eqb}
+use Rattle.rules.specs.Plan.{transitionCount, transition, mover}
+use Rattle.rules.specs.Books.{Books}
 use Rattle.starred.specs.Computing.{computing}
-use Rattle.restoration.specs.SampleAccount.{countsP, P, Account, rootAdds, leftAdds, rightAdds, raised, lowered}
-use Rattle.theory.proofs.Composition.{Word}
-use Rattle.theory.proofs.Nesting.{state-of}
-use Rattle.restoration.proofs.Potential.{weight, Potential, isPotential, potential-of, finished-weight, outside-weight}
+use Rattle.restoration.specs.SampleAccount as account
+use Rattle.restoration.specs.SampleAccount.{P, raised, lowered}
+use Rattle.restoration.specs.SamplePiles as pile
+use Rattle.restoration.specs.SamplePiles.{without, withoutAll, piled, unpiled}
+use Rattle.restoration.proofs.SampleTracks.{five, Trackwise, trackwise}
 
-pub accepts-P : readPlan planP ≡ accepted countsP
+-- A table with one line for each track that has a value at the track of each transition's code alone.
+module _ {A : Type 0} (d : A) where
+  only-root : (a : A) (t : ℕ) → (0 ≡ t → ⊥) → getD (a ∷ []) t d ≡ d
+  only-root a zero n = absurd (n refl)
+  only-root a (suc t) n = refl
+
+  only-left : (a : A) (t : ℕ) → (1 ≡ t → ⊥) → getD (d ∷ a ∷ []) t d ≡ d
+  only-left a zero n = refl
+  only-left a (suc zero) n = absurd (n refl)
+  only-left a (suc (suc t)) n = refl
+
+  only-right : (a : A) (t : ℕ) → (2 ≡ t → ⊥) → getD (d ∷ d ∷ a ∷ []) t d ≡ d
+  only-right a zero n = refl
+  only-right a (suc zero) n = refl
+  only-right a (suc (suc zero)) n = absurd (n refl)
+  only-right a (suc (suc (suc t))) n = refl
+
+  only-hosted : (a b : A) (t : ℕ) → (t ≡ 1 → ⊥) → (t ≡ 2 → ⊥) → getD (d ∷ a ∷ b ∷ []) t d ≡ d
+  only-hosted a b zero n m = refl
+  only-hosted a b (suc zero) n m = absurd (n refl)
+  only-hosted a b (suc (suc zero)) n m = absurd (m refl)
+  only-hosted a b (suc (suc (suc t))) n m = refl
+
+-- Numbers.
+account-kept : (t x : ℕ) → x < transitionCount P → (mover P x ≡ t → ⊥) → getD (account.takes (transition P x .code)) t 0 ≡ 0
 unfolding computing
-accepts-P = refl
+account-kept t x l n =
+    five (λ x. (mover P x ≡ t → ⊥) → getD (account.takes (transition P x .code)) t 0 ≡ 0)
+    (only-root 0 1 t) (λ n. refl) (only-left 0 7 t) (only-right 0 2 t) (only-right 0 5 t) x l n
 
-pub ok-P : Accepted P
-ok-P = accepts planP countsP accepts-P
-
-pub same : (b : Account) (r l t : ℕ) → r ≡ b .root → l ≡ b .left → t ≡ b .right → _≡_ {A = Account} (record { root = r; left = l; right = t }) b
-same b r l t e f g = λ i. record { root = e i; left = f i; right = g i }
-
-pub five : (C : ℕ → Type 0) → C 0 → C 1 → C 2 → C 3 → C 4 → (x : ℕ) → x < transitionCount P → C x
-unfolding computing
-five C a b c d e zero l = a
-five C a b c d e (suc zero) l = b
-five C a b c d e (suc (suc zero)) l = c
-five C a b c d e (suc (suc (suc zero))) l = d
-five C a b c d e (suc (suc (suc (suc zero)))) l = e
-five C a b c d e (suc (suc (suc (suc (suc x))))) l = absurd (omega arith)
-
-eight : (C : ℕ → Type 0) → C 0 → C 1 → C 2 → C 3 → C 4 → C 5 → C 6 → C 7 → (q : ℕ) → q < stateCount P → C q
-unfolding computing
-eight C a b c d e f g h zero l = a
-eight C a b c d e f g h (suc zero) l = b
-eight C a b c d e f g h (suc (suc zero)) l = c
-eight C a b c d e f g h (suc (suc (suc zero))) l = d
-eight C a b c d e f g h (suc (suc (suc (suc zero)))) l = e
-eight C a b c d e f g h (suc (suc (suc (suc (suc zero))))) l = f
-eight C a b c d e f g h (suc (suc (suc (suc (suc (suc zero)))))) l = g
-eight C a b c d e f g h (suc (suc (suc (suc (suc (suc (suc zero))))))) l = h
-eight C a b c d e f g h (suc (suc (suc (suc (suc (suc (suc (suc q)))))))) l = absurd (omega arith)
-
--- each transition's code takes off what it added
-pub undo-P : (x : ℕ) → x < transitionCount P → (b : Account) → lowered (transition P x .code) (raised x b) ≡ b
+pub accounts : Trackwise raised lowered
 unfolding computing raised lowered
-undo-P x l b =
-    five (λ x. lowered (transition P x .code) (raised x b) ≡ b) (back 1 0 0) (back 0 0 0) (back 0 7 0) (back 0 0 2) (back 0 0 5) x l
-  where
-    back : (u v w : ℕ) → _≡_ {A = Account} (record { root = b .root + u - u; left = b .left + v - v; right = b .right + w - w }) b
-    back u v w = same b (b .root + u - u) (b .left + v - v) (b .right + w - w) (omega arith) (omega arith) (omega arith)
+accounts =
+    record {
+      nothing = λ t a. omega arith;
+      undo =
+          five (λ x. (a : ℕ) → lowered (mover P x) (transition P x .code) (raised (mover P x) x a) ≡ a)
+          (λ a. omega arith) (λ a. omega arith) (λ a. omega arith) (λ a. omega arith) (λ a. omega arith);
+      still = λ t x l n a. rw (ne-eqb (mover P x) t n) (omega arith);
+      kept = λ t x l n a. rw (account-kept t x l n) (omega arith);
+      undo-left = λ a. omega arith;
+      undo-right = λ a. omega arith;
+      undo-other = λ t n m a. rw (only-hosted {A = ℕ} 0 7 7 t n m) (omega arith);
+    }
 
--- a word raises by its weights
-act-P : (w : Word) (b : Account)
-    → act raised w b ≡ record { root = b .root + weight rootAdds w; left = b .left + weight leftAdds w; right = b .right + weight rightAdds w }
-unfolding act weight raised
-act-P [] b = sym (same b (b .root + 0) (b .left + 0) (b .right + 0) (omega arith) (omega arith) (omega arith))
-act-P (x ∷ w) b =
-    act-P w (raised x b)
-    ∙ (λ i. record { root = assoc (b .root) (rootAdds x) (weight rootAdds w) i; left = assoc (b .left) (leftAdds x) (weight leftAdds w) i; right = assoc (b .right) (rightAdds x) (weight rightAdds w) i })
-  where
-    assoc : (a c d : ℕ) → a + c + d ≡ a + (c + d)
-    assoc a c d = omega arith
+abbrev pub accountsP : (limit : ℕ) → Books P limit
+accountsP limit = trackwise raised lowered accounts limit
 
--- the hosted tracks, by the states that they stand in
-abbrev leftHeight : ℕ → ℕ
-leftHeight q = getD (0 ∷ 0 ∷ 0 ∷ 0 ∷ 7 ∷ []) q 0
-
-abbrev rightHeight : ℕ → ℕ
-rightHeight q = getD (0 ∷ 0 ∷ 0 ∷ 0 ∷ 0 ∷ 0 ∷ 2 ∷ 7 ∷ []) q 0
-
-left-climbs : Potential P 1 leftAdds leftHeight
-unfolding computing isPotential
-left-climbs = potential-of P 1 leftAdds leftHeight refl
-
-right-climbs : Potential P 2 rightAdds rightHeight
-unfolding computing isPotential
-right-climbs = potential-of P 2 rightAdds rightHeight refl
-
-root-outside : (x : ℕ) → x < transitionCount P → isInside P 1 (mover P x) ≡ true → rootAdds x ≡ 0
+-- Piles.
+piles-kept : (t x : ℕ) → x < transitionCount P → (mover P x ≡ t → ⊥) → getD (pile.takes (transition P x .code)) t [] ≡ []
 unfolding computing
-root-outside x l i =
-    five (λ x. isInside P 1 (mover P x) ≡ true → rootAdds x ≡ 0) (λ f. clash f refl) (λ f. refl) (λ f. refl) (λ f. refl) (λ f. refl) x l i
+piles-kept t x l n =
+    five (λ x. (mover P x ≡ t → ⊥) → getD (pile.takes (transition P x .code)) t [] ≡ [])
+    (only-root [] (0 ∷ []) t) (λ n. refl) (only-left [] (2 ∷ []) t) (only-right [] (3 ∷ []) t) (only-right [] (4 ∷ []) t) x l n
 
--- the hosted tracks end in states 4 and 7
-pub left-end : (q : ℕ) → isStateOf P 1 q ≡ true → isFinal P q ≡ true → q ≡ 4
-unfolding computing
-left-end q o f =
-    eight (λ q. isStateOf P 1 q ≡ true → isFinal P q ≡ true → q ≡ 4)
-    (λ o f. clash o refl) (λ o f. clash o refl) (λ o f. clash o refl) (λ o f. clash f refl) (λ o f. refl)
-    (λ o f. clash o refl) (λ o f. clash o refl) (λ o f. clash o refl) q (state-of P 1 q o .0) o f
+pub piles : Trackwise piled unpiled
+unfolding computing piled unpiled without withoutAll
+piles =
+    record {
+      nothing = λ t a. refl;
+      undo =
+          five (λ x. (a : List ℕ) → unpiled (mover P x) (transition P x .code) (piled (mover P x) x a) ≡ a)
+          (λ a. refl) (λ a. refl) (λ a. refl) (λ a. refl) (λ a. refl);
+      still = λ t x l n a. rw (ne-eqb (mover P x) t n);
+      kept = λ t x l n a. rw (piles-kept t x l n);
+      undo-left = λ a. refl;
+      undo-right = λ a. refl;
+      undo-other = λ t n m a. rw (only-hosted {A = List ℕ} [] (2 ∷ []) (4 ∷ 3 ∷ []) t n m);
+    }
 
-pub right-end : (q : ℕ) → isStateOf P 2 q ≡ true → isFinal P q ≡ true → q ≡ 7
-unfolding computing
-right-end q o f =
-    eight (λ q. isStateOf P 2 q ≡ true → isFinal P q ≡ true → q ≡ 7)
-    (λ o f. clash o refl) (λ o f. clash o refl) (λ o f. clash o refl) (λ o f. clash o refl) (λ o f. clash o refl)
-    (λ o f. clash f refl) (λ o f. clash f refl) (λ o f. refl) q (state-of P 2 q o .0) o f
+abbrev pub pilesP : (limit : ℕ) → Books P limit
+pilesP limit = trackwise piled unpiled piles limit
 
--- state 1 alone hosts
-pub hosts-P : (t s : ℕ) → host P t ≡ some s → s ≡ 1
-unfolding computing
-hosts-P zero s e = none-some refl e
-hosts-P (suc zero) s e = sym (cc)
-hosts-P (suc (suc zero)) s e = sym (cc)
-hosts-P (suc (suc (suc t))) s e = let l : suc (suc (suc t)) < 3 = ok-P .hosted (suc (suc (suc t))) s e in absurd (omega arith)
+-- They tell in which order the right track's two moves are undone: newest first gives the state back, oldest first never does.
+module _ (limit : ℕ) (b : ℕ → List ℕ) where
+  open Books (pilesP limit) using (changed, retracted)
 
-module _ (limit : ℕ) where
-  -- what the moves of tracks 1 and 2 in a finished run of state 1 add up to
-  pub left-weight : (w : Word) → Finished P limit 1 w → (v φ : ℕ → ℕ) → Potential P 1 v φ → weight v w ≡ φ 4
+  pub newest-first : retracted 52 (retracted 54 (changed 4 (changed 3 b))) ≡ b
   unfolding computing
-  left-weight w f v φ c = let (q, o, z, e) = finished-weight limit P ok-P 1 1 refl v φ c f in e ∙ ap φ (left-end q o z)
+  newest-first = ap (retracted 52) (pilesP limit .undo 4 (omega arith) (changed 3 b)) ∙ pilesP limit .undo 3 (omega arith) b
 
-  pub right-weight : (w : Word) → Finished P limit 1 w → (v φ : ℕ → ℕ) → Potential P 2 v φ → weight v w ≡ φ 7
-  unfolding computing
-  right-weight w f v φ c = let (q, o, z, e) = finished-weight limit P ok-P 1 2 refl v φ c f in e ∙ ap φ (right-end q o z)
-
-  -- every finished run of state 1 has raised the two hosted tracks' numbers by 7, and the root's by nothing
-  finished-P : (w : Word) → Finished P limit 1 w → (weight rootAdds w ≡ 0) × (weight leftAdds w ≡ 7) × (weight rightAdds w ≡ 7)
-  finished-P w f =
-      (outside-weight limit P ok-P 1 rootAdds root-outside f, left-weight w f leftAdds leftHeight left-climbs, right-weight w f rightAdds rightHeight right-climbs)
-
-  pub undo-run-P : (s t : ℕ) → host P t ≡ some s → (w : List ℕ) → Finished P limit s w → (b : Account) → lowered (replacement P s) (act raised w b) ≡ b
-  unfolding computing lowered
-  undo-run-P s t e w f b =
-      let q = hosts-P t s e in
-      let (x, y, z) = finished-P w (subst (λ s. Finished P limit s w) q f) in
-      rw (q, act-P w b, x, y, z)
-      (same b (b .root + 0 - 0) (b .left + 7 - 7) (b .right + 7 - 7) (omega arith) (omega arith) (omega arith))
+  pub not-oldest-first : retracted 54 (retracted 52 (changed 4 (changed 3 b))) ≡ b → ⊥
+  unfolding computing piled unpiled without withoutAll
+  not-oldest-first e = let z : suc (length (b 2)) ≡ length (b 2) = ap (λ (c : ℕ → List ℕ). length (c 2)) e in omega arith

@@ -1,9 +1,9 @@
--- Soundness as document 01 says it: on ledgers it is soundness as the theory says it, and the words of a sound ledger are sound. So begin
--- leaves sound words, and every accepted call takes sound ledgers to sound ones; and on sound words progress holds. Assumes nothing.
+-- Soundness as document 01 says it: on ledgers it is soundness as the theory says it, the words of a sound ledger are sound, and sound words
+-- hold a sound ledger, or one that is over. So progress holds on sound words. Assumes nothing.
 use Prim.{tt}
-use mathlib.Core.Path.{_≡_, refl, sym, ap, _∙_, subst}
+use mathlib.Core.Path.{_≡_, sym, ap, _∙_, subst}
 use mathlib.Core.Logic.{inl, inr}
-use mathlib.Core.Bool.{Bool, true, false, not, _||_}
+use mathlib.Core.Bool.{true, false, not, _||_}
 use mathlib.Core.List.{List}
 use Prim.Native.Nat.{ℕ, _<_}
 use native.Mathlib.Omega.{arith}
@@ -13,25 +13,21 @@ use Rattle.rules.specs.declared.Mode.the-variants.{Undoing}
 use Rattle.rules.specs.Plan.{Plan, trackCount}
 use Rattle.rules.specs.Ledger.{Configuration, Ledger, isAwake, isEmpty, ledgerAt, written}
 use Rattle.rules.specs.Scope.{isOver}
-use Rattle.rules.specs.Opening.{begun}
 use Rattle.rules.specs.Fire.{mayFire}
 use Rattle.rules.specs.Soundness.{areTidy, isLive, isSound}
-use Rattle.rules.specs.Call.{Call, callRefusal, after, next}
-use Rattle.rules.proofs.Tests.{look, clash, and-true, and-both, or-true, or-right}
+use Rattle.rules.specs.Call.{Call, next}
+use Rattle.rules.proofs.Tests.{look, clash, and-true, and-both, or-true, or-right, same-test}
 use Rattle.rules.proofs.Folds.{every-at}
 use Rattle.rules.proofs.Acceptance.{Accepted}
-use Rattle.rules.proofs.Abandoning.{undoing-awake}
 use Rattle.rules.proofs.Soundness.{Live, live-facts, live-of}
 use Rattle.rules.proofs.Stored.{Storable, read-written, tidy-written, storable-read}
-use Rattle.theory.proofs.Modes.{is-undoing}
 use Rattle.theory.proofs.Nesting.{Awake, Nested}
 use Rattle.theory.proofs.Entries.{Good, may-deviate}
 use Rattle.theory.proofs.Soundness.{Formed, Sound, Over, sleeping-asleep, sleeping-held, sleeping-few, sleeping-good}
-use Rattle.theory.proofs.SoundBegin.{begun-sound}
 use Rattle.theory.proofs.SoundKept as theory
-use Rattle.theory.proofs.SoundKept.{Kept, over-is, kept-accepted}
-use Rattle.theory.proofs.Progress.{progress}
-use Rattle.restoration.proofs.Document01.{document01, asTheory, there-and-back, next-accepted, laws01, unfinished01}
+use Rattle.theory.proofs.SoundKept.{Kept, over-is}
+use Rattle.theory.proofs.Histories.{kept-progress}
+use Rattle.restoration.proofs.Document01.{document01, asTheory, there-and-back, laws01, unfinished01}
 
 module _ (limit : ℕ) (p : Plan) (ok : Accepted p) (l : Ledger) where
   pub sound-of : Storable limit (trackCount p) l → isLive p l ≡ true → Sound document01 limit p l
@@ -55,18 +51,13 @@ module _ (limit : ℕ) (p : Plan) (ok : Accepted p) (l : Ledger) where
                 clash a (ap (λ (c : Configuration). isAwake (c .mode)) (s .beyond t (ltb-false t (trackCount p) b)) ∙ sleeping-asleep)
           ]
 
-      alike : (a b : Bool) → (a ≡ true → b ≡ true) → (b ≡ true → a ≡ true) → a ≡ b
-      alike true b f g = sym (f refl)
-      alike false true f g = g refl
-      alike false false f g = refl
-
       nest : Nested p l
       nest =
           record {
             below = low;
             own = λ t a. v .own t (low t a) a;
             hosted = λ t h a e. v .up t h e a;
-            whole = λ t u h e f. alike (isAwake (l t .mode)) (isAwake (l u .mode)) (v .whole h t u e f) (v .whole h u t f e);
+            whole = λ t u h e f. same-test (isAwake (l t .mode)) (isAwake (l u .mode)) (v .whole h t u e f) (v .whole h u t f e);
             blank = s .blank;
           }
 
@@ -124,28 +115,10 @@ module _ (limit : ℕ) (p : Plan) (ok : Accepted p) where
   kept-is l (inl o) = rw (over-is p l o)
   kept-is l (inr s) = or-right (isOver p l) (isLive p l) (sound-live limit p ok l s)
 
-  -- an accepted call takes a sound ledger to a sound one, or to one that is over
-  pub kept-after : (l : Ledger) → Sound document01 limit p l → (c : Call) → callRefusal limit p l c ≡ 0 → Kept document01 limit p (after limit p l c)
-  kept-after l s c z =
-      subst (Kept document01 limit p) (next-accepted limit p l c z)
-      (subst (λ d. callRefusal limit p l d ≡ 0 → Kept document01 limit p (next limit p l d)) (there-and-back c)
-      (kept-accepted laws01 unfinished01 limit p ok tt l s (asTheory c)) z)
-
   -- any call, refused or not
   pub kept-next : (l : Ledger) → Kept document01 limit p l → (c : Call) → Kept document01 limit p (next limit p l c)
   kept-next l k c =
       subst (λ d. Kept document01 limit p (next limit p l d)) (there-and-back c) (theory.kept-next laws01 unfinished01 limit p ok tt l k (asTheory c))
-
-  -- "begin" leaves a live ledger
-  pub begun-live : isLive p (begun p) ≡ true
-  begun-live = sound-live limit p ok (begun p) (begun-sound laws01 limit p ok)
-
-  -- a call takes a live ledger to one that is live or over, and that words can hold
-  pub sound-kept : (l : Ledger) → Storable limit (trackCount p) l → isLive p l ≡ true → (c : Call) → callRefusal limit p l c ≡ 0
-      → Storable limit (trackCount p) (after limit p l c) × ((isOver p (after limit p l c) || isLive p (after limit p l c)) ≡ true)
-  sound-kept l st h c a =
-      let k = kept-after l (sound-of limit p ok l st h) c a in
-      (kept-storable (after limit p l c) k, kept-is (after limit p l c) k)
 
   -- The same on words.
   pub words-sound : (l : Ledger) (ws : List ℕ) → Kept document01 limit p l → isSound limit p (written limit (trackCount p) l ws) ≡ true
@@ -157,27 +130,28 @@ module _ (limit : ℕ) (p : Plan) (ok : Accepted p) where
       (isOver p (ledgerAt limit (written limit (trackCount p) l ws) (trackCount p)) || isLive p (ledgerAt limit (written limit (trackCount p) l ws) (trackCount p)))
       (tidy-written limit (trackCount p) l ws st) (rw q (kept-is l k))
 
-  -- Progress, of a live ledger that words can hold, and of sound words.
-  pub progress-live : (l : Ledger) → Storable limit (trackCount p) l → isLive p l ≡ true
-      → (t : ℕ) → l t .mode ≡ Undoing → isEmpty (l t .held) ≡ false → (u : ℕ) × (mayFire p l u ≡ true)
-  progress-live l st h = progress limit p ok l (sound-of limit p ok l st h)
-
-  pub progress-words : (ws : List ℕ) → isSound limit p ws ≡ true
-      → (t : ℕ) → ledgerAt limit ws (trackCount p) t .mode ≡ Undoing → isEmpty (ledgerAt limit ws (trackCount p) t .held) ≡ false
-      → (u : ℕ) × (mayFire p (ledgerAt limit ws (trackCount p)) u ≡ true)
+  -- and what sound words hold
+  pub words-kept : (ws : List ℕ) → isSound limit p ws ≡ true → Kept document01 limit p (ledgerAt limit ws (trackCount p))
   unfolding isSound isOver
-  progress-words ws s t d e =
+  words-kept ws s =
       let l = ledgerAt limit ws (trackCount p) in
       let (tidy, v) = and-true (areTidy limit ws (trackCount p)) (isOver p l || isLive p l) s in
       let st = storable-read limit (trackCount p) ws tidy in
       elim (or-true (isOver p l) (isLive p l) v) [
-        | inr h ↦ progress-live l st h t d e
+        | inr h ↦ inr (sound-of limit p ok l st h)
         | inl o ↦
-            let a = undoing-awake (l t .mode) (is-undoing (l t .mode) d) in
+            inl
+            (λ t.
             elim (look (ltb t (trackCount p))) [
               | inl b ↦
-                  clash a (not-true (isAwake (l t .mode)) (every-at (trackCount p) (λ t. not (isAwake (l t .mode))) o t (ltb-true t (trackCount p) b)))
-              | inr b ↦
-                  clash a (ap (λ (c : Configuration). isAwake (c .mode)) (st .beyond t (ltb-false t (trackCount p) b)) ∙ sleeping-asleep)
-            ]
+                  st .blank t
+                  (not-true (isAwake (l t .mode)) (every-at (trackCount p) (λ t. not (isAwake (l t .mode))) o t (ltb-true t (trackCount p) b)))
+              | inr b ↦ st .beyond t (ltb-false t (trackCount p) b)
+            ])
       ]
+
+  -- Progress, on sound words.
+  pub progress-words : (ws : List ℕ) → isSound limit p ws ≡ true
+      → (t : ℕ) → ledgerAt limit ws (trackCount p) t .mode ≡ Undoing → isEmpty (ledgerAt limit ws (trackCount p) t .held) ≡ false
+      → (u : ℕ) × (mayFire p (ledgerAt limit ws (trackCount p)) u ≡ true)
+  progress-words ws s = kept-progress laws01 unfinished01 limit p ok (ledgerAt limit ws (trackCount p)) (words-kept ws s)

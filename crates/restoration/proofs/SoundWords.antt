@@ -2,32 +2,28 @@
 -- words. Reading back what was written gives the ledger again, so the words follow the ledger call by call. Assumes nothing.
 use mathlib.Core.Path.{_≡_, refl, sym, ap, _∙_, subst}
 use mathlib.Core.Logic.{inl, inr}
-use mathlib.Core.Bool.{true, false, not, _||_}
+use mathlib.Core.Bool.{true, false, not}
 use mathlib.Core.List.{List, [], _++_}
 use Prim.Native.Nat.{ℕ, zero, suc, _≤_}
 use native.Mathlib.Omega.{arith}
 use lib.ListN.{length}
-use lib.Dec.{ltb}
-use borrow.Author.Tests.{not-true, not-false, ltb-true, ltb-false, le-ltb}
+use borrow.Author.Tests.{not-false, ltb-false, le-ltb}
 use Rattle.rules.specs.declared.Counts.{Counts}
 use Rattle.rules.specs.Fold.{firstRefusal}
 use Rattle.rules.specs.Plan.{Plan, trackCount, planOf}
 use Rattle.rules.specs.Acceptance.{accepted, readPlan}
 use Rattle.rules.specs.Layout.{wordCount}
-use Rattle.rules.specs.Ledger.{Ledger, isAwake, ledgerAt, written}
-use Rattle.rules.specs.Scope.{isOver}
+use Rattle.rules.specs.Ledger.{Ledger, ledgerAt, written}
 use Rattle.rules.specs.Opening.{begun}
-use Rattle.rules.specs.Soundness.{areTidy, isLive, isSound}
+use Rattle.rules.specs.Soundness.{isSound}
 use Rattle.rules.specs.Call.{refusal, done, Outcome, Call, refusedOr, underPlan, tooShort, ledgerRefusals, callRefusals, callRefusal, figures, after, next, callOutcome, beginOutcome}
-use Rattle.rules.proofs.Tests.{look, and-true, or-true, passed}
-use Rattle.rules.proofs.Folds.{every-at}
+use Rattle.rules.proofs.Tests.{look, passed}
 use Rattle.rules.proofs.Acceptance.{Accepted, accepts}
-use Rattle.rules.proofs.Stored.{Storable, read-written, length-written, storable-read}
-use Rattle.theory.proofs.Soundness.{Over}
+use Rattle.rules.proofs.Stored.{read-written, length-written}
 use Rattle.theory.proofs.SoundBegin.{begun-sound}
 use Rattle.theory.proofs.SoundKept.{Kept}
 use Rattle.restoration.proofs.Document01.{document01, next-accepted, next-refused, laws01}
-use Rattle.restoration.proofs.SoundLive.{sound-of, kept-storable, kept-next, words-sound}
+use Rattle.restoration.proofs.SoundLive.{kept-storable, kept-next, words-sound, words-kept}
 
 module _ (limit : ℕ) (bs : List ℕ) (k : Counts) (read : readPlan bs ≡ accepted k) where
   abbrev pub thePlan : Plan
@@ -64,29 +60,8 @@ module _ (limit : ℕ) (bs : List ℕ) (k : Counts) (read : readPlan bs ≡ acce
 
   -- sound words hold the ledger that they read as
   pub sound-holds : (ws : List ℕ) → tooShort limit thePlan ws ≡ false → isSound limit thePlan ws ≡ true → Holds ws (ledgerAt limit ws n)
-  unfolding isSound tooShort
-  sound-holds ws b s =
-      let l = ledgerAt limit ws n in
-      let (t, v) = and-true (areTidy limit ws n) (isOver thePlan l || isLive thePlan l) s in
-      let st = storable-read limit n ws t in
-      record {
-        long = ltb-false (length ws) (wordCount limit n) b;
-        sound = s;
-        reads = refl;
-        kept =
-            elim (or-true (isOver thePlan l) (isLive thePlan l) v) [
-              | inl o ↦ inl (asleep l st o)
-              | inr h ↦ inr (sound-of limit thePlan ok l st h)
-            ];
-      }
-    where
-      asleep : (l : Ledger) → Storable limit n l → isOver thePlan l ≡ true → Over l
-      asleep l st o = unfold isOver in
-          λ t.
-          elim (look (ltb t n)) [
-            | inl b ↦ st .blank t (not-true (isAwake (l t .mode)) (every-at n (λ t. not (isAwake (l t .mode))) o t (ltb-true t n b)))
-            | inr b ↦ st .beyond t (ltb-false t n b)
-          ]
+  unfolding tooShort
+  sound-holds ws b s = record { long = ltb-false (length ws) (wordCount limit n) b; sound = s; reads = refl; kept = words-kept limit thePlan ok ws s }
 
   abbrev pub theLedger : List ℕ → Ledger
   theLedger ws = ledgerAt limit ws n

@@ -7,7 +7,7 @@ use mathlib.Core.Bool.{Bool, true, false}
 use mathlib.Core.List.{List, [], _∷_, _++_}
 use mathlib.Core.Option.{Option, none, some}
 use Prim.Native.Nat.{ℕ, _<_}
-use Rattle.rules.specs.Plan.{Plan, trackCount, transition, mover}
+use Rattle.rules.specs.Plan.{Plan, trackCount, transitionCount, transition, host, mover, isStateOf, isFinal, isInside}
 use Rattle.rules.specs.Ledger.{Configuration, Ledger, isAwake, isForward, isUndoing, isEmpty}
 use Rattle.rules.specs.Scope.{hasOpenScope, isOver}
 use Rattle.rules.specs.Opening.{enter}
@@ -16,13 +16,13 @@ use Rattle.rules.specs.Signal.{turned, isAbandoning, abandoned}
 use Rattle.rules.specs.Fire.{mayFire, fired}
 use Rattle.rules.specs.Call.{EventArguments, SignalArguments, Call, event, signal, fire, callRefusal, next}
 use Rattle.rules.specs.Books.{act}
-use Rattle.rules.specs.FinishedRun.{Reached, start, then, Running, by-begin, by-call, over-event, over-signal, over-fire}
+use Rattle.rules.specs.FinishedRun.{Reached, start, then, Running, by-begin, by-call, over-event, over-signal, over-fire, Finished}
 use Rattle.rules.proofs.Tests.{clash}
 use Rattle.rules.proofs.Acceptance.{Accepted}
+use Rattle.rules.proofs.Ready as fireable
 use Rattle.theory.specs.Seams as seam
 use Rattle.theory.proofs.Nesting.{Awake, Nested}
 use Rattle.theory.proofs.Entering.{Enterable}
-use Rattle.theory.proofs.Firing as firing
 use Rattle.theory.proofs.Soundness as theory
 use Rattle.theory.proofs.Soundness.{Formed, RootsAwake}
 use Rattle.theory.proofs.Settling as settling
@@ -34,7 +34,9 @@ use Rattle.theory.proofs.SoundEvent as sound-event
 use Rattle.theory.proofs.SoundRetraction as sound-retraction
 use Rattle.theory.proofs.SoundKept as kept
 use Rattle.theory.proofs.Histories as histories
-use Rattle.restoration.proofs.Runs01.{from-reached}
+use Rattle.theory.proofs.Effects as effects
+use Rattle.theory.proofs.Effects.{Effect}
+use Rattle.restoration.proofs.Runs01.{same-act, from-reached, from-finished}
 use Rattle.restoration.proofs.Document01.{document01, asTheory, there-and-back, same-by, laws01, unfinished01}
 pub use Rattle.theory.proofs.Soundness.{Over, sleeping-asleep}
 pub use Rattle.theory.proofs.Moving.{to-none, to-destination, to-some, has-code}
@@ -156,7 +158,7 @@ module _ (p : Plan) (ok : Accepted p) (l : Ledger) (n : Nested p l) where
 -- Calls: who may be fired, what is over, what an accepted call does.
 pub may-fire : (limit : ℕ) (p : Plan) (l : Ledger) (t : ℕ) → mayFire p l t ≡ true
     → (t < trackCount p) × (isUndoing (l t .mode) ≡ true) × (isEmpty (l t .held) ≡ false) × (hasOpenScope p l t ≡ false)
-may-fire limit p l t h = firing.may-fire p l t h
+may-fire limit p l t h = fireable.may-fire p l t h
 
 pub over-refused : (limit : ℕ) (p : Plan) (l : Ledger) → isOver p l ≡ true → (c : Call) → callRefusal limit p l c ≡ 0 → ⊥
 over-refused limit p l o c =
@@ -219,3 +221,16 @@ module _ (limit : ℕ) (p : Plan) (ok : Accepted p) where
   running-reached (over-event r a z o) = then (running-reached r) (event a)
   running-reached (over-signal r a z f o) = then (running-reached r) (signal a)
   running-reached (over-fire r a z o) = then (running-reached r) (fire a)
+
+-- What the moves of one track in a finished run do, and that the run does nothing where none inside the scope does.
+module _ (limit : ℕ) (p : Plan) (ok : Accepted p) (s : ℕ) {B : Type 0} (v : ℕ → B → B) where
+  pub finished-still : ((a : EventArguments) (x : ℕ) → x < transitionCount p → isInside p s (mover p x) ≡ true → (b : B) → v x b ≡ b)
+      → {w : List ℕ} → Finished p limit s w → (b : B) → act v w b ≡ b
+  finished-still h {w} f b = same-act v w b ∙ effects.finished-still laws01 unfinished01 limit p ok s v h (from-finished p limit f .1) b
+
+module _ (limit : ℕ) (p : Plan) (ok : Accepted p) (s t : ℕ) (e : host p t ≡ some s) {B : Type 0} (v φ : ℕ → B → B) where
+  pub finished-effect : Effect document01 p t v φ → {w : List ℕ} → Finished p limit s w
+      → (q : ℕ) × (isStateOf p t q ≡ true) × (isFinal p q ≡ true) × ((b : B) → act v w b ≡ φ q b)
+  finished-effect c {w} f =
+      let (q, o, z, g) = effects.finished-effect laws01 unfinished01 limit p ok s t e v φ c (from-finished p limit f .1) in
+      (q, o, z, λ b. same-act v w b ∙ g b)

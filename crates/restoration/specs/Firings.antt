@@ -1,4 +1,5 @@
--- Firings along a list of calls and its answers, and the lists without an event or a deviation. Assumes nothing.
+-- "No firings beyond 32 times the number of tracks follow one another without an event or a deviation.": the firings along a list of calls
+-- and its answers, and the lists without an event or a deviation. Assumes nothing.
 use mathlib.Core.Bool.{Bool, true, false, not, _&&_}
 use mathlib.Core.List.{List, [], _∷_}
 use Prim.Native.Nat.{ℕ, _+_}
@@ -14,14 +15,14 @@ firingsIn [] rs = 0
 firingsIn (c ∷ cs) [] = 0
 firingsIn (c ∷ cs) (r ∷ rs) = firingsOf c r + firingsIn cs rs
 
--- an event that was accepted
+-- "without an event": one that was accepted
 unfoldable pub isEventDone : Call → Answer → Bool
 isEventDone (event a) (done figures) = true
 isEventDone (event a) (refusal n) = false
 isEventDone (signal a) r = false
 isEventDone (fire a) r = false
 
--- an accepted firing whose entry carried a deviation
+-- "or a deviation": an accepted firing whose entry carried one
 unfoldable pub isDeviation : Call → Answer → Bool
 isDeviation (fire a) (done figures) = not (eqb (getD figures 1 noState) noState)
 isDeviation (fire a) (refusal n) = false

@@ -76,6 +76,9 @@ noneOf c = false
 abbrev pub onlyReal : ℕ → Bool
 onlyReal c = not (eqb c 0)
 
+abbrev pub onlyZero : ℕ → Bool
+onlyZero c = eqb c 0
+
 abbrev pub allAsked : Asked
 allAsked = record { ofNothing = true; ofCode = every; ofReplacement = every; ofChanges = true; ofRetractions = true }
 

@@ -1,4 +1,7 @@
--- What the theorems of this crate say beside the rules: the count of firings, books for the sample plan, and weaker conditions.
+-- What the theorems of this crate say beside the rules: the count of firings, a way on to a withdrawn ledger, books for the sample plan, and
+-- weaker conditions.
 pub mod Firings
+pub mod Continuation
 pub mod SampleAccount
+pub mod SamplePiles
 pub mod LenientBooks

@@ -1,5 +1,6 @@
 -- Laws of the definitions, for the layers above.
 pub mod Tests
+pub mod Modes
 pub mod Folds
 pub mod Counting
 pub mod Acceptance
@@ -8,6 +9,7 @@ pub mod Scopes
 pub mod Opening
 pub mod Closing
 pub mod Abandoning
+pub mod Ready
 pub mod Soundness
 pub mod TrackWords
 pub mod Stored

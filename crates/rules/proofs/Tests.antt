@@ -1,5 +1,5 @@
 -- Tests taken apart: what a conjunction, a disjunction and a table of refusals tell of their parts. Assumes nothing.
-use mathlib.Core.Path.{_≡_, refl}
+use mathlib.Core.Path.{_≡_, refl, sym}
 use mathlib.Core.Logic.{_⊎_, inl, inr}
 use mathlib.Core.Bool.{Bool, true, false, cond, not, _&&_, _||_}
 use mathlib.Core.Option.{Option, none, some}
@@ -72,3 +72,9 @@ strong C f t = go (suc t) t (omega arith)
     go : (k t : ℕ) → t < k → C t
     go zero t l = absurd (not-suc-le-zero l)
     go (suc k) t l = f t (λ u m. go k u (omega arith))
+
+-- two tests each of which holds where the other does
+pub same-test : (a b : Bool) → (a ≡ true → b ≡ true) → (b ≡ true → a ≡ true) → a ≡ b
+same-test true b f g = sym (f refl)
+same-test false true f g = g refl
+same-test false false f g = refl

@@ -10,13 +10,13 @@ use Rattle.rules.specs.Ledger.{Ledger, isAwake, isForward, isUndoing}
 use Rattle.rules.specs.Scope.{isOpen, hasOpenScope}
 use Rattle.rules.specs.Event.{isClosing, isClosed, closesScope}
 use Rattle.rules.proofs.Tests.{look, look-option, clash, refuted, and-true, and-both, strong}
+use Rattle.rules.proofs.Modes.{forward-awake, undoing-forward}
 use Rattle.rules.proofs.Acceptance.{Accepted}
 use Rattle.rules.proofs.Forest.{above-hosted}
 use Rattle.rules.proofs.Scopes.{in-host, every-in-of, open-find, busy-find}
 use Rattle.rules.proofs.Closing.{Alike, closing-alike, closing-asleep, closing-final, closed-host, closed-root}
 use Rattle.rules.proofs.Abandoning.{undoing-awake}
 use Rattle.theory.specs.Seams.{Seams}
-use Rattle.theory.proofs.Modes.{forward-awake, undoing-forward}
 use Rattle.theory.proofs.Nesting.{Awake, Sleeps, Nested, state-of, host-awake, host-busy, open-host}
 use Rattle.theory.proofs.Soundness.{sleeping-asleep}
 use Rattle.theory.proofs.Laws.{Laws}

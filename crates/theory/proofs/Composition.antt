@@ -9,7 +9,7 @@ use Prim.Native.Nat.{ℕ, zero, suc, _<_}
 use native.Mathlib.Omega.{arith}
 use native.Mathlib.Nat.{not-suc-le-zero}
 use lib.Dec.{eqb, ltb}
-use borrow.Author.Tests.{eqb-true, eqb-false, lt-ltb, le-ltb, ltb-true}
+use borrow.Author.Tests.{eqb-true, eqb-false, eq-eqb, ne-eqb, lt-ltb, le-ltb, ltb-true}
 use Rattle.rules.proofs.Tests.{look, clash}
 use Rattle.theory.specs.Runs.{act}
 
@@ -114,9 +114,6 @@ module _ {C B : Type 0} (changed : C → B → B) where
   unfolding act
   nil-swap w b = refl
 
-  pub swap-back : (v w : List C) → Swap v w → Swap w v
-  swap-back v w h b = sym (h b)
-
   pub swap-append : (u v w : List C) → Swap u w → Swap v w → Swap (u ++ v) w
   swap-append u v w h k b = rw (act-append u v b, act-append u v (act changed w b), k (act changed u b), h b)
 
@@ -141,6 +138,17 @@ module _ {C B : Type 0} (changed : C → B → B) where
         same-join n A M (λ t l. h t (omega arith)) b,
         h n (omega arith) (act changed (join n M) b),
       )
+
+  -- where no track's word does anything, and where one track's alone does
+  pub join-still : (n : ℕ) (A : ℕ → List C) → ((u : ℕ) → u < n → Same (A u) []) → Same (join n A) []
+  join-still n A h b = same-join n A (λ u. []) h b ∙ ap (λ w. act changed w b) (join-nil n (λ u. []) (λ u l. refl))
+
+  pub join-alone : (n t : ℕ) (A : ℕ → List C) → t < n → ((u : ℕ) → u < n → (u ≡ t → ⊥) → Same (A u) []) → Same (join n A) (A t)
+  join-alone n t A l h b =
+      same-join n A (λ u. when (eqb u t) (A u))
+      (λ u m. elim (look (eqb u t)) [ inl e ↦ rw e (λ b. refl) | inr e ↦ rw e (h u m (eqb-false u t e)) ]) b
+      ∙ ap (λ w. act changed w b)
+      (join-single n t (λ u. when (eqb u t) (A u)) l (λ u m f. rw (ne-eqb u t f)) ∙ (rw (eq-eqb t t refl)))
 
   pub same-when : (c : Bool) (v w : List C) → Same v w → Same (when c v) (when c w)
   same-when true v w h = h
@@ -171,7 +179,7 @@ module _ {C B : Type 0} (changed : C → B → B) where
       ∙ put-behind n (λ t. when (S t) (A t)) (λ t. when (S t) (M t))
       (λ t k l m. swap-when (S t) (S k) (M t) (A k) (λ c d. h t k l m)) b
 
-  -- List Cs gathered: where all words commute, they may be taken in groups, those of group t (the tracks u with `of u` t) together.
+  -- Words gathered: where all words commute, they may be taken in groups, those of group t (the tracks u with `of u` t) together.
   module _ (n : ℕ) (of : ℕ → ℕ) (M : ℕ → List C) (swaps : (t k : ℕ) → t < k → k < n → Swap (M t) (M k)) where
     abbrev group : ℕ → List C
     group t = join n (λ u. when (eqb (of u) t) (M u))

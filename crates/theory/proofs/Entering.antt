@@ -2,7 +2,7 @@
 -- wakes whole scope by whole scope under a host that just went forward into the hosting state. Assumes nothing.
 use mathlib.Core.Path.{_≡_, refl, sym, ap, ap₂, _∙_, subst}
 use mathlib.Core.Logic.{_⊎_, inl, inr}
-use mathlib.Core.Bool.{Bool, true, false, _||_}
+use mathlib.Core.Bool.{Bool, true, false, _||_, or-false}
 use mathlib.Core.List.{[]}
 use mathlib.Core.Option.{Option, none, some}
 use Prim.Native.Nat.{ℕ, _<_}
@@ -14,9 +14,9 @@ use Rattle.rules.specs.Ledger.{Configuration, Ledger, isAwake, sleeping}
 use Rattle.rules.specs.Scope.{hasOpenScope}
 use Rattle.rules.specs.Opening.{fresh, wakes, enter}
 use Rattle.rules.proofs.Tests.{look, look-option, clash, none-some, and-true, or-right, strong}
+use Rattle.rules.proofs.Modes.{forward-awake, is-forward}
 use Rattle.rules.proofs.Acceptance.{Accepted}
 use Rattle.rules.proofs.Opening.{wakes-root, wakes-together, wakes-entered, wakes-woken, enter-to, enter-woken, enter-kept}
-use Rattle.theory.proofs.Modes.{forward-awake, is-forward}
 use Rattle.theory.proofs.Nesting.{Awake, Sleeps, Nested, own-below, host-awake, host-busy}
 
 -- a track goes forward into a state
@@ -126,16 +126,12 @@ module _ (p : Plan) (ok : Accepted p) (l : Ledger) (to : ℕ → Option ℕ) whe
     pub awake-or : (t h : ℕ) → host p t ≡ some h → isAwake (enter p to l t .mode) ≡ (isAwake (l t .mode) || wakes p to t)
     awake-or t h e = go (fate t)
       where
-        right : (b c : Bool) → c ≡ false → (b || c) ≡ b
-        right true c k = refl
-        right false c k = k
-
         go : Fate t → isAwake (enter p to l t .mode) ≡ (isAwake (l t .mode) || wakes p to t)
         go (enters s f q) =
             ap (λ c. isAwake (c .mode)) q ∙ arrived-awake s (l t)
             ∙ sym (ap (λ b. b || wakes p to t) (forward-awake (l t .mode) (is-forward (l t .mode) (g .forward t s h f e))))
         go (wakens f w q) = ap (λ c. isAwake (c .mode)) q ∙ fresh-awake p t ∙ sym (or-right (isAwake (l t .mode)) (wakes p to t) w)
-        go (stays f w q) = ap (λ c. isAwake (c .mode)) q ∙ sym (right (isAwake (l t .mode)) (wakes p to t) w)
+        go (stays f w q) = ap (λ c. isAwake (c .mode)) q ∙ sym (rw (w, or-false (isAwake (l t .mode))))
 
     enter-below : (t : ℕ) → Awake (enter p to l) t → Fate t → t < trackCount p
     enter-below t a (enters s f q) = own-below p ok t s (g .own t s f)

@@ -101,3 +101,8 @@ pub older-less : (es : List Entry) → isEmpty es ≡ false → suc (length (old
 unfolding older isEmpty
 older-less [] h = clash refl h
 older-less (e ∷ es) h = refl
+
+pub empty-nil : (es : List Entry) → isEmpty es ≡ true → es ≡ []
+unfolding isEmpty
+empty-nil [] h = refl
+empty-nil (e ∷ es) h = clash h refl

@@ -2,40 +2,21 @@
 -- its own. Assumes nothing.
 use mathlib.Core.Path.{_≡_, refl, sym, ap, _∙_, subst}
 use mathlib.Core.Logic.{inl, inr}
-use mathlib.Core.Bool.{true, false, not, _&&_}
+use mathlib.Core.Bool.{true, false}
 use mathlib.Core.Option.{none, some}
-use Prim.Native.Nat.{ℕ, _<_}
-use lib.Dec.{eqb, ltb}
-use borrow.Author.Tests.{eqb-true, eq-eqb, not-true, ltb-true, lt-ltb}
-use Rattle.rules.specs.Plan.{Plan, trackCount, optional, host, owner, isStateOf}
-use Rattle.rules.specs.Ledger.{Ledger, isAwake, isUndoing, isEmpty}
+use Prim.Native.Nat.{ℕ}
+use lib.Dec.{eqb}
+use borrow.Author.Tests.{eqb-true, eq-eqb}
+use Rattle.rules.specs.Plan.{Plan, optional, host, owner, isStateOf}
+use Rattle.rules.specs.Ledger.{Ledger, isAwake}
 use Rattle.rules.specs.Scope.{hasOpenScope}
 use Rattle.rules.specs.Opening.{fresh, enter}
-use Rattle.rules.specs.Fire.{newest, older, mayFire, removed, deviatesTo, fired}
-use Rattle.rules.proofs.Tests.{look, look-option, clash, none-some, and-true}
+use Rattle.rules.specs.Fire.{newest, older, removed, deviatesTo, fired}
+use Rattle.rules.proofs.Tests.{look, look-option, clash, none-some}
 use Rattle.rules.proofs.Acceptance.{Accepted}
 use Rattle.theory.proofs.Nesting.{Awake, Sleeps, Nested, busy-same}
 use Rattle.theory.proofs.Entering.{Enterable, kept, kept-busy, new-fresh, enter-nested}
 use Rattle.theory.proofs.Entries.{Good, deviates}
-
-module _ (p : Plan) (l : Ledger) where
-  -- what a track that may be fired is
-  pub may-fire : (t : ℕ) → mayFire p l t ≡ true
-      → (t < trackCount p) × (isUndoing (l t .mode) ≡ true) × (isEmpty (l t .held) ≡ false) × (hasOpenScope p l t ≡ false)
-  unfolding mayFire
-  may-fire t h =
-      let A = ltb t (trackCount p) in
-      let B = isUndoing (l t .mode) in
-      let C = not (isEmpty (l t .held)) in
-      let (x, d) = and-true (A && B && C) (not (hasOpenScope p l t)) h in
-      let (y, c) = and-true (A && B) C x in
-      let (a, b) = and-true A B y in
-      (ltb-true t (trackCount p) a, b, not-true (isEmpty (l t .held)) c, not-true (hasOpenScope p l t) d)
-
-  pub fire-may : (t : ℕ) → t < trackCount p → isUndoing (l t .mode) ≡ true → isEmpty (l t .held) ≡ false → hasOpenScope p l t ≡ false
-      → mayFire p l t ≡ true
-  unfolding mayFire
-  fire-may t a b c d = rw (lt-ltb t (trackCount p) a, b, c, d)
 
 module _ (p : Plan) (l : Ledger) (t : ℕ) where
   pub fired-is : fired p l t ≡ enter p (deviatesTo p l t) (removed p l t)

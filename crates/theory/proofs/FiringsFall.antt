@@ -20,11 +20,12 @@ use Rattle.rules.specs.Transcript.{heldTotal}
 use Rattle.rules.proofs.Tests.{look, clash, and-true}
 use Rattle.rules.proofs.Acceptance.{Accepted}
 use Rattle.rules.proofs.Abandoning.{left-asleep, left-kept}
+use Rattle.rules.proofs.Ready.{may-fire}
 use Rattle.theory.specs.Seams.{Seams, Call, event, signal, fire, isEvent, firingsOf, turned, work}
 use Rattle.theory.specs.Runs.{firingsFrom, isEventless}
 use Rattle.theory.proofs.Entering.{Fate, enters, wakens, stays, fate, fresh-held}
 use Rattle.theory.proofs.Entries.{older-length, older-less}
-use Rattle.theory.proofs.Firing.{may-fire, fired-is, removed-here, removed-other}
+use Rattle.theory.proofs.Firing.{fired-is, removed-here, removed-other}
 use Rattle.theory.proofs.Soundness.{sleeping-held}
 use Rattle.theory.proofs.Laws.{Laws}
 use Rattle.theory.proofs.Settling.{next-cases}
@@ -114,7 +115,7 @@ module _ {σ : Seams} (ω : Laws σ) (limit : ℕ) (p : Plan) (ok : Accepted p) 
       ]
 
   -- an accepted call that is no event: what it fires, and what is held afterwards, was held before
-  call-fewer : (h : Head) (l : Ledger) (c : Call σ) → refusal limit p h l c ≡ 0 → isEvent c ≡ false
+  pub call-fewer : (h : Head) (l : Ledger) (c : Call σ) → refusal limit p h l c ≡ 0 → isEvent c ≡ false
       → firingsOf c + heldTotal p (next limit p h l c) ≤ heldTotal p l
   call-fewer h l (event a) z n = clash refl n
   call-fewer h l (signal a) z n = let x = signal-fewer l a in let y = settled-fewer h l (signal a) z in omega arith

@@ -15,23 +15,24 @@ use Rattle.rules.specs.Signal.{abandoned}
 use Rattle.rules.specs.Fire.{newest, mayFire, fired}
 use Rattle.rules.specs.ReferenceRun.{AllWithdrawn}
 use Rattle.rules.proofs.Tests.{look, look-option, clash}
+use Rattle.rules.proofs.Modes.{forward-awake}
 use Rattle.rules.proofs.Acceptance.{Accepted}
 use Rattle.rules.proofs.Scopes.{root-of, open-at, open-find}
 use Rattle.rules.proofs.Closing.{closing-final}
 use Rattle.rules.proofs.Abandoning.{awake-kept}
+use Rattle.rules.proofs.Ready.{may-fire}
 use Rattle.theory.specs.Seams.{Seams, Call, event, signal, fire, turned}
 use Rattle.theory.specs.Runs as run
 use Rattle.theory.specs.Runs.{act, replacementOf, Reached, Running, by-begin, by-call, over-event, over-signal, over-fire, Books, bookedCall}
 use Rattle.theory.proofs.Composition as all
 use Rattle.theory.proofs.Composition.{when, join, when-nil, join-nil}
-use Rattle.theory.proofs.Modes.{forward-awake}
 use Rattle.theory.proofs.Nesting.{Nested, open-host, hosted-asleep}
 use Rattle.theory.proofs.Entering.{fresh-held}
-use Rattle.theory.proofs.Firing.{may-fire, removed-mode, fired-busy}
+use Rattle.theory.proofs.Firing.{removed-mode, fired-busy}
 use Rattle.theory.proofs.Soundness.{Sound, Over, sleeping-asleep, sleeping-held}
 use Rattle.theory.proofs.Laws.{Laws, Unfinished}
 use Rattle.theory.proofs.Settling.{next-cases, over-refused}
-use Rattle.theory.proofs.Turning.{turned-awake, spared}
+use Rattle.theory.proofs.Turning.{turned-awake, scope-untouched}
 use Rattle.theory.proofs.Moving.{moved-nested, moved-busy}
 use Rattle.theory.proofs.Closing.{closing-open, closed-alike, closed-awake}
 use Rattle.theory.proofs.Leaving.{turned-nested}
@@ -165,7 +166,7 @@ module _ {σ : Seams} (ω : Laws σ) (υ : Unfinished σ) (limit : ℕ) (p : Pla
                 λ z o f.
                 let f′ = subst (λ y. isForward (y (owner p z) .mode) ≡ true) q f in
                 let (c, r) = awake-kept p ok (turned σ p l a) (owner p z) (forward-awake (abandoned p (turned σ p l a) (owner p z) .mode) f′) in
-                let (w, i) = spared ω p l a ok z (ap (λ (y : Configuration). isForward (y .mode)) (sym r) ∙ f′) in
+                let (w, i) = scope-untouched ω p l a ok z (ap (λ (y : Configuration). isForward (y .mode)) (sym r) ∙ f′) in
                 over-signal (v .running z (signal-open z (subst (λ y. isOpen p y z ≡ true) q o)) w) a acc i o;
             books = v .books;
           }

@@ -30,12 +30,12 @@ use Rattle.theory.proofs.Invariant.{Undoes, Below, Held, inner, Blocks,
 use Rattle.theory.proofs.InvariantMoving.{keep, keep-all, keep-same, held-install}
 
 -- the track that hosts a track; a root counts as its own
-unfoldable pub hostTrack : Plan → ℕ → ℕ
-hostTrack p t = elim (host p t) [ none ↦ t | some h ↦ owner p h ]
+unfoldable pub hostOrSelf : Plan → ℕ → ℕ
+hostOrSelf p t = elim (host p t) [ none ↦ t | some h ↦ owner p h ]
 
-host-track : (p : Plan) (t h : ℕ) → host p t ≡ some h → hostTrack p t ≡ owner p h
-unfolding hostTrack
-host-track p t h e = rw (e, hostTrack)
+host-or-self : (p : Plan) (t h : ℕ) → host p t ≡ some h → hostOrSelf p t ≡ owner p h
+unfolding hostOrSelf
+host-or-self p t h e = rw (e, hostOrSelf)
 
 module _ {σ : Seams} (ω : Laws σ) (limit : ℕ) (p : Plan) (ok : Accepted p) (k : Books σ p limit) (l : Ledger) (n : Nested p l)
     (W R : ℕ → List (σ .Change)) (g : Blocks limit p ok k l W R) (v : σ .Event)
@@ -124,7 +124,7 @@ module _ {σ : Seams} (ω : Laws σ) (limit : ℕ) (p : Plan) (ok : Accepted p) 
     going u = when (S u) (gone u)
 
     abbrev group : ℕ → List Change
-    group t = join N (λ u. when (eqb (hostTrack p u) t) (going u))
+    group t = join N (λ u. when (eqb (hostOrSelf p u) t) (going u))
 
     stays-nil : (u : ℕ) → isClosed p l u ≡ false → going u ≡ []
     stays-nil u c = rw (c, when-nil (S u))
@@ -140,11 +140,11 @@ module _ {σ : Seams} (ω : Laws σ) (limit : ℕ) (p : Plan) (ok : Accepted p) 
         let s = l t .state in
         let own = closing-run t d .0 in
         let apart : (u : ℕ) → isInside p s u ≡ true → isAbove p t u ≡ true = λ u i. subst (λ x. isAbove p x u ≡ true) own (inside-above p ok s u i) in
-        join-same N (λ u. when (isInside p s u) (W u)) (λ u. when (eqb (hostTrack p u) t) (going u))
+        join-same N (λ u. when (isInside p s u) (W u)) (λ u. when (eqb (hostOrSelf p u) t) (going u))
         (λ u b.
         elim (look (isClosed p l u)) [
           | inr c ↦
-              rw (stays-nil u c, when-nil (eqb (hostTrack p u) t))
+              rw (stays-nil u c, when-nil (eqb (hostOrSelf p u) t))
               (elim (look (isInside p s u)) [
                 | inr i ↦ rw i
                 | inl i ↦ rw (below-nil t u d (apart u i) c, when-nil (isInside p s u))
@@ -159,7 +159,7 @@ module _ {σ : Seams} (ω : Laws σ) (limit : ℕ) (p : Plan) (ok : Accepted p) 
                     let st : h ≡ s = sym (o .2) ∙ ap (λ x. l x .state) w in
                     let i : isInside p s u ≡ true = inside-host p ok s u h e ∙ (rw (eq-eqb h s st)) in
                     let v : S u ≡ true = agree u h c e ∙ ap S w ∙ f in
-                    rw (i, host-track p u h e, z, v, c)
+                    rw (i, host-or-self p u h e, z, v, c)
                 | inr z ↦
                     let i : isInside p s u ≡ false =
                     refuted (isInside p s u)
@@ -168,26 +168,26 @@ module _ {σ : Seams} (ω : Laws σ) (limit : ℕ) (p : Plan) (ok : Accepted p) 
                       | inl w ↦ clash (eq-eqb (owner p h) t (sym w)) z
                       | inr w ↦ clash (closing-direct p ok l n t d (owner p h) w (o .0)) (closed-host-stays p ok l n u h a e)
                     ]) in
-                    rw (i, host-track p u h e, z)
+                    rw (i, host-or-self p u h e, z)
               ]
         ])
 
     -- where no scope closes, or the track does not pass, there is no group
     group-nil : (t : ℕ) → (closesScope p l t ≡ false) ⊎ (S t ≡ false) → group t ≡ []
     group-nil t r =
-        join-nil N (λ u. when (eqb (hostTrack p u) t) (going u))
+        join-nil N (λ u. when (eqb (hostOrSelf p u) t) (going u))
         (λ u b.
         elim (look (isClosed p l u)) [
-          | inr c ↦ rw (stays-nil u c, when-nil (eqb (hostTrack p u) t))
+          | inr c ↦ rw (stays-nil u c, when-nil (eqb (hostOrSelf p u) t))
           | inl c ↦
               let (h, e, q) = closed-in p l u c in
               elim (look (eqb (owner p h) t)) [
-                | inr z ↦ rw (host-track p u h e, z)
+                | inr z ↦ rw (host-or-self p u h e, z)
                 | inl z ↦
                     let w = eqb-true (owner p h) t z in
                     elim r [
                       | inl d ↦ clash (subst (λ x. closesScope p l x ≡ true) w (closed-closes p ok l n u h c e)) d
-                      | inr f ↦ rw (agree u h c e ∙ ap S w ∙ f, when-nil (eqb (hostTrack p u) t))
+                      | inr f ↦ rw (agree u h c e ∙ ap S w ∙ f, when-nil (eqb (hostOrSelf p u) t))
                     ]
               ]
         ])
@@ -212,19 +212,19 @@ module _ {σ : Seams} (ω : Laws σ) (limit : ℕ) (p : Plan) (ok : Accepted p) 
         let b′ = act (k .changed) (join N (λ t. when (S t) (rest t))) b in
         put-behind-of (k .changed) S N rest left left-rest b
         ∙ same-join (k .changed) N (λ t. when (S t) (left t)) group left-group b′
-        ∙ gather (k .changed) N (hostTrack p) going swap-going within b′
+        ∙ gather (k .changed) N (hostOrSelf p) going swap-going within b′
         ∙ sym (put-behind-of (k .changed) S N rest gone gone-rest b)
         ∙ ap (λ w. act (k .changed) w b)
         (join-same N (λ t. when (S t) (rest t ++ gone t)) (λ t. when (S t) (W t)) (λ t i. ap (when (S t)) (sym (parts t))))
       where
-        within : (u : ℕ) → u < N → (hostTrack p u < N) ⊎ (going u ≡ [])
+        within : (u : ℕ) → u < N → (hostOrSelf p u < N) ⊎ (going u ≡ [])
         within u b =
             elim (look (isClosed p l u)) [
               | inr c ↦ inr (stays-nil u c)
               | inl c ↦
                   let (h, e, q) = closed-in p l u c in
                   let w = ok .lower u h e in
-                  inl (rw (host-track p u h e) (omega arith))
+                  inl (rw (host-or-self p u h e) (omega arith))
             ]
 
   not-closing : (t : ℕ) → isClosed p l t ≡ true → closesScope p l t ≡ false

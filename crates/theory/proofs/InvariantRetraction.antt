@@ -15,26 +15,23 @@ use Rattle.rules.specs.Opening.{enter}
 use Rattle.rules.specs.Signal.{isAbandoned, abandoned}
 use Rattle.rules.specs.Fire.{newest, older, mayFire, removed, deviatesTo, fired}
 use Rattle.rules.proofs.Tests.{look, look-option, clash}
+use Rattle.rules.proofs.Modes.{undoing-forward}
 use Rattle.rules.proofs.Acceptance.{Accepted}
 use Rattle.rules.proofs.Scopes.{open-at, open-find}
 use Rattle.rules.proofs.Abandoning.{spent-parts, abandoned-root, abandoned-spent, left-asleep, left-kept}
+use Rattle.rules.proofs.Ready.{may-fire}
 use Rattle.theory.specs.Seams.{Seams, turned}
 use Rattle.theory.specs.Runs.{act, Books}
 use Rattle.theory.proofs.Composition.{when, join, All, Swap, nil-swap, join-same, join-single, put-behind}
-use Rattle.theory.proofs.Modes.{undoing-forward}
 use Rattle.theory.proofs.Nesting.{Awake, Nested, open-same, mode-inside}
-use Rattle.theory.proofs.Firing.{may-fire, fired-is, removed-mode, removed-awake, removed-here, removed-other, removed-nested, deviates-free}
+use Rattle.theory.proofs.Firing.{fired-is, removed-mode, removed-awake, removed-here, removed-other, removed-nested, deviates-free}
 use Rattle.theory.proofs.Soundness.{Sound, sleeping-held}
+use Rattle.theory.proofs.Entries.{empty-nil}
 use Rattle.theory.proofs.Laws.{Laws}
-use Rattle.theory.proofs.Turning.{turned-awake, turned-held, spared}
+use Rattle.theory.proofs.Turning.{turned-awake, turned-held, scope-untouched}
 use Rattle.theory.proofs.Leaving.{left-awake, left-host-stays}
 use Rattle.theory.proofs.SoundRetraction.{fired-awake}
 use Rattle.theory.proofs.Invariant.{Undoes, Below, Held, inner, Blocks, swap-free, enter-blocks}
-
-empty-nil : (es : List Entry) → isEmpty es ≡ true → es ≡ []
-unfolding isEmpty
-empty-nil [] h = refl
-empty-nil (e ∷ es) h = clash h refl
 
 module _ {σ : Seams} (ω : Laws σ) (limit : ℕ) (p : Plan) (ok : Accepted p) (k : Books σ p limit) (l : Ledger) (n : Nested p l)
     (W R : ℕ → List (σ .Change)) (g : Blocks limit p ok k l W R) where
@@ -42,7 +39,7 @@ module _ {σ : Seams} (ω : Laws σ) (limit : ℕ) (p : Plan) (ok : Accepted p) 
   turned-blocks a =
       record {
         held = λ t. rw (turned-held ω p l a t) (g .held t);
-        runs = λ s o f. g .runs s (sym (open-same p (turned σ p l a) l (turned-awake ω p l a) s) ∙ o) (spared ω p l a ok s f .0);
+        runs = λ s o f. g .runs s (sym (open-same p (turned σ p l a) l (turned-awake ω p l a) s) ∙ o) (scope-untouched ω p l a ok s f .0);
       }
 
   -- an abandoned track held nothing

@@ -34,8 +34,8 @@ abbrev pub Settled : (σ : Seams) → Plan → Bool → Ledger → Ledger → Ty
 Settled σ p looked m l = ((l ≡ m) × (looked ≡ true → σ .isFinishing p m ≡ false)) ⊎ Over l
 
 -- who gets an entry from an event has room for it
-abbrev pub Roomy : (σ : Seams) → ℕ → Plan → Ledger → σ .Event → Type 0
-Roomy σ limit p l a =
+abbrev pub Spare : (σ : Seams) → ℕ → Plan → Ledger → σ .Event → Type 0
+Spare σ limit p l a =
     (t : ℕ) → t < trackCount p → (hasCode p (σ .move p l a t) || isReplaced p (σ .moved p l a) t) ≡ true → length (l t .held) < limit
 
 pub record Laws (σ : Seams) : Type 0 where
@@ -65,7 +65,7 @@ pub record Laws (σ : Seams) : Type 0 where
       → (σ .next limit p h l c ≡ l) × (σ .nextHead limit p h l c ≡ h)
   -- what is accepted: on no over ledger; an event where there is room for its entries, a firing of a track that may be fired
   pub event-accepted : (limit : ℕ) (p : Plan) (h : σ .Head) (l : Ledger) (a : σ .Event) → σ .refusal limit p h l (event a) ≡ 0
-      → (isOver p l ≡ false) × Roomy σ limit p l a
+      → (isOver p l ≡ false) × Spare σ limit p l a
   pub signal-accepted : (limit : ℕ) (p : Plan) (h : σ .Head) (l : Ledger) (a : σ .Signal) → σ .refusal limit p h l (signal a) ≡ 0 → isOver p l ≡ false
   pub fire-accepted : (limit : ℕ) (p : Plan) (h : σ .Head) (l : Ledger) (a : σ .Firing) → σ .refusal limit p h l (fire a) ≡ 0
       → (isOver p l ≡ false) × (mayFire p l (σ .track a) ≡ true)

@@ -31,6 +31,6 @@ pub mod InvariantClosing
 pub mod InvariantRetraction
 pub mod InvariantCalls
 pub mod Histories
--- Runs of a scope, and what they weigh.
+-- Runs of a scope, and what they do.
 pub mod ScopeRuns
-pub mod Weights
+pub mod Effects

@@ -13,11 +13,11 @@ use Rattle.rules.specs.Scope.{hasOpenScope}
 use Rattle.rules.specs.Opening.{fresh, enter}
 use Rattle.rules.specs.Event.{destinationOf, hasCode}
 use Rattle.rules.proofs.Tests.{look-option, clash, none-some}
+use Rattle.rules.proofs.Modes.{forward-awake, forward-is, undoing-forward, is-forward}
 use Rattle.rules.proofs.Acceptance.{Accepted}
 use Rattle.rules.proofs.Abandoning.{undoing-awake}
 use Rattle.theory.specs.Seams as seam
 use Rattle.theory.specs.Seams.{Seams}
-use Rattle.theory.proofs.Modes.{forward-awake, forward-is, undoing-forward, is-forward}
 use Rattle.theory.proofs.Nesting.{Awake, Sleeps, Nested, state-of, busy-same}
 use Rattle.theory.proofs.Entering.{Enterable, Fate, enters, wakens, stays, fate, fresh-mode, kept, new-fresh, enter-nested}
 use Rattle.theory.proofs.Laws.{Laws}

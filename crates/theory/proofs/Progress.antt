@@ -14,13 +14,13 @@ use Rattle.rules.specs.Scope.{hasOpenScope}
 use Rattle.rules.specs.Signal.{isBare}
 use Rattle.rules.specs.Fire.{mayFire}
 use Rattle.rules.proofs.Tests.{look, clash, implies}
+use Rattle.rules.proofs.Modes.{is-undoing}
 use Rattle.rules.proofs.Acceptance.{Accepted}
 use Rattle.rules.proofs.Scopes.{in-host, host-in, open-at, busy-find}
 use Rattle.rules.proofs.Abandoning.{undoing-awake}
+use Rattle.rules.proofs.Ready.{fire-may}
 use Rattle.theory.specs.Seams.{Seams}
-use Rattle.theory.proofs.Modes.{is-undoing}
 use Rattle.theory.proofs.Nesting.{Awake, Nested}
-use Rattle.theory.proofs.Firing.{fire-may}
 use Rattle.theory.proofs.Soundness.{Sound}
 use Rattle.theory.proofs.SoundEvent.{bare-of, abandoning-of}
 
@@ -88,6 +88,10 @@ module _ {σ : Seams} (limit : ℕ) (p : Plan) (ok : Accepted p) (l : Ledger) (s
         | inl o ↦ let (u, c, m, r) = loaded t d o in hunt k u (omega arith) m r
       ]
 
+  -- an undoing track that holds an entry, or has an open scope: some firing is allowed
+  pub some-firing : (t : ℕ) → isUndoing (l t .mode) ≡ true → (isEmpty (l t .held) ≡ false) ⊎ (hasOpenScope p l t ≡ true) → (u : ℕ) × (mayFire p l u ≡ true)
+  some-firing t d h = hunt (trackCount p) t (omega arith) d h
+
   -- "if any track is undoing and holds an entry, some firing is allowed"
   pub progress : (t : ℕ) → l t .mode ≡ Undoing → isEmpty (l t .held) ≡ false → (u : ℕ) × (mayFire p l u ≡ true)
-  progress t d h = hunt (trackCount p) t (omega arith) (is-undoing (l t .mode) d) (inl h)
+  progress t d h = some-firing t (is-undoing (l t .mode) d) (inl h)

@@ -1,5 +1,5 @@
 -- The runs of a scope, from its opening on: its ledgers are reached and sound, its tracks start in their first states, and each follows its
--- own transitions. So what the moves of one track add up to is known by the state it stands in. Assumes nothing.
+-- own transitions. So what the moves of one track do is known by the state it stands in. Assumes nothing.
 use mathlib.Core.Path.{_≡_, refl, sym, ap, _∙_, subst}
 use mathlib.Core.Logic.{inl, inr}
 use mathlib.Core.Bool.{true, false}
@@ -18,12 +18,13 @@ use Rattle.rules.proofs.Forest.{inside-host}
 use Rattle.rules.proofs.Scopes.{open-find, shut-at}
 use Rattle.rules.proofs.Opening.{enter-to}
 use Rattle.rules.proofs.Abandoning.{awake-kept}
+use Rattle.rules.proofs.Ready.{may-fire}
 use Rattle.theory.specs.Seams.{Seams, Call, event, signal, fire, isEvent, goes, recorded, turned, work}
 use Rattle.theory.specs.Runs as run
 use Rattle.theory.specs.Runs.{Reached, Running, by-begin, by-call, over-event, over-signal, over-fire}
 use Rattle.theory.proofs.Nesting.{Awake, Sleeps, Nested}
 use Rattle.theory.proofs.Entering.{fresh-state}
-use Rattle.theory.proofs.Firing.{may-fire, fired-new}
+use Rattle.theory.proofs.Firing.{fired-new}
 use Rattle.theory.proofs.Soundness.{Sound, sleeping-asleep}
 use Rattle.theory.proofs.Laws.{Laws, Unfinished}
 use Rattle.theory.proofs.Settling.{next-cases}

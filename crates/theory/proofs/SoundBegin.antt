@@ -1,7 +1,7 @@
 -- Begin's ledger is sound: what is awake is fresh, and first states are not final. Assumes nothing.
 use mathlib.Core.Path.{_≡_, refl, ap, _∙_, subst}
 use mathlib.Core.Logic.{inl, inr}
-use mathlib.Core.Bool.{Bool, true, false, _&&_, _||_}
+use mathlib.Core.Bool.{Bool, true, false, _&&_, _||_, and-false}
 use mathlib.Core.Option.{none, some}
 use Prim.Native.Nat.{ℕ, _<_}
 use native.Mathlib.Omega.{arith}
@@ -14,13 +14,13 @@ use Rattle.rules.specs.Opening.{fresh, wakes, rootsFirst, begun}
 use Rattle.rules.specs.Event.{isClosing}
 use Rattle.rules.specs.Signal.{isBare, isAbandoning}
 use Rattle.rules.proofs.Tests.{look, look-option, clash, none-some, refuted, and-true}
+use Rattle.rules.proofs.Modes.{is-forward, undoing-forward}
 use Rattle.rules.proofs.Acceptance.{Accepted}
 use Rattle.rules.proofs.Scopes.{root-none, host-in, every-in-at, open-find, busy-find}
 use Rattle.rules.proofs.Closing.{closing-final}
 use Rattle.rules.proofs.Abandoning.{bare-parts}
 use Rattle.rules.proofs.Opening.{begun-root, begun-woken, begun-asleep}
 use Rattle.theory.specs.Seams.{Seams}
-use Rattle.theory.proofs.Modes.{is-forward, undoing-forward}
 use Rattle.theory.proofs.Nesting.{Awake}
 use Rattle.theory.proofs.Entering.{Enterable, fresh-awake, fresh-mode, fresh-state}
 use Rattle.theory.proofs.Soundness.{Formed, RootsAwake, Sound, sleeping-held, sleeping-few, sleeping-good, sleeping-asleep}
@@ -111,10 +111,6 @@ module _ (limit : ℕ) (p : Plan) (ok : Accepted p) where
   begun-roots : RootsAwake p (begun p)
   begun-roots t b e = ap (λ c. isAwake (c .mode)) (begun-root p ok t b e) ∙ fresh-awake p t
 
-  both-false : (a b : Bool) → b ≡ false → (a && b) ≡ false
-  both-false true b h = h
-  both-false false b h = refl
-
   -- nothing is undone yet
   begun-not-bare : (t : ℕ) → Awake (begun p) t → isBare p (begun p) t ≡ false
   begun-not-bare t a =
@@ -125,7 +121,7 @@ module _ (limit : ℕ) (p : Plan) (ok : Accepted p) where
 
   begun-going : (t : ℕ) → Awake (begun p) t → (ended p (begun p) t || isBare p (begun p) t) ≡ false
   begun-going t a =
-      rw (both-false (isForward (begun p t .mode)) (isFinal p (begun p t .state)) (begun-open t a)) (begun-not-bare t a)
+      rw (begun-open t a, and-false (isForward (begun p t .mode))) (begun-not-bare t a)
 
 module _ {σ : Seams} (ω : Laws σ) (limit : ℕ) (p : Plan) (ok : Accepted p) where
   pub begun-sound : Sound σ limit p (begun p)

@@ -23,7 +23,7 @@ use Rattle.theory.proofs.Nesting.{Awake, Nested, state-of, open-host}
 use Rattle.theory.proofs.Entering.{Fate, enters, wakens, stays, fate, arrived-awake, fresh-awake, fresh-state}
 use Rattle.theory.proofs.Entries.{Good, may-none, may-own}
 use Rattle.theory.proofs.Soundness.{Formed, RootsAwake, sleeping-held, sleeping-few, sleeping-good}
-use Rattle.theory.proofs.Laws.{Laws, Roomy}
+use Rattle.theory.proofs.Laws.{Laws, Spare}
 use Rattle.theory.proofs.Installing.{installed-held, by-none, by-some, install-fits, good-install}
 use Rattle.theory.proofs.Moving.{moved-is, recorded-awake, mover-awake, mover-is, recorded-nested, goes-free, moved-nested, moved-busy, moved-undoing, moved-undoing-back, moved-new, has-code}
 use Rattle.theory.proofs.Closing.{closing-open, closes-known, closed-nested, closed-undoing, closed-undoing-back, closed-alike}
@@ -73,7 +73,7 @@ module _ {σ : Seams} (ω : Laws σ) (limit : ℕ) (p : Plan) (ok : Accepted p) 
       let o′ = subst (λ x. hasOpenScope p l x ≡ true) own o in
       (b′, o′, moved-busy ω p l e ok n t b′ o′)
 
-  module _ (roomy : Roomy σ limit p l e) where
+  module _ (spare : Spare σ limit p l e) where
     recorded-few : (t : ℕ) → length (recorded σ p l e t .held) ≤ limit
     recorded-few t =
         elim (look-option (move p l e t)) [
@@ -83,7 +83,7 @@ module _ {σ : Seams} (ω : Laws σ) (limit : ℕ) (p : Plan) (ok : Accepted p) 
               rw (by-some (entry e) p (move p l e t) (l t) x (h .1))
               (install-fits (entry e) limit (transition p x .code) (transition p x .deviation) (l t .held) (f .few t)
               (λ z.
-              roomy t (n .below t (mover-awake ω p l e t x (h .1)))
+              spare t (n .below t (mover-awake ω p l e t x (h .1)))
               (ap (λ b. b || isReplaced p m t) (has-code p (move p l e t) x (h .1) ∙ ap not z))))
         ]
 
@@ -114,7 +114,7 @@ module _ {σ : Seams} (ω : Laws σ) (limit : ℕ) (p : Plan) (ok : Accepted p) 
         (install-fits (entry e) limit (replacement p (m t .state)) noState (m t .held) (moved-formed .few t)
         (λ z.
         subst (λ (c : Configuration). length (c .held) < limit) (sym q)
-        (roomy t (n .below t a)
+        (spare t (n .below t a)
         (or-right (hasCode p (move p l e t)) (isReplaced p m t)
         (and-both (closesScope p m t) (not (eqb (replacement p (m t .state)) 0)) d (ap not z))))))
 

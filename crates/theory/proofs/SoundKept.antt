@@ -1,21 +1,23 @@
--- Every accepted call takes every sound ledger, a crafted one too, to a sound one or to all asleep. Assumes nothing.
+-- Every accepted call takes every sound ledger, a crafted one too, to a sound one or to all asleep; and a sound one is not over. Assumes
+-- nothing.
 use mathlib.Core.Path.{_≡_, sym, ap, _∙_, subst}
 use mathlib.Core.Logic.{_⊎_, inl, inr}
 use mathlib.Core.Bool.{true, false, not}
 use Prim.Native.Nat.{ℕ}
 use lib.Dec.{eqb}
-use borrow.Author.Tests.{eqb-true, eqb-false}
+use borrow.Author.Tests.{eqb-true, eqb-false, not-true}
 use Rattle.rules.specs.Plan.{Plan, trackCount}
 use Rattle.rules.specs.Ledger.{Configuration, Ledger, isAwake}
 use Rattle.rules.specs.Scope.{isOver}
-use Rattle.rules.proofs.Tests.{look}
-use Rattle.rules.proofs.Folds.{every-of}
+use Rattle.rules.proofs.Tests.{look, clash, refuted}
+use Rattle.rules.proofs.Folds.{every-at, every-of}
 use Rattle.rules.proofs.Acceptance.{Accepted}
 use Rattle.theory.specs.Seams.{Seams, Call, event, signal, fire, work}
 use Rattle.theory.proofs.Soundness.{Sound, Over, sleeping-asleep}
 use Rattle.theory.proofs.Laws.{Laws, Unfinished}
 use Rattle.theory.proofs.Settling.{over-refused}
 use Rattle.theory.proofs.Closing.{closed-done}
+use Rattle.theory.proofs.SoundBegin.{root-zero}
 use Rattle.theory.proofs.SoundEvent.{event-formed, event-roots, event-abandoning}
 use Rattle.theory.proofs.SoundRetraction.{signal-sound, fire-sound}
 
@@ -28,6 +30,20 @@ unfolding isOver
 over-is p l o =
     every-of (trackCount p) (λ t. not (isAwake (l t .mode)))
     (λ t b. ap (λ (c : Configuration). not (isAwake (c .mode))) (o t) ∙ ap not sleeping-asleep)
+
+-- a sound ledger is not over: its roots are awake
+pub sound-not-over : {σ : Seams} (limit : ℕ) (p : Plan) → Accepted p → (l : Ledger) → Sound σ limit p l → isOver p l ≡ false
+unfolding isOver
+sound-not-over limit p ok l s =
+    refuted (isOver p l)
+    (λ o.
+    clash (s .roots 0 (ok .some-track) (root-zero p ok))
+    (not-true (isAwake (l 0 .mode)) (every-at (trackCount p) (λ t. not (isAwake (l t .mode))) o 0 (ok .some-track))))
+
+-- and a kept one that is not over is sound
+pub kept-sound : {σ : Seams} (limit : ℕ) (p : Plan) (l : Ledger) → Kept σ limit p l → isOver p l ≡ false → Sound σ limit p l
+kept-sound limit p l (inl o) n = clash (over-is p l o) n
+kept-sound limit p l (inr s) n = s
 
 module _ {σ : Seams} (ω : Laws σ) (υ : Unfinished σ) (limit : ℕ) (p : Plan) (ok : Accepted p) (h : σ .Head) (l : Ledger) where
   open Seams σ using (moved, isFinishing, looksForFinish, refusal, next)

@@ -16,16 +16,17 @@ use Rattle.rules.specs.Event.{isClosing}
 use Rattle.rules.specs.Signal.{abandoned}
 use Rattle.rules.specs.Fire.{mayFire, removed, deviatesTo, fired}
 use Rattle.rules.proofs.Tests.{look, clash, refuted}
+use Rattle.rules.proofs.Modes.{forward-awake}
 use Rattle.rules.proofs.Acceptance.{Accepted}
 use Rattle.rules.proofs.Scopes.{open-at, open-find}
 use Rattle.rules.proofs.Closing.{closing-final}
 use Rattle.rules.proofs.Abandoning.{undoing-awake, awake-kept, left-kept, abandoned-done}
+use Rattle.rules.proofs.Ready.{may-fire}
 use Rattle.theory.specs.Seams.{Seams, turned}
-use Rattle.theory.proofs.Modes.{forward-awake}
 use Rattle.theory.proofs.Nesting.{Awake, Nested}
 use Rattle.theory.proofs.Entering.{Fate, enters, wakens, stays, fate, arrived-awake, fresh-awake, fresh-state}
 use Rattle.theory.proofs.Entries.{Good, good-older, older-length}
-use Rattle.theory.proofs.Firing.{may-fire, fired-is, removed-mode, removed-state, removed-here, removed-other, removed-awake, deviates-hosted, deviates-free, removed-nested, fired-still, fired-new}
+use Rattle.theory.proofs.Firing.{fired-is, removed-mode, removed-state, removed-here, removed-other, removed-awake, deviates-hosted, deviates-free, removed-nested, fired-still, fired-new}
 use Rattle.theory.proofs.Soundness.{Formed, Sound}
 use Rattle.theory.proofs.Laws.{Laws}
 use Rattle.theory.proofs.Turning.{turned-awake, unturned}
@@ -50,8 +51,8 @@ module _ {σ : Seams} (ω : Laws σ) (limit : ℕ) (p : Plan) (ok : Accepted p) 
     turned-root t e = left-root p ok T (turned-first .nested) t e
 
     -- what is forward after a signal is as it was
-    pub spared-track : (t : ℕ) → isForward (abandoned p T t .mode) ≡ true → abandoned p T t ≡ l t
-    spared-track t f =
+    pub track-untouched : (t : ℕ) → isForward (abandoned p T t .mode) ≡ true → abandoned p T t ≡ l t
+    track-untouched t f =
         let q = awake-kept p ok T t (forward-awake (abandoned p T t .mode) f) .1 in
         q ∙ unturned ω p l a t (ap (λ (c : Configuration). isForward (c .mode)) (sym q) ∙ f)
 
@@ -67,7 +68,7 @@ module _ {σ : Seams} (ω : Laws σ) (limit : ℕ) (p : Plan) (ok : Accepted p) 
               let final : (v : ℕ) → host p v ≡ some z → (isForward (l v .mode) ≡ true) × (isFinal p (l v .state) ≡ true) =
               λ v g.
               let h = closing-final p (abandoned p T) z v c (ok .hosted v z g) g in
-              subst (λ (k : Configuration). (isForward (k .mode) ≡ true) × (isFinal p (k .state) ≡ true)) (spared-track v (h .0)) h in
+              subst (λ (k : Configuration). (isForward (k .mode) ≡ true) × (isFinal p (k .state) ≡ true)) (track-untouched v (h .0)) h in
               let (u, b, e, w) = open-find p (abandoned p T) z (closing-open p (abandoned p T) z c) in
               clash (closing-of p l z (open-at p l z u b e (forward-awake (l u .mode) (final u e .0))) final) (s .closing z));
           finish = unfinished;

@@ -48,8 +48,8 @@ module _ {σ : Seams} (ω : Laws σ) (p : Plan) (l : Ledger) (a : σ .Signal) wh
   abbrev T : Ledger
   T = turned σ p l a
 
-  spares : (t : ℕ) → isTurned p a t ≡ false → T t ≡ l t
-  spares t h = rw h
+  untouched : (t : ℕ) → isTurned p a t ≡ false → T t ≡ l t
+  untouched t h = rw h
 
   turns : (t : ℕ) → isTurned p a t ≡ true → T t ≡ turnedTrack (l t)
   turns t h = rw h
@@ -58,21 +58,21 @@ module _ {σ : Seams} (ω : Laws σ) (p : Plan) (l : Ledger) (a : σ .Signal) wh
   turned-awake t =
       elim (look (isTurned p a t)) [
         | inl h ↦ ap (λ (c : Configuration). isAwake (c .mode)) (turns t h) ∙ turned-case (l t) .0
-        | inr h ↦ ap (λ (c : Configuration). isAwake (c .mode)) (spares t h)
+        | inr h ↦ ap (λ (c : Configuration). isAwake (c .mode)) (untouched t h)
       ]
 
   pub turned-state : (t : ℕ) → T t .state ≡ l t .state
   turned-state t =
       elim (look (isTurned p a t)) [
         | inl h ↦ ap (λ (c : Configuration). c .state) (turns t h) ∙ turned-case (l t) .2
-        | inr h ↦ ap (λ (c : Configuration). c .state) (spares t h)
+        | inr h ↦ ap (λ (c : Configuration). c .state) (untouched t h)
       ]
 
   pub turned-held : (t : ℕ) → T t .held ≡ l t .held
   turned-held t =
       elim (look (isTurned p a t)) [
         | inl h ↦ ap (λ (c : Configuration). c .held) (turns t h) ∙ turned-case (l t) .3
-        | inr h ↦ ap (λ (c : Configuration). c .held) (spares t h)
+        | inr h ↦ ap (λ (c : Configuration). c .held) (untouched t h)
       ]
 
   pub turned-forward : (t : ℕ) → isTurned p a t ≡ true → isForward (T t .mode) ≡ false
@@ -87,7 +87,7 @@ module _ {σ : Seams} (ω : Laws σ) (p : Plan) (l : Ledger) (a : σ .Signal) wh
       ]
 
   pub unturned : (t : ℕ) → isForward (T t .mode) ≡ true → T t ≡ l t
-  unturned t f = spares t (not-turned t f)
+  unturned t f = untouched t (not-turned t f)
 
   pub turned-blank : (t : ℕ) → l t ≡ sleeping → T t ≡ sleeping
   unfolding turnedTrack sleeping isForward
@@ -102,7 +102,7 @@ module _ {σ : Seams} (ω : Laws σ) (p : Plan) (l : Ledger) (a : σ .Signal) wh
               ap (λ (c : Configuration). c .mode) (turns (owner p h) (sym q ∙ i)) ∙ turned-mode (l (owner p h)) (l t) m
               ∙ sym (ap (λ (c : Configuration). c .mode) (turns t i))
           | inr i ↦
-              ap (λ (c : Configuration). c .mode) (spares (owner p h) (sym q ∙ i)) ∙ m ∙ sym (ap (λ (c : Configuration). c .mode) (spares t i))
+              ap (λ (c : Configuration). c .mode) (untouched (owner p h) (sym q ∙ i)) ∙ m ∙ sym (ap (λ (c : Configuration). c .mode) (untouched t i))
         ]
 
     -- all inside a scope are treated as its host's track is
@@ -118,10 +118,10 @@ module _ {σ : Seams} (ω : Laws σ) (p : Plan) (l : Ledger) (a : σ .Signal) wh
         ])
 
     -- a scope that is forward after a signal was forward before, and the signal turned none of its tracks
-    pub spared : (s : ℕ) → isForward (T (owner p s) .mode) ≡ true
+    pub scope-untouched : (s : ℕ) → isForward (T (owner p s) .mode) ≡ true
         → (isForward (l (owner p s) .mode) ≡ true)
         × ((t : ℕ) → isInside p s t ≡ true → isTurned p a t ≡ true → isForward (l t .mode) ≡ false)
-    spared s f = (
+    scope-untouched s f = (
       ap (λ (c : Configuration). isForward (c .mode)) (sym (unturned (owner p s) f)) ∙ f,
       λ t i h. clash (sym (inside-alike s t i) ∙ h) (not-turned (owner p s) f),
     )

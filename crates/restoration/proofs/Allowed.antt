@@ -1,0 +1,76 @@
+-- What calls on sound words are answered: a firing that is allowed is done, and no call of a list from an accepted begin is refused for the
+-- ledger that it got. The words hold the ledger of the rules, and of that ledger's refusals 19 is the lowest. Assumes nothing.
+use mathlib.Core.Path.{_≡_, refl, sym, ap}
+use mathlib.Core.Logic.{_⊎_, inl, inr}
+use mathlib.Core.Bool.{Bool, true, false, cond, not}
+use mathlib.Core.List.{List, [], _∷_}
+use Prim.Native.Nat.{ℕ, zero, suc, _≤_}
+use native.Mathlib.Omega.{arith}
+use lib.Dec.{eqb}
+use Rattle.rules.specs.declared.Counts.{Counts}
+use Rattle.rules.specs.Fold.{firstRefusal}
+use Rattle.rules.specs.Plan.{Plan, planOf}
+use Rattle.rules.specs.Acceptance.{accepted, readPlan}
+use Rattle.rules.specs.Ledger.{Ledger}
+use Rattle.rules.specs.Scope.{isOver}
+use Rattle.rules.specs.Event.{isFull}
+use Rattle.rules.specs.Fire.{newest, mayFire}
+use Rattle.rules.specs.Soundness.{isSound}
+use Rattle.rules.specs.Call.{refusal, done, Call, event, signal, fire, nothing, tooShort, callRefusals, callRefusal, figures, callOutcome, beginOutcome}
+use Rattle.rules.specs.ReferenceRun.{wordsAfter, ledgerAfter}
+use Rattle.rules.proofs.Ready.{fireable-not-over}
+use Rattle.restoration.proofs.SoundWords.{theLedger, sound-holds, call-accepted, call-refused}
+use Rattle.restoration.proofs.Restoration.{history-holds}
+
+module _ (limit : ℕ) (p : Plan) (l : Ledger) where
+  -- what is accepted: a signal where the ledger is not over, a firing where the track may be fired
+  pub signal-allowed : isOver p l ≡ false → callRefusal limit p l (signal nothing) ≡ 0
+  unfolding callRefusal callRefusals firstRefusal
+  signal-allowed o = rw o
+
+  pub fire-allowed : (t : ℕ) → mayFire p l t ≡ true → callRefusal limit p l (fire (record { track = t })) ≡ 0
+  unfolding callRefusal callRefusals firstRefusal
+  fire-allowed t h = rw (fireable-not-over p l t h, h)
+
+  -- the numbers by which a ledger refuses
+  head : (b : Bool) (n r m : ℕ) → 19 ≤ n → cond b n r ≡ m → (r ≡ m → (m ≡ 0) ⊎ (19 ≤ m)) → (m ≡ 0) ⊎ (19 ≤ m)
+  head true n r m h e f = inr (omega arith)
+  head false n r m h e f = f e
+
+  pub refused-high : (c : Call) (m : ℕ) → callRefusal limit p l c ≡ m → (m ≡ 0) ⊎ (19 ≤ m)
+  unfolding callRefusal callRefusals firstRefusal
+  refused-high (event a) m e =
+      head (eqb (a .event) 0) 19 _ m (omega arith) e
+      (λ f. head (isOver p l) 20 _ m (omega arith) f (λ g. head (isFull p limit l (a .event)) 21 0 m (omega arith) g (λ h. inl (sym h))))
+  refused-high (signal a) m e = head (isOver p l) 20 0 m (omega arith) e (λ h. inl (sym h))
+  refused-high (fire a) m e =
+      head (isOver p l) 20 _ m (omega arith) e (λ f. head (not (mayFire p l (a .track))) 22 0 m (omega arith) f (λ h. inl (sym h)))
+
+module _ (limit : ℕ) (bs : List ℕ) (k : Counts) (read : readPlan bs ≡ accepted k) where
+  abbrev p : Plan
+  p = planOf bs k
+
+  -- "a firing is allowed where the rule under Fire lets that track be fired": on sound words such a call is done, with the newest entry
+  pub allowed-done : (ws : List ℕ) → tooShort limit p ws ≡ false → isSound limit p ws ≡ true → (t : ℕ) → mayFire p (theLedger limit bs k read ws) t ≡ true
+      → callOutcome limit bs ws (fire (record { track = t })) .answer
+      ≡ done (newest (theLedger limit bs k read ws t .held) .code ∷ newest (theLedger limit bs k read ws t .held) .deviation ∷ [])
+  unfolding figures
+  allowed-done ws b s t m =
+      let l = theLedger limit bs k read ws in
+      ap (λ o. o .answer)
+      (call-accepted limit bs k read ws l (sound-holds limit bs k read ws b s) (fire (record { track = t })) (fire-allowed limit p l t m))
+
+  -- "Its first call gets the ledger as an accepted begin left it, each later one the ledger as the call before left it": that is long enough
+  -- and sound, so no call of the list is refused by 17 or 18, nor by a lower number
+  pub refused-for-the-call : (lent : List ℕ) → beginOutcome limit bs lent .answer ≡ done [] → (cs : List Call) (c : Call) (m : ℕ)
+      → callOutcome limit bs (wordsAfter limit bs lent cs) c .answer ≡ refusal m → 19 ≤ m
+  refused-for-the-call lent h cs c m e = go (callRefusal limit p (ledgerAfter limit bs p lent cs) c) refl
+    where
+      go : (r : ℕ) → callRefusal limit p (ledgerAfter limit bs p lent cs) c ≡ r → 19 ≤ m
+      go zero z =
+          let q = ap (λ o. o .answer) (call-accepted limit bs k read _ _ (history-holds limit bs k read lent cs h) c z) in
+          let y : _≡_ {A = ℕ} 0 1 = cc in absurd (omega arith)
+      go (suc r) z =
+          let q = ap (λ o. o .answer) (call-refused limit bs k read _ _ (history-holds limit bs k read lent cs h) c r z) in
+          let y : m ≡ suc r = cc in
+          elim (refused-high limit p _ c (suc r) z) [ inl x ↦ absurd (omega arith) | inr x ↦ omega arith ]

@@ -1,0 +1,163 @@
+-- No history is without a restoring end: after a signal every awake track is undoing, so either every root is withdrawn or some firing is
+-- allowed; a firing removes an entry, and a sound ledger holds at most `limit` for each track. A deviation sends a root forward again, so a
+-- signal follows each firing. Assumes nothing.
+use Prim.{tt}
+use mathlib.Core.Path.{_≡_, refl, sym, ap, _∙_, subst}
+use mathlib.Core.Logic.{_⊎_, inl, inr}
+use mathlib.Core.Bool.{true, false}
+use mathlib.Core.List.{List, [], _∷_, _++_}
+use Prim.Native.Nat.{ℕ, zero, suc, _*_, _<_, _≤_}
+use native.Mathlib.Omega.{arith}
+use lib.ListN.{length}
+use Rattle.rules.specs.declared.Counts.{Counts}
+use Rattle.rules.specs.Fold.{someBelow}
+use Rattle.rules.specs.Plan.{Plan, trackCount, planOf}
+use Rattle.rules.specs.Acceptance.{accepted, readPlan}
+use Rattle.rules.specs.Ledger.{Configuration, Ledger, isForward, isUndoing, isEmpty, ledgerAt}
+use Rattle.rules.specs.Scope.{hasOpenScope, isOver}
+use Rattle.rules.specs.Signal.{turned, abandoned, afterSignal}
+use Rattle.rules.specs.Fire.{mayFire, fired, afterFire}
+use Rattle.rules.specs.Call.{done, Call, signal, fire, nothing, after, next, callOutcome, beginOutcome}
+use Rattle.rules.specs.Transcript.{heldTotal}
+use Rattle.rules.specs.Books.{Books}
+use Rattle.rules.specs.ReferenceRun.{wordsFrom, wordsAfter, booksAfter, ledgerAfter, AllWithdrawn}
+use Rattle.rules.proofs.Tests.{look, clash, refuted}
+use Rattle.rules.proofs.Modes.{forward-awake, awake-undoing, undoing-is}
+use Rattle.rules.proofs.Folds.{some-find, some-not}
+use Rattle.rules.proofs.Acceptance.{Accepted, accepts}
+use Rattle.rules.proofs.Scopes.{root-none}
+use Rattle.rules.proofs.Abandoning.{awake-kept}
+use Rattle.rules.proofs.Ready.{may-fire}
+use Rattle.theory.specs.Seams as seam
+use Rattle.theory.proofs.Entries.{empty-nil}
+use Rattle.theory.proofs.SoundKept.{sound-not-over, kept-sound}
+use Rattle.theory.proofs.Progress.{some-firing}
+use Rattle.theory.proofs.FiringsFall.{call-fewer, most-held}
+use Rattle.restoration.specs.Continuation.{withdrawing}
+use Rattle.restoration.proofs.Document01.{next-accepted, laws01}
+use Rattle.restoration.proofs.Theorems01.{Sound, turned-forward, signal-sound, fire-sound, unfinished}
+use Rattle.restoration.proofs.SoundWords.{Holds, call-holds}
+use Rattle.restoration.proofs.Restoration.{history-holds, restored}
+use Rattle.restoration.proofs.Allowed.{signal-allowed, fire-allowed}
+
+-- The ledger after a signal, and after a firing.
+module _ (limit : ℕ) (p : Plan) (ok : Accepted p) (l : Ledger) (s : Sound limit p l) where
+  signalled : next limit p l (signal nothing) ≡ abandoned p (turned l)
+  unfolding after afterSignal
+  signalled = next-accepted limit p l (signal nothing) (signal-allowed limit p l (sound-not-over limit p ok l s))
+
+  signalled-sound : Sound limit p (next limit p l (signal nothing))
+  signalled-sound =
+      subst (Sound limit p) (sym signalled)
+      (signal-sound limit p ok l s nothing
+      (unfinished limit p ok l s (signal nothing) (signal-allowed limit p l (sound-not-over limit p ok l s)) refl))
+
+  signalled-fewer : heldTotal p (next limit p l (signal nothing)) ≤ heldTotal p l
+  signalled-fewer =
+      let i = call-fewer laws01 limit p ok tt l (seam.signal nothing) (signal-allowed limit p l (sound-not-over limit p ok l s)) refl in omega arith
+
+  -- no track is forward
+  none-forward : (t : ℕ) → isForward (next limit p l (signal nothing) t .mode) ≡ false
+  none-forward t =
+      ap (λ (m : Ledger). isForward (m t .mode)) signalled
+      ∙ refuted (isForward (abandoned p (turned l) t .mode))
+      (λ f.
+      let q = awake-kept p ok (turned l) t (forward-awake (abandoned p (turned l) t .mode) f) .1 in
+      clash (ap (λ (c : Configuration). isForward (c .mode)) (sym q) ∙ f) (turned-forward p ok nothing l t))
+
+  module _ (t : ℕ) (may : mayFire p l t ≡ true) where
+    fired-so : next limit p l (fire (record { track = t })) ≡ abandoned p (fired p l t)
+    unfolding after afterFire
+    fired-so = next-accepted limit p l (fire (record { track = t })) (fire-allowed limit p l t may)
+
+    fired-sound : Sound limit p (next limit p l (fire (record { track = t })))
+    fired-sound =
+        subst (Sound limit p) (sym fired-so)
+        (fire-sound limit p ok l s t may (unfinished limit p ok l s (fire (record { track = t })) (fire-allowed limit p l t may) refl))
+
+    fired-fewer : heldTotal p (next limit p l (fire (record { track = t }))) < heldTotal p l
+    fired-fewer = let i = call-fewer laws01 limit p ok tt l (seam.fire (record { track = t })) (fire-allowed limit p l t may) refl in omega arith
+
+  -- a sound ledger without a forward track where no firing is allowed is withdrawn
+  withdrawn : ((t : ℕ) → isForward (l t .mode) ≡ false) → ((t : ℕ) → t < trackCount p → mayFire p l t ≡ false) → AllWithdrawn p l
+  withdrawn f n t b r =
+      let u : isUndoing (l t .mode) ≡ true = awake-undoing (l t .mode) (s .roots t b (root-none p t r)) (f t) in
+      record {
+        undoing = undoing-is (l t .mode) u;
+        empty = elim (look (isEmpty (l t .held))) [ inl e ↦ empty-nil (l t .held) e | inr e ↦ no-firing (some-firing limit p ok l s t u (inl e)) ];
+        shut = elim (look (hasOpenScope p l t)) [ inr o ↦ o | inl o ↦ no-firing (some-firing limit p ok l s t u (inr o)) ];
+      }
+    where
+      no-firing : {A : Type 0} → (u : ℕ) × (mayFire p l u ≡ true) → A
+      no-firing h = clash (h .1) (n (h .0) (may-fire p l (h .0) (h .1) .0))
+
+module _ (limit : ℕ) (bs : List ℕ) (k : Counts) (read : readPlan bs ≡ accepted k) where
+  abbrev p : Plan
+  p = planOf bs k
+
+  abbrev ok : Accepted p
+  ok = accepts bs k read
+
+  words-append : (cs ds : List Call) (ws : List ℕ) → wordsFrom limit bs ws (cs ++ ds) ≡ wordsFrom limit bs (wordsFrom limit bs ws cs) ds
+  unfolding wordsFrom
+  words-append [] ds ws = refl
+  words-append (c ∷ cs) ds ws = words-append cs ds (callOutcome limit bs ws c .words)
+
+  -- a signal withdraws every root, or a firing is allowed after it
+  step : (ws : List ℕ) (l : Ledger) → Holds limit bs k read ws l → Sound limit p l
+      → AllWithdrawn p (ledgerAt limit (callOutcome limit bs ws (signal nothing) .words) (trackCount p))
+      ⊎ ((t : ℕ) × (m : Ledger) × Holds limit bs k read (callOutcome limit bs (callOutcome limit bs ws (signal nothing) .words) (fire (record { track = t })) .words) m
+      × Sound limit p m × (heldTotal p m < heldTotal p l))
+  step ws l h s =
+      let m = next limit p l (signal nothing) in
+      let ws′ = callOutcome limit bs ws (signal nothing) .words in
+      let g = call-holds limit bs k read ws l h (signal nothing) in
+      let v = signalled-sound limit p ok l s in
+      elim (look (someBelow (trackCount p) (mayFire p m))) [
+        | inr e ↦
+            inl
+            (subst (AllWithdrawn p) (sym (g .reads))
+            (withdrawn limit p ok m v (none-forward limit p ok l s) (some-not (trackCount p) (mayFire p m) e)))
+        | inl e ↦
+            let (t, c, may) = some-find (trackCount p) (mayFire p m) e in
+            let x = signalled-fewer limit p ok l s in
+            let y = fired-fewer limit p ok m v t may in
+            inr (
+              t,
+              next limit p m (fire (record { track = t })),
+              call-holds limit bs k read ws′ m g (fire (record { track = t })),
+              fired-sound limit p ok m v t may,
+              omega arith,
+            )
+      ]
+
+  -- from sound words, with at most as many firings as entries are held
+  onward : (n : ℕ) (ws : List ℕ) (l : Ledger) → Holds limit bs k read ws l → Sound limit p l → heldTotal p l ≤ n
+      → (ts : List ℕ) × (length ts ≤ n) × AllWithdrawn p (ledgerAt limit (wordsFrom limit bs ws (withdrawing ts)) (trackCount p))
+  unfolding wordsFrom withdrawing
+  onward zero ws l h s b = elim (step ws l h s) [ inl w ↦ ([], omega arith, w) | inr r ↦ let f = r .4 in absurd (omega arith) ]
+  onward (suc n) ws l h s b =
+      elim (step ws l h s) [
+        | inl w ↦ ([], omega arith, w)
+        | inr r ↦
+            let f = r .4 in
+            let (ts, c, w) = onward n _ (r .1) (r .2) (r .3) (omega arith) in
+            (r .0 ∷ ts, omega arith, w)
+      ]
+
+  -- Every list that does not end over can be continued by signals and at most `limit` firings for each track until every root is withdrawn,
+  pub withdrawable : (lent : List ℕ) (cs : List Call) → beginOutcome limit bs lent .answer ≡ done [] → isOver p (ledgerAfter limit bs p lent cs) ≡ false
+      → (ts : List ℕ) × (length ts ≤ limit * trackCount p) × AllWithdrawn p (ledgerAfter limit bs p lent (cs ++ withdrawing ts))
+  unfolding ledgerAfter wordsAfter
+  withdrawable lent cs h o =
+      let l = ledgerAfter limit bs p lent cs in
+      let g = history-holds limit bs k read lent cs h in
+      let (ts, b, w) = onward (limit * trackCount p) (wordsAfter limit bs lent cs) l g (kept-sound limit p l (g .kept) o) (most-held laws01 limit p ok l (g .kept)) in
+      (ts, b, subst (λ ws. AllWithdrawn p (ledgerAt limit ws (trackCount p))) (sym (words-append cs (withdrawing ts) (beginOutcome limit bs lent .words))) w)
+
+  -- and then all books stand as at the begin.
+  pub restorable : (lent : List ℕ) (cs : List Call) → beginOutcome limit bs lent .answer ≡ done [] → isOver p (ledgerAfter limit bs p lent cs) ≡ false
+      → (ts : List ℕ) × (length ts ≤ limit * trackCount p) × ((b : Books p limit) (x : b .State) → booksAfter limit bs p b lent (cs ++ withdrawing ts) x ≡ x)
+  restorable lent cs h o =
+      let (ts, n, w) = withdrawable lent cs h o in
+      (ts, n, λ b x. restored limit bs k read b lent (cs ++ withdrawing ts) h x w)
