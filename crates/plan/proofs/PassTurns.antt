@@ -5,25 +5,25 @@ use mathlib.Core.Logic.{_⊎_, inl, inr}
 use mathlib.Core.Bool.{Bool, true, false}
 use mathlib.Core.List.{List}
 use mathlib.Core.Option.{some}
-use Prim.Native.Nat.{ℕ, _+_, _<_, _≤_}
+use Prim.Native.Nat.{ℕ, _+_, _<_}
 use native.Mathlib.Numerals.{add-one}
 use native.Mathlib.Omega.{arith}
 use lib.Dec.{ltb}
 use lib.ListN.{getD, set}
-use borrow.Author.Tests.{ltb-true, ltb-false, lt-ltb, le-ltb, leb-false, eq-eqb, ne-eqb, eqb-false}
+use borrow.Author.Tests.{ltb-true, ltb-false, leb-false, eq-eqb, ne-eqb, eqb-false}
 use Rattle.rules.specs.declared.Counts.{Counts}
 use Rattle.rules.specs.Fold.{someBelow}
 use Rattle.rules.specs.Plan.{Plan, planOf, trackCount, stateCount, noState, hostWord, host, owner, isHosting, firstState}
-use Rattle.rules.specs.Acceptance.{mostHeight, badState, badHost, tooHigh}
+use Rattle.rules.specs.Acceptance.{badState, badHost}
 use Rattle.rules.proofs.Tests.{look, clash}
 use Rattle.rules.proofs.Folds.{some-not}
 use Rattle.rules.proofs.Acceptance.{optional-some}
-use Rattle.plan.specs.Passes.{slots, stateSlots, noteFirst, noteHost, firstMarks, hostingMarks, depthBy, depthMarks, isDeep}
+use Rattle.plan.specs.Passes.{slots, stateSlots, noteFirst, noteHost, firstMarks, hostingMarks}
 use Rattle.plan.specs.Holds.{Holds}
 use Rattle.plan.proofs.FieldLaws.{track-count, state-count}
 use Rattle.plan.proofs.Hosting.{host-none, host-some}
 use Rattle.plan.proofs.Judging.{host-lost, host-track, owner-passed}
-use Rattle.plan.proofs.PassLaws.{first-mark, hosting-mark, not-too-high}
+use Rattle.plan.proofs.PassLaws.{first-mark, hosting-mark}
 
 -- a state's turn
 pub note-kept : (ms : List ℕ) (t s : ℕ) → (getD ms t 0 ≡ noState → ⊥) → ms ≡ noteFirst ms t s
@@ -45,18 +45,10 @@ module _ (p : Plan) where
     unfolding noteHost
     host-root ms n = rw (host-none p t (sym e ∙ n), noteHost)
 
-    pub depth-root : (ds : List ℕ) → h ≡ noState → 1 ≡ depthBy p ds (host p t)
-    unfolding depthBy
-    depth-root ds n = rw (host-none p t (sym e ∙ n), depthBy)
-
     module _ (n : h ≡ noState → ⊥) where
       pub host-set : (ms : List Bool) → set ms h true ≡ noteHost (host p t) ms
       unfolding noteHost
       host-set ms = rw (host-some p t (λ q. n (e ∙ q)), noteHost, e)
-
-      pub depth-more : (ds : List ℕ) (u : ℕ) → u ≡ owner p h → getD ds u 0 + 1 ≡ depthBy p ds (host p t)
-      unfolding depthBy
-      depth-more ds u o = rw (host-some p t (λ q. n (e ∙ q)), depthBy, o, e, add-one (getD ds (owner p (hostWord p t)) 0))
 
       -- 10 passed
       pub host-passed : badHost p t ≡ false → (h < stateCount p) × (owner p h < t)
@@ -71,19 +63,6 @@ module _ (p : Plan) where
   pub hosting-more : (t : ℕ) (ms r : List Bool) → ms ≡ hostingMarks p t → r ≡ noteHost (host p t) ms → r ≡ hostingMarks p (t + 1)
   unfolding hostingMarks
   hosting-more t ms r e h = h ∙ rw (e, add-one t)
-
-  module _ (t d : ℕ) (ds : List ℕ) (e : ds ≡ depthMarks p t) (h : d ≡ depthBy p ds (host p t)) where
-    pub depths-more : set ds t d ≡ depthMarks p (t + 1)
-    unfolding depthMarks
-    depths-more = rw (h, e, add-one t)
-
-    pub deep-here : mostHeight < d → isDeep p t ≡ true
-    unfolding isDeep
-    deep-here l = lt-ltb mostHeight (depthBy p (depthMarks p t) (host p t)) (let q : d ≡ depthBy p (depthMarks p t) (host p t) = rw e at h in omega arith)
-
-    pub deep-not : d ≤ mostHeight → isDeep p t ≡ false
-    unfolding isDeep
-    deep-not l = le-ltb mostHeight (depthBy p (depthMarks p t) (host p t)) (let q : d ≡ depthBy p (depthMarks p t) (host p t) = rw e at h in omega arith)
 
 module _ (bs : List ℕ) (c : Counts) (holds : Holds bs c) where
   -- where 10 passed, in the counts
@@ -129,8 +108,3 @@ module _ (bs : List ℕ) (c : Counts) (holds : Holds bs c) where
         g
         ∙ ap (λ v. getD v s false) (e ∙ ap (hostingMarks (planOf bs c)) (sym (track-count bs c)))
         ∙ hosting-mark (planOf bs c) (λ t h k q. let a = hosted t h k q .0 in let z = state-count bs c in omega arith) s (omega arith)
-
-    pub shallow-low : someBelow (c .tracks) (isDeep (planOf bs c)) ≡ false → (t : ℕ) → t < c .tracks → tooHigh (planOf bs c) t ≡ false
-    shallow-low h t l =
-        not-too-high (planOf bs c) (rw track-count (holds .tracks)) (λ t h k q. hosted t h k q .1)
-        (ap (λ v. someBelow v (isDeep (planOf bs c))) (track-count bs c) ∙ h) t (rw track-count l)
