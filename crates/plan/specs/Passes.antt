@@ -1,14 +1,13 @@
 -- Figures that the reader keeps for each track or state, each by one pass over the records. Assumes nothing.
 use mathlib.Core.Path.{_≡_}
-use mathlib.Core.Bool.{Bool, true, false, cond, _&&_}
+use mathlib.Core.Bool.{Bool, true, false, _&&_}
 use mathlib.Core.List.{List}
-use mathlib.Core.Option.{Option, none, some}
-use Prim.Native.Nat.{ℕ, zero, suc, _<_, _≤_}
-use lib.Dec.{eqb}
-use lib.ListN.{getD, set, replicate}
+use mathlib.Core.Option.{none, some}
+use Prim.Native.Nat.{ℕ, suc, _<_, _≤_}
+use lib.ListN.{getD}
 use Rattle.rules.specs.declared.Counts.{Counts}
-use Rattle.rules.specs.Fold.{someBelow}
-use Rattle.rules.specs.Plan.{Plan, planOf, noState, host, owner, isStateOf, isIn, isHosting}
+use Rattle.rules.specs.Fold.{someBelow, firstBelow, tabulate}
+use Rattle.rules.specs.Plan.{Plan, planOf, noState, isStateOf, isIn, isHosting}
 use Rattle.rules.specs.Acceptance.{badHost}
 use Rattle.plan.specs.Holds.{Holds}
 
@@ -19,25 +18,18 @@ slots = 32
 abbrev pub stateSlots : ℕ
 stateSlots = 128
 
--- a state is its track's first if none was met before it
-unfoldable pub noteFirst : List ℕ → ℕ → ℕ → List ℕ
-noteFirst ms t s = cond (eqb (getD ms t 0) noState) (set ms t s) ms
-
--- a track's host hosts a track
-unfoldable pub noteHost : Option ℕ → List Bool → List Bool
-noteHost none ms = ms
-noteHost (some h) ms = set ms h true
-
 module _ (p : Plan) where
-  -- the first state of each track, 65535 where none was met
-  unfoldable pub firstMarks : ℕ → List ℕ
-  firstMarks zero = replicate slots noState
-  firstMarks (suc s) = noteFirst (firstMarks s) (owner p s) s
+  -- a track's first state among those below n, 65535 where it has none
+  unfoldable pub firstAmong : ℕ → ℕ → ℕ
+  firstAmong n t = elim (firstBelow n (isStateOf p t)) [ none ↦ noState | some s ↦ s ]
 
-  -- the states that host a track
+  -- for each track its first state among those below n
+  unfoldable pub firstMarks : ℕ → List ℕ
+  firstMarks n = tabulate slots (firstAmong n)
+
+  -- for each state whether it hosts a track below n
   unfoldable pub hostingMarks : ℕ → List Bool
-  hostingMarks zero = replicate stateSlots false
-  hostingMarks (suc t) = noteHost (host p t) (hostingMarks t)
+  hostingMarks n = tabulate stateSlots (λ s. someBelow n (isIn p s))
 
   -- s is a state of the track t that hosts a track
   unfoldable pub isHostOf : ℕ → ℕ → Bool
