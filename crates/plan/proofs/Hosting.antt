@@ -1,15 +1,12 @@
 -- The tests of a plan by the words of its records: a host word of 65535 is a root's, any other names the hosting state. Assumes nothing.
 use mathlib.Core.Path.{_≡_, refl, ap, _∙_}
-use mathlib.Core.Bool.{Bool, true, false, _&&_}
+use mathlib.Core.Bool.{Bool, true, false}
 use mathlib.Core.Option.{none, some}
 use Prim.Native.Nat.{ℕ, _<_, _≤_}
-use native.Mathlib.Omega.{arith}
-use lib.Dec.{eqb, ltb}
+use lib.Dec.{eqb}
 use lib.ListN.{List·getD-eq-default}
 use borrow.Author.Tests.{eq-eqb, ne-eqb, lt-ltb, le-ltb}
-use Rattle.rules.specs.Fold.{firstBelow}
-use Rattle.rules.specs.Plan.{Plan, State, stateCount, noState, optional, hostWord, host, state, owner, isRoot, isStateOf, isIn, isHostedBy, first, firstState}
-use Rattle.plan.proofs.Searches.{first-at}
+use Rattle.rules.specs.Plan.{Plan, State, stateCount, noState, optional, hostWord, host, state, owner, isRoot, isStateOf, isIn}
 
 module _ (p : Plan) where
   pub host-none : (t : ℕ) → hostWord p t ≡ noState → host p t ≡ none
@@ -36,14 +33,6 @@ module _ (p : Plan) where
   unfolding isIn
   in-hosted s t h = rw (host-some t h, isIn)
 
-  pub by-root : (u t : ℕ) → hostWord p t ≡ noState → isHostedBy p u t ≡ false
-  unfolding isHostedBy
-  by-root u t h = rw (host-none t h, isHostedBy)
-
-  pub by-hosted : (u t : ℕ) → (hostWord p t ≡ noState → ⊥) → isHostedBy p u t ≡ eqb (owner p (hostWord p t)) u
-  unfolding isHostedBy
-  by-hosted u t h = rw (host-some t h, isHostedBy)
-
   -- beyond the last state there is none
   pub owner-beyond : (s : ℕ) → stateCount p ≤ s → owner p s ≡ noState
   unfolding owner state stateCount
@@ -56,22 +45,3 @@ module _ (p : Plan) where
   pub within : (t s : ℕ) → s < stateCount p → isStateOf p t s ≡ eqb (owner p s) t
   unfolding isStateOf
   within t s l = rw (lt-ltb s (stateCount p) l)
-
-  -- 65535 is no track's number
-  pub by-state : (u s : ℕ) → u < 65535 → eqb (owner p s) u ≡ isStateOf p u s
-  unfolding isStateOf noState
-  by-state u s l = go (ltb s (stateCount p)) refl
-    where
-      go : (b : Bool) → ltb s (stateCount p) ≡ b → eqb (owner p s) u ≡ (ltb s (stateCount p) && eqb (owner p s) u)
-      go true e = rw e
-      go false e =
-          let o : owner p s ≡ 65535 = owner-beyond s (borrow.Author.Tests.ltb-false s (stateCount p) e) in
-          rw e (ne-eqb (owner p s) u (λ (q : owner p s ≡ u). absurd (omega arith)))
-
-  pub first-is : (t s : ℕ) → s < stateCount p → firstBelow s (isStateOf p t) ≡ none → isStateOf p t s ≡ true → firstState p t ≡ s
-  unfolding firstState first
-  first-is t s l h k = rw (first-at (isStateOf p t) s (stateCount p) l h k, firstState)
-
-  pub first-lacks : (t : ℕ) → firstBelow (stateCount p) (isStateOf p t) ≡ none → firstState p t ≡ noState
-  unfolding firstState first
-  first-lacks t h = rw (h, firstState)

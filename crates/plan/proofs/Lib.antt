@@ -2,7 +2,8 @@
 pub mod ChainLaws
 pub mod FieldLaws
 pub mod Searches
-pub mod HeightLaws
+pub mod Members
+pub mod ForestLaws
 pub mod Hosting
 pub mod Judging
 pub mod PassLaws

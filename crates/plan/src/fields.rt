@@ -4,7 +4,7 @@ ghost use mathlib.Core.Path.{_≡_};
 ghost use Prim.Native.Nat.{_+_, _*_, _<_};
 ghost use lib.ListN.{length};
 ghost use Rattle.rules.specs.Record.{word};
-ghost use Rattle.rules.specs.Plan.{planOf, hostWord, owner, replacement, state, transition, stateRecord, transitionRecord, isRoot, isFinal, isStateOf, isIn, isHostedBy, isHosting, firstState};
+ghost use Rattle.rules.specs.Plan.{planOf, hostWord, owner, replacement, state, transition, stateRecord, transitionRecord, isRoot, isFinal, isStateOf, isIn};
 ghost use Rattle.plan.specs.Holds.{Holds};
 
 // A record's length in bytes, of a track, a state and a transition.
@@ -159,48 +159,4 @@ pub fn is_in(plan: &[u8], c: Counts, s: usize, t: usize) -> bool
         return false;
     }
     h as usize == s
-}
-
-// Whether the track `u` hosts the track `t`: one of its states has it in its scope.
-pub fn is_hosted_by(plan: &[u8], c: Counts, u: usize, t: usize) -> bool
-    requires { ⌜ Holds (now plan) c × (u < c .tracks) × (t < c .tracks) ⌝ }
-    ensures { λ r. ⌜ r ≡ isHostedBy (planOf (now (plan .entry)) c) u t ⌝ }
-{
-    let h = host_word(plan, c, t);
-    if h == NO_STATE {
-        return false;
-    }
-    is_state_of(plan, c, u, h as usize)
-}
-
-// Whether a state hosts some track.
-pub fn is_hosting(plan: &[u8], c: Counts, s: usize) -> bool
-    requires { ⌜ Holds (now plan) c ⌝ }
-    ensures { λ r. ⌜ r ≡ isHosting (planOf (now (plan .entry)) c) s ⌝ }
-{
-    let tracks = c.tracks;
-    let mut t: usize = 0;
-    while t < tracks {
-        if is_in(plan, c, s, t) {
-            return true;
-        }
-        t += 1;
-    }
-    false
-}
-
-// A track's lowest-numbered state, in which it starts; 65535 where it has none.
-pub fn first_state(plan: &[u8], c: Counts, t: usize) -> u16
-    requires { ⌜ Holds (now plan) c ⌝ }
-    ensures { λ r. ⌜ r ≡ firstState (planOf (now (plan .entry)) c) t ⌝ }
-{
-    let states = c.states;
-    let mut s: usize = 0;
-    while s < states {
-        if is_state_of(plan, c, t, s) {
-            return s as u16;
-        }
-        s += 1;
-    }
-    NO_STATE
 }

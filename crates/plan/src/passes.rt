@@ -5,12 +5,11 @@ use crate::fields::track_of;
 use rules::Counts;
 ghost use mathlib.Core.Path.{_≡_};
 ghost use mathlib.Core.Bool.{false};
-ghost use Prim.Native.Nat.{_<_};
 ghost use Rattle.rules.specs.Fold.{someBelow};
-ghost use Rattle.rules.specs.Plan.{planOf, host};
+ghost use Rattle.rules.specs.Plan.{planOf, isIn};
 ghost use Rattle.rules.specs.Acceptance.{badState, badHost};
 ghost use Rattle.plan.specs.Holds.{Holds};
-ghost use Rattle.plan.specs.Passes.{firstMarks, noteHost, hostingMarks};
+ghost use Rattle.plan.specs.Passes.{firstMarks, hostingMarks, isHostOf, Chains};
 
 // The first state of each track, 65535 where it has none: a state is its track's first if none was met before it. Every state's track
 // exists, as 9 has it.
@@ -31,21 +30,7 @@ pub fn first_states(plan: &[u8], c: Counts) -> [u16; 32]
     firsts
 }
 
-// A track's host hosts a track.
-fn note_host(plan: &[u8], c: Counts, hosting: [bool; 128], t: usize) -> [bool; 128]
-    requires { ⌜ Holds (now plan) c × (t < c .tracks) × (badHost (planOf (now plan) c) t ≡ false) ⌝ }
-    ensures { λ r. ⌜ r ≡ noteHost (host (planOf (now (plan .entry)) c) t) hosting ⌝ }
-{
-    let h = host_word(plan, c, t);
-    if h == NO_STATE {
-        return hosting;
-    }
-    let mut next = hosting;
-    next[h as usize] = true;
-    next
-}
-
-// The states that host a track. Every host is a state, as 10 has it.
+// For each state whether it hosts a track. Every host is a state, as 10 has it.
 pub fn hosting_states(plan: &[u8], c: Counts) -> [bool; 128]
     requires { ⌜ Holds (now plan) c × (someBelow (c .tracks) (badHost (planOf (now plan) c)) ≡ false) ⌝ }
     ensures { λ r. ⌜ r ≡ hostingMarks (planOf (now (plan .entry)) c) (c .tracks) ⌝ }
@@ -54,9 +39,70 @@ pub fn hosting_states(plan: &[u8], c: Counts) -> [bool; 128]
     let tracks = c.tracks;
     let mut t: usize = 0;
     while t < tracks {
-        let next = note_host(plan, c, hosting, t);
-        hosting = next;
+        let h = host_word(plan, c, t);
+        if h != NO_STATE {
+            hosting[h as usize] = true;
+        }
         t += 1;
     }
     hosting
+}
+
+// The tracks of each scope: for each state the last track that it hosts, for each track the one before it with the same host. Each is told
+// by one more than its number, and 0 is the end.
+pub struct TrackChains {
+    pub last: [u8; 128],
+    pub before: [u8; 32],
+}
+
+// Every host is a state, as 10 has it.
+pub fn chain_tracks(plan: &[u8], c: Counts) -> TrackChains
+    requires { ⌜ Holds (now plan) c × (someBelow (c .tracks) (badHost (planOf (now plan) c)) ≡ false) ⌝ }
+    ensures { λ r. ⌜ Chains (isIn (planOf (now (plan .entry)) c)) 128 (c .tracks) (r .last) (r .before) ⌝ }
+{
+    let mut last: [u8; 128] = [0; 128];
+    let mut before: [u8; 32] = [0; 32];
+    let tracks = c.tracks;
+    let mut t: usize = 0;
+    while t < tracks {
+        let h = host_word(plan, c, t);
+        if h != NO_STATE {
+            let s = h as usize;
+            before[t] = last[s];
+            last[s] = (t + 1) as u8;
+        }
+        t += 1;
+    }
+    TrackChains {
+        last: last,
+        before: before,
+    }
+}
+
+// The hosting states of each track: for each track its last, for each of them the one before it of the same track, told as above.
+pub struct StateChains {
+    pub last: [u8; 32],
+    pub before: [u8; 128],
+}
+
+pub fn chain_states(plan: &[u8], c: Counts, scopes: &[u8; 128], beside: &[u8; 32]) -> StateChains
+    requires { ⌜ Holds (now plan) c × (someBelow (c .tracks) (badHost (planOf (now plan) c)) ≡ false) × Chains (isIn (planOf (now plan) c)) 128 (c .tracks) (now scopes) (now beside) ⌝ }
+    ensures { λ r. ⌜ Chains (isHostOf (planOf (now (plan .entry)) c)) 32 (c .states) (r .last) (r .before) ⌝ }
+{
+    let mut last: [u8; 32] = [0; 32];
+    let mut before: [u8; 128] = [0; 128];
+    let states = c.states;
+    let mut s: usize = 0;
+    while s < states {
+        if scopes[s] != 0 {
+            let t = track_of(plan, c, s) as usize;
+            before[s] = last[t];
+            last[t] = (s + 1) as u8;
+        }
+        s += 1;
+    }
+    StateChains {
+        last: last,
+        before: before,
+    }
 }

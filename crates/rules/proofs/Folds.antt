@@ -4,7 +4,7 @@ use mathlib.Core.Path.{_≡_, refl, sym, ap, _∙_}
 use mathlib.Core.Logic.{_⊎_, ⊎-elim}
 use mathlib.Core.Bool.{Bool, true, false, cond, _&&_, _||_}
 use mathlib.Core.Option.{Option, none, some}
-use Prim.Native.Nat.{ℕ, zero, suc, _+_, _<_, _≤_, max}
+use Prim.Native.Nat.{ℕ, zero, suc, _+_, _<_, _≤_, max, min}
 use native.Mathlib.Nat.{add-zero, zero-add, add-suc, suc-add, le-of-suc-le-suc, not-suc-le-zero, eq-or-lt-of-le}
 use native.Mathlib.Numerals.{add-one}
 use native.Mathlib.Omega.{arith}
@@ -104,6 +104,19 @@ pub greatest-le : (n : ℕ) (f : ℕ → ℕ) (b : ℕ) → ((k : ℕ) → k < n
 unfolding greatestBelow
 greatest-le zero f b h = omega arith
 greatest-le (suc n) f b h = omega (arith, greatest-le n f b (λ k lt. h k (omega arith)), h n (omega arith))
+
+pub greatest-at : (n : ℕ) (f : ℕ → ℕ) (k : ℕ) → k < n → f k ≤ greatestBelow n f
+unfolding greatestBelow
+greatest-at zero f k l = absurd (not-suc-le-zero l)
+greatest-at (suc n) f k l =
+    ⊎-elim (λ (e : k ≡ n). let q : f k ≡ f n = ap f e in omega arith) (λ (m : k < n). omega (arith, greatest-at n f k m))
+    (eq-or-lt-of-le (le-of-suc-le-suc l))
+
+-- a bound on each value bounds the greatest
+pub greatest-min : (m n : ℕ) (f : ℕ → ℕ) → greatestBelow n (λ k. min m (f k)) ≡ min m (greatestBelow n f)
+unfolding greatestBelow
+greatest-min m zero f = omega arith
+greatest-min m (suc n) f = let q = greatest-min m n f in omega arith
 
 pub greatest-more : (n : ℕ) (f : ℕ → ℕ) → greatestBelow (n + 1) f ≡ max (greatestBelow n f) (f n)
 unfolding greatestBelow

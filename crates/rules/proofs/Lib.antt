@@ -5,6 +5,7 @@ pub mod Folds
 pub mod Counting
 pub mod Acceptance
 pub mod Forest
+pub mod Heights
 pub mod Scopes
 pub mod Opening
 pub mod Closing

@@ -1,44 +1,39 @@
--- Where no track stands deep none is too high; else no track looked at so far is. The measure is the tracks left. Assumes nothing.
+-- No root visited so far is too high. The measure is the tracks left. Assumes nothing.
 use mathlib.Core.Path.{_≡_, refl, sym, _∙_}
 use mathlib.Core.Bool.{false}
 use Prim.Native.Nat.{_≤_, _-_}
 use Rattle.rules.specs.Fold.{someBelow}
 use Rattle.rules.specs.Plan.{planOf}
+use Rattle.rules.proofs.Folds.{some-at}
+use Rattle.rules.proofs.Heights.{isHighRoot}
 use Rattle.plan.proofs.Searches.{none-more, none-all}
-use Rattle.rules.proofs.Folds.{some-at, some-none}
-use borrow.Author.Tests.{not-true}
-use Rattle.plan.proofs.FieldLaws.{track-count}
-use Rattle.plan.proofs.HeightLaws.{few-tracks}
-use Rattle.rules.specs.Acceptance.{tooHigh}
-use Rattle.plan.proofs.PassTurns.{shallow-low}
+use Rattle.plan.proofs.ForestLaws.{roots-enough}
 use borrow.Author.Needs.{needs}
 use Rattle.plan.proofs.heights.some_too_high.Statement.{statement}
 use Rattle.plan.proofs.heights.some_too_high.Tie as tie
 
 abbrev Inv-loop : tie.InvT-loop
-Inv-loop plan c tracks t₀ t = (t ≤ tracks) × (someBelow t (tooHigh (planOf plan c)) ≡ false)
+Inv-loop plan c scopes beside hosts earlier count t₀ t = (t ≤ c .tracks) × (someBelow t (isHighRoot (planOf plan c)) ≡ false)
 
 abbrev μ-loop : tie.MeasureT-loop
-μ-loop plan c tracks t₀ t = tracks - t
+μ-loop plan c scopes beside hosts earlier count t₀ t = c .tracks - t
 
-some-deep-requires : tie.Need-some-deep-requires Inv-loop μ-loop
-some-deep-requires c κs = search needs
+chain-tracks-requires : tie.Need-chain-tracks-requires Inv-loop μ-loop
+chain-tracks-requires c κs = search needs
 
-returns : tie.Need-returns Inv-loop μ-loop
-returns c = sym (some-none _ _ (shallow-low _ _ (c .before .before .before .pre .0) (c .before .before .before .pre .1) (sym (c .before .some-deep .ensures) ∙ not-true _ (c .if1 .taken))))
-
-returns-2 : tie.Need-returns-2 Inv-loop μ-loop
-returns-2 c = sym (some-none _ _ (λ t l. few-tracks _ t (rw track-count (search needs))))
+chain-states-requires : tie.Need-chain-states-requires Inv-loop μ-loop
+chain-states-requires c κs = search needs
 
 loop-holds : tie.Need-loop-holds Inv-loop μ-loop
 unfolding someBelow
 loop-holds c = (search needs, refl)
 
-too-high-requires : tie.Need-too-high-requires Inv-loop μ-loop
-too-high-requires c κs = search needs
+high-root-requires : tie.Need-high-root-requires Inv-loop μ-loop
+high-root-requires c κs = (record { holds = search needs; hosted = search needs; tracks = c .before .before .before .before .before .before .before .before .before .before .before .before .before .chain-tracks .ensures; states = c .before .before .before .before .before .before .before .before .chain-states .ensures }, search needs)
 
-returns-3 : tie.Need-returns-3 Inv-loop μ-loop
-returns-3 c = sym (some-at _ _ (c .before .before .before .loop .t) (search needs) (sym (c .before .too-high .ensures) ∙ c .if3 .taken))
+returns : tie.Need-returns Inv-loop μ-loop
+unfolding isHighRoot
+returns c = sym (sym (roots-enough _ _ (c .before .before .before .before .before .before .before .before .before .before .before .before .before .before .before .before .before .pre .0) (c .before .before .before .before .before .before .before .before .before .before .before .before .before .before .before .before .before .pre .1)) ∙ some-at _ _ (c .before .before .before .before .before .before .before .loop .t) (search needs) (sym (c .before .high-root .ensures) ∙ c .if1 .taken))
 
 add-t : tie.Need-add-t Inv-loop μ-loop
 add-t c = search needs
@@ -47,10 +42,11 @@ loop-less : tie.Need-loop-less Inv-loop μ-loop
 loop-less c = search needs
 
 loop-again : tie.Need-loop-again Inv-loop μ-loop
-loop-again c = (search needs, none-more _ _ (c .before .before .before .loop .inv .1) (sym (c .before .too-high .ensures) ∙ c .if3 .left))
+unfolding isHighRoot
+loop-again c = (search needs, none-more _ _ (c .before .before .before .before .before .before .before .loop .inv .1) (sym (c .before .high-root .ensures) ∙ c .if1 .left))
 
-returns-4 : tie.Need-returns-4 Inv-loop μ-loop
-returns-4 c = sym (none-all _ _ _ (search needs) (search needs) (c .before .loop .inv .1))
+returns-2 : tie.Need-returns-2 Inv-loop μ-loop
+returns-2 c = sym (sym (roots-enough _ _ (c .before .before .before .before .before .before .before .before .before .before .before .pre .0) (c .before .before .before .before .before .before .before .before .before .before .before .pre .1)) ∙ none-all _ _ _ (search needs) (search needs) (c .before .loop .inv .1))
 
 pub some-too-high-spec : {M : Type 1} → statement M
 some-too-high-spec =
@@ -58,13 +54,12 @@ some-too-high-spec =
     (tie.spec
     Inv-loop
     μ-loop
-    some-deep-requires
-    returns
-    returns-2
+    chain-tracks-requires
+    chain-states-requires
     loop-holds
-    too-high-requires
-    returns-3
+    high-root-requires
+    returns
     add-t
     loop-less
     loop-again
-    returns-4)
+    returns-2)

@@ -1,11 +1,14 @@
--- The figures after s turns are the definition's at s: a track has its first state already, or this is it. Assumes nothing.
+-- The figures after s visits are those of the states below s: a track has its first state already, or this is it. Assumes nothing.
 use mathlib.Core.Path.{_≡_, refl, _∙_}
 use mathlib.Core.Logic.{inl, inr}
 use Prim.Native.Nat.{_≤_, _-_}
 use native.Mathlib.Omega.{arith}
+use Rattle.rules.specs.Fold.{firstBelow, tabulate, tabulateFrom}
 use Rattle.rules.specs.Plan.{planOf, noState}
-use Rattle.plan.specs.Passes.{firstMarks}
-use Rattle.plan.proofs.PassTurns.{first-more, owner-low, note-kept, note-set}
+use Rattle.plan.specs.Passes.{firstAmong, firstMarks}
+use Rattle.plan.proofs.FieldLaws.{state-count}
+use Rattle.plan.proofs.PassLaws.{first-kept, first-set}
+use Rattle.plan.proofs.PassTurns.{owner-low}
 use borrow.Author.Needs.{needs}
 use Rattle.plan.proofs.passes.first_states.Statement.{statement}
 use Rattle.plan.proofs.passes.first_states.Tie as tie
@@ -17,7 +20,7 @@ abbrev μ-loop : tie.MeasureT-loop
 μ-loop plan c firsts₀ states s₀ firsts s = c .states - s
 
 loop-holds : tie.Need-loop-holds Inv-loop μ-loop
-unfolding firstMarks noState
+unfolding firstMarks firstAmong firstBelow tabulate tabulateFrom noState
 loop-holds c = (search needs, refl)
 
 track-of-requires : tie.Need-track-of-requires Inv-loop μ-loop
@@ -50,11 +53,15 @@ loop-less c = search needs
 loop-again : tie.Need-loop-again Inv-loop μ-loop
 unfolding noState
 loop-again c =
+    let pre = c .before .before .before .before .before .pre in
+    let n = pre .0 .states in
+    let l = owner-low _ _ (pre .0) (pre .1) _ (c .before .before .loop-test .taken) in
+    let e = c .before .track-of .ensures in
     let inv = c .before .before .before .loop .inv .1 in (
       search needs,
       elim (c .if1 .came) [
-        | inl w ↦ first-more _ _ _ _ _ inv (c .before .track-of .ensures) (w .1 ∙ note-set _ _ _ (w .0 .taken))
-        | inr w ↦ first-more _ _ _ _ _ inv (c .before .track-of .ensures) (w .1 ∙ note-kept _ _ _ (w .0 .left))
+        | inl w ↦ w .1 ∙ first-set _ _ _ _ (rw state-count (search needs)) (omega arith) inv e (omega arith) (w .0 .taken)
+        | inr w ↦ w .1 ∙ first-kept _ _ _ _ (rw state-count (search needs)) (omega arith) inv e (w .0 .left)
       ],
     )
 

@@ -1,11 +1,14 @@
--- The marks after t turns are the definition's at t. Assumes nothing.
-use mathlib.Core.Path.{_≡_, refl}
+-- The marks after t visits are those of the tracks below t. Assumes nothing.
+use mathlib.Core.Path.{_≡_, refl, _∙_}
+use mathlib.Core.Logic.{inl, inr}
 use Prim.Native.Nat.{_≤_, _-_}
 use native.Mathlib.Omega.{arith}
-use Rattle.rules.specs.Plan.{planOf}
+use Rattle.rules.specs.Fold.{someBelow, tabulate, tabulateFrom}
+use Rattle.rules.specs.Plan.{planOf, noState}
 use Rattle.rules.proofs.Folds.{some-not}
 use Rattle.plan.specs.Passes.{hostingMarks}
-use Rattle.plan.proofs.PassTurns.{hosting-more}
+use Rattle.plan.proofs.PassLaws.{hosting-kept, hosting-set}
+use Rattle.plan.proofs.PassTurns.{host-low}
 use borrow.Author.Needs.{needs}
 use Rattle.plan.proofs.passes.hosting_states.Statement.{statement}
 use Rattle.plan.proofs.passes.hosting_states.Tie as tie
@@ -17,11 +20,18 @@ abbrev μ-loop : tie.MeasureT-loop
 μ-loop plan c hosting₀ tracks t₀ hosting t = c .tracks - t
 
 loop-holds : tie.Need-loop-holds Inv-loop μ-loop
-unfolding hostingMarks
+unfolding hostingMarks someBelow tabulate tabulateFrom
 loop-holds c = (search needs, refl)
 
-note-host-requires : tie.Need-note-host-requires Inv-loop μ-loop
-note-host-requires c κs = (search needs, search needs, some-not _ _ (c .before .before .before .pre .1) _ (search needs))
+host-word-requires : tie.Need-host-word-requires Inv-loop μ-loop
+host-word-requires c κs = search needs
+
+cast-hosting : tie.Need-cast-hosting Inv-loop μ-loop
+cast-hosting c = search needs
+
+array-write-hosting : tie.Need-array-write-hosting Inv-loop μ-loop
+unfolding noState
+array-write-hosting c = host-low _ _ (c .before .before .before .before .before .pre .0) _ _ (search needs) (c .before .host-word .ensures) (c .if1 .taken) (some-not _ _ (c .before .before .before .before .before .pre .1) _ (search needs)) .1
 
 add-t : tie.Need-add-t Inv-loop μ-loop
 add-t c = search needs
@@ -30,7 +40,17 @@ loop-less : tie.Need-loop-less Inv-loop μ-loop
 loop-less c = search needs
 
 loop-again : tie.Need-loop-again Inv-loop μ-loop
-loop-again c = (search needs, hosting-more _ _ _ _ (c .before .before .loop .inv .1) (c .note-host .ensures))
+unfolding noState
+loop-again c =
+    let pre = c .before .before .before .before .before .pre in
+    let inv = c .before .before .before .loop .inv .1 in
+    let e = c .before .host-word .ensures in (
+      search needs,
+      elim (c .if1 .came) [
+        | inl w ↦ w .1 ∙ hosting-set _ _ _ _ inv e (host-low _ _ (pre .0) _ _ (search needs) e (w .0 .taken) (some-not _ _ (pre .1) _ (search needs)) .1) (w .0 .taken)
+        | inr w ↦ w .1 ∙ hosting-kept _ _ _ _ inv e (w .0 .left)
+      ],
+    )
 
 returns : tie.Need-returns Inv-loop μ-loop
 returns c = let e : c .before .loop .t ≡ c .before .before .before .args .c .tracks = omega arith in rw e at (c .before .loop .inv .1)
@@ -38,4 +58,14 @@ returns c = let e : c .before .loop .t ≡ c .before .before .before .args .c .t
 pub hosting-states-spec : {M : Type 1} → statement M
 hosting-states-spec =
     tie.close
-    (tie.spec Inv-loop μ-loop loop-holds note-host-requires add-t loop-less loop-again returns)
+    (tie.spec
+    Inv-loop
+    μ-loop
+    loop-holds
+    host-word-requires
+    cast-hosting
+    array-write-hosting
+    add-t
+    loop-less
+    loop-again
+    returns)
