@@ -34,7 +34,9 @@ use Rattle.lookup.specs.Going.{Checked, ledgerOf}
 use Rattle.lookup.proofs.Facts.{plan-facts, live-of-going, in-room, track-read}
 use Rattle.withdrawal.specs.Orderly.{Orderly, withConfiguration}
 use Rattle.withdrawal.specs.Entering.{deviating}
+use Rattle.withdrawal.specs.Scopes.{Nested}
 use Rattle.withdrawal.proofs.Firing.{Fires, fire-parts, to-other, removed-other, woken-asleep}
+use Rattle.withdrawal.proofs.Nesting.{nested-fired}
 use Rattle.withdrawal.proofs.Standing.{holds, put-removed, read-back, orderly-after, then}
 use Rattle.withdrawal.proofs.Storing.{Stores, stores-at, storable-of}
 use Rattle.withdrawal.proofs.Entering.{entered-stores}
@@ -250,6 +252,9 @@ module _ {bs : List ℕ} {c : Counts} {ws : List ℕ} {t : ℕ} (a : Fireable bs
 
       pub fired-orderly : Orderly c us
       fired-orderly = orderly-after c ws in-order (fired p l t) stored-fired fired-words
+
+      pub fired-nested : Nested p (ledgerOf c us)
+      fired-nested = subst (Nested p) (sym (read-back c ws in-order (fired p l t) stored-fired fired-words)) (nested-fired p l live ok t parts)
 
       pub fire-done : {code : ℕ} → code ≡ newest (l t .held) .code → {xs : List ℕ} → xs ≡ written entryLimit (c .tracks) (abandoned p (ledgerOf c us)) us
           → Meets (fireOutcome entryLimit bs ws (record { track = t })) (done (code ∷ dev ∷ [])) xs

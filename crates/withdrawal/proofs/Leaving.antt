@@ -1,58 +1,31 @@
--- Abandoning as the code takes it: each branch of climbing and of a track's turn is a case of its definition, and the pass over the tracks
--- writes the ledger with its scopes abandoned. Assumes nothing.
-use mathlib.Core.Path.{_≡_, sym, ap, _∙_}
+-- Abandoning as the code takes it: each branch of a climb is a case of one scope's going to sleep, and afterwards one pass over the tracks
+-- writes the ledger with the scopes asleep that are not left open. Assumes nothing.
+use mathlib.Core.Path.{_≡_, sym, ap, _∙_, subst}
 use mathlib.Core.Logic.{inl, inr}
-use mathlib.Core.Bool.{Bool, true, false, not}
+use mathlib.Core.Bool.{Bool, true, false, not, _&&_}
 use mathlib.Core.List.{List}
 use mathlib.Core.Option.{none, some}
-use Prim.Native.Nat.{ℕ, _+_, _<_, _≤_}
-use native.Mathlib.Numerals.{add-one}
+use Prim.Native.Nat.{ℕ, _+_, _-_, _<_, _≤_}
 use native.Mathlib.Omega.{arith}
 use lib.ListN.{length, getD, set}
+use lib.Seq.{getD-set-same}
 use borrow.Author.Tests.{not-true, not-false}
 use Rattle.rules.specs.declared.Counts.{Counts}
-use Rattle.rules.specs.declared.Track.{Track}
-use Rattle.rules.specs.Plan.{Plan, planOf, trackCount, stateCount, noState, host, owner}
+use Rattle.rules.specs.Plan.{Plan, planOf, trackCount, noState, host, owner}
 use Rattle.rules.specs.Layout.{entryLimit}
-use Rattle.rules.specs.Ledger.{Configuration, Ledger, isAwake, isUndoing, written}
+use Rattle.rules.specs.Ledger.{Configuration, Ledger, isAwake, isUndoing, isEmpty, written}
 use Rattle.rules.specs.Signal.{abandoned}
-use Rattle.rules.proofs.Tests.{look, look-option}
-use Rattle.rules.proofs.Stored.{written-same}
 use Rattle.rules.proofs.Passes.{upTo}
-use Rattle.plan.proofs.FieldLaws.{track-count, state-count}
-use Rattle.ledger.specs.Words.{trackOf, withAsleep}
-use Rattle.ledger.proofs.ReadTracks.{mode-as, empty-as, held-as}
+use Rattle.plan.proofs.FieldLaws.{track-count}
+use Rattle.ledger.specs.Words.{withAsleep}
 use Rattle.lookup.specs.Going.{Accepts, ledgerOf, hostTrack}
-use Rattle.plan.specs.Passes.{stateSlots}
-use Rattle.lookup.specs.Marks.{scopeMarks}
-use Rattle.lookup.proofs.Facts.{plan-facts, few-tracks, no-host-track, host-of-track}
+use Rattle.lookup.proofs.Facts.{plan-facts, few-tracks, no-host-track, host-of-track, host-track-low}
 use Rattle.withdrawal.specs.Orderly.{Orderly, withConfiguration}
-use Rattle.withdrawal.specs.Staying.{isTakenBack, stayFrom, stayBy, stayMarks, leftBy}
+use Rattle.withdrawal.specs.declared.abandoning.Scopes.{Scopes}
+use Rattle.withdrawal.specs.Scopes.{Nested, Counted, keptBy, keeping, Standing, Climbed, Cleared}
 use Rattle.withdrawal.proofs.Standing.{holds, kept-track, put-asleep, Fitting, pass-start, pass-orderly, pass-length, pass-more, pass-end}
 use Rattle.withdrawal.proofs.Storing.{Stores, stores-sleeping, stores-at}
-use Rattle.withdrawal.proofs.Climbing.{asleep-top, root-top, stay-again, stay-last, stay-host}
-use Rattle.withdrawal.proofs.Staying.{left-marks}
-
--- climbing: marked already, asleep, a root, and on to the host's track
-module _ (bs : List ℕ) (c : Counts) (acc : Accepts bs c) (l : Ledger) (ms : List Bool) (t : ℕ) where
-  abbrev p : Plan
-  p = planOf bs c
-
-  pub climb-again : getD ms t false ≡ true → ms ≡ stayFrom p l ms t
-  climb-again m = sym (stay-again p l (plan-facts bs c acc) ms t m)
-
-  module _ (m : getD ms t false ≡ false) {r : Bool} (f : r ≡ isAwake (l t .mode)) where
-    pub climb-asleep : not r ≡ true → set ms t true ≡ stayFrom p l ms t
-    climb-asleep n = sym (stay-last p l (plan-facts bs c acc) ms t m (asleep-top p l t (sym f ∙ not-true r n)))
-
-    module _ (n : not r ≡ false) {u : ℕ} (g : u ≡ hostTrack p t) where
-      pub climb-root : u ≡ noState → set ms t true ≡ stayFrom p l ms t
-      climb-root z = sym (stay-last p l (plan-facts bs c acc) ms t m (root-top p l t (no-host-track bs c t acc (sym g ∙ z))))
-
-      pub climb-host : (u ≡ noState → ⊥) → {vs : List Bool} → vs ≡ stayFrom p l (set ms t true) u → vs ≡ stayFrom p l ms t
-      climb-host z d =
-          let (h, q, o) = host-of-track p t (λ y. z (g ∙ y)) in
-          d ∙ ap (stayFrom p l (set ms t true)) (g ∙ sym o) ∙ sym (stay-host p l (plan-facts bs c acc) ms t h m (sym f ∙ not-false r n) q)
+use Rattle.withdrawal.proofs.Climbing.{keep-root, keep-open, keep-shut, keep-case, keep-sleeping, step-busy, step-root, some-busy, step-standing, step-more, step-open, step-on, cleared-start, cleared-shut, cleared-busy, cleared-more, cleared-end}
 
 -- the host's track has a lower number
 pub host-lower : (bs : List ℕ) (c : Counts) → Accepts bs c → (t u : ℕ) → u ≡ hostTrack (planOf bs c) t → (u ≡ noState → ⊥) → u < t
@@ -62,87 +35,171 @@ host-lower bs c acc t u g z =
     let e : u ≡ owner (planOf bs c) h = g ∙ sym o in
     omega arith
 
--- a track's own sake: not undoing, undoing and holding, undoing and holding nothing
-module _ (p : Plan) (l : Ledger) (ms : List Bool) (t : ℕ) {k : Track} (e : k ≡ trackOf (l t)) {r : Bool} (f : r ≡ isUndoing (k .mode)) where
-  undoes : isUndoing (l t .mode) ≡ r
-  undoes = ap isUndoing (sym (mode-as (l t) e)) ∙ sym f
+-- a climb: still busy, a root, others busy, and on to the host's track
+module _ (bs : List ℕ) (c : Counts) (acc : Accepts bs c) (ws : List ℕ) (o : Orderly c ws) (x : Scopes)
+    (st : Standing (planOf bs c) (ledgerOf c ws) x) (t : ℕ) (b : t < c .tracks) (marked : getD (x .opens) t false ≡ true)
+    (idle : getD (x .busy) t 0 ≡ 0) {r : Bool} (f : r ≡ (isUndoing (ledgerOf c ws t .mode) && isEmpty (ledgerOf c ws t .held))) where
+  abbrev l : Ledger
+  l = ledgerOf c ws
 
-  pub by-mode : not r ≡ true → {vs : List Bool} → vs ≡ stayFrom p l ms t → vs ≡ stayBy p l t ms
-  unfolding stayBy isTakenBack
-  by-mode n d = let q = undoes ∙ not-true r n in d ∙ (rw q)
+  abbrev pl : Plan
+  pl = planOf bs c
 
-  pub by-entry : not r ≡ false → (k .count ≡ 0 → ⊥) → {vs : List Bool} → vs ≡ stayFrom p l ms t → vs ≡ stayBy p l t ms
-  unfolding stayBy isTakenBack
-  by-entry n z d = let q = undoes ∙ not-false r n in d ∙ (rw (q, held-as (l t) e z))
+  abbrev shut : List Bool
+  shut = set (x .opens) t false
 
-  pub by-none : not r ≡ false → k .count ≡ 0 → ms ≡ stayBy p l t ms
-  unfolding stayBy isTakenBack
-  by-none n z = let q = undoes ∙ not-false r n in rw (q, empty-as (l t) e z)
+  low : t < trackCount pl
+  low = omega (arith, track-count bs c)
 
-pub stay-more : (p : Plan) (l : Ledger) (t : ℕ) {ms r : List Bool} → ms ≡ stayMarks p l t → r ≡ stayBy p l t ms → r ≡ stayMarks p l (t + 1)
-unfolding stayMarks
-stay-more p l t e f = rw (add-one, ← e) f
+  abbrev Last : Scopes → Type 0
+  Last y = Standing pl l y × Climbed pl (keeping pl (x .opens) l) (keeping pl (y .opens) l) t
 
--- one track: a root, in a scope that stays, in one that does not
-module _ (c : Counts) (ws : List ℕ) (o : Orderly c ws) (p : Plan) (stays : List Bool) (t : ℕ) where
-  pub leave-root : host p t ≡ none → ws ≡ withConfiguration c ws t (leftBy p stays t (ledgerOf c ws t))
-  unfolding leftBy
-  leave-root e = kept-track c ws o t (leftBy p stays t (ledgerOf c ws t)) (rw (e, leftBy))
+  pub climb-busy : not r ≡ true → Last (record { opens = shut; busy = x .busy })
+  climb-busy n =
+      step-busy pl (plan-facts bs c acc) (few-tracks bs c acc) l (holds c ws o .blank) x st t low marked idle (sym f ∙ not-true r n)
 
-  module _ (h : ℕ) (e : host p t ≡ some h) where
-    pub leave-not : getD stays h false ≡ true → ws ≡ withConfiguration c ws t (leftBy p stays t (ledgerOf c ws t))
-    unfolding leftBy
-    leave-not m = kept-track c ws o t (leftBy p stays t (ledgerOf c ws t)) (rw (e, leftBy, m))
+  module _ (n : not r ≡ false) {u : ℕ} (g : u ≡ hostTrack pl t) where
+    pub climb-root : u ≡ noState → Last (record { opens = shut; busy = x .busy })
+    climb-root z =
+        step-root pl (plan-facts bs c acc) (few-tracks bs c acc) l (holds c ws o .blank) x st t low marked idle
+        (no-host-track bs c t acc (sym g ∙ z))
 
-    pub leave-done : t < c .tracks → getD stays h false ≡ false → {vs : List ℕ} → vs ≡ withAsleep ws t
-        → vs ≡ withConfiguration c ws t (leftBy p stays t (ledgerOf c ws t))
-    unfolding leftBy
-    leave-done b m d = d ∙ put-asleep c ws o t b ∙ ap (withConfiguration c ws t) (sym (rw (e, leftBy, m)))
+    module _ (z : u ≡ noState → ⊥) where
+      at : (h : ℕ) × (host pl t ≡ some h) × (owner pl h ≡ u)
+      at = let (h, e, q) = host-of-track pl t (λ y. z (g ∙ y)) in (h, e, q ∙ sym g)
 
-left-stores : (limit : ℕ) (p : Plan) (stays : List Bool) (t : ℕ) (x : Configuration) → Stores limit x → Stores limit (leftBy p stays t x)
-unfolding leftBy
-left-stores limit p stays t x s =
-    elim (look-option (host p t)) [
-      | inl e ↦ rw (e, leftBy) s
-      | inr e ↦ elim (look (getD stays (e .0) false)) [ inl m ↦ rw (e .1, leftBy, m) s | inr m ↦ rw (e .1, leftBy, m) (stores-sleeping limit) ]
-    ]
+      pub climb-some : 0 < getD (x .busy) u 0
+      climb-some =
+          subst (λ v. 0 < getD (x .busy) v 0) (at .2)
+          (some-busy pl (plan-facts bs c acc) (few-tracks bs c acc) l (holds c ws o .blank) x st t low marked idle (at .0) (at .1) (sym f ∙ not-false r n))
+
+      module _ {k : ℕ} (e : k ≡ getD (x .busy) u 0 - 1) where
+        less : k ≡ getD (x .busy) (owner pl (at .0)) 0 - 1
+        less = e ∙ ap (λ (v : ℕ). getD (x .busy) v 0 - 1) (sym (at .2))
+
+        standing : Standing pl l (record { opens = shut; busy = set (x .busy) u k })
+        standing =
+            subst (λ (v : ℕ). Standing pl l (record { opens = shut; busy = set (x .busy) v k })) (at .2)
+            (step-standing pl (plan-facts bs c acc) (few-tracks bs c acc) l (holds c ws o .blank) x st t low marked idle (at .0) (at .1) (sym f ∙ not-false r n) less)
+
+        pub climb-more : (k ≡ 0 → ⊥) → Last (record { opens = shut; busy = set (x .busy) u k })
+        climb-more y = (
+          standing,
+          step-more pl (plan-facts bs c acc) (few-tracks bs c acc) l (holds c ws o .blank) x st t low marked idle (at .0) (at .1) (sym f ∙ not-false r n) less y,
+        )
+
+        pub climb-next : k ≡ 0 → Standing pl l (record { opens = shut; busy = set (x .busy) u k }) × (u < c .tracks) × (getD shut u false ≡ true) × (getD (set (x .busy) u k) u 0 ≡ 0)
+        climb-next y =
+            let up = host-track-low bs c t u acc g z in
+            let w : u < length (x .busy) = let q = st .counted .busy-size in let m = acc .holds .tracks in omega arith in (
+              standing,
+              up,
+              subst (λ v. getD shut v false ≡ true) (at .2)
+                  (step-open pl (plan-facts bs c acc) (few-tracks bs c acc) l (holds c ws o .blank) x st t low marked idle (at .0) (at .1) (sym f ∙ not-false r n) less),
+              getD-set-same (x .busy) u k 0 w ∙ y,
+            )
+
+        pub climb-on : {y : Scopes} → Standing pl l y × Climbed pl (keeping pl shut l) (keeping pl (y .opens) l) u → Last y
+        climb-on {y} d = (
+          d .0,
+          step-on pl (plan-facts bs c acc) (few-tracks bs c acc) l (holds c ws o .blank) x st t low marked idle (at .0) (at .1) (sym f ∙ not-false r n) less
+              (subst (λ v. Climbed pl (keeping pl shut l) (keeping pl (y .opens) l) v) (sym (at .2)) (d .1)),
+        )
+
+-- the visits, in track order
+module _ (bs : List ℕ) (c : Counts) (acc : Accepts bs c) (ws : List ℕ) where
+  pub visit-start : Orderly c ws → Nested (planOf bs c) (ledgerOf c ws) → (x : Scopes) → Counted (planOf bs c) (ledgerOf c ws) x
+      → Cleared (planOf bs c) (ledgerOf c ws) x 0
+  visit-start o nest x k = cleared-start (planOf bs c) (plan-facts bs c acc) (ledgerOf c ws) (holds c ws o .blank) nest x k
+
+  module _ (x : Scopes) (t : ℕ) where
+    pub visit-end : c .tracks ≤ t → Cleared (planOf bs c) (ledgerOf c ws) x t
+        → keeping (planOf bs c) (x .opens) (ledgerOf c ws) ≡ abandoned (planOf bs c) (ledgerOf c ws)
+    visit-end h k = cleared-end (planOf bs c) (plan-facts bs c acc) (ledgerOf c ws) x t (omega (arith, track-count bs c)) k
+
+    module _ (b : t < c .tracks) (k : Cleared (planOf bs c) (ledgerOf c ws) x t) where
+      there : t < trackCount (planOf bs c)
+      there = omega (arith, track-count bs c)
+
+      pub visit-shut : not (getD (x .opens) t false) ≡ true → Cleared (planOf bs c) (ledgerOf c ws) x (t + 1)
+      visit-shut z = cleared-shut (planOf bs c) (plan-facts bs c acc) (ledgerOf c ws) x t there k (not-true (getD (x .opens) t false) z)
+
+      pub visit-busy : (getD (x .busy) t 0 ≡ 0 → ⊥) → Cleared (planOf bs c) (ledgerOf c ws) x (t + 1)
+      visit-busy z = cleared-busy (planOf bs c) (plan-facts bs c acc) (ledgerOf c ws) x t there k z
+
+      pub visit-climb : {y : Scopes}
+          → Standing (planOf bs c) (ledgerOf c ws) y
+          × Climbed (planOf bs c) (keeping (planOf bs c) (x .opens) (ledgerOf c ws)) (keeping (planOf bs c) (y .opens) (ledgerOf c ws)) t
+          → Cleared (planOf bs c) (ledgerOf c ws) y (t + 1)
+      visit-climb d = cleared-more (planOf bs c) (plan-facts bs c acc) (ledgerOf c ws) x t there k (d .0) (d .1)
+
+-- one track: asleep, a root, in a scope that is left open, in one that is not
+module _ (bs : List ℕ) (c : Counts) (acc : Accepts bs c) (ws : List ℕ) (o : Orderly c ws) (opens : List Bool) (t : ℕ) {r : Bool}
+    (f : r ≡ isAwake (ledgerOf c ws t .mode)) where
+  abbrev p : Plan
+  p = planOf bs c
+
+  abbrev Left : List ℕ → Type 0
+  Left vs = vs ≡ withConfiguration c ws t (keptBy p opens t (ledgerOf c ws t))
+
+  as-it-is : keeping p opens (ledgerOf c ws) t ≡ ledgerOf c ws t → Left ws
+  unfolding keeping
+  as-it-is e = kept-track c ws o t (keptBy p opens t (ledgerOf c ws t)) e
+
+  pub leave-asleep : not r ≡ true → Left ws
+  leave-asleep n =
+      let z = holds c ws o .blank t (sym f ∙ not-true r n) in
+      as-it-is (keep-sleeping p opens (ledgerOf c ws) t z ∙ sym z)
+
+  module _ {u : ℕ} (g : u ≡ hostTrack p t) where
+    pub leave-root : u ≡ noState → Left ws
+    leave-root z = as-it-is (keep-root p opens (ledgerOf c ws) t (no-host-track bs c t acc (sym g ∙ z)))
+
+    module _ (n : u ≡ noState → ⊥) where
+      pub leave-not : getD opens u false ≡ true → Left ws
+      leave-not m =
+          let (h, e, q) = host-of-track p t (λ y. n (g ∙ y)) in
+          as-it-is (keep-open p opens (ledgerOf c ws) t h e (subst (λ v. getD opens v false ≡ true) (g ∙ sym q) m))
+
+      pub leave-done : t < c .tracks → getD opens u false ≡ false → {vs : List ℕ} → vs ≡ withAsleep ws t → Left vs
+      unfolding keeping
+      leave-done b m d =
+          let (h, e, q) = host-of-track p t (λ y. n (g ∙ y)) in
+          d ∙ put-asleep c ws o t b
+          ∙ ap (withConfiguration c ws t) (sym (keep-shut p opens (ledgerOf c ws) t h e (subst (λ v. getD opens v false ≡ false) (g ∙ sym q) m)))
 
 -- the pass
-module _ (bs : List ℕ) (c : Counts) (acc : Accepts bs c) (ws : List ℕ) (o : Orderly c ws) {kept stays : List Bool}
-    (k : kept ≡ stayMarks (planOf bs c) (ledgerOf c ws) (c .tracks)) (s : stays ≡ scopeMarks (planOf bs c) kept (c .tracks)) where
-  abbrev turn : ℕ → Configuration → Configuration
-  turn = leftBy (planOf bs c) stays
+module _ (bs : List ℕ) (c : Counts) (ws : List ℕ) (o : Orderly c ws) (opens : List Bool)
+    (k : keeping (planOf bs c) opens (ledgerOf c ws) ≡ abandoned (planOf bs c) (ledgerOf c ws)) where
+  abbrev left : ℕ → Configuration → Configuration
+  left = keptBy (planOf bs c) opens
 
-  leaving-fits : Fitting c ws o turn
+  leaving-fits : Fitting c ws o left
+  unfolding keeping
   leaving-fits =
-      let w : (t : ℕ) → Stores entryLimit (turn t (ledgerOf c ws t)) = λ t. left-stores entryLimit (planOf bs c) stays t (ledgerOf c ws t) (stores-at entryLimit (c .tracks) (ledgerOf c ws) (holds c ws o) t) in
+      let w : (t : ℕ) → Stores entryLimit (keeping (planOf bs c) opens (ledgerOf c ws) t) =
+      λ t.
+      elim (keep-case (planOf bs c) opens (ledgerOf c ws) t) [
+        | inl e ↦ subst (Stores entryLimit) (sym e) (stores-at entryLimit (c .tracks) (ledgerOf c ws) (holds c ws o) t)
+        | inr e ↦ subst (Stores entryLimit) (sym e) (stores-sleeping entryLimit)
+      ] in
       record { fits = λ t b. w t .fits; blank = λ t b. w t .blank }
 
-  pub leaving-start : ws ≡ written entryLimit (c .tracks) (upTo (λ t. turn t (ledgerOf c ws t)) (ledgerOf c ws) 0) ws
-  leaving-start = pass-start c ws o turn
-
-  left-all : written entryLimit (c .tracks) (λ t. turn t (ledgerOf c ws t)) ws ≡ written entryLimit (c .tracks) (abandoned (planOf bs c) (ledgerOf c ws)) ws
-  left-all =
-      let l : Ledger = ledgerOf c ws in
-      let small : stateCount (planOf bs c) ≤ stateSlots = let h = acc .holds .states in omega (arith, state-count bs c) in
-      let marks : stays ≡ scopeMarks (planOf bs c) (stayMarks (planOf bs c) l (trackCount (planOf bs c))) (trackCount (planOf bs c)) =
-      s ∙ ap (λ (m : List Bool). scopeMarks (planOf bs c) m (c .tracks)) k
-      ∙ ap (λ (n : ℕ). scopeMarks (planOf bs c) (stayMarks (planOf bs c) l n) n) (sym (track-count bs c)) in
-      written-same entryLimit (c .tracks) _ _ ws
-      (λ t b.
-      ap (λ (m : List Bool). leftBy (planOf bs c) m t (l t)) marks ∙ left-marks (planOf bs c) l (plan-facts bs c acc) (few-tracks bs c acc) small t)
+  pub leaving-start : ws ≡ written entryLimit (c .tracks) (upTo (λ t. left t (ledgerOf c ws t)) (ledgerOf c ws) 0) ws
+  leaving-start = pass-start c ws o left
 
   module _ (i : ℕ) (b : i ≤ c .tracks) {vs : List ℕ}
-      (e : vs ≡ written entryLimit (c .tracks) (upTo (λ t. turn t (ledgerOf c ws t)) (ledgerOf c ws) i) ws) where
+      (e : vs ≡ written entryLimit (c .tracks) (upTo (λ t. left t (ledgerOf c ws t)) (ledgerOf c ws) i) ws) where
     pub leaving-orderly : Orderly c vs
-    leaving-orderly = pass-orderly c ws o turn leaving-fits i b e
+    leaving-orderly = pass-orderly c ws o left leaving-fits i b e
 
     pub leaving-length : length vs ≡ length ws
-    leaving-length = pass-length c ws o turn leaving-fits i b e
+    leaving-length = pass-length c ws o left leaving-fits i b e
 
-    pub leaving-more : {us : List ℕ} → us ≡ withConfiguration c vs i (turn i (ledgerOf c vs i))
-        → us ≡ written entryLimit (c .tracks) (upTo (λ t. turn t (ledgerOf c ws t)) (ledgerOf c ws) (i + 1)) ws
-    leaving-more d = pass-more c ws o turn leaving-fits i b e d
+    pub leaving-more : {us : List ℕ} → us ≡ withConfiguration c vs i (left i (ledgerOf c vs i))
+        → us ≡ written entryLimit (c .tracks) (upTo (λ t. left t (ledgerOf c ws t)) (ledgerOf c ws) (i + 1)) ws
+    leaving-more d = pass-more c ws o left leaving-fits i b e d
 
     pub leaving-end : c .tracks ≤ i → vs ≡ written entryLimit (c .tracks) (abandoned (planOf bs c) (ledgerOf c ws)) ws
-    leaving-end h = pass-end c ws o turn leaving-fits i b e h ∙ left-all
+    unfolding keeping
+    leaving-end h = pass-end c ws o left leaving-fits i b e h ∙ ap (λ (m : Ledger). written entryLimit (c .tracks) m ws) k

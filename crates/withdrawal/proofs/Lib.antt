@@ -1,8 +1,9 @@
 -- Laws of the backward steps.
 pub mod Climbing
-pub mod Staying
+pub mod Counted
 pub mod Turning
 pub mod Firing
+pub mod Nesting
 pub mod Standing
 pub mod Storing
 pub mod Tracks

@@ -1,6 +1,6 @@
 -- What a call answers once checks 2 to 18 are passed: the first of its own refusals, or its figures and the ledger after it.
 -- Assumes nothing.
-use mathlib.Core.Path.{_≡_, sym, ap, _∙_}
+use mathlib.Core.Path.{_≡_, sym, ap, _∙_, subst}
 use mathlib.Core.Logic.{inl, inr}
 use mathlib.Core.Bool.{Bool, true, false, not, _||_}
 use mathlib.Core.List.{List, [], _∷_, _++_}
@@ -19,8 +19,11 @@ use Rattle.rules.specs.Call.{refusal, done, Outcome, nothing, Call, signal, ref
 use Rattle.rules.proofs.Tests.{clash, and-true, or-true}
 use Rattle.plan.proofs.FieldLaws.{track-count}
 use Rattle.lookup.specs.Going.{Checked, Going, ledgerOf}
+use Rattle.lookup.proofs.Facts.{live-of-going}
 use Rattle.withdrawal.specs.Orderly.{Orderly}
-use Rattle.withdrawal.proofs.Standing.{holds, orderly-after, then}
+use Rattle.withdrawal.specs.Scopes.{Nested}
+use Rattle.withdrawal.proofs.Standing.{holds, read-back, orderly-after, then}
+use Rattle.withdrawal.proofs.Nesting.{nested-turned}
 use Rattle.withdrawal.proofs.Storing.{storable-turned}
 
 module _ (bs : List ℕ) (c : Counts) (ws : List ℕ) (g : Checked bs c ws) where
@@ -107,6 +110,13 @@ module _ (bs : List ℕ) (c : Counts) (ws : List ℕ) (g : Checked bs c ws) wher
   pub turned-orderly : {vs : List ℕ} → vs ≡ written entryLimit (c .tracks) (turned (ledgerOf c ws)) ws → Orderly c vs
   turned-orderly d =
       orderly-after c ws orderly (turned (ledgerOf c ws)) (storable-turned entryLimit (c .tracks) (ledgerOf c ws) (holds c ws orderly)) d
+
+  pub turned-nested : isOver p (ledgerOf c ws) ≡ false → {vs : List ℕ} → vs ≡ written entryLimit (c .tracks) (turned (ledgerOf c ws)) ws
+      → Nested p (ledgerOf c vs)
+  turned-nested n d =
+      subst (Nested p)
+      (sym (read-back c ws orderly (turned (ledgerOf c ws)) (storable-turned entryLimit (c .tracks) (ledgerOf c ws) (holds c ws orderly)) d))
+      (nested-turned p (ledgerOf c ws) (live-of-going bs c ws (going n)))
 
   pub signal-done : {n : ℕ} {vs us : List ℕ} → isOver p (ledgerOf c ws) ≡ false
       → n ≡ countBelow (c .tracks) (λ t. isForward (ledgerOf c ws t .mode)) → vs ≡ written entryLimit (c .tracks) (turned (ledgerOf c ws)) ws

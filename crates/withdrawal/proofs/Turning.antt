@@ -1,4 +1,4 @@
--- Turning keeps every track awake or asleep as it was, and what it holds. Assumes nothing.
+-- Turning keeps every track awake or asleep as it was, its state, and what it holds. Assumes nothing.
 use mathlib.Core.Path.{_≡_, refl}
 use mathlib.Core.Bool.{Bool, true, false}
 use Rattle.rules.specs.declared.Mode.{Mode}
@@ -20,6 +20,14 @@ unfolding turnedTrack
 turned-held x = go (isForward (x .mode)) refl
   where
     go : (b : Bool) → isForward (x .mode) ≡ b → turnedTrack x .held ≡ x .held
+    go true e = rw e
+    go false e = rw e
+
+pub turned-state : (x : Configuration) → turnedTrack x .state ≡ x .state
+unfolding turnedTrack
+turned-state x = go (isForward (x .mode)) refl
+  where
+    go : (b : Bool) → isForward (x .mode) ≡ b → turnedTrack x .state ≡ x .state
     go true e = rw e
     go false e = rw e
 

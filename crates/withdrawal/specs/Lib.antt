@@ -1,4 +1,4 @@
 -- What the backward steps' contracts speak of beside the rules.
 pub mod Orderly
-pub mod Staying
+pub mod Scopes
 pub mod Entering

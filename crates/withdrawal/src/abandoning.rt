@@ -1,84 +1,171 @@
-// Abandoning: an open scope whose tracks are all undoing, hold nothing and have no open scope goes to sleep, "from scope to host until
-// nothing changes". What stays is marked: each track that is not undoing or holds an entry, and with an awake track its host's track,
-// whose number is lower. A scope without a mark goes to sleep.
+// Abandoning: "an open scope goes to sleep, with nothing installed, if its tracks are all undoing, hold nothing and have no open scope".
+// A track for which this fails is busy. Each track's open scope has its busy tracks counted; one with none is due, and goes to sleep.
+// Its host may then be busy no longer, so that the host's own scope is due: recursion to the host's track, whose number is lower.
 use ledger::track;
+use lookup::opens;
 use lookup::reading;
-use lookup::scopes;
-use plan::fields;
 use plan::fields::NO_STATE;
 use rules::Counts;
 ghost use mathlib.Core.Path.{_≡_};
-ghost use Prim.Native.Nat.{_<_};
+ghost use mathlib.Core.Bool.{true, false, cond, _&&_};
+ghost use Prim.Native.Nat.{ℕ, _+_, _<_, _≤_};
+ghost use lib.ListN.{length, getD};
 ghost use Rattle.rules.specs.Layout.{entryLimit};
-ghost use Rattle.rules.specs.Plan.{planOf};
-ghost use Rattle.rules.specs.Ledger.{written};
+ghost use Rattle.rules.specs.Plan.{planOf, isHostedBy};
+ghost use Rattle.rules.specs.Ledger.{isUndoing, isEmpty, written};
+ghost use Rattle.rules.specs.Scope.{hasOpenScope};
 ghost use Rattle.rules.specs.Signal.{abandoned};
+ghost use Rattle.plan.specs.Passes.{slots};
 ghost use Rattle.lookup.specs.Going.{Accepts, Roomy, ledgerOf};
 ghost use Rattle.withdrawal.specs.Orderly.{Orderly, withConfiguration};
-ghost use Rattle.withdrawal.specs.Staying.{stayFrom, stayBy, stayMarks, leftBy};
+ghost use Rattle.withdrawal.specs.Scopes.{Nested, isBusy, Counted, keptBy, keeping, Standing, Climbed, Cleared};
 
-// A track stays, and if it is awake its host's track is next; where the mark stands already nothing changes.
-fn stay(plan: &[u8], c: Counts, ledger: &[u16], kept: [bool; 32], t: usize) -> [bool; 32]
-    requires { ⌜ Accepts (now plan) c × Roomy c (now ledger) × (t < c .tracks) ⌝ }
-    ensures { λ r. ⌜ r ≡ stayFrom (planOf (now (plan .entry)) c) (ledgerOf c (now (ledger .entry))) kept t ⌝ }
+// For each track: whether it has an open scope, and how many busy tracks it hosts there.
+pub struct Scopes {
+    pub opens: [bool; 32],
+    pub busy: [u8; 32],
+}
+
+// Whether a track is undoing and holds nothing.
+fn is_taken_back(c: Counts, ledger: &[u16], t: usize) -> bool
+    requires { ⌜ Roomy c (now ledger) × (t < c .tracks) ⌝ }
+    ensures { λ r. ⌜ r ≡ (isUndoing (ledgerOf c (now (ledger .entry)) t .mode) && isEmpty (ledgerOf c (now (ledger .entry)) t .held)) ⌝ }
 {
-    if kept[t] {
-        return kept;
+    let k = reading::track(c, ledger, t);
+    let m = k.mode;
+    if !track::is_undoing(m) {
+        return false;
     }
-    let mut next = kept;
-    next[t] = true;
+    k.count == 0
+}
+
+// Whether a track is busy, given the tracks that have an open scope.
+fn is_busy(plan: &[u8], c: Counts, ledger: &[u16], opens: [bool; 32], t: usize) -> bool
+    requires { ⌜ Roomy c (now ledger) × (t < c .tracks) × (getD opens t false ≡ hasOpenScope (planOf (now plan) c) (ledgerOf c (now ledger)) t) ⌝ }
+    ensures { λ r. ⌜ r ≡ isBusy (planOf (now (plan .entry)) c) (ledgerOf c (now (ledger .entry))) t ⌝ }
+{
     if !reading::is_awake(c, ledger, t) {
+        return false;
+    }
+    if !is_taken_back(c, ledger, t) {
+        return true;
+    }
+    opens[t]
+}
+
+// The counts with a track's own added, if it is busy, to those of its host's track.
+fn count_track(
+    plan: &[u8],
+    c: Counts,
+    ledger: &[u16],
+    opens: [bool; 32],
+    busy: [u8; 32],
+    t: usize,
+) -> [u8; 32]
+    requires { ⌜ Accepts (now plan) c × Roomy c (now ledger) × (t < c .tracks) × (length busy ≡ slots) × (getD opens t false ≡ hasOpenScope (planOf (now plan) c) (ledgerOf c (now ledger)) t) × ((u : ℕ) → u < c .tracks → getD busy u 0 ≤ t) ⌝ }
+    ensures { λ r. ⌜ (length r ≡ slots) × ((u : ℕ) → u < c .tracks → getD r u 0 ≡ getD busy u 0 + cond (isHostedBy (planOf (now (plan .entry)) c) u t && isBusy (planOf (now (plan .entry)) c) (ledgerOf c (now (ledger .entry))) t) 1 0) ⌝ }
+{
+    if !is_busy(plan, c, ledger, opens, t) {
+        return busy;
+    }
+    let u = reading::host_track(plan, c, t);
+    if u == NO_STATE {
+        return busy;
+    }
+    let at = u as usize;
+    let count = busy[at];
+    let mut next = busy;
+    next[at] = count + 1;
+    next
+}
+
+// The open scopes, with the busy tracks of each counted.
+fn open_scopes(plan: &[u8], c: Counts, ledger: &[u16]) -> Scopes
+    requires { ⌜ Accepts (now plan) c × Roomy c (now ledger) ⌝ }
+    ensures { λ r. ⌜ Counted (planOf (now (plan .entry)) c) (ledgerOf c (now (ledger .entry))) r ⌝ }
+{
+    let opens = opens::open_scopes(plan, c, ledger);
+    let mut busy = [0; 32];
+    let tracks = c.tracks;
+    let mut t: usize = 0;
+    while t < tracks {
+        let next = count_track(plan, c, ledger, opens, busy, t);
+        busy = next;
+        t += 1;
+    }
+    Scopes {
+        opens: opens,
+        busy: busy,
+    }
+}
+
+// The scope of a track, which is due, goes to sleep. If that leaves the track busy no longer, its host's track has one busy track fewer,
+// and where that was the last one the scope there is next.
+fn climb(plan: &[u8], c: Counts, ledger: &[u16], scopes: Scopes, t: usize) -> Scopes
+    requires { ⌜ Accepts (now plan) c × Orderly c (now ledger) × Standing (planOf (now plan) c) (ledgerOf c (now ledger)) scopes × (t < c .tracks) × (getD (scopes .opens) t false ≡ true) × (getD (scopes .busy) t 0 ≡ 0) ⌝ }
+    ensures { λ r. ⌜ Standing (planOf (now (plan .entry)) c) (ledgerOf c (now (ledger .entry))) r × Climbed (planOf (now (plan .entry)) c) (keeping (planOf (now (plan .entry)) c) (scopes .opens) (ledgerOf c (now (ledger .entry)))) (keeping (planOf (now (plan .entry)) c) (r .opens) (ledgerOf c (now (ledger .entry)))) t ⌝ }
+{
+    let mut next = scopes;
+    next.opens[t] = false;
+    if !is_taken_back(c, ledger, t) {
         return next;
     }
     let u = reading::host_track(plan, c, t);
     if u == NO_STATE {
         return next;
     }
-    stay(plan, c, ledger, next, u as usize)
+    let at = u as usize;
+    let count = next.busy[at] - 1;
+    next.busy[at] = count;
+    if count != 0 {
+        return next;
+    }
+    climb(plan, c, ledger, next, at)
 }
 
-// A track stays for its own sake unless it is undoing and holds nothing.
-fn stay_by(plan: &[u8], c: Counts, ledger: &[u16], kept: [bool; 32], t: usize) -> [bool; 32]
-    requires { ⌜ Accepts (now plan) c × Roomy c (now ledger) × (t < c .tracks) ⌝ }
-    ensures { λ r. ⌜ r ≡ stayBy (planOf (now (plan .entry)) c) (ledgerOf c (now (ledger .entry))) t kept ⌝ }
+// Abandoning from the scope of a track, if it is due.
+fn climb_if_due(plan: &[u8], c: Counts, ledger: &[u16], scopes: Scopes, t: usize) -> Scopes
+    requires { ⌜ Accepts (now plan) c × Orderly c (now ledger) × Cleared (planOf (now plan) c) (ledgerOf c (now ledger)) scopes t × (t < c .tracks) ⌝ }
+    ensures { λ r. ⌜ Cleared (planOf (now (plan .entry)) c) (ledgerOf c (now (ledger .entry))) r (t + 1) ⌝ }
 {
-    let k = reading::track(c, ledger, t);
-    let m = k.mode;
-    if !track::is_undoing(m) {
-        return stay(plan, c, ledger, kept, t);
+    if !scopes.opens[t] {
+        return scopes;
     }
-    if k.count != 0 {
-        return stay(plan, c, ledger, kept, t);
+    if scopes.busy[t] != 0 {
+        return scopes;
     }
-    kept
+    climb(plan, c, ledger, scopes, t)
 }
 
-// The tracks that stay.
-fn staying(plan: &[u8], c: Counts, ledger: &[u16]) -> [bool; 32]
-    requires { ⌜ Accepts (now plan) c × Roomy c (now ledger) ⌝ }
-    ensures { λ r. ⌜ r ≡ stayMarks (planOf (now (plan .entry)) c) (ledgerOf c (now (ledger .entry))) (c .tracks) ⌝ }
+// The tracks whose scope is open once nothing is due any more.
+fn left_open(plan: &[u8], c: Counts, ledger: &[u16]) -> [bool; 32]
+    requires { ⌜ Accepts (now plan) c × Orderly c (now ledger) × Nested (planOf (now plan) c) (ledgerOf c (now ledger)) ⌝ }
+    ensures { λ r. ⌜ keeping (planOf (now (plan .entry)) c) r (ledgerOf c (now (ledger .entry))) ≡ abandoned (planOf (now (plan .entry)) c) (ledgerOf c (now (ledger .entry))) ⌝ }
 {
-    let mut kept = [false; 32];
+    let mut scopes = open_scopes(plan, c, ledger);
     let tracks = c.tracks;
     let mut t: usize = 0;
     while t < tracks {
-        let next = stay_by(plan, c, ledger, kept, t);
-        kept = next;
+        let next = climb_if_due(plan, c, ledger, scopes, t);
+        scopes = next;
         t += 1;
     }
-    kept
+    scopes.opens
 }
 
-// Puts a track to sleep if it is in a scope that is not marked.
-fn leave_track(plan: &[u8], c: Counts, ledger: &mut [u16], stays: [bool; 128], t: usize)
+// Puts a track to sleep if the scope that it is in is not left open.
+fn leave_track(plan: &[u8], c: Counts, ledger: &mut [u16], opens: [bool; 32], t: usize)
     requires { ⌜ Accepts (now plan) c × Orderly c (now ledger) × (t < c .tracks) ⌝ }
-    ensures { λ _. ⌜ now (ledger .exit) ≡ withConfiguration c (now (ledger .entry)) t (leftBy (planOf (now (plan .entry)) c) stays t (ledgerOf c (now (ledger .entry)) t)) ⌝ }
+    ensures { λ _. ⌜ now (ledger .exit) ≡ withConfiguration c (now (ledger .entry)) t (keptBy (planOf (now (plan .entry)) c) opens t (ledgerOf c (now (ledger .entry)) t)) ⌝ }
 {
-    let h = fields::host_word(plan, c, t);
-    if h == NO_STATE {
+    if !reading::is_awake(c, &ledger[..], t) {
         return;
     }
-    if stays[h as usize] {
+    let u = reading::host_track(plan, c, t);
+    if u == NO_STATE {
+        return;
+    }
+    if opens[u as usize] {
         return;
     }
     track::put_to_sleep(&mut ledger[..], t);
@@ -86,15 +173,14 @@ fn leave_track(plan: &[u8], c: Counts, ledger: &mut [u16], stays: [bool; 128], t
 
 // Abandoning, with nothing installed.
 pub fn abandon(plan: &[u8], c: Counts, ledger: &mut [u16])
-    requires { ⌜ Accepts (now plan) c × Orderly c (now ledger) ⌝ }
+    requires { ⌜ Accepts (now plan) c × Orderly c (now ledger) × Nested (planOf (now plan) c) (ledgerOf c (now ledger)) ⌝ }
     ensures { λ _. ⌜ now (ledger .exit) ≡ written entryLimit (c .tracks) (abandoned (planOf (now (plan .entry)) c) (ledgerOf c (now (ledger .entry)))) (now (ledger .entry)) ⌝ }
 {
-    let kept = staying(plan, c, &ledger[..]);
-    let stays = scopes::scopes_with(plan, c, kept);
+    let opens = left_open(plan, c, &ledger[..]);
     let tracks = c.tracks;
     let mut t: usize = 0;
     while t < tracks {
-        leave_track(plan, c, &mut ledger[..], stays, t);
+        leave_track(plan, c, &mut ledger[..], opens, t);
         t += 1;
     }
 }

@@ -3,7 +3,7 @@
 use native.Mathlib.Omega.{arith}
 use borrow.Author.Needs.{needs}
 use Rattle.rules.specs.Answers.{fireTold}
-use Rattle.withdrawal.proofs.Fired.{fire-over, fire-not, fireable, low, counted, within-words, removable, removed-words, code-is, deviation-is, removed-orderly, sleepers, fired-orderly, fire-done}
+use Rattle.withdrawal.proofs.Fired.{fire-over, fire-not, fireable, low, counted, within-words, removable, removed-words, code-is, deviation-is, removed-orderly, sleepers, fired-orderly, fired-nested, fire-done}
 use Rattle.withdrawal.proofs.fire.fire.Statement.{statement}
 use Rattle.withdrawal.proofs.fire.fire.Tie as tie
 
@@ -68,7 +68,7 @@ abandon-requires c κs =
     let a = fireable (c .before .before .before .before .before .before .before .before .before .before .before .before .before .before .before .before .before .before .before .before .before .before .before .before .pre) (c .before .before .before .before .before .before .before .before .before .before .before .before .before .before .before .before .before .before .before .before .is-over .ensures) (c .before .before .before .before .before .before .before .before .before .before .before .before .before .before .before .before .before .before .before .if1 .left) _ (c .before .before .before .before .before .before .before .before .before .before .before .before .before .before .before .before .before .may-fire .ensures) (c .before .before .before .before .before .before .before .before .before .before .before .before .before .before .before .before .if2 .left) in
     let d = removed-words a (c .before .before .before .before .before .before .before .before .before .before .before .before .before .before .track .ensures) (c .before .before .before .before .before .before .before .remove-newest .ensures) in
     let e = deviation-is a (c .before .before .before .before .before .before .before .before .before .before .before .before .before .before .track .ensures) (c .before .before .before .before .before .before .before .before .before .entry-deviation .ensures) in
-    (c .before .before .before .before .before .before .before .before .before .before .before .before .before .before .before .before .before .before .before .before .before .before .before .before .pre .accepts, fired-orderly a d e (c .before .before .before .deviate .ensures))
+    (c .before .before .before .before .before .before .before .before .before .before .before .before .before .before .before .before .before .before .before .before .before .before .before .before .pre .accepts, fired-orderly a d e (c .before .before .before .deviate .ensures), fired-nested a d e (c .before .before .before .deviate .ensures))
 
 same-length-3 : tie.Need-same-length-3
 same-length-3 c = search needs

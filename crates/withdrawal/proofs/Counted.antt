@@ -1,0 +1,158 @@
+-- Busy tracks counted for each host's track by one pass over the tracks. Assumes nothing.
+use mathlib.Core.Path.{_≡_, refl, sym, ap, _∙_, subst}
+use mathlib.Core.Logic.{inl, inr}
+use mathlib.Core.Bool.{Bool, true, false, cond, not, _&&_}
+use mathlib.Core.List.{List}
+use mathlib.Core.Option.{none, some}
+use Prim.Native.Nat.{ℕ, _+_, _<_, _≤_}
+use native.Mathlib.Omega.{arith}
+use lib.Dec.{eqb}
+use lib.ListN.{length, getD, set, replicate, length-set, length-replicate, getD-replicate}
+use lib.Seq.{getD-set-same, getD-set-other}
+use borrow.Author.Tests.{eqb-true, eqb-false, not-true, not-false}
+use Rattle.rules.specs.declared.Counts.{Counts}
+use Rattle.rules.specs.declared.Track.{Track}
+use Rattle.rules.specs.Fold.{countBelow}
+use Rattle.rules.specs.Plan.{Plan, planOf, trackCount, noState, host, owner, isHostedBy}
+use Rattle.rules.specs.Ledger.{Ledger, isAwake, isUndoing, isEmpty}
+use Rattle.rules.specs.Scope.{hasOpenScope}
+use Rattle.rules.specs.Signal.{isBare}
+use Rattle.rules.proofs.Tests.{look, refuted, clash, and-true}
+use Rattle.rules.proofs.Folds.{count-more, count-most}
+use Rattle.rules.proofs.Scopes.{by-host, host-by}
+use Rattle.plan.specs.Passes.{slots}
+use Rattle.plan.proofs.FieldLaws.{track-count}
+use Rattle.ledger.specs.Words.{trackOf}
+use Rattle.ledger.proofs.ReadTracks.{mode-as, empty-as, held-as}
+use Rattle.lookup.specs.Going.{Accepts, ledgerOf, hostTrack}
+use Rattle.lookup.specs.Marks.{openMarks}
+use Rattle.lookup.proofs.Facts.{plan-facts, few-tracks, no-host-track, host-of-track, host-track-low}
+use Rattle.lookup.proofs.Marks.{length-open}
+use Rattle.lookup.proofs.Turns.{open-read}
+use Rattle.withdrawal.specs.Scopes.{isBusy, busyTracks, Counted}
+
+-- undoing and holding nothing, as the code reads it
+module _ (l : Ledger) (t : ℕ) {k : Track} (e : k ≡ trackOf (l t)) {r : Bool} (f : r ≡ isUndoing (k .mode)) where
+  undoes : isUndoing (l t .mode) ≡ r
+  undoes = ap isUndoing (sym (mode-as (l t) e)) ∙ sym f
+
+  pub back-not : not r ≡ true → false ≡ (isUndoing (l t .mode) && isEmpty (l t .held))
+  back-not n = let q = undoes ∙ not-true r n in rw q
+
+  pub back-empty : not r ≡ false → eqb (k .count) 0 ≡ (isUndoing (l t .mode) && isEmpty (l t .held))
+  back-empty n =
+      let q = undoes ∙ not-false r n in
+      elim (look (eqb (k .count) 0)) [
+        | inl z ↦ rw (q, z, empty-as (l t) e (eqb-true (k .count) 0 z))
+        | inr z ↦ rw (q, z, held-as (l t) e (eqb-false (k .count) 0 z))
+      ]
+
+-- asleep, not taken back, and taken back
+module _ (p : Plan) (l : Ledger) (t : ℕ) {r : Bool} (f : r ≡ isAwake (l t .mode)) where
+  pub busy-asleep : not r ≡ true → false ≡ isBusy p l t
+  unfolding isBusy
+  busy-asleep n = let q = sym f ∙ not-true r n in rw q
+
+  module _ (n : not r ≡ false) {b : Bool} (g : b ≡ (isUndoing (l t .mode) && isEmpty (l t .held))) where
+    awake : isAwake (l t .mode) ≡ true
+    awake = sym f ∙ not-false r n
+
+    pub busy-holding : not b ≡ true → true ≡ isBusy p l t
+    unfolding isBusy isBare
+    busy-holding k = let q = sym g ∙ not-true b k in rw (awake, q)
+
+    pub busy-open : not b ≡ false → {o : Bool} → o ≡ hasOpenScope p l t → o ≡ isBusy p l t
+    unfolding isBusy isBare
+    busy-open k {o} h = let q = sym g ∙ not-false b k in rw (awake, q, ← h) (go o)
+      where
+        go : (o : Bool) → o ≡ not (not o)
+        go true = refl
+        go false = refl
+
+-- one track counted
+module _ (bs : List ℕ) (c : Counts) (acc : Accepts bs c) (l : Ledger) (busy : List ℕ) (size : length busy ≡ slots) (t : ℕ) {b : Bool}
+    (f : b ≡ isBusy (planOf bs c) l t) where
+  abbrev p : Plan
+  p = planOf bs c
+
+  -- the counts after the track
+  abbrev Added : List ℕ → Type 0
+  Added r = (length r ≡ slots) × ((u : ℕ) → u < c .tracks → getD r u 0 ≡ getD busy u 0 + cond (isHostedBy p u t && isBusy p l t) 1 0)
+
+  not-added : ((u : ℕ) → (isHostedBy p u t && isBusy p l t) ≡ false) → Added busy
+  not-added h = (size, λ u k. let q = h u in rw q (omega arith))
+
+  pub added-idle : not b ≡ true → Added busy
+  added-idle n = not-added (λ u. let q = sym f ∙ not-true b n in rw q (go (isHostedBy p u t)))
+    where
+      go : (a : Bool) → (a && false) ≡ false
+      go true = refl
+      go false = refl
+
+  module _ (n : not b ≡ false) {v : ℕ} (g : v ≡ hostTrack p t) where
+    pub added-root : v ≡ noState → Added busy
+    added-root z =
+        not-added
+        (λ u.
+        let q : isHostedBy p u t ≡ false = refuted (isHostedBy p u t) (λ i. let (h, e, o) = by-host p u t i in Rattle.rules.proofs.Tests.none-some (no-host-track bs c t acc (sym g ∙ z)) e) in
+        rw q)
+
+    pub added-host : (v ≡ noState → ⊥) → Added (set busy v (getD busy v 0 + 1))
+    added-host z =
+        let (h, e, o) = host-of-track p t (λ y. z (g ∙ y)) in
+        let w : owner p h ≡ v = o ∙ sym g in
+        let low : v < length busy = let q = host-track-low bs c t v acc g z in let r = acc .holds .tracks in omega arith in (
+          length-set busy v (getD busy v 0 + 1) ∙ size,
+          λ u k.
+              elim (look (eqb u v)) [
+                | inl i ↦
+                    let y = eqb-true u v i in
+                    let q : isHostedBy p u t ≡ true = subst (λ a. isHostedBy p a t ≡ true) (w ∙ sym y) (host-by p t h e) in
+                    rw (q, ← f, not-false b n)
+                    (subst (λ a. getD (set busy v (getD busy v 0 + 1)) a 0 ≡ getD busy a 0 + 1) (sym y) (getD-set-same busy v (getD busy v 0 + 1) 0 low))
+                | inr i ↦
+                    let q : isHostedBy p u t ≡ false = refuted (isHostedBy p u t) (λ j. let (r, d, a) = by-host p u t j in eqb-false u v i (sym a ∙ ap (owner p) (same d e) ∙ w)) in
+                    rw q (getD-set-other busy v u (getD busy v 0 + 1) 0 (eqb-false u v i) ∙ omega arith)
+              ],
+        )
+      where
+        same : {o : mathlib.Core.Option.Option ℕ} {a b : ℕ} → o ≡ some a → o ≡ some b → a ≡ b
+        same d e = cc
+
+-- the pass: after the tracks below n each count is the definition's at n
+module _ (p : Plan) (l : Ledger) (size : ℕ) where
+  abbrev pub Below : ℕ → List ℕ → Type 0
+  Below n busy = (length busy ≡ slots) × ((u : ℕ) → u < size → getD busy u 0 ≡ countBelow n (λ t. isHostedBy p u t && isBusy p l t))
+
+  pub below-start : size ≤ slots → Below 0 (replicate slots 0)
+  unfolding countBelow
+  below-start h = (length-replicate {A = ℕ} slots 0, λ u b. getD-replicate slots u 0 0 (omega arith))
+
+  module _ (n : ℕ) (busy : List ℕ) (k : Below n busy) where
+    pub below-most : (u : ℕ) → u < size → getD busy u 0 ≤ n
+    below-most u b = let q = k .1 u b in let r = count-most n (λ t. isHostedBy p u t && isBusy p l t) in omega arith
+
+    pub below-more : (r : List ℕ)
+        → (length r ≡ slots) × ((u : ℕ) → u < size → getD r u 0 ≡ getD busy u 0 + cond (isHostedBy p u n && isBusy p l n) 1 0)
+        → Below (n + 1) r
+    below-more r d = (
+      d .0,
+      λ u b.
+          d .1 u b ∙ ap (λ z. z + cond (isHostedBy p u n && isBusy p l n) 1 0) (k .1 u b)
+          ∙ sym (count-more n (λ t. isHostedBy p u t && isBusy p l t)),
+    )
+
+pub counted : (bs : List ℕ) (c : Counts) → Accepts bs c → (l : Ledger) {opens : List Bool} {busy : List ℕ}
+    → opens ≡ openMarks (planOf bs c) l (c .tracks) → (n : ℕ) → n ≤ c .tracks → c .tracks ≤ n → Below (planOf bs c) l (c .tracks) n busy
+    → Counted (planOf bs c) l (record { opens = opens; busy = busy })
+unfolding busyTracks
+counted bs c acc l {opens} {busy} e n a b k =
+    let q = track-count bs c in
+    let p : Plan = planOf bs c in
+    let same : n ≡ trackCount p = omega arith in
+    record {
+      opens-size = ap length e ∙ length-open p (plan-facts bs c acc) (few-tracks bs c acc) l (c .tracks);
+      busy-size = k .0;
+      opens = λ u d. open-read bs c acc l opens u e (omega arith);
+      busy = λ u d. k .1 u (omega arith) ∙ ap (λ (j : ℕ). countBelow j (λ t. isHostedBy p u t && isBusy p l t)) same;
+    }
