@@ -8,6 +8,7 @@ pub mod Judging
 pub mod PassLaws
 pub mod PassTurns
 pub mod KindTables
+pub mod MarkLaws
 pub mod Reader
 pub mod RecordTable
 pub mod Scanning
