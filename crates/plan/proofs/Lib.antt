@@ -11,4 +11,5 @@ pub mod KindTables
 pub mod MarkLaws
 pub mod Reader
 pub mod RecordTable
+pub mod Runs
 pub mod Scanning
