@@ -1,24 +1,25 @@
--- Transitions chained by their source: those that a chain leaves out have another source, so a walk along it meets every earlier transition
--- with the source and the event of x, if there is one. Assumes nothing.
+-- Numbers chained by a key: those that a chain leaves out have another key, and transitions with one source and one event have one key. So a
+-- walk along the chain of x meets every earlier transition with the source and the event of x, if there is one. Assumes nothing.
 use mathlib.Core.Path.{_≡_, refl, sym, ap, _∙_}
 use mathlib.Core.Bool.{Bool, true, false, cond, _&&_, _||_}
+use mathlib.Core.Logic.{⊎-elim}
 use mathlib.Core.List.{List}
-use Prim.Native.Nat.{ℕ, zero, suc, _+_, _-_, _<_, _≤_}
+use Prim.Native.Nat.{ℕ, zero, suc, _+_, _*_, _-_, _%_, _<_, _≤_}
 use native.Mathlib.Numerals.{add-one}
 use native.Mathlib.Nat.{not-suc-le-zero, eq-or-lt-of-le}
 use native.Mathlib.Omega.{arith}
-use mathlib.Core.Logic.{⊎-elim}
 use lib.ListN.{length, getD, set, replicate, length-replicate, length-set, getD-replicate}
 use lib.Seq.{getD-set-same, getD-set-other}
-use lib.Dec.{eqb}
-use borrow.Author.Tests.{eqb-true, eqb-false, eq-eqb, ne-eqb}
+use lib.Dec.{eqb, ltb}
+use borrow.Author.Tests.{eqb-true, eqb-false, ltb-true, ltb-false, eq-eqb, ne-eqb}
 use Rattle.rules.specs.Fold.{someBelow}
 use Rattle.rules.specs.Plan.{Plan, transition}
 use Rattle.rules.specs.Acceptance.{repeatsEvent}
-use Rattle.rules.proofs.Folds.{some-at}
-use Rattle.plan.specs.Chain.{lastBelow, leaves, Chained}
+use Rattle.rules.proofs.Tests.{look}
+use Rattle.rules.proofs.Folds.{some-none}
+use Rattle.plan.specs.Chain.{lastBelow, has, Chained, Heads, cell}
 
-last-most : (n : ℕ) (f : ℕ → Bool) → lastBelow n f ≤ n
+pub last-most : (n : ℕ) (f : ℕ → Bool) → lastBelow n f ≤ n
 unfolding lastBelow
 last-most zero f = omega arith
 last-most (suc n) f = go (f n) (last-most n f)
@@ -27,7 +28,7 @@ last-most (suc n) f = go (f n) (last-most n f)
     go true h = omega arith
     go false h = omega arith
 
-last-passes : (n : ℕ) (f : ℕ → Bool) (z : ℕ) → lastBelow n f ≡ suc z → f z ≡ true
+pub last-passes : (n : ℕ) (f : ℕ → Bool) (z : ℕ) → lastBelow n f ≡ suc z → f z ≡ true
 unfolding lastBelow
 last-passes zero f z h = absurd (omega arith)
 last-passes (suc n) f z h = go (f n) refl h (last-passes n f z)
@@ -37,34 +38,34 @@ last-passes (suc n) f z h = go (f n) refl h (last-passes n f z)
     go false e q ih = ih q
 
 -- nothing passes above the last one
-last-skips : (f g : ℕ → Bool) → ((z : ℕ) → f z ≡ false → g z ≡ false) → (n : ℕ) → someBelow n g ≡ someBelow (lastBelow n f) g
-unfolding lastBelow someBelow
-last-skips f g h zero = refl
-last-skips f g h (suc n) = go (f n) refl (last-skips f g h n)
+pub last-skips : (n : ℕ) (f : ℕ → Bool) (z : ℕ) → lastBelow n f ≤ z → z < n → f z ≡ false
+unfolding lastBelow
+last-skips zero f z h l = absurd (not-suc-le-zero l)
+last-skips (suc n) f z h l = go (f n) refl h (last-skips n f z)
   where
-    go : (b : Bool) → f n ≡ b → someBelow n g ≡ someBelow (lastBelow n f) g
-        → (someBelow n g || g n) ≡ someBelow (cond b (suc n) (lastBelow n f)) g
-    go true e ih = refl
-    go false e ih = rw (h n e) (or-last (someBelow n g) ∙ ih)
-      where
-        or-last : (b : Bool) → (b || false) ≡ b
-        or-last true = refl
-        or-last false = refl
+    go : (b : Bool) → f n ≡ b → cond b (suc n) (lastBelow n f) ≤ z → (lastBelow n f ≤ z → z < n → f z ≡ false) → f z ≡ false
+    go true e q ih = absurd (omega arith)
+    go false e q ih =
+        ⊎-elim (λ (w : z ≡ n). ap f w ∙ e) (λ (k : z < n). ih q k) (eq-or-lt-of-le (let m : z ≤ n = omega arith in m))
 
 module _ (p : Plan) where
   -- an earlier transition has the source and the event of x
   unfoldable pub shares : ℕ → ℕ → Bool
   shares x y = eqb (transition p y .source) (transition p x .source) && eqb (transition p y .event) (transition p x .event)
 
-  shared : (x y : ℕ) → transition p y .source ≡ transition p x .source → transition p y .event ≡ transition p x .event → shares x y ≡ true
+  pub repeats-some : (x : ℕ) → repeatsEvent p x ≡ someBelow x (shares x)
+  unfolding repeatsEvent shares
+  repeats-some x = refl
+
+  pub shared : (x y : ℕ) → transition p y .source ≡ transition p x .source → transition p y .event ≡ transition p x .event → shares x y ≡ true
   unfolding shares
   shared x y h k = rw (eq-eqb _ _ h, eq-eqb _ _ k)
 
-  other-source : (x y : ℕ) → leaves p (transition p x .source) y ≡ false → shares x y ≡ false
-  unfolding shares leaves
-  other-source x y h = rw h
+  pub other-source : (x y : ℕ) → (transition p y .source ≡ transition p x .source → ⊥) → shares x y ≡ false
+  unfolding shares
+  other-source x y h = rw (ne-eqb _ _ h)
 
-  other-event : (x y : ℕ) → (transition p y .event ≡ transition p x .event → ⊥) → shares x y ≡ false
+  pub other-event : (x y : ℕ) → (transition p y .event ≡ transition p x .event → ⊥) → shares x y ≡ false
   unfolding shares
   other-event x y h = rw (ne-eqb _ _ h) (go (eqb (transition p y .source) (transition p x .source)))
     where
@@ -72,33 +73,42 @@ module _ (p : Plan) where
       go true = refl
       go false = refl
 
-  -- a walk along the chain of x: what is left of it is below y
+  pub cell-at : (x s e : ℕ) → s ≡ transition p x .source → e ≡ transition p x .event → (2 * s + e) % 256 ≡ cell p x
+  unfolding cell
+  cell-at x s e h k = rw (h, k)
+
+  other-cell : (x y : ℕ) → has (cell p) (cell p x) y ≡ false → shares x y ≡ false
+  unfolding shares has cell
+  other-cell x y h =
+      ⊎-elim
+      (λ (a : eqb (transition p y .source) (transition p x .source) ≡ true).
+      other-event x y
+      (λ (e : transition p y .event ≡ transition p x .event).
+      eqb-false (cell p y) (cell p x) h (rw (eqb-true (transition p y .source) (transition p x .source) a, e))))
+      (λ (a : eqb (transition p y .source) (transition p x .source) ≡ false). other-source x y (eqb-false _ _ a))
+      (look (eqb (transition p y .source) (transition p x .source)))
+
+  -- a walk along the chain of x: what it left behind, from y on, does not share source and event with x
   pub record Walk (x y : ℕ) : Type 0 where
     pub within : y ≤ x
-    pub rest : repeatsEvent p x ≡ someBelow y (shares x)
-    pub same : (z : ℕ) → y ≡ suc z → transition p z .source ≡ transition p x .source
+    pub behind : (z : ℕ) → y ≤ z → z < x → shares x z ≡ false
+    pub same : (z : ℕ) → y ≡ suc z → cell p z ≡ cell p x
 
-  walk-at : (x m : ℕ) → m ≤ x → repeatsEvent p x ≡ someBelow m (shares x) → Walk x (lastBelow m (leaves p (transition p x .source)))
+  walk-at : (x m : ℕ) → m ≤ x → ((z : ℕ) → m ≤ z → z < x → shares x z ≡ false) → Walk x (lastBelow m (has (cell p) (cell p x)))
   walk-at x m l h =
       record {
-        within = let q = last-most m (leaves p (transition p x .source)) in omega arith;
-        rest = h ∙ last-skips (leaves p (transition p x .source)) (shares x) (other-source x) m;
-        same = λ z e. unfold leaves in eqb-true _ _ (last-passes m (leaves p (transition p x .source)) z e);
+        within = let q = last-most m (has (cell p) (cell p x)) in omega arith;
+        behind = λ z a b.
+            ⊎-elim (λ (k : ltb z m ≡ true). other-cell x z (last-skips m (has (cell p) (cell p x)) z a (ltb-true z m k)))
+            (λ (k : ltb z m ≡ false). h z (ltb-false z m k) b) (look (ltb z m));
+        same = λ z e. unfold has in eqb-true _ _ (last-passes m (has (cell p) (cell p x)) z e);
       }
 
-  pub walk-start : (x y : ℕ) → y ≡ lastBelow x (leaves p (transition p x .source)) → Walk x y
-  unfolding repeatsEvent shares
-  walk-start x y e = rw e (walk-at x x (omega arith) refl)
+  pub walk-start : (x y : ℕ) → y ≡ lastBelow x (has (cell p) (cell p x)) → Walk x y
+  walk-start x y e = rw e (walk-at x x (omega arith) (λ z a b. absurd (omega arith)))
 
   pub walk-end : (x y : ℕ) → y ≡ 0 → Walk x y → repeatsEvent p x ≡ false
-  unfolding someBelow
-  walk-end x y e w = w .rest ∙ rw e
-
-  pub walk-found : (x y : ℕ) → (y ≡ 0 → ⊥) → Walk x y → transition p (y - 1) .event ≡ transition p x .event → repeatsEvent p x ≡ true
-  walk-found x zero n w h = absurd (n refl)
-  walk-found x (suc z) n w h =
-      let q : suc z - 1 ≡ z = omega arith in
-      w .rest ∙ some-at (suc z) (shares x) z (omega arith) (shared x z (w .same z refl) (rw q at h))
+  walk-end x y e w = repeats-some x ∙ some-none x (shares x) (λ k lt. w .behind k (omega arith) lt)
 
   -- the next of the chain
   pub record Step (x y n : ℕ) : Type 0 where
@@ -106,72 +116,72 @@ module _ (p : Plan) where
     pub lower : n < y
 
   pub walk-on : (x y n : ℕ) (next : List ℕ) → (y ≡ 0 → ⊥) → Walk x y → (transition p (y - 1) .event ≡ transition p x .event → ⊥)
-      → Chained p x next → n ≡ getD next (y - 1) 0 → Step x y n
-  unfolding someBelow Chained
+      → Chained (cell p) x next → n ≡ getD next (y - 1) 0 → Step x y n
+  unfolding Chained
   walk-on x zero n next z w h c e = absurd (z refl)
   walk-on x (suc y) n next z w h c e =
       let i = w .within in
       let q : suc y - 1 ≡ y = omega arith in
       let f : transition p y .event ≡ transition p x .event → ⊥ = λ k. h (rw q k) in
-      let r : repeatsEvent p x ≡ someBelow y (shares x) = w .rest ∙ rw (other-event x y f) (or-last (someBelow y (shares x))) in
-      let m : n ≡ lastBelow y (leaves p (transition p x .source)) =
-      e ∙ rw q (c y (omega arith)) ∙ ap (λ (s : ℕ). lastBelow y (leaves p s)) (w .same y refl) in
-      let l = last-most y (leaves p (transition p x .source)) in
-      record { walk = rw m (walk-at x y (omega arith) r); lower = omega arith }
-    where
-      or-last : (b : Bool) → (b || false) ≡ b
-      or-last true = refl
-      or-last false = refl
+      let m : n ≡ lastBelow y (has (cell p) (cell p x)) =
+      e ∙ rw q (c y (omega arith)) ∙ ap (λ (s : ℕ). lastBelow y (has (cell p) s)) (w .same y refl) in
+      let l = last-most y (has (cell p) (cell p x)) in
+      record {
+        walk =
+            rw m
+            (walk-at x y (omega arith)
+            (λ v a b.
+            ⊎-elim (λ (k : y ≡ v). rw (← k) (other-event x y f)) (λ (k : y < v). w .behind v k b) (eq-or-lt-of-le a)));
+        lower = omega arith;
+      }
 
-  -- for each state the last transition below x that leaves it
-  pub record Heads (x : ℕ) (head next : List ℕ) : Type 0 where
-    pub heads : length head ≡ 128
-    pub nexts : length next ≡ 256
-    pub last : (s : ℕ) → s < 128 → getD head s 0 ≡ lastBelow x (leaves p s)
-    pub chained : Chained p x next
+-- the chains grow by one number
+module _ (key : ℕ → ℕ) (n : ℕ) where
+  pub head-from : (x k : ℕ) (head next : List ℕ) → Heads key n x head next → k < n → k ≡ key x → getD head k 0 ≡ lastBelow x (has key (key x))
+  head-from x k head next h l e = h .last k l ∙ ap (λ (s : ℕ). lastBelow x (has key s)) e
 
-  pub head-from : (x source : ℕ) (head next : List ℕ) → Heads x head next → source < 128 → source ≡ transition p x .source
-      → getD head source 0 ≡ lastBelow x (leaves p (transition p x .source))
-  head-from x source head next h l e = h .last source l ∙ ap (λ (s : ℕ). lastBelow x (leaves p s)) e
+  pub head-most : (x k : ℕ) (head next : List ℕ) → Heads key n x head next → k < n → getD head k 0 ≤ x
+  head-most x k head next h l = rw (h .last k l) (last-most x (has key k))
 
-  pub heads-none : (head next : List ℕ) → head ≡ replicate 128 0 → next ≡ replicate 256 0 → Heads 0 head next
+  pub heads-none : (head next : List ℕ) → head ≡ replicate n 0 → next ≡ replicate 256 0 → Heads key n 0 head next
   unfolding lastBelow Chained
-  heads-none head next h n =
-      rw (h, n)
+  heads-none head next h e =
+      rw (h, e)
       (record {
-        heads = length-replicate {A = ℕ} 128 0;
+        heads = length-replicate {A = ℕ} n 0;
         nexts = length-replicate {A = ℕ} 256 0;
-        last = λ s l. getD-replicate 128 s 0 0 l;
+        last = λ s l. getD-replicate n s 0 0 l;
         chained = λ y l. absurd (not-suc-le-zero l);
       })
 
-  pub heads-more : (x source : ℕ) (head next : List ℕ) → x < 256 → source < 128 → source ≡ transition p x .source → Heads x head next
-      → Heads (x + 1) (set head source (x + 1)) (set next x (getD head source 0))
-  unfolding lastBelow Chained leaves
-  heads-more x source head next lx ls e h =
+  pub heads-all : (x m : ℕ) (head next : List ℕ) → x ≤ m → m ≤ x → Heads key n x head next → Heads key n m head next
+  heads-all x m head next a b h = let e : x ≡ m = omega arith in rw e at h
+
+  pub heads-more : (x k : ℕ) (head next : List ℕ) → x < 256 → k < n → k ≡ key x → Heads key n x head next
+      → Heads key n (x + 1) (set head k (x + 1)) (set next x (getD head k 0))
+  unfolding lastBelow Chained has
+  heads-more x k head next lx lk e h =
       record {
-        heads = length-set head source (x + 1) ∙ h .heads;
-        nexts = length-set next x (getD head source 0) ∙ h .nexts;
-        last = λ s l. rw (add-one x) (lasts s l (eqb (transition p x .source) s) refl);
+        heads = length-set head k (x + 1) ∙ h .heads;
+        nexts = length-set next x (getD head k 0) ∙ h .nexts;
+        last = λ s l. rw (add-one x) (lasts s l (eqb (key x) s) refl);
         chained = chain;
       }
     where
-      lasts : (s : ℕ) → s < 128 → (b : Bool) → eqb (transition p x .source) s ≡ b
-          → getD (set head source (suc x)) s 0 ≡ cond b (suc x) (lastBelow x (leaves p s))
+      lasts : (s : ℕ) → s < n → (b : Bool) → eqb (key x) s ≡ b → getD (set head k (suc x)) s 0 ≡ cond b (suc x) (lastBelow x (has key s))
       lasts s l true q =
-          let w : s ≡ source = sym (eqb-true (transition p x .source) s q) ∙ sym e in
+          let w : s ≡ k = sym (eqb-true (key x) s q) ∙ sym e in
           let i = h .heads in
-          ap (λ (k : ℕ). getD (set head source (suc x)) k 0) w ∙ getD-set-same head source (suc x) 0 (omega arith)
+          ap (λ (v : ℕ). getD (set head k (suc x)) v 0) w ∙ getD-set-same head k (suc x) 0 (omega arith)
       lasts s l false q =
-          getD-set-other head source s (suc x) 0 (λ (w : s ≡ source). eqb-false (transition p x .source) s q (sym e ∙ sym w))
-          ∙ h .last s l
+          getD-set-other head k s (suc x) 0 (λ (w : s ≡ k). eqb-false (key x) s q (sym e ∙ sym w)) ∙ h .last s l
 
-      chain : (y : ℕ) → y < x + 1 → getD (set next x (getD head source 0)) y 0 ≡ lastBelow y (leaves p (transition p y .source))
+      chain : (y : ℕ) → y < x + 1 → getD (set next x (getD head k 0)) y 0 ≡ lastBelow y (has key (key y))
       chain y l =
           ⊎-elim
           (λ (w : y ≡ x).
           let i = h .nexts in
-          ap (λ (k : ℕ). getD (set next x (getD head source 0)) k 0) w ∙ getD-set-same next x (getD head source 0) 0 (omega arith)
-          ∙ h .last source ls ∙ rw (w, e))
-          (λ (k : y < x). getD-set-other next x y (getD head source 0) 0 (λ (w : y ≡ x). absurd (omega arith)) ∙ h .chained y k)
+          ap (λ (v : ℕ). getD (set next x (getD head k 0)) v 0) w ∙ getD-set-same next x (getD head k 0) 0 (omega arith) ∙ h .last k lk
+          ∙ rw (w, e))
+          (λ (v : y < x). getD-set-other next x y (getD head k 0) 0 (λ (w : y ≡ x). absurd (omega arith)) ∙ h .chained y v)
           (eq-or-lt-of-le (let m : y ≤ x = omega arith in m))

@@ -9,6 +9,8 @@ pub mod Judging
 pub mod PassLaws
 pub mod PassTurns
 pub mod KindTables
+pub mod MarkLaws
 pub mod Reader
 pub mod RecordTable
+pub mod Runs
 pub mod Scanning

@@ -1,4 +1,4 @@
--- The scan without its turns: a record that passes leaves the scan as it was from the next place on, so the turns never run out.
+-- The scan without its count of visits: a record that passes leaves the scan as it was from the next place on, so the visits never run out.
 -- What was counted is within the limits and stands in the bytes. Assumes nothing.
 use mathlib.Core.Path.{_≡_, refl, sym, ap, _∙_}
 use mathlib.Core.Bool.{Bool, true, false, not, _||_}
@@ -75,23 +75,23 @@ module _ (bs : List ℕ) where
     scan-short zero l = refl
     scan-short (suc n) l = rw (short l, scanFrom)
 
-    -- one turn: a refusal, the end, or the next record
-    turn-refused : (n r : ℕ) → judgeRecord bs at last c ≡ suc r → scanFrom (suc n) bs at last c ≡ refused (suc r)
+    -- one visit: a refusal, the end, or the next record
+    visit-refused : (n r : ℕ) → judgeRecord bs at last c ≡ suc r → scanFrom (suc n) bs at last c ≡ refused (suc r)
     unfolding scanFrom
-    turn-refused n r h = rw (h, scanFrom)
+    visit-refused n r h = rw (h, scanFrom)
 
-    turn-end : (n : ℕ) → judgeRecord bs at last c ≡ 0 → kindAt bs at ≡ endKind → scanFrom (suc n) bs at last c ≡ counted c
+    visit-end : (n : ℕ) → judgeRecord bs at last c ≡ 0 → kindAt bs at ≡ endKind → scanFrom (suc n) bs at last c ≡ counted c
     unfolding scanFrom
-    turn-end n h e = rw (h, scanFrom, eq-eqb (kindAt bs at) endKind e)
+    visit-end n h e = rw (h, scanFrom, eq-eqb (kindAt bs at) endKind e)
 
-    turn-on : (n : ℕ) → judgeRecord bs at last c ≡ 0 → (kindAt bs at ≡ endKind → ⊥)
+    visit-on : (n : ℕ) → judgeRecord bs at last c ≡ 0 → (kindAt bs at ≡ endKind → ⊥)
         → scanFrom (suc n) bs at last c ≡ scanFrom n bs (at + lengthOf (kindAt bs at)) (kindAt bs at) (oneMore c (kindAt bs at))
     unfolding scanFrom
-    turn-on n h e =
+    visit-on n h e =
         rw (h, scanFrom, ne-eqb (kindAt bs at) endKind e)
         (ap (λ (z : ℕ). scanFrom n bs (at + z) (kindAt bs at) (oneMore c (kindAt bs at))) (sane at last c h .size))
 
-  -- how many turns are allowed does not matter once they are as many as the bytes left
+  -- how many visits are allowed does not matter once they are as many as the bytes left
   enough : (k m at last : ℕ) (c : Counts) → length bs ≤ at + k → length bs ≤ at + m → scanFrom k bs at last c ≡ scanFrom m bs at last c
   enough zero m at last c a b = scan-short at last c zero (omega arith) ∙ sym (scan-short at last c m (omega arith))
   enough (suc k) zero at last c a b = scan-short at last c (suc k) (omega arith) ∙ sym (scan-short at last c zero (omega arith))
@@ -101,19 +101,19 @@ module _ (bs : List ℕ) where
           → ((d l : ℕ) (n : Counts) → length bs ≤ d + k → length bs ≤ d + m → scanFrom k bs d l n ≡ scanFrom m bs d l n)
           → scanFrom (suc k) bs at last c ≡ scanFrom (suc m) bs at last c
       on true h e ih =
-          let q = eqb-true (kindAt bs at) endKind e in turn-end at last c k h q ∙ sym (turn-end at last c m h q)
+          let q = eqb-true (kindAt bs at) endKind e in visit-end at last c k h q ∙ sym (visit-end at last c m h q)
       on false h e ih =
           let q = eqb-false (kindAt bs at) endKind e in
           let l = longer at last c h in
-          turn-on at last c k h q ∙ ih _ _ _ (omega arith) (omega arith) ∙ sym (turn-on at last c m h q)
+          visit-on at last c k h q ∙ ih _ _ _ (omega arith) (omega arith) ∙ sym (visit-on at last c m h q)
 
       go : (r : ℕ) → judgeRecord bs at last c ≡ r
           → ((d l : ℕ) (n : Counts) → length bs ≤ d + k → length bs ≤ d + m → scanFrom k bs d l n ≡ scanFrom m bs d l n)
           → scanFrom (suc k) bs at last c ≡ scanFrom (suc m) bs at last c
       go zero h ih = on (eqb (kindAt bs at) endKind) h refl ih
-      go (suc r) h ih = turn-refused at last c k r h ∙ sym (turn-refused at last c m r h)
+      go (suc r) h ih = visit-refused at last c k r h ∙ sym (visit-refused at last c m r h)
 
-  -- the scan from a place on, with as many turns as bytes are left
+  -- the scan from a place on, with as many visits as bytes are left
   unfoldable pub scanRest : ℕ → ℕ → Counts → Scan
   scanRest at last c = scanFrom (length bs - at) bs at last c
 
@@ -122,18 +122,18 @@ module _ (bs : List ℕ) where
   rest-start = enough (length bs) (length bs - 0) 0 0 noCounts (omega arith) (omega arith)
 
   module _ (at last : ℕ) (c : Counts) where
-    some-turn : at < length bs → scanRest at last c ≡ scanFrom (suc (length bs - at - 1)) bs at last c
+    some-visit : at < length bs → scanRest at last c ≡ scanFrom (suc (length bs - at - 1)) bs at last c
     unfolding scanRest
-    some-turn l = enough (length bs - at) (suc (length bs - at - 1)) at last c (omega arith) (omega arith)
+    some-visit l = enough (length bs - at) (suc (length bs - at - 1)) at last c (omega arith) (omega arith)
 
     pub rest-refused : (r : ℕ) → judgeRecord bs at last c ≡ r → (r ≡ 0 → ⊥) → scanRest at last c ≡ refused r
     unfolding scanRest
     rest-refused zero h n = absurd (n refl)
     rest-refused (suc r) h n =
-        enough (length bs - at) (suc (length bs - at)) at last c (omega arith) (omega arith) ∙ turn-refused at last c (length bs - at) r h
+        enough (length bs - at) (suc (length bs - at)) at last c (omega arith) (omega arith) ∙ visit-refused at last c (length bs - at) r h
 
     pub rest-end : judgeRecord bs at last c ≡ 0 → kindAt bs at ≡ endKind → scanRest at last c ≡ counted c
-    rest-end h e = let q = sane at last c h .head in some-turn (omega arith) ∙ turn-end at last c _ h e
+    rest-end h e = let q = sane at last c h .head in some-visit (omega arith) ∙ visit-end at last c _ h e
 
     pub rest-on : judgeRecord bs at last c ≡ 0 → (kindAt bs at ≡ endKind → ⊥)
         → scanRest at last c ≡ scanRest (at + lengthOf (kindAt bs at)) (kindAt bs at) (oneMore c (kindAt bs at))
@@ -143,7 +143,7 @@ module _ (bs : List ℕ) where
         let f = q .fits in
         let g = q .head in
         let l = longer at last c h in
-        some-turn (omega arith) ∙ turn-on at last c _ h e
+        some-visit (omega arith) ∙ visit-on at last c _ h e
         ∙ enough (length bs - at - 1) (length bs - (at + lengthOf (kindAt bs at))) _ _ _ (omega arith) (omega arith)
 
   pub start-stands : Stands bs 0 noCounts
@@ -160,26 +160,26 @@ module _ (bs : List ℕ) where
       on : (e : Bool) → judgeRecord bs at last c ≡ 0 → eqb (kindAt bs at) endKind ≡ e
           → ((a l : ℕ) (b d : Counts) → Stands bs a b → scanFrom n bs a l b ≡ counted d → Holds bs d) → Holds bs d
       on true j e ih =
-          let q : counted c ≡ counted d = sym (turn-end at last c n j (eqb-true (kindAt bs at) endKind e)) ∙ h in
+          let q : counted c ≡ counted d = sym (visit-end at last c n j (eqb-true (kindAt bs at) endKind e)) ∙ h in
           let w : c ≡ d = cc in
           let g = sane at last c j .head in
           rw (← w) (record { tracks = s .tracks; states = s .states; transitions = s .transitions; room = omega arith })
       on false j e ih =
           let q = eqb-false (kindAt bs at) endKind e in
-          ih _ _ _ d (stands-more at last c j q s) (sym (turn-on at last c n j q) ∙ h)
+          ih _ _ _ d (stands-more at last c j q s) (sym (visit-on at last c n j q) ∙ h)
 
       go : (r : ℕ) → judgeRecord bs at last c ≡ r
           → ((a l : ℕ) (b d : Counts) → Stands bs a b → scanFrom n bs a l b ≡ counted d → Holds bs d) → Holds bs d
       go zero j ih = on (eqb (kindAt bs at) endKind) j refl ih
       go (suc r) j ih =
-          let q : refused (suc r) ≡ counted d = sym (turn-refused at last c n r j) ∙ h in
+          let q : refused (suc r) ≡ counted d = sym (visit-refused at last c n r j) ∙ h in
           let z : _≡_ {A = ℕ} 0 1 = cc in absurd (omega arith)
 
   pub scan-holds : (c : Counts) → scan bs ≡ counted c → Holds bs c
   unfolding scan
   scan-holds c h = from-holds (length bs) 0 0 noCounts c start-stands h
 
-  -- what a turn of the loop keeps, from the record at a place to the next, in the numbers that it read
+  -- what a visit of the loop keeps, from the record at a place to the next, in the numbers that it read
   pub record Next (at last : ℕ) (c : Counts) (kind len : ℕ) (more : Counts) : Type 0 where
     pub stands : Stands bs (at + len) more
     pub rest : scanRest at last c ≡ scanRest (at + len) kind more

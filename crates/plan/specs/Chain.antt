@@ -1,9 +1,9 @@
--- Transitions chained by their source: from each to the one before it with the same source. Assumes nothing.
+-- Numbers chained by a key: from each to the one before it with the same key. Assumes nothing.
 use mathlib.Core.Path.{_≡_}
 use mathlib.Core.Bool.{Bool, cond}
 use mathlib.Core.List.{List}
-use Prim.Native.Nat.{ℕ, zero, suc, _<_}
-use lib.ListN.{getD}
+use Prim.Native.Nat.{ℕ, zero, suc, _+_, _*_, _%_, _<_}
+use lib.ListN.{length, getD}
 use lib.Dec.{eqb}
 use Rattle.rules.specs.Plan.{Plan, transition}
 
@@ -12,9 +12,23 @@ unfoldable pub lastBelow : ℕ → (ℕ → Bool) → ℕ
 lastBelow zero f = 0
 lastBelow (suc n) f = cond (f n) (suc n) (lastBelow n f)
 
-unfoldable pub leaves : Plan → ℕ → ℕ → Bool
-leaves p s x = eqb (transition p x .source) s
+unfoldable pub has : (ℕ → ℕ) → ℕ → ℕ → Bool
+has key k x = eqb (key x) k
 
--- each transition below x is chained to the last one before it with its source
-unfoldable pub Chained : Plan → ℕ → List ℕ → Type 0
-Chained p x next = (y : ℕ) → y < x → getD next y 0 ≡ lastBelow y (leaves p (transition p y .source))
+-- each number below x is chained to the last one before it with its key
+unfoldable pub Chained : (ℕ → ℕ) → ℕ → List ℕ → Type 0
+Chained key x next = (y : ℕ) → y < x → getD next y 0 ≡ lastBelow y (has key (key y))
+
+-- and from each key below n to the last number below x that has it
+pub record Heads (key : ℕ → ℕ) (n x : ℕ) (head next : List ℕ) : Type 0 where
+  pub heads : length head ≡ n
+  pub nexts : length next ≡ 256
+  pub last : (k : ℕ) → k < n → getD head k 0 ≡ lastBelow x (has key k)
+  pub chained : Chained key x next
+
+-- the keys of transitions: their source, and a number below 256 that source and event give
+unfoldable pub sourceOf : Plan → ℕ → ℕ
+sourceOf p x = transition p x .source
+
+unfoldable pub cell : Plan → ℕ → ℕ
+cell p x = (2 * transition p x .source + transition p x .event) % 256

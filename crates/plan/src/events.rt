@@ -1,5 +1,6 @@
-// Refusal 15: two transitions share source and event. Transitions are chained by their source, so that each is compared with the earlier
-// ones of its own source and with no others. In a chain a transition is told by one more than its number, and 0 is the end.
+// Refusal 15: two transitions share source and event. Transitions are chained by a cell that source and event give, and each is compared with
+// the earlier ones of its cell. Where that takes too many comparisons, or two compare equal, the plan is judged by marks for the events.
+// In a chain a transition is told by one more than its number, and 0 is the end.
 use crate::fields::event_of;
 use crate::fields::source_of;
 use rules::Counts;
@@ -7,23 +8,102 @@ ghost use mathlib.Core.Path.{_≡_};
 ghost use mathlib.Core.Bool.{false};
 ghost use Prim.Native.Nat.{_<_};
 ghost use Rattle.rules.specs.Fold.{someBelow};
-ghost use Rattle.rules.specs.Plan.{planOf, transition};
+ghost use Rattle.rules.specs.Plan.{planOf};
 ghost use Rattle.rules.specs.Acceptance.{badTransition, repeatsEvent};
 ghost use Rattle.plan.specs.Holds.{Holds};
-ghost use Rattle.plan.specs.Chain.{lastBelow, leaves, Chained};
+ghost use Rattle.plan.specs.Chain.{sourceOf, cell, lastBelow, has, Chained, Heads};
 
-// Whether an earlier transition has the source and the event of `x`; `from` is the last one with its source.
-pub fn repeats_event(plan: &[u8], c: Counts, x: usize, from: usize, next: &[usize; 256]) -> bool
-    requires { ⌜ Holds (now plan) c × (x < c .transitions) × (from ≡ lastBelow x (leaves (planOf (now plan) c) (transition (planOf (now plan) c) x .source))) × Chained (planOf (now plan) c) x (now next) ⌝ }
-    ensures { λ r. ⌜ r ≡ repeatsEvent (planOf (now (plan .entry)) c) x ⌝ }
+// So many comparisons are quicker than marks.
+const MOST_COMPARISONS: usize = 512;
+
+// For each key the last number that has it, and from each number to the one before it with the same key.
+struct SourceChains {
+    head: [u16; 128],
+    next: [u16; 256],
+}
+
+fn cell_of(plan: &[u8], c: Counts, x: usize) -> usize
+    requires { ⌜ Holds (now plan) c × (x < c .transitions) ⌝ }
+    ensures { λ r. ⌜ (r ≡ cell (planOf (now (plan .entry)) c) x) × (r < 256) ⌝ }
+{
+    let source = source_of(plan, c, x) as usize;
+    let event = event_of(plan, c, x) as usize;
+    (2 * source + event) % 256
+}
+
+// What is left of the comparisons allowed after `x` is compared with the earlier transitions of its cell, `from` being the last of them:
+// 0 where they run out or one has the event of `x`.
+fn comparisons_left(
+    plan: &[u8],
+    c: Counts,
+    x: usize,
+    from: usize,
+    next: &[u16; 256],
+    allowed: usize,
+) -> usize
+    requires { ⌜ Holds (now plan) c × (x < c .transitions) × (from ≡ lastBelow x (has (cell (planOf (now plan) c)) (cell (planOf (now plan) c) x))) × Chained (cell (planOf (now plan) c)) x (now next) ⌝ }
+    ensures { λ r. ⌜ ((r ≡ 0 → ⊥) → repeatsEvent (planOf (now (plan .entry)) c) x ≡ false) ⌝ }
 {
     let event = event_of(plan, c, x);
+    let mut left = allowed;
     let mut y = from;
     while y != 0 {
-        if event_of(plan, c, y - 1) == event {
-            return true;
+        if left == 0 {
+            return 0;
         }
-        y = next[y - 1];
+        if event_of(plan, c, y - 1) == event {
+            return 0;
+        }
+        left -= 1;
+        y = next[y - 1] as usize;
+    }
+    left
+}
+
+// The transitions chained by their source. Every source is a state, as 13 has it.
+fn source_chains(plan: &[u8], c: Counts) -> SourceChains
+    requires { ⌜ Holds (now plan) c × (someBelow (c .transitions) (badTransition (planOf (now plan) c)) ≡ false) ⌝ }
+    ensures { λ r. ⌜ Heads (sourceOf (planOf (now (plan .entry)) c)) 128 (c .transitions) (r .head) (r .next) ⌝ }
+{
+    let transitions = c.transitions;
+    let mut head: [u16; 128] = [0; 128];
+    let mut next: [u16; 256] = [0; 256];
+    let mut x: usize = 0;
+    while x < transitions {
+        let source = source_of(plan, c, x) as usize;
+        next[x] = head[source];
+        head[source] = (x + 1) as u16;
+        x += 1;
+    }
+    SourceChains {
+        head: head,
+        next: next,
+    }
+}
+
+// Source by source, an event is marked with one more than the source's number.
+fn some_marked_event(plan: &[u8], c: Counts) -> bool
+    requires { ⌜ Holds (now plan) c × (someBelow (c .transitions) (badTransition (planOf (now plan) c)) ≡ false) ⌝ }
+    ensures { λ r. ⌜ r ≡ someBelow (c .transitions) (repeatsEvent (planOf (now (plan .entry)) c)) ⌝ }
+{
+    let chains = source_chains(plan, c);
+    let head = chains.head;
+    let next = chains.next;
+    let states = c.states;
+    let mut marks: [u8; 65536] = [0; 65536];
+    let mut s: usize = 0;
+    while s < states {
+        let mark = (s + 1) as u8;
+        let mut y = head[s] as usize;
+        while y != 0 {
+            let event = event_of(plan, c, y - 1) as usize;
+            if marks[event] == mark {
+                return true;
+            }
+            marks[event] = mark;
+            y = next[y - 1] as usize;
+        }
+        s += 1;
     }
     false
 }
@@ -34,17 +114,19 @@ pub fn some_repeated_event(plan: &[u8], c: Counts) -> bool
     ensures { λ r. ⌜ r ≡ someBelow (c .transitions) (repeatsEvent (planOf (now (plan .entry)) c)) ⌝ }
 {
     let transitions = c.transitions;
-    let mut head: [usize; 128] = [0; 128];
-    let mut next: [usize; 256] = [0; 256];
+    let mut head: [u16; 256] = [0; 256];
+    let mut next: [u16; 256] = [0; 256];
+    let mut left = MOST_COMPARISONS;
     let mut x: usize = 0;
     while x < transitions {
-        let source = source_of(plan, c, x) as usize;
-        let from = head[source];
-        if repeats_event(plan, c, x, from, &next) {
-            return true;
+        let cell = cell_of(plan, c, x);
+        let from = head[cell];
+        left = comparisons_left(plan, c, x, from as usize, &next, left);
+        if left == 0 {
+            return some_marked_event(plan, c);
         }
         next[x] = from;
-        head[source] = x + 1;
+        head[cell] = (x + 1) as u16;
         x += 1;
     }
     false

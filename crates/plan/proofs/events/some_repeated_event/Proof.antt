@@ -1,56 +1,48 @@
--- The invariant: no transition so far repeats an event, and the transitions so far are chained by their source. The measure is those left.
+-- The invariant: no transition so far repeats an event, and the transitions so far are chained by their cell. The measure is those left.
 -- Assumes nothing.
-use Rattle.plan.proofs.ChainLaws.{head-from}
-use mathlib.Core.Path.{_≡_, refl, sym, _∙_}
+use mathlib.Core.Path.{_≡_, refl, sym}
 use mathlib.Core.Bool.{false}
 use Prim.Native.Nat.{_≤_, _-_}
 use Rattle.rules.specs.Fold.{someBelow}
 use Rattle.rules.specs.Plan.{planOf}
 use Rattle.rules.specs.Acceptance.{repeatsEvent}
-use Rattle.rules.proofs.Folds.{some-at}
+use Rattle.plan.specs.Chain.{cell, Heads}
 use Rattle.plan.proofs.Searches.{none-more, none-all}
-use Rattle.plan.proofs.Judging.{source-within}
-use Rattle.plan.proofs.ChainLaws.{Heads, heads-none, heads-more}
+use Rattle.plan.proofs.ChainLaws.{head-from, head-most, heads-none, heads-more}
 use borrow.Author.Needs.{needs}
 use Rattle.plan.proofs.events.some_repeated_event.Statement.{statement}
 use Rattle.plan.proofs.events.some_repeated_event.Tie as tie
 
 abbrev Inv-loop : tie.InvT-loop
-Inv-loop plan c transitions head₀ next₀ x₀ head next x = (x ≤ transitions) × (someBelow x (repeatsEvent (planOf plan c)) ≡ false) × Heads (planOf plan c) x head next
+Inv-loop plan c transitions head₀ next₀ left₀ x₀ head next left x = (x ≤ transitions) × (someBelow x (repeatsEvent (planOf plan c)) ≡ false) × Heads (cell (planOf plan c)) 256 x head next
 
 abbrev μ-loop : tie.MeasureT-loop
-μ-loop plan c transitions head₀ next₀ x₀ head next x = transitions - x
+μ-loop plan c transitions head₀ next₀ left₀ x₀ head next left x = transitions - x
 
 loop-holds : tie.Need-loop-holds Inv-loop μ-loop
 unfolding someBelow
-loop-holds c = (search needs, refl, heads-none _ _ _ refl refl)
+loop-holds c = (search needs, refl, heads-none _ _ _ _ refl refl)
 
-source-of-requires : tie.Need-source-of-requires Inv-loop μ-loop
-source-of-requires c κs = search needs
-
-cast-source : tie.Need-cast-source Inv-loop μ-loop
-cast-source c = search needs
+cell-of-requires : tie.Need-cell-of-requires Inv-loop μ-loop
+cell-of-requires c κs = search needs
 
 mul-from : tie.Need-mul-from Inv-loop μ-loop
-mul-from c =
-    let l = source-within _ _ (c .before .before .before .before .pre .1) (c .before .before .loop .x) (search needs) in
-    let e = c .source-of .ensures in
-    search needs
+mul-from c = search needs
 
 array-read-from : tie.Need-array-read-from Inv-loop μ-loop
-array-read-from c =
-    let l = source-within _ _ (c .before .before .before .before .pre .1) (c .before .before .loop .x) (search needs) in
-    let e = c .source-of .ensures in
-    search needs
+array-read-from c = search needs
 
-repeats-event-requires : tie.Need-repeats-event-requires Inv-loop μ-loop
-repeats-event-requires c κs =
-    let l = source-within _ _ (c .before .before .before .before .before .pre .1) (c .before .before .before .loop .x) (search needs) in
-    let e = c .before .source-of .ensures in
-    (search needs, search needs, head-from _ _ _ _ _ (c .before .before .before .loop .inv .2) (search needs) e, c .before .before .before .loop .inv .2 .chained)
+cast-comparisons-left : tie.Need-cast-comparisons-left Inv-loop μ-loop
+cast-comparisons-left c = let q = head-most _ _ _ _ _ _ (c .before .before .loop .inv .2) (c .cell-of .ensures .1) in search needs
+
+comparisons-left-requires : tie.Need-comparisons-left-requires Inv-loop μ-loop
+comparisons-left-requires c κs = (search needs, search needs, head-from _ _ _ _ _ _ (c .before .before .before .loop .inv .2) (c .before .cell-of .ensures .1) (c .before .cell-of .ensures .0), c .before .before .before .loop .inv .2 .chained)
+
+some-marked-event-requires : tie.Need-some-marked-event-requires Inv-loop μ-loop
+some-marked-event-requires c κs = search needs
 
 returns : tie.Need-returns Inv-loop μ-loop
-returns c = sym (some-at _ _ (c .before .before .before .before .before .loop .x) (search needs) (sym (c .before .repeats-event .ensures) ∙ c .if1 .taken))
+returns c = c .some-marked-event .ensures
 
 mul-next : tie.Need-mul-next Inv-loop μ-loop
 mul-next c = search needs
@@ -61,17 +53,14 @@ array-write-next c = search needs
 add-head : tie.Need-add-head Inv-loop μ-loop
 add-head c = search needs
 
+cast-head : tie.Need-cast-head Inv-loop μ-loop
+cast-head c = search needs
+
 mul-head : tie.Need-mul-head Inv-loop μ-loop
-mul-head c =
-    let l = source-within _ _ (c .before .before .before .before .before .before .before .pre .1) (c .before .before .before .before .before .loop .x) (search needs) in
-    let e = c .before .before .before .source-of .ensures in
-    search needs
+mul-head c = search needs
 
 array-write-head : tie.Need-array-write-head Inv-loop μ-loop
-array-write-head c =
-    let l = source-within _ _ (c .before .before .before .before .before .before .before .pre .1) (c .before .before .before .before .before .loop .x) (search needs) in
-    let e = c .before .before .before .source-of .ensures in
-    search needs
+array-write-head c = search needs
 
 add-x : tie.Need-add-x Inv-loop μ-loop
 add-x c = search needs
@@ -80,13 +69,7 @@ loop-less : tie.Need-loop-less Inv-loop μ-loop
 loop-less c = search needs
 
 loop-again : tie.Need-loop-again Inv-loop μ-loop
-loop-again c =
-    let l = source-within _ _ (c .before .before .before .before .before .before .before .pre .1) (c .before .before .before .before .before .loop .x) (search needs) in
-    let e = c .before .before .before .source-of .ensures in (
-      search needs,
-      none-more _ _ (c .before .before .before .before .before .loop .inv .1) (sym (c .before .repeats-event .ensures) ∙ c .if1 .left),
-      heads-more _ _ _ _ _ (search needs) (search needs) e (c .before .before .before .before .before .loop .inv .2),
-    )
+loop-again c = (search needs, none-more _ _ (c .before .before .before .before .before .loop .inv .1) (c .before .comparisons-left .ensures (c .if1 .left)), heads-more _ _ _ _ _ _ (search needs) (c .before .before .before .cell-of .ensures .1) (c .before .before .before .cell-of .ensures .0) (c .before .before .before .before .before .loop .inv .2))
 
 returns-2 : tie.Need-returns-2 Inv-loop μ-loop
 returns-2 c = sym (none-all _ _ _ (search needs) (search needs) (c .before .loop .inv .1))
@@ -98,15 +81,17 @@ some-repeated-event-spec =
     Inv-loop
     μ-loop
     loop-holds
-    source-of-requires
-    cast-source
+    cell-of-requires
     mul-from
     array-read-from
-    repeats-event-requires
+    cast-comparisons-left
+    comparisons-left-requires
+    some-marked-event-requires
     returns
     mul-next
     array-write-next
     add-head
+    cast-head
     mul-head
     array-write-head
     add-x
