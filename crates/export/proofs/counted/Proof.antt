@@ -22,7 +22,7 @@ add-result-2 c = search needs
 
 returns : tie.Need-returns
 unfolding bit16 bit32 bit48
-returns c = search needs
+returns c = omega arith
 
 pub counted-spec : {M : Type 1} → statement M
 counted-spec = tie.close (tie.spec mul-result mul-result-2 add-result mul-result-3 add-result-2 returns)
