@@ -18,7 +18,7 @@ fn installed() -> Option<PathBuf> {
     Some(PathBuf::from(folder.trim())).filter(|_| output.status.success())
 }
 
-fn has_archive(folder: &PathBuf) -> bool {
+fn has_archive(folder: &Path) -> bool {
     folder.join("libretraction.a").is_file()
 }
 
@@ -28,7 +28,7 @@ fn main() {
     let named = env::var_os("RETRACTION_LIB_DIR").map(PathBuf::from);
     let built = Path::new(env!("CARGO_MANIFEST_DIR")).join("../../target/staticlib");
     let folders = [named, installed(), Some(built)];
-    let folder = match folders.into_iter().flatten().find(has_archive) {
+    let folder = match folders.into_iter().flatten().find(|f| has_archive(f)) {
         Some(folder) => folder,
         None => {
             eprintln!("{MISSING}");
