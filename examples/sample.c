@@ -3,7 +3,7 @@
 
 #include "retraction.h"
 
-enum { TRACKS = 3, ROOT = 65535, NONE = 65535 };
+enum { TRACKS = 3, ROOT = RETRACTION_NONE, NONE = RETRACTION_NONE };
 
 /* Records: length, kind, fields; the plan's bytes are these words, little-endian. */
 static const uint16_t records[] = {
@@ -22,7 +22,7 @@ static const uint16_t records[] = {
 enum { WORDS = sizeof records / sizeof records[0] };
 
 static uint8_t plan[2 * WORDS];
-static uint16_t ledger[TRACKS * RETRACTION_TRACK_WORDS];
+static uint16_t ledger[RETRACTION_LEDGER_WORDS(TRACKS)];
 static const size_t room = sizeof ledger / sizeof ledger[0];
 
 static void lay_out_plan(void)
@@ -89,12 +89,14 @@ int main(void)
 {
     unsigned firings = 0;
     lay_out_plan();
+    uint64_t read = retraction_read(plan, sizeof plan);
     uint64_t begun = retraction_begin(plan, sizeof plan, ledger, room);
     if (retraction_refusal(begun) != 0) {
         printf("R %u\n", retraction_refusal(begun));
-        return 0;
+        fprintf(stderr, "sample: %s\n", retraction_refusal_text(retraction_refusal(begun)));
+        return 1;
     }
-    printf("PLAN 3 8 5\n");
+    printf("PLAN %u %u %u\n", retraction_first(read), retraction_second(read), retraction_third(read));
     print_event(10);
     print_event(11);
     print_event(12);

@@ -1,16 +1,24 @@
-/* The retraction manager's calls. Link with libexport.a, which `rt staticlib export` writes to target/staticlib/.
+/* The retraction manager's calls. Link with libretraction.a: `pkg-config --cflags --libs retraction`.
  *
- * Every call is given the plan's bytes and the lent ledger, 67 words for each track of the plan; words beyond are never touched. Any bytes
- * and any words may be given. A refused call changes no word. The plan and the ledger must not overlap, and nothing else may write to
- * either during a call. A pointer must not be null, even where its length is 0. No call allocates, keeps a pointer or prints.
+ * Every call is given the plan's bytes, and all but read the lent ledger, 67 words for each track of the plan; words beyond are never
+ * touched. Any bytes and any words may be given. A refused call changes no word. docs/FORMATS.md says what the bytes and the words are,
+ * docs/REFUSALS.md what each refusal means.
+ *
+ * What a caller owes: a pointer is not null, even where its length is 0, and holds so many bytes or words; the ledger's is at an even
+ * address; the plan and the ledger do not overlap; and nothing else writes to either during a call. A ledger is kept with the plan that it
+ * was begun under.
+ *
+ * The calls are reentrant and thread-safe: none allocates, keeps a pointer, prints, or has any state but the ledger lent to it. A ledger's
+ * words have the machine's own byte order; a plan's bytes are little-endian everywhere.
  *
  * The answer is one number. Its bits 0 to 15 are the refusal, 0 where the call was accepted; a refusal stands alone.
  *
- *   call      bits 16 to 31    bits 32 to 47
- *   begin     0                0
- *   event     tracks moved     scopes closed
- *   signal    tracks turned    0
- *   fire      code             deviation, 65535 for none
+ *   call      bits 16 to 31    bits 32 to 47    bits 48 to 63
+ *   read      tracks           states           transitions
+ *   begin     0                0                0
+ *   event     tracks moved     scopes closed    0
+ *   signal    tracks turned    0                0
+ *   fire      code             deviation        0                (65535 for no deviation)
  *   ready     0                bits 32 to 63: bit n of that number is set exactly if track n may be fired
  *
  * Entries answers otherwise: bits 0 to 15 are the count of words of the part of the ledger that holds the track's pairs of code and
@@ -26,9 +34,48 @@
 extern "C" {
 #endif
 
-/* Words of a ledger for each track. */
-#define RETRACTION_TRACK_WORDS 67
+/* 10000 times the major version, 100 times the minor one, and the patch. */
+#define RETRACTION_VERSION 100
+#define RETRACTION_VERSION_TEXT "0.1.0"
 
+/* Words of a ledger for each track, and of a ledger of so many tracks. Read tells a plan's tracks. */
+#define RETRACTION_TRACK_WORDS 67
+#define RETRACTION_LEDGER_WORDS(tracks) ((size_t)RETRACTION_TRACK_WORDS * (size_t)(tracks))
+
+/* The most tracks that a plan has: a ledger of RETRACTION_LEDGER_WORDS(RETRACTION_MOST_TRACKS) words serves every plan. */
+#define RETRACTION_MOST_TRACKS 32
+
+/* A host, or a deviation, that is none. */
+#define RETRACTION_NONE 65535
+
+/* The refusals. 1 and 23 are the program's alone. */
+enum retraction_refusals {
+    RETRACTION_TOO_LONG = 1,
+    RETRACTION_NO_RECORD = 2,
+    RETRACTION_KIND = 3,
+    RETRACTION_LENGTH = 4,
+    RETRACTION_CUT_SHORT = 5,
+    RETRACTION_TOO_MANY = 6,
+    RETRACTION_AFTER_END = 7,
+    RETRACTION_NO_TRACK = 8,
+    RETRACTION_STATE = 9,
+    RETRACTION_HOST = 10,
+    RETRACTION_FIRST_STATE = 11,
+    RETRACTION_HOSTING = 12,
+    RETRACTION_TRANSITION = 13,
+    RETRACTION_DEVIATION = 14,
+    RETRACTION_SAME_EVENT = 15,
+    RETRACTION_HEIGHT = 16,
+    RETRACTION_FEW_WORDS = 17,
+    RETRACTION_UNSOUND = 18,
+    RETRACTION_EVENT_ZERO = 19,
+    RETRACTION_OVER = 20,
+    RETRACTION_FULL = 21,
+    RETRACTION_NOT_READY = 22,
+    RETRACTION_BROKEN_RECORD = 23
+};
+
+uint64_t retraction_read(const uint8_t *plan, size_t plan_len);
 uint64_t retraction_begin(const uint8_t *plan, size_t plan_len, uint16_t *ledger, size_t ledger_len);
 uint64_t retraction_event(const uint8_t *plan, size_t plan_len, uint16_t *ledger, size_t ledger_len, uint16_t event);
 uint64_t retraction_signal(const uint8_t *plan, size_t plan_len, uint16_t *ledger, size_t ledger_len);
@@ -40,9 +87,42 @@ uint64_t retraction_entries(const uint8_t *plan, size_t plan_len, const uint16_t
 static inline uint16_t retraction_refusal(uint64_t answer) { return (uint16_t)answer; }
 static inline uint16_t retraction_first(uint64_t answer) { return (uint16_t)(answer >> 16); }
 static inline uint16_t retraction_second(uint64_t answer) { return (uint16_t)(answer >> 32); }
+static inline uint16_t retraction_third(uint64_t answer) { return (uint16_t)(answer >> 48); }
 static inline uint32_t retraction_tracks(uint64_t answer) { return (uint32_t)(answer >> 32); }
 static inline uint16_t retraction_part_count(uint64_t answer) { return (uint16_t)answer; }
 static inline uint32_t retraction_part_index(uint64_t answer) { return (uint32_t)(answer >> 16); }
+
+/* What a refusal means, in a few words. */
+static inline const char *retraction_refusal_text(uint16_t refusal)
+{
+    switch (refusal) {
+    case 0: return "accepted";
+    case RETRACTION_TOO_LONG: return "the plan file or the journal is longer than 32768 bytes";
+    case RETRACTION_NO_RECORD: return "fewer than 4 bytes remain where a record must start";
+    case RETRACTION_KIND: return "a record's kind is not 1 to 4, or is lower than the one before";
+    case RETRACTION_LENGTH: return "a record's length is not that of its kind";
+    case RETRACTION_CUT_SHORT: return "a record runs past the last byte";
+    case RETRACTION_TOO_MANY: return "there is a 33rd track, a 129th state or a 257th transition";
+    case RETRACTION_AFTER_END: return "bytes follow the end record";
+    case RETRACTION_NO_TRACK: return "the plan has no track";
+    case RETRACTION_STATE: return "a state names no track, or its final field is above 1";
+    case RETRACTION_HOST: return "a host is neither 65535 nor a state of a lower-numbered track";
+    case RETRACTION_FIRST_STATE: return "a track has no state, or its first state is final";
+    case RETRACTION_HOSTING: return "a final state hosts a track, or a state that hosts none has a replacement";
+    case RETRACTION_TRANSITION: return "a transition's source, destination or event does not fit";
+    case RETRACTION_DEVIATION: return "a deviation does not fit its transition";
+    case RETRACTION_SAME_EVENT: return "two transitions share source and event";
+    case RETRACTION_HEIGHT: return "a track's height is above 8";
+    case RETRACTION_FEW_WORDS: return "the ledger has too few words for the plan";
+    case RETRACTION_UNSOUND: return "the ledger is not sound under this plan";
+    case RETRACTION_EVENT_ZERO: return "the event is 0";
+    case RETRACTION_OVER: return "the ledger is over";
+    case RETRACTION_FULL: return "a track that the event gives an entry holds 32 already";
+    case RETRACTION_NOT_READY: return "the track may not be fired now, or does not exist";
+    case RETRACTION_BROKEN_RECORD: return "a journal record is broken";
+    default: return "no such refusal";
+    }
+}
 
 #ifdef __cplusplus
 }

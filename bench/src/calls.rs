@@ -3,7 +3,8 @@
 use std::hint::black_box;
 use std::time::Instant;
 
-use conformance::manager;
+use retraction::raw;
+use second::manager;
 
 use crate::cases::{median, Call, Given, Size};
 
@@ -17,11 +18,11 @@ const LEDGERS: usize = 32;
 fn proved(plan: &[u8], given: &mut Given, call: Call) {
     let Given { words, argument } = given;
     match call {
-        Call::Begin => drop(black_box(retraction::begin(plan, words))),
-        Call::Event => drop(black_box(retraction::event(plan, words, *argument))),
-        Call::Signal => drop(black_box(retraction::signal(plan, words))),
-        Call::Fire => drop(black_box(retraction::fire(plan, words, *argument))),
-        Call::Ready => drop(black_box(retraction::ready(plan, words))),
+        Call::Begin => drop(black_box(raw::begin(plan, words))),
+        Call::Event => drop(black_box(raw::event(plan, words, *argument))),
+        Call::Signal => drop(black_box(raw::signal(plan, words))),
+        Call::Fire => drop(black_box(raw::fire(plan, words, *argument))),
+        Call::Ready => drop(black_box(raw::ready(plan, words))),
     }
 }
 

@@ -1,12 +1,12 @@
 //! What is timed: plans of three sizes, and ledgers that a history really
 //! left, with a call that does something on each.
 
-use conformance::automaton;
-use conformance::generate::rng::Rng;
-use conformance::generate::{journals, plans};
-use conformance::journal::{self, Record};
-use conformance::ledger::Ledger;
-use conformance::plan::{self, members, Plan};
+use second::journal::{self, Record};
+use second::ledger::Ledger;
+use second::plan::{self, members, Plan};
+use second::rules;
+use testing::generate::rng::Rng;
+use testing::generate::{journals, plans};
 
 /// The calls timed.
 #[derive(Clone, Copy, Debug, PartialEq, Eq)]
@@ -102,7 +102,7 @@ impl Size {
         for index in 0..40 {
             let mut rng = Rng::for_case(1, 22, index);
             let (records, _) = journals::history(&mut rng, &self.read);
-            let mut ledger = automaton::begin(&self.read);
+            let mut ledger = rules::begin(&self.read);
             for record in records {
                 if let Some(argument) = self.argument(call, &ledger, record) {
                     let words = ledger.words();
@@ -123,10 +123,10 @@ impl Size {
         if ledger.is_over() {
             return None;
         }
-        let ready = || members(automaton::ready(&self.read, ledger)).next();
+        let ready = || members(rules::ready(&self.read, ledger)).next();
         match (call, record) {
             (Call::Event, Record::Event(event)) => {
-                let moves = automaton::chosen_moves(&self.read, ledger, event);
+                let moves = rules::chosen_moves(&self.read, ledger, event);
                 (!moves.is_empty()).then_some(event)
             }
             (Call::Signal, Record::Signal) => Some(0),
@@ -140,7 +140,7 @@ impl Size {
     /// and then firings of the lowest ready track.
     pub fn journal(&self, bytes: usize) -> Vec<u8> {
         let mut journal = Vec::new();
-        let mut ledger = automaton::begin(&self.read);
+        let mut ledger = rules::begin(&self.read);
         let mut rng = Rng::for_case(1, 23, 0);
         while journal.len() < bytes / 4 * 3 {
             let event = self.lively_event(&mut rng, &ledger);
@@ -159,12 +159,12 @@ impl Size {
 
     /// Whether events still move something after many.
     fn stays_lively(&self) -> bool {
-        let mut ledger = automaton::begin(&self.read);
+        let mut ledger = rules::begin(&self.read);
         let mut rng = Rng::for_case(1, 24, 0);
         (0..400).all(|_| {
             let event = self.lively_event(&mut rng, &ledger);
-            let done = automaton::event(&self.read, &mut ledger, event);
-            done.is_ok_and(|figures| figures.moved > 0)
+            let done = rules::event(&self.read, &mut ledger, event);
+            done.map_or(false, |figures| figures.moved > 0)
         })
     }
 
@@ -173,13 +173,13 @@ impl Size {
     fn lively_event(&self, rng: &mut Rng, ledger: &Ledger) -> u16 {
         let held_after = |event: u16| {
             let mut after = ledger.clone();
-            let done = automaton::event(&self.read, &mut after, event);
+            let done = rules::event(&self.read, &mut after, event);
             (done.is_ok() && !after.is_over()).then(|| after.total_held())
         };
         let mut events = journals::moving_events(&self.read, ledger, |_| true);
         events.retain(|&event| held_after(event).is_some());
         let held = ledger.total_held();
-        let light = |&event: &u16| held_after(event).is_some_and(|after| after <= held);
+        let light = |&event: &u16| held_after(event).map_or(false, |after| after <= held);
         let light: Vec<u16> = events.iter().copied().filter(light).collect();
         let light = rng.pick(&light).filter(|_| rng.chance(95));
         light.or_else(|| rng.pick(&events)).unwrap_or(1)

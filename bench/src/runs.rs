@@ -6,7 +6,7 @@ use std::path::Path;
 use std::process::{Command, Stdio};
 use std::time::Instant;
 
-use conformance::journal::MAX_BYTES;
+use second::journal::MAX_BYTES;
 
 use crate::cases::{median, Size};
 
@@ -29,7 +29,10 @@ pub fn times(size: &Size, proved: &Path, second: &Path) -> io::Result<(f64, f64)
     fs::remove_dir_all(&folder)?;
     match agree {
         true => Ok((median(first), median(other))),
-        false => Err(io::Error::other("the programs print different texts")),
+        false => Err(io::Error::new(
+            io::ErrorKind::Other,
+            "the programs print different texts",
+        )),
     }
 }
 

@@ -1,166 +1,203 @@
-//! The retraction manager's calls, in safe Rust: an enum for each call, a done
-//! case with its figures or a refusal with the paper's number. The calls are
-//! those of `include/retraction.h`, proved to meet the paper's rules.
+//! The proved retraction manager for register plans.
+//!
+//! A [`Plan`] owns the bytes of a plan that was accepted; a [`Ledger`] belongs
+//! to a plan, has the words that it needs, and is sound at all times. Each
+//! call either answers its figures or is refused with the paper's number, and
+//! a refused call changes nothing. The calls are those of
+//! `include/retraction.h`, each proved to meet the paper's rules; this crate
+//! only unpacks their answers.
+//!
+//! ```
+//! use retraction::{Moved, Plan, Refusal};
+//!
+//! # fn main() -> Result<(), Refusal> {
+//! // One track, whose first step on event 10 is taken back by retraction 50.
+//! let plan = Plan::read([
+//!     6, 0, 1, 0, 255, 255, // track 0: a root
+//!     10, 0, 2, 0, 0, 0, 0, 0, 0, 0, // state 0 of track 0
+//!     10, 0, 2, 0, 0, 0, 0, 0, 0, 0, // state 1 of track 0
+//!     14, 0, 3, 0, 0, 0, 10, 0, 50, 0, 255, 255, 1, 0, // from 0 on event 10, code 50, to 1
+//!     4, 0, 4, 0, // end
+//! ])?;
+//! let mut ledger = plan.begin();
+//! assert_eq!(ledger.event(10)?, Moved { moved: 1, closed: 0 });
+//! assert_eq!(ledger.signal()?, 1);
+//! assert_eq!(ledger.ready().collect::<Vec<_>>(), [0]);
+//! assert_eq!(ledger.fire(0)?.code, 50);
+//! assert_eq!(ledger.fire(0), Err(Refusal::NotReady));
+//! # Ok(())
+//! # }
+//! ```
+
+pub mod raw;
+mod refusal;
+
+pub use refusal::Refusal;
 
 /// Words of a ledger for each track.
 pub const TRACK_WORDS: usize = 67;
 
-/// A deviation or a host that is none.
+/// In a plan and in a ledger: a deviation or a host that is none.
 pub const NONE: u16 = 65535;
 
-mod calls {
-    extern "C" {
-        pub fn retraction_begin(
-            plan: *const u8,
-            plan_len: usize,
-            ledger: *mut u16,
-            ledger_len: usize,
-        ) -> u64;
-        pub fn retraction_event(
-            plan: *const u8,
-            plan_len: usize,
-            ledger: *mut u16,
-            ledger_len: usize,
-            event: u16,
-        ) -> u64;
-        pub fn retraction_signal(
-            plan: *const u8,
-            plan_len: usize,
-            ledger: *mut u16,
-            ledger_len: usize,
-        ) -> u64;
-        pub fn retraction_fire(
-            plan: *const u8,
-            plan_len: usize,
-            ledger: *mut u16,
-            ledger_len: usize,
-            track: u16,
-        ) -> u64;
-        pub fn retraction_ready(
-            plan: *const u8,
-            plan_len: usize,
-            ledger: *mut u16,
-            ledger_len: usize,
-        ) -> u64;
-        pub fn retraction_entries(
-            plan: *const u8,
-            plan_len: usize,
-            ledger: *const u16,
-            ledger_len: usize,
-            track: u16,
-        ) -> u64;
-    }
-}
-
+/// How many tracks, states and transitions a plan has.
 #[derive(Clone, Copy, Debug, PartialEq, Eq)]
-pub enum Begin {
-    Begun,
-    Refused(u16),
+pub struct Counts {
+    pub tracks: u16,
+    pub states: u16,
+    pub transitions: u16,
 }
 
+/// What an event did.
 #[derive(Clone, Copy, Debug, PartialEq, Eq)]
-pub enum Event {
-    Moved { moved: u16, closed: u16 },
-    Refused(u16),
+#[must_use]
+pub struct Moved {
+    /// Tracks moved.
+    pub moved: u16,
+    /// Scopes closed.
+    pub closed: u16,
 }
 
+/// A retraction held by a track, or fired.
 #[derive(Clone, Copy, Debug, PartialEq, Eq)]
-pub enum Signal {
-    Turned(u16),
-    Refused(u16),
+#[must_use]
+pub struct Entry {
+    /// The retraction code.
+    pub code: u16,
+    /// The state in which the track goes forward again once it is fired.
+    pub deviation: Option<u16>,
 }
 
-#[derive(Clone, Copy, Debug, PartialEq, Eq)]
-pub enum Fire {
-    Fired { code: u16, deviation: u16 },
-    Refused(u16),
+/// An accepted plan: it owns its bytes.
+#[derive(Clone, Debug, PartialEq, Eq)]
+#[must_use]
+pub struct Plan {
+    bytes: Vec<u8>,
+    counts: Counts,
 }
 
-#[derive(Clone, Copy, Debug, PartialEq, Eq)]
-pub enum Ready {
-    /// Bit n is set exactly if track n may be fired.
-    Tracks(u32),
-    Refused(u16),
-}
+impl Plan {
+    /// Reads a plan's bytes; refused as 2 to 16 where they do not fit.
+    ///
+    /// ```
+    /// use retraction::{Plan, Refusal};
+    /// assert_eq!(Plan::read([4, 0, 4, 0]), Err(Refusal::NoTrack));
+    /// ```
+    pub fn read(bytes: impl Into<Vec<u8>>) -> Result<Plan, Refusal> {
+        let bytes = bytes.into();
+        let counts = raw::read(&bytes)?;
+        Ok(Plan { bytes, counts })
+    }
 
-/// Overwrites the ledger: roots forward in their first states, others asleep.
-pub fn begin(plan: &[u8], ledger: &mut [u16]) -> Begin {
-    let (words, len) = (ledger.as_mut_ptr(), ledger.len());
-    // SAFETY: both slices are whole, apart, and live through the call.
-    match unsafe { calls::retraction_begin(plan.as_ptr(), plan.len(), words, len) } {
-        0 => Begin::Begun,
-        answer => Begin::Refused(refusal(answer)),
+    /// The bytes, as they were read.
+    #[must_use]
+    pub fn bytes(&self) -> &[u8] {
+        &self.bytes
+    }
+
+    /// How many tracks, states and transitions it has.
+    #[must_use]
+    pub fn counts(&self) -> Counts {
+        self.counts
+    }
+
+    /// The words that a ledger under this plan has.
+    #[must_use]
+    pub fn ledger_words(&self) -> usize {
+        TRACK_WORDS * usize::from(self.counts.tracks)
+    }
+
+    /// A ledger at its begin: roots forward in their first states, others
+    /// asleep.
+    pub fn begin(&self) -> Ledger<'_> {
+        let mut words = vec![0; self.ledger_words()];
+        let begun = raw::begin(&self.bytes, &mut words);
+        begun.expect("an accepted plan and enough words");
+        Ledger { plan: self, words }
+    }
+
+    /// A ledger that was stored as words; refused as 17 where they are too
+    /// few, as 18 where they are not sound under this plan. Words beyond those
+    /// that the plan needs are dropped.
+    ///
+    /// ```
+    /// # use retraction::{Plan, Refusal};
+    /// # fn main() -> Result<(), Refusal> {
+    /// # let plan = Plan::read([
+    /// #     6, 0, 1, 0, 255, 255, 10, 0, 2, 0, 0, 0, 0, 0, 0, 0, 4, 0, 4, 0,
+    /// # ])?;
+    /// let stored = plan.begin().words().to_vec();
+    /// assert_eq!(plan.ledger(stored.clone())?, plan.begin());
+    /// assert_eq!(plan.ledger(&stored[1..]), Err(Refusal::FewWords));
+    /// # Ok(())
+    /// # }
+    /// ```
+    pub fn ledger(&self, words: impl Into<Vec<u16>>) -> Result<Ledger<'_>, Refusal> {
+        let mut words = words.into();
+        raw::ready(&self.bytes, &mut words)?;
+        words.truncate(self.ledger_words());
+        Ok(Ledger { plan: self, words })
     }
 }
 
-/// Tracks moved and scopes closed.
-pub fn event(plan: &[u8], ledger: &mut [u16], event: u16) -> Event {
-    let (words, len) = (ledger.as_mut_ptr(), ledger.len());
-    // SAFETY: as under `begin`.
-    let answer = unsafe { calls::retraction_event(plan.as_ptr(), plan.len(), words, len, event) };
-    match refusal(answer) {
-        0 => Event::Moved {
-            moved: first(answer),
-            closed: second(answer),
-        },
-        number => Event::Refused(number),
+/// A sound ledger, with the plan that it is read under.
+#[derive(Clone, Debug, PartialEq, Eq)]
+#[must_use]
+pub struct Ledger<'plan> {
+    plan: &'plan Plan,
+    words: Vec<u16>,
+}
+
+impl<'plan> Ledger<'plan> {
+    /// Its plan.
+    pub fn plan(&self) -> &'plan Plan {
+        self.plan
     }
-}
 
-/// Tracks turned.
-pub fn signal(plan: &[u8], ledger: &mut [u16]) -> Signal {
-    let (words, len) = (ledger.as_mut_ptr(), ledger.len());
-    // SAFETY: as under `begin`.
-    let answer = unsafe { calls::retraction_signal(plan.as_ptr(), plan.len(), words, len) };
-    match refusal(answer) {
-        0 => Signal::Turned(first(answer)),
-        number => Signal::Refused(number),
+    /// Its words, 67 for each track, in the machine's own byte order: to be
+    /// stored, and read again by [`Plan::ledger`].
+    #[must_use]
+    pub fn words(&self) -> &[u16] {
+        &self.words
     }
-}
 
-/// The code and the deviation of the entry fired.
-pub fn fire(plan: &[u8], ledger: &mut [u16], track: u16) -> Fire {
-    let (words, len) = (ledger.as_mut_ptr(), ledger.len());
-    // SAFETY: as under `begin`.
-    let answer = unsafe { calls::retraction_fire(plan.as_ptr(), plan.len(), words, len, track) };
-    match refusal(answer) {
-        0 => Fire::Fired {
-            code: first(answer),
-            deviation: second(answer),
-        },
-        number => Fire::Refused(number),
+    /// Whether the ledger is over: every track is asleep.
+    #[must_use]
+    pub fn is_over(&self) -> bool {
+        self.words.iter().all(|&word| word == 0)
     }
-}
 
-/// The tracks that may be fired. No word is changed.
-pub fn ready(plan: &[u8], ledger: &mut [u16]) -> Ready {
-    let (words, len) = (ledger.as_mut_ptr(), ledger.len());
-    // SAFETY: as under `begin`.
-    let answer = unsafe { calls::retraction_ready(plan.as_ptr(), plan.len(), words, len) };
-    match refusal(answer) {
-        0 => Ready::Tracks((answer >> 32) as u32),
-        number => Ready::Refused(number),
+    /// An event: each forward track without an open scope takes its state's
+    /// transition for it, if it has one. Refused as 19, 20 or 21.
+    pub fn event(&mut self, event: u16) -> Result<Moved, Refusal> {
+        raw::event(&self.plan.bytes, &mut self.words, event)
     }
-}
 
-/// The part of the ledger that holds a track's pairs of code and deviation,
-/// oldest first; empty on a refusal.
-pub fn entries<'a>(plan: &[u8], ledger: &'a [u16], track: u16) -> &'a [u16] {
-    let (words, len) = (ledger.as_ptr(), ledger.len());
-    // SAFETY: as under `begin`; the ledger is only read.
-    let answer = unsafe { calls::retraction_entries(plan.as_ptr(), plan.len(), words, len, track) };
-    let from = (answer >> 16) as usize;
-    &ledger[from..][..usize::from(answer as u16)]
-}
+    /// A withdrawal: every forward track turns to undoing. Answers how many
+    /// turned. Refused as 20.
+    pub fn signal(&mut self) -> Result<u16, Refusal> {
+        raw::signal(&self.plan.bytes, &mut self.words)
+    }
 
-fn refusal(answer: u64) -> u16 {
-    answer as u16
-}
+    /// Fires a track: its newest entry is removed, and answered. Refused as 20
+    /// or 22.
+    pub fn fire(&mut self, track: u16) -> Result<Entry, Refusal> {
+        raw::fire(&self.plan.bytes, &mut self.words, track)
+    }
 
-fn first(answer: u64) -> u16 {
-    (answer >> 16) as u16
-}
+    /// The tracks that may be fired, the lowest first. The words are copied for
+    /// the call, which borrows them for writing and changes none.
+    pub fn ready(&self) -> impl Iterator<Item = u16> {
+        let mut words = self.words.clone();
+        let ready = raw::ready(&self.plan.bytes, &mut words);
+        let ready = ready.expect("an accepted plan and a sound ledger");
+        (0..32).filter(move |track| ready >> track & 1 == 1)
+    }
 
-fn second(answer: u64) -> u16 {
-    (answer >> 32) as u16
+    /// The entries that a track holds, the oldest first; none where there is no
+    /// such track.
+    pub fn entries(&self, track: u16) -> impl DoubleEndedIterator<Item = Entry> + '_ {
+        let pairs = raw::entries(&self.plan.bytes, &self.words, track).chunks_exact(2);
+        pairs.map(|pair| raw::entry(pair[0], pair[1]))
+    }
 }

@@ -3,8 +3,9 @@
 
 mod sample_plan;
 
-use retraction::{begin, entries, event, fire, ready, signal};
-use retraction::{Begin, Event, Fire, Ready, Signal, NONE, TRACK_WORDS};
+use retraction::raw::{begin, entries, event, fire, ready, signal};
+use retraction::Refusal::{EventZero, FewWords, Over, Unsound};
+use retraction::{Moved, NONE, TRACK_WORDS};
 use sample_plan::{begun, plan};
 
 const ASLEEP: u16 = 0;
@@ -14,11 +15,11 @@ const UNDOING: u16 = 2;
 /// Plan P after event 10: the root in state 1 holds code 50, its scope is open.
 fn opened() -> (Vec<u8>, Vec<u16>) {
     let (plan, mut ledger) = begun();
-    let moved = Event::Moved {
+    let moved = Moved {
         moved: 1,
         closed: 0,
     };
-    assert_eq!(event(&plan, &mut ledger, 10), moved);
+    assert_eq!(event(&plan, &mut ledger, 10), Ok(moved));
     (plan, ledger)
 }
 
@@ -37,11 +38,11 @@ fn is_refused(damage: impl Fn(&mut [u16])) {
     let (plan, mut ledger) = opened();
     damage(&mut ledger);
     let before = ledger.clone();
-    assert_eq!(event(&plan, &mut ledger, 11), Event::Refused(18));
-    assert_eq!(event(&plan, &mut ledger, 0), Event::Refused(18));
-    assert_eq!(signal(&plan, &mut ledger), Signal::Refused(18));
-    assert_eq!(fire(&plan, &mut ledger, 0), Fire::Refused(18));
-    assert_eq!(ready(&plan, &mut ledger), Ready::Refused(18));
+    assert_eq!(event(&plan, &mut ledger, 11), Err(Unsound));
+    assert_eq!(event(&plan, &mut ledger, 0), Err(Unsound));
+    assert_eq!(signal(&plan, &mut ledger), Err(Unsound));
+    assert_eq!(fire(&plan, &mut ledger, 0), Err(Unsound));
+    assert_eq!(ready(&plan, &mut ledger), Err(Unsound));
     assert_eq!(entries(&plan, &ledger, 0), []);
     assert_eq!(ledger, before);
 }
@@ -49,7 +50,7 @@ fn is_refused(damage: impl Fn(&mut [u16])) {
 #[test]
 fn the_ledger_before_the_damage_is_sound() {
     let (plan, mut ledger) = opened();
-    assert_eq!(ready(&plan, &mut ledger), Ready::Tracks(0));
+    assert_eq!(ready(&plan, &mut ledger), Ok(0));
     assert_eq!(entries(&plan, &ledger, 0), [50, NONE]);
 }
 
@@ -146,11 +147,11 @@ fn abandoning_left_to_do() {
 fn all_zero_is_over() {
     let plan = plan();
     let mut ledger = vec![0; 3 * TRACK_WORDS];
-    assert_eq!(event(&plan, &mut ledger, 0), Event::Refused(19));
-    assert_eq!(event(&plan, &mut ledger, 5), Event::Refused(20));
-    assert_eq!(signal(&plan, &mut ledger), Signal::Refused(20));
-    assert_eq!(fire(&plan, &mut ledger, 99), Fire::Refused(20));
-    assert_eq!(ready(&plan, &mut ledger), Ready::Tracks(0));
+    assert_eq!(event(&plan, &mut ledger, 0), Err(EventZero));
+    assert_eq!(event(&plan, &mut ledger, 5), Err(Over));
+    assert_eq!(signal(&plan, &mut ledger), Err(Over));
+    assert_eq!(fire(&plan, &mut ledger, 99), Err(Over));
+    assert_eq!(ready(&plan, &mut ledger), Ok(0));
     assert_eq!(entries(&plan, &ledger, 0), []);
     assert_eq!(ledger, vec![0; 3 * TRACK_WORDS]);
 }
@@ -159,9 +160,9 @@ fn all_zero_is_over() {
 fn one_word_too_few() {
     let plan = plan();
     let mut ledger = vec![9; 3 * TRACK_WORDS - 1];
-    assert_eq!(begin(&plan, &mut ledger), Begin::Refused(17));
-    assert_eq!(event(&plan, &mut ledger, 0), Event::Refused(17));
-    assert_eq!(ready(&plan, &mut ledger), Ready::Refused(17));
+    assert_eq!(begin(&plan, &mut ledger), Err(FewWords));
+    assert_eq!(event(&plan, &mut ledger, 0), Err(FewWords));
+    assert_eq!(ready(&plan, &mut ledger), Err(FewWords));
     assert_eq!(entries(&plan, &ledger, 0), []);
     assert_eq!(ledger, vec![9; 3 * TRACK_WORDS - 1]);
 }

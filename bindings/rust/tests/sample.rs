@@ -1,18 +1,18 @@
-//! The paper's sample plan through the safe calls.
+//! The paper's sample plan through the raw calls, and through plans and ledgers.
 
 mod sample_plan;
 
-use retraction::{begin, entries, event, fire, ready, signal};
-use retraction::{Begin, Event, Fire, Ready, Signal, NONE, TRACK_WORDS};
+use retraction::raw::{begin, entries, event, fire, read, ready, signal};
+use retraction::{Counts, Entry, Moved, Plan, Refusal, NONE, TRACK_WORDS};
 use sample_plan::{begun, plan};
 
-fn fired(code: u16) -> Fire {
-    let deviation = NONE;
-    Fire::Fired { code, deviation }
+fn fired(code: u16) -> Result<Entry, Refusal> {
+    let deviation = None;
+    Ok(Entry { code, deviation })
 }
 
-fn moved(moved: u16, closed: u16) -> Event {
-    Event::Moved { moved, closed }
+fn moved(moved: u16, closed: u16) -> Result<Moved, Refusal> {
+    Ok(Moved { moved, closed })
 }
 
 #[test]
@@ -22,13 +22,13 @@ fn the_sample_is_taken_back() {
         assert_eq!(event(&plan, &mut ledger, number), moved(1, 0));
     }
     assert_eq!(entries(&plan, &ledger, 1), [51, NONE]);
-    assert_eq!(signal(&plan, &mut ledger), Signal::Turned(3));
-    assert_eq!(ready(&plan, &mut ledger), Ready::Tracks(0b110));
-    assert_eq!(fire(&plan, &mut ledger, 0), Fire::Refused(22));
+    assert_eq!(signal(&plan, &mut ledger), Ok(3));
+    assert_eq!(ready(&plan, &mut ledger), Ok(0b110));
+    assert_eq!(fire(&plan, &mut ledger, 0), Err(Refusal::NotReady));
     for (track, code) in [(1, 51), (2, 52), (0, 50)] {
         assert_eq!(fire(&plan, &mut ledger, track), fired(code));
     }
-    assert_eq!(ready(&plan, &mut ledger), Ready::Tracks(0));
+    assert_eq!(ready(&plan, &mut ledger), Ok(0));
 }
 
 #[test]
@@ -41,7 +41,7 @@ fn a_scope_that_closes_leaves_its_replacement() {
     assert_eq!(entries(&plan, &ledger, 0), [50, NONE, 90, NONE]);
     assert_eq!(entries(&plan, &ledger, 1), []);
     assert_eq!(event(&plan, &mut ledger, 13), moved(1, 0));
-    assert_eq!(signal(&plan, &mut ledger), Signal::Refused(20));
+    assert_eq!(signal(&plan, &mut ledger), Err(Refusal::Over));
     assert!(ledger[..3 * TRACK_WORDS].iter().all(|&word| word == 0));
 }
 
@@ -49,14 +49,74 @@ fn a_scope_that_closes_leaves_its_replacement() {
 fn refused_calls_change_no_word() {
     let (plan, mut ledger) = begun();
     let before = ledger.clone();
-    assert_eq!(begin(&[], &mut ledger), Begin::Refused(2));
-    assert_eq!(event(&plan, &mut ledger, 0), Event::Refused(19));
-    assert_eq!(event(&plan, &mut ledger[..200], 10), Event::Refused(17));
-    assert_eq!(signal(&plan[..45], &mut ledger), Signal::Refused(5));
-    assert_eq!(fire(&plan, &mut ledger, 3), Fire::Refused(22));
-    assert_eq!(ready(&[4, 0, 4, 0], &mut ledger), Ready::Refused(8));
+    let short = &mut ledger.clone()[..200];
+    assert_eq!(begin(&[], &mut ledger), Err(Refusal::NoRecord));
+    assert_eq!(event(&plan, &mut ledger, 0), Err(Refusal::EventZero));
+    assert_eq!(event(&plan, short, 10), Err(Refusal::FewWords));
+    assert_eq!(signal(&plan[..45], &mut ledger), Err(Refusal::CutShort));
+    assert_eq!(fire(&plan, &mut ledger, 3), Err(Refusal::NotReady));
+    assert_eq!(ready(&[4, 0, 4, 0], &mut ledger), Err(Refusal::NoTrack));
     assert_eq!(entries(&plan, &ledger, 3), []);
+    assert_eq!(short[..], before[..200]);
     assert_eq!(ledger, before);
     ledger[0] = 3;
-    assert_eq!(ready(&plan, &mut ledger), Ready::Refused(18));
+    assert_eq!(ready(&plan, &mut ledger), Err(Refusal::Unsound));
+}
+
+#[test]
+fn a_plan_tells_its_counts() {
+    let counts = Counts {
+        tracks: 3,
+        states: 8,
+        transitions: 5,
+    };
+    assert_eq!(read(&plan()), Ok(counts));
+    assert_eq!(read(&plan()[..171]), Err(Refusal::NoRecord));
+    let plan = Plan::read(plan()).expect("the sample");
+    assert_eq!((plan.counts(), plan.ledger_words()), (counts, 201));
+}
+
+#[test]
+fn a_ledger_is_stored_and_read_again() -> Result<(), Refusal> {
+    let plan = Plan::read(plan())?;
+    let mut ledger = plan.begin();
+    for number in [10, 11, 12] {
+        assert_eq!(ledger.event(number), moved(1, 0));
+    }
+    let mut again = plan.ledger(ledger.words())?;
+    assert_eq!(again, ledger);
+    assert_eq!(again.signal(), Ok(3));
+    assert_eq!(again.ready().collect::<Vec<u16>>(), [1, 2]);
+    assert_eq!(again.entries(2).collect::<Vec<Entry>>(), [fired(52)?]);
+    while let Some(track) = again.ready().next() {
+        let _ = again.fire(track)?;
+    }
+    assert!(!again.is_over() && !ledger.is_over());
+    assert_eq!(ledger.event(14), moved(1, 1));
+    assert_eq!(ledger.event(13), moved(1, 0));
+    assert!(ledger.is_over());
+    Ok(())
+}
+
+#[test]
+fn a_refusal_has_its_number_and_its_words() {
+    assert_eq!(Refusal::ALL.len(), 23);
+    for (number, &refusal) in (1..).zip(Refusal::ALL) {
+        assert_eq!(refusal.number(), number);
+        assert_eq!(Refusal::from_number(number), Some(refusal));
+        assert_eq!(refusal.to_string(), format!("{number}: {}", refusal.text()));
+    }
+}
+
+/// The header says the same of each refusal, and of the version.
+#[test]
+fn the_header_agrees() {
+    let path = concat!(env!("CARGO_MANIFEST_DIR"), "/../../include/retraction.h");
+    let header = std::fs::read_to_string(path).expect("the header");
+    for refusal in Refusal::ALL {
+        assert!(header.contains(&format!("return \"{}\";", refusal.text())));
+        assert!(header.contains(&format!(" = {}", refusal.number())));
+    }
+    let version = env!("CARGO_PKG_VERSION");
+    assert!(header.contains(&format!("RETRACTION_VERSION_TEXT \"{version}\"")));
 }

@@ -11,7 +11,7 @@
 
 #include "retraction.h"
 
-enum { BEGIN, EVENT, SIGNAL, FIRE, READY, ENTRIES };
+enum { BEGIN, EVENT, SIGNAL, FIRE, READY, ENTRIES, READ };
 
 /* Guard words on each side. */
 enum { GUARDS = 64, GUARD_BYTES = 2 * GUARDS };
@@ -80,6 +80,7 @@ static uint64_t answer(struct request r, const uint8_t *plan, uint16_t *ledger)
     case FIRE: return retraction_fire(plan, r.plan_len, ledger, r.ledger_len, (uint16_t)r.argument);
     case READY: return retraction_ready(plan, r.plan_len, ledger, r.ledger_len);
     case ENTRIES: return retraction_entries(plan, r.plan_len, ledger, r.ledger_len, (uint16_t)r.argument);
+    case READ: return retraction_read(plan, r.plan_len);
     default: exit(1);
     }
 }

@@ -1,12 +1,13 @@
 //! A case: a call with what it is given, or a journal with its plan, as a
 //! line of text from which it can be run again.
 
-use conformance::generate::journals::Case as Journal;
-use conformance::generate::singles::{self, Single};
+use testing::generate::journals::Case as Journal;
+use testing::generate::singles::{self, Single};
 
 /// A call on lent words.
 #[derive(Clone, Copy, Debug, PartialEq, Eq)]
 pub enum Call {
+    Read,
     Begin,
     Event(u16),
     Signal,
@@ -31,6 +32,7 @@ impl Call {
     /// The call's letter and its argument.
     pub fn text(self) -> String {
         match self {
+            Call::Read => "P".to_string(),
             Call::Begin => "B".to_string(),
             Call::Event(event) => format!("E{event}"),
             Call::Signal => "S".to_string(),
@@ -41,8 +43,9 @@ impl Call {
     }
 
     fn parse(text: &str) -> Option<Call> {
-        let (letter, argument) = text.split_at_checked(1)?;
+        let (letter, argument) = (text.get(..1)?, text.get(1..)?);
         Some(match letter {
+            "P" => Call::Read,
             "B" => Call::Begin,
             "E" => Call::Event(argument.parse().ok()?),
             "S" => Call::Signal,

@@ -5,19 +5,19 @@ use std::path::{Path, PathBuf};
 use std::sync::mpsc::{sync_channel, SyncSender};
 use std::thread;
 
-use conformance::coverage::{Coverage, JOURNALS};
-use conformance::generate::journals::{self, Case};
-use conformance::generate::rng::Rng;
-use conformance::generate::singles;
-use conformance::journal;
-use conformance::plan::MAX_TRACKS;
+use second::journal;
+use second::plan::MAX_TRACKS;
+use testing::coverage::{Coverage, JOURNALS};
+use testing::generate::journals::{self, Case};
+use testing::generate::rng::Rng;
+use testing::generate::singles;
 
 use crate::case::{self, Call, Given};
 use crate::expected::{self, Done};
 use crate::guarded::{self, Answers, Requests};
 use crate::journals::Runner;
 
-/// Of so many single calls one is followed by a begin on the same input.
+/// Of so many single calls one comes with a begin and a read on the same input.
 pub const BEGINS: u64 = 8;
 
 /// Calls asked for and not yet compared.
@@ -94,7 +94,9 @@ impl Comparison {
         });
         let status = child.wait()?;
         match verdict? {
-            Verdict::Agree if !status.success() => Err(io::Error::other(status.to_string())),
+            Verdict::Agree if !status.success() => {
+                Err(io::Error::new(io::ErrorKind::Other, status.to_string()))
+            }
             verdict => Ok(verdict),
         }
     }
@@ -137,11 +139,15 @@ fn ask(
         let single = singles::single(&mut Rng::for_case(seed, 2, index), MAX_TRACKS);
         coverage.single(&single);
         let given = Given::from(single);
-        let begin = (index % BEGINS == 0).then(|| Given {
-            call: Call::Begin,
+        let more: &[Call] = match index % BEGINS {
+            0 => &[Call::Begin, Call::Read],
+            _ => &[],
+        };
+        let made = |&call: &Call| Given {
+            call,
             ..given.clone()
-        });
-        for given in [Some(given), begin].into_iter().flatten() {
+        };
+        for given in more.iter().map(made).chain([given.clone()]) {
             requests.send(&given)?;
             let expected = expected::answer(&given);
             if to.send((given, expected)).is_err() {

@@ -1,7 +1,8 @@
 //! What the second program answers, as the number that the calls for C give.
 
-use conformance::ledger::{PAIRS, TRACK_WORDS};
-use conformance::manager::{self, Answer};
+use second::ledger::{PAIRS, TRACK_WORDS};
+use second::manager::{self, Answer};
+use second::plan;
 
 use crate::case::{Call, Given};
 
@@ -25,6 +26,7 @@ pub fn answer(given: &Given) -> Done {
     let plan = &given.plan[..];
     let mut words = given.words.clone();
     let answer = match given.call {
+        Call::Read => read(plan),
         Call::Begin => number(manager::begin(plan, &mut words), |()| 0),
         Call::Event(event) => number(manager::event(plan, &mut words, event), |m| {
             pair(m.moved, m.closed)
@@ -37,6 +39,17 @@ pub fn answer(given: &Given) -> Done {
         Call::Entries(track) => part(manager::entries(plan, &words, track), track),
     };
     Done { answer, words }
+}
+
+/// Bits 0 to 15 a refusal; else tracks, states and transitions.
+fn read(bytes: &[u8]) -> u64 {
+    match plan::read(bytes) {
+        Ok(plan) => {
+            let states = pair(plan.track_count() as u16, plan.state_count() as u16);
+            states | (plan.transition_count() as u64) << 48
+        }
+        Err(refusal) => u64::from(refusal.number()),
+    }
 }
 
 /// Bits 0 to 15 a refusal; else the figures.

@@ -17,6 +17,7 @@ fn code(call: Call) -> (u32, u16) {
         Call::Fire(track) => (3, track),
         Call::Ready => (4, 0),
         Call::Entries(track) => (5, track),
+        Call::Read => (6, 0),
     }
 }
 

@@ -6,10 +6,11 @@ use std::io::{self, Write};
 use std::path::{Path, PathBuf};
 use std::process::{Command, Stdio};
 
-use conformance::generate::journals::Case;
-use conformance::journal::{Record, Records, MAX_BYTES};
-use conformance::plan::{self, MAX_TRACKS};
-use retraction::{Begin, Event, Fire, Ready, Signal, NONE, TRACK_WORDS};
+use retraction::raw;
+use retraction::{Entry, Moved, Refusal, TRACK_WORDS};
+use second::journal::{Record, Records, MAX_BYTES};
+use second::plan::MAX_TRACKS;
+use testing::generate::journals::Case;
 
 /// Who runs a journal.
 pub enum Runner {
@@ -67,9 +68,9 @@ fn by_calls(case: &Case) -> Vec<u8> {
         return b"R 1\n".to_vec();
     }
     let mut words = [0xA5A5; MAX_TRACKS * TRACK_WORDS];
-    match retraction::begin(&case.plan, &mut words) {
-        Begin::Refused(number) => format!("R {number}\n").into_bytes(),
-        Begin::Begun => after_begin(case, &mut words).into_bytes(),
+    match raw::begin(&case.plan, &mut words) {
+        Err(refusal) => format!("{}\n", refusal_line(refusal)).into_bytes(),
+        Ok(()) => after_begin(case, &mut words).into_bytes(),
     }
 }
 
@@ -79,8 +80,8 @@ fn after_begin(case: &Case, words: &mut [u16]) -> String {
     let mut firings = 0;
     for record in Records::new(&case.journal) {
         let line = match record {
-            Ok(record) => record_line(plan, words, record),
-            Err(_) => "R 23".to_string(),
+            Ok(record) => record_line(plan, words, record).unwrap_or_else(refusal_line),
+            Err(_) => refusal_line(Refusal::BrokenRecord),
         };
         firings += u32::from(line.starts_with('F'));
         text.push_str(&line);
@@ -89,46 +90,44 @@ fn after_begin(case: &Case, words: &mut [u16]) -> String {
     text + &format!("H {} {firings}\n", held(plan, words))
 }
 
-/// The calls have no figures for the plan: these are the second program's.
+fn refusal_line(refusal: Refusal) -> String {
+    format!("R {}", refusal.number())
+}
+
 fn counts(plan: &[u8]) -> String {
-    match plan::read(plan) {
-        Ok(plan) => {
-            let (tracks, states) = (plan.track_count(), plan.state_count());
-            format!("PLAN {tracks} {states} {}\n", plan.transition_count())
+    match raw::read(plan) {
+        Ok(counts) => {
+            let (tracks, states) = (counts.tracks, counts.states);
+            format!("PLAN {tracks} {states} {}\n", counts.transitions)
         }
-        Err(refusal) => format!("begun, but R {}\n", refusal.number()),
+        Err(refusal) => format!("begun, but {}\n", refusal_line(refusal)),
     }
 }
 
-fn record_line(plan: &[u8], words: &mut [u16], record: Record) -> String {
-    match record {
-        Record::Event(event) => match retraction::event(plan, words, event) {
-            Event::Moved { moved, closed } => format!("E {event} {moved} {closed}"),
-            Event::Refused(number) => format!("R {number}"),
-        },
-        Record::Signal => match retraction::signal(plan, words) {
-            Signal::Turned(turned) => format!("S {turned}"),
-            Signal::Refused(number) => format!("R {number}"),
-        },
-        Record::Fire(track) => firing_line(plan, words, track),
-        Record::FireLowest => match retraction::ready(plan, words) {
-            Ready::Tracks(tracks) => firing_line(plan, words, tracks.trailing_zeros() as u16),
-            Ready::Refused(number) => format!("R {number}"),
-        },
-    }
+fn record_line(plan: &[u8], words: &mut [u16], record: Record) -> Result<String, Refusal> {
+    Ok(match record {
+        Record::Event(event) => {
+            let Moved { moved, closed } = raw::event(plan, words, event)?;
+            format!("E {event} {moved} {closed}")
+        }
+        Record::Signal => format!("S {}", raw::signal(plan, words)?),
+        Record::Fire(track) => firing_line(plan, words, track)?,
+        Record::FireLowest => {
+            let lowest = raw::ready(plan, words)?.trailing_zeros();
+            firing_line(plan, words, lowest as u16)?
+        }
+    })
 }
 
-fn firing_line(plan: &[u8], words: &mut [u16], track: u16) -> String {
-    match retraction::fire(plan, words, track) {
-        Fire::Fired { code, deviation } if deviation == NONE => format!("F {track} {code} -"),
-        Fire::Fired { code, deviation } => format!("F {track} {code} {deviation}"),
-        Fire::Refused(number) => format!("R {number}"),
-    }
+fn firing_line(plan: &[u8], words: &mut [u16], track: u16) -> Result<String, Refusal> {
+    let Entry { code, deviation } = raw::fire(plan, words, track)?;
+    let deviation = deviation.map_or("-".to_string(), |state| state.to_string());
+    Ok(format!("F {track} {code} {deviation}"))
 }
 
 /// The entries that all tracks hold.
 fn held(plan: &[u8], words: &[u16]) -> usize {
     let tracks = 0..MAX_TRACKS as u16;
-    let counts = tracks.map(|track| retraction::entries(plan, words, track).len() / 2);
+    let counts = tracks.map(|track| raw::entries(plan, words, track).len() / 2);
     counts.sum()
 }

@@ -21,7 +21,7 @@ use std::io;
 use std::path::Path;
 use std::process::ExitCode;
 
-use conformance::coverage::{JOURNALS, SINGLES_PER_JOURNAL};
+use testing::coverage::{JOURNALS, SINGLES_PER_JOURNAL};
 
 use case::Again;
 use comparison::{Comparison, Verdict, BEGINS};
@@ -47,9 +47,10 @@ fn run(programs: &Path, seed: u64, journals: u64, calls: u64) -> io::Result<bool
         return Ok(false);
     }
     let covered = comparison.covers(journals.min(calls / SINGLES_PER_JOURNAL));
-    let begins = calls.div_ceil(BEGINS);
+    let begins = (calls + BEGINS - 1) / BEGINS;
     println!(
-        "seed {seed}: {journals} journals, {calls} single calls and {begins} begins, 0 differences"
+        "seed {seed}: {journals} journals, {calls} single calls, {begins} begins and reads, \
+        0 differences"
     );
     Ok(covered)
 }
@@ -92,7 +93,7 @@ fn again(programs: &Path, file: &str) -> io::Result<bool> {
 
 fn number(text: &str) -> io::Result<u64> {
     text.parse()
-        .map_err(|_| io::Error::other(format!("{text} is no number")))
+        .map_err(|_| io::Error::new(io::ErrorKind::Other, format!("{text} is no number")))
 }
 
 fn done(words: &[&str]) -> io::Result<bool> {
@@ -103,7 +104,10 @@ fn done(words: &[&str]) -> io::Result<bool> {
         }
         [programs, "on", seed] => on(Path::new(programs), number(seed)?),
         [programs, "again", file] => again(Path::new(programs), file),
-        _ => Err(io::Error::other("usage: PROGRAMS run SEED JOURNALS CALLS")),
+        _ => Err(io::Error::new(
+            io::ErrorKind::Other,
+            "usage: PROGRAMS run SEED JOURNALS CALLS",
+        )),
     }
 }
 

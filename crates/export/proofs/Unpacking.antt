@@ -6,8 +6,10 @@ use native.Mathlib.Omega.{arith}
 use lib.ListN.{length, take, drop}
 use borrow.Author.Tests.{ne-eqb}
 use Rattle.rules.specs.Layout.{entryLimit, entriesPlace}
+use Rattle.rules.specs.declared.Counts.{Counts}
+use Rattle.rules.specs.Acceptance.{turnedBack, accepted}
 use Rattle.rules.specs.Call.{refusal, done, entriesPart}
-use Rattle.export.specs.Packed.{bit16, bit32, packed, packedReady, packedPart}
+use Rattle.export.specs.Packed.{bit16, bit32, bit48, packedReading, packed, packedReady, packedPart}
 use Rattle.export.proofs.Packing.{held}
 
 pub refusal-read : (n : ℕ) → n < bit16 → packed (refusal n) % bit16 ≡ n
@@ -29,6 +31,28 @@ second-read a b h k = omega arith
 pub ready-read : (n : ℕ) → packedReady (done (n ∷ [])) / bit32 ≡ n
 unfolding packedReady bit32
 ready-read n = omega arith
+
+-- what read tells of a plan, from the number alone
+pub turned-back-read : (n : ℕ) → n < bit16 → packedReading (turnedBack n) % bit16 ≡ n
+unfolding packedReading bit16
+turned-back-read n h = omega arith
+
+module _ (c : Counts) where
+  pub counted-read : packedReading (accepted c) % bit16 ≡ 0
+  unfolding packedReading bit16 bit32 bit48
+  counted-read = omega arith
+
+  pub tracks-read : c .tracks < bit16 → (packedReading (accepted c) / bit16) % bit16 ≡ c .tracks
+  unfolding packedReading bit16 bit32 bit48
+  tracks-read h = omega arith
+
+  pub states-read : c .tracks < bit16 → c .states < bit16 → (packedReading (accepted c) / bit32) % bit16 ≡ c .states
+  unfolding packedReading bit16 bit32 bit48
+  states-read h k = omega arith
+
+  pub transitions-read : c .tracks < bit16 → c .states < bit16 → packedReading (accepted c) / bit48 ≡ c .transitions
+  unfolding packedReading bit16 bit32 bit48
+  transitions-read h k = omega arith
 
 -- the part that entries speaks of, from the number alone
 module _ (ws : List ℕ) (t : ℕ) where

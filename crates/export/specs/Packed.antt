@@ -6,14 +6,24 @@ use Prim.Native.Nat.{ℕ, _+_, _*_}
 use lib.ListN.{length}
 use lib.Dec.{eqb}
 use Rattle.rules.specs.Layout.{entryLimit, entriesPlace}
+use Rattle.rules.specs.declared.Counts.{Counts}
+use Rattle.rules.specs.Acceptance.{Reading, turnedBack, accepted}
 use Rattle.rules.specs.Call.{Answer, refusal, done, Outcome}
 
--- what a figure is multiplied by to stand at bit 16, and at bit 32
+-- what a figure is multiplied by to stand at bit 16, at bit 32 and at bit 48
 unfoldable pub bit16 : ℕ
 bit16 = 65536
 
 unfoldable pub bit32 : ℕ
 bit32 = 4294967296
+
+unfoldable pub bit48 : ℕ
+bit48 = 281474976710656
+
+-- Read's: bits 0 to 15 the refusal, 0 where accepted; bits 16 to 31 the tracks, 32 to 47 the states, 48 to 63 the transitions
+unfoldable pub packedReading : Reading → ℕ
+packedReading (turnedBack n) = n
+packedReading (accepted c) = c .tracks * bit16 + c .states * bit32 + c .transitions * bit48
 
 -- bits 0 to 15 the refusal, 0 where accepted; bits 16 to 31 and 32 to 47 the figures
 unfoldable pub packed : Answer → ℕ

@@ -1,20 +1,26 @@
-// The calls for C and Rust, under include/retraction.h. Each is a call of `manager`, its answer packed into one number.
+// The calls for C and Rust, under include/retraction.h. Each is a call of `manager`, or the plan reader, its answer packed into one number.
 use ledger::layout;
 use rules::BeginAnswer;
+use rules::Counts;
 use rules::EventAnswer;
 use rules::FireAnswer;
+use rules::PlanAnswer;
 use rules::ReadyAnswer;
 use rules::SignalAnswer;
 ghost use mathlib.Core.Path.{_≡_};
 ghost use Prim.Native.Nat.{_+_, _*_, _<_};
 ghost use Rattle.rules.specs.Layout.{entryLimit};
+ghost use Rattle.rules.specs.Acceptance.{readPlan};
 ghost use Rattle.rules.specs.Call.{nothing, beginOutcome, eventOutcome, signalOutcome, fireOutcome, readyOutcome, entriesPart};
-ghost use Rattle.export.specs.Packed.{bit16, bit32, packed, packedReady, packedPart, Returns};
+ghost use Rattle.plan.specs.Holds.{Holds};
+ghost use Rattle.export.specs.Packed.{bit16, bit32, bit48, packedReading, packed, packedReady, packedPart, Returns};
 
-// What a figure is multiplied by to stand at bit 16, and at bit 32.
+// What a figure is multiplied by to stand at bit 16, at bit 32 and at bit 48.
 const BIT16: u64 = 65536;
 
 const BIT32: u64 = 4294967296;
+
+const BIT48: u64 = 281474976710656;
 
 // A refusal, at bit 0.
 fn at_bit0(n: u8) -> u64
@@ -42,6 +48,25 @@ fn pair(a: u16, b: u16) -> u64
     ensures { λ r. ⌜ r ≡ a * bit16 + b * bit32 ⌝ }
 {
     at_bit16(a) + at_bit32(b as u32)
+}
+
+// A plan's tracks, states and transitions, at bits 16, 32 and 48: they are few.
+fn counted(plan: &[u8], c: Counts) -> u64
+    requires { ⌜ Holds (now plan) c ⌝ }
+    ensures { λ r. ⌜ r ≡ c .tracks * bit16 + c .states * bit32 + c .transitions * bit48 ⌝ }
+{
+    (c.tracks as u64) * BIT16 + (c.states as u64) * BIT32 + (c.transitions as u64) * BIT48
+}
+
+#[no_mangle]
+pub extern "C" fn retraction_read(plan: &[u8]) -> u64
+    ensures { λ r. ⌜ r ≡ packedReading (readPlan (now (plan .entry))) ⌝ }
+{
+    let answer = plan::read_plan(plan);
+    match answer {
+        PlanAnswer::Refused(n) => at_bit0(n),
+        PlanAnswer::Accepted(c) => counted(plan, c),
+    }
 }
 
 #[no_mangle]

@@ -1,4 +1,5 @@
-// Reads a plan and a journal, and prints what the journal's records did.
+// Reads a plan and a journal, and prints what the journal's records did. A plan file that cannot be read, or output that cannot be written, is a
+// line on standard error; standard output is the paper's to the byte.
 use libc::STDIN_FILENO;
 use libc::STDOUT_FILENO;
 use replay::LEDGER_WORDS;
@@ -22,17 +23,19 @@ fn counted(file: i32, n: usize, room: usize) -> usize
         return n;
     }
     if is_failing(file) {
+        os::fail(b"unwind: plan.bin");
         return 0;
     }
     n
 }
 
-// The bytes of a file, as many as the buffer takes; none where it cannot be opened or read.
-fn load(path: &[u8], buffer: &mut [u8]) -> usize
+// The bytes of the plan file, as many as the buffer takes; none where it cannot be opened or read.
+fn load(buffer: &mut [u8]) -> usize
     ensures { λ r. ⌜ Counts r (now (buffer .exit)) ⌝ }
 {
-    let file = os::open_read(path);
+    let file = os::open_read(b"plan.bin");
     if file < 0 {
+        os::fail(b"unwind: plan.bin");
         return 0;
     }
     let n = io::read_full(file, &mut buffer[..]);
@@ -41,10 +44,17 @@ fn load(path: &[u8], buffer: &mut [u8]) -> usize
     count
 }
 
+// The text on standard output.
+fn print(text: &[u8]) {
+    if !io::write_all(STDOUT_FILENO, text) {
+        os::fail(b"unwind: standard output");
+    }
+}
+
 // One byte more of each input than is allowed tells that it is too long.
 fn main() {
     let mut plan = [0u8; MOST_BYTES + 1];
-    let n = load(b"plan.bin", &mut plan);
+    let n = load(&mut plan);
     let mut journal = [0u8; MOST_BYTES + 1];
     let m = io::read_full(STDIN_FILENO, &mut journal);
     let mut ledger = [0u16; LEDGER_WORDS];
@@ -52,7 +62,7 @@ fn main() {
     let answer = replay::run(&plan[..n], &journal[..m], &mut ledger, &mut text);
     match answer {
         RunAnswer::Written(written) => {
-            io::write_all(STDOUT_FILENO, &text[..written]);
+            print(&text[..written]);
         }
         RunAnswer::TooSmall(_) => {}
         RunAnswer::ShortLedger => {}

@@ -1,6 +1,7 @@
 //! The paper's sample plan P, and a ledger begun under it.
 
-use retraction::{begin, Begin, NONE, TRACK_WORDS};
+use retraction::raw::begin;
+use retraction::{NONE, TRACK_WORDS};
 
 /// The records of plan P: length, kind, fields.
 const RECORDS: &[&[u16]] = &[
@@ -32,7 +33,7 @@ pub fn plan() -> Vec<u8> {
 pub fn begun() -> (Vec<u8>, Vec<u16>) {
     let plan = plan();
     let mut ledger = vec![7; 3 * TRACK_WORDS + 5];
-    assert_eq!(begin(&plan, &mut ledger), Begin::Begun);
+    assert_eq!(begin(&plan, &mut ledger), Ok(()));
     assert_eq!(ledger[3 * TRACK_WORDS..], [7; 5]);
     (plan, ledger)
 }

@@ -6,8 +6,17 @@ use borrow.Author.Needs.{needs}
 use Rattle.unwind.proofs.load.Statement.{statement}
 use Rattle.unwind.proofs.load.Tie as tie
 
+slice-aggregate-open-read : tie.Need-slice-aggregate-open-read
+slice-aggregate-open-read c = search needs
+
 open-read-requires : tie.Need-open-read-requires
 open-read-requires c κs = search needs
+
+slice-aggregate-fail : tie.Need-slice-aggregate-fail
+slice-aggregate-fail c = search needs
+
+fail-requires : tie.Need-fail-requires
+fail-requires c κs = search needs
 
 returns : tie.Need-returns
 returns c = search needs
@@ -31,7 +40,10 @@ pub load-spec : {M : Type 1} → statement M
 load-spec =
     tie.close
     (tie.spec
+    slice-aggregate-open-read
     open-read-requires
+    slice-aggregate-fail
+    fail-requires
     returns
     read-full-requires
     counted-requires

@@ -9,9 +9,6 @@ use Rattle.unwind.proofs.main.Tie as tie
 slice-aggregate-load : tie.Need-slice-aggregate-load
 slice-aggregate-load c = search needs
 
-slice-aggregate-load-2 : tie.Need-slice-aggregate-load-2
-slice-aggregate-load-2 c = search needs
-
 load-requires : tie.Need-load-requires
 load-requires c κs = search needs
 
@@ -48,11 +45,11 @@ enum-known-answer c = search needs
 array-share-prefix-text : tie.Need-array-share-prefix-text
 array-share-prefix-text c = omega (arith, c .before .before .before .before .before .run .ensures .within _ (c .before .answer .given .1))
 
-slice-aggregate-write-all : tie.Need-slice-aggregate-write-all
-slice-aggregate-write-all c = sym (length-take-le _ _ (c .before .before .before .before .before .before .run .ensures .within _ (c .before .before .answer .given .1)))
+slice-aggregate-print : tie.Need-slice-aggregate-print
+slice-aggregate-print c = sym (length-take-le _ _ (c .before .before .before .before .before .before .run .ensures .within _ (c .before .before .answer .given .1)))
 
-write-all-requires : tie.Need-write-all-requires
-write-all-requires c κs = search needs
+print-requires : tie.Need-print-requires
+print-requires c κs = search needs
 
 enum-told : tie.Need-enum-told
 enum-told c = search needs
@@ -74,7 +71,6 @@ main-spec =
     tie.close
     (tie.spec
     slice-aggregate-load
-    slice-aggregate-load-2
     load-requires
     slice-aggregate-read-full
     read-full-requires
@@ -87,8 +83,8 @@ main-spec =
     run-requires
     enum-known-answer
     array-share-prefix-text
-    slice-aggregate-write-all
-    write-all-requires
+    slice-aggregate-print
+    print-requires
     enum-told
     enum-told-2
     returns

@@ -1,0 +1,148 @@
+//! The calls on any bytes and any words, as `include/retraction.h` has them:
+//! each reads the plan and checks the ledger anew. [`crate::Plan`] and
+//! [`crate::Ledger`] keep the two together and need no such care.
+//!
+//! Any bytes and any words may be given. A refused call changes no word, and
+//! words beyond the plan's are never touched.
+
+use crate::{Counts, Entry, Moved, Refusal, NONE};
+
+mod c {
+    extern "C" {
+        pub fn retraction_read(plan: *const u8, plan_len: usize) -> u64;
+        pub fn retraction_begin(
+            plan: *const u8,
+            plan_len: usize,
+            ledger: *mut u16,
+            ledger_len: usize,
+        ) -> u64;
+        pub fn retraction_event(
+            plan: *const u8,
+            plan_len: usize,
+            ledger: *mut u16,
+            ledger_len: usize,
+            event: u16,
+        ) -> u64;
+        pub fn retraction_signal(
+            plan: *const u8,
+            plan_len: usize,
+            ledger: *mut u16,
+            ledger_len: usize,
+        ) -> u64;
+        pub fn retraction_fire(
+            plan: *const u8,
+            plan_len: usize,
+            ledger: *mut u16,
+            ledger_len: usize,
+            track: u16,
+        ) -> u64;
+        pub fn retraction_ready(
+            plan: *const u8,
+            plan_len: usize,
+            ledger: *mut u16,
+            ledger_len: usize,
+        ) -> u64;
+        pub fn retraction_entries(
+            plan: *const u8,
+            plan_len: usize,
+            ledger: *const u16,
+            ledger_len: usize,
+            track: u16,
+        ) -> u64;
+    }
+}
+
+/// An answer whose bits 0 to 15 are a refusal's number, or 0.
+///
+/// # Panics
+/// If the library linked gives a number that this crate does not know.
+fn accepted(answer: u64) -> Result<u64, Refusal> {
+    let number = bits(answer, 0);
+    if number == 0 {
+        return Ok(answer);
+    }
+    match Refusal::from_number(number) {
+        Some(refusal) => Err(refusal),
+        None => panic!("libretraction gave a refusal that this crate does not know: {number}"),
+    }
+}
+
+/// The 16 bits of an answer from this one on.
+fn bits(answer: u64, from: u32) -> u16 {
+    (answer >> from) as u16
+}
+
+/// How many tracks, states and transitions a plan has.
+pub fn read(plan: &[u8]) -> Result<Counts, Refusal> {
+    // SAFETY: the slice is whole and lives through the call, which reads it alone.
+    let answer = accepted(unsafe { c::retraction_read(plan.as_ptr(), plan.len()) })?;
+    Ok(Counts {
+        tracks: bits(answer, 16),
+        states: bits(answer, 32),
+        transitions: bits(answer, 48),
+    })
+}
+
+/// Overwrites the ledger: roots forward in their first states, others asleep.
+pub fn begin(plan: &[u8], ledger: &mut [u16]) -> Result<(), Refusal> {
+    let (words, len) = (ledger.as_mut_ptr(), ledger.len());
+    // SAFETY: both slices are whole, apart, and live through the call.
+    accepted(unsafe { c::retraction_begin(plan.as_ptr(), plan.len(), words, len) })?;
+    Ok(())
+}
+
+/// Tracks moved and scopes closed.
+pub fn event(plan: &[u8], ledger: &mut [u16], event: u16) -> Result<Moved, Refusal> {
+    let (words, len) = (ledger.as_mut_ptr(), ledger.len());
+    // SAFETY: as under `begin`.
+    let answer = unsafe { c::retraction_event(plan.as_ptr(), plan.len(), words, len, event) };
+    let answer = accepted(answer)?;
+    Ok(Moved {
+        moved: bits(answer, 16),
+        closed: bits(answer, 32),
+    })
+}
+
+/// Tracks turned.
+pub fn signal(plan: &[u8], ledger: &mut [u16]) -> Result<u16, Refusal> {
+    let (words, len) = (ledger.as_mut_ptr(), ledger.len());
+    // SAFETY: as under `begin`.
+    let answer = unsafe { c::retraction_signal(plan.as_ptr(), plan.len(), words, len) };
+    Ok(bits(accepted(answer)?, 16))
+}
+
+/// The entry fired.
+pub fn fire(plan: &[u8], ledger: &mut [u16], track: u16) -> Result<Entry, Refusal> {
+    let (words, len) = (ledger.as_mut_ptr(), ledger.len());
+    // SAFETY: as under `begin`.
+    let answer = unsafe { c::retraction_fire(plan.as_ptr(), plan.len(), words, len, track) };
+    let answer = accepted(answer)?;
+    Ok(entry(bits(answer, 16), bits(answer, 32)))
+}
+
+/// Bit n of the number is set exactly if track n may be fired. No word is
+/// changed.
+pub fn ready(plan: &[u8], ledger: &mut [u16]) -> Result<u32, Refusal> {
+    let (words, len) = (ledger.as_mut_ptr(), ledger.len());
+    // SAFETY: as under `begin`.
+    let answer = unsafe { c::retraction_ready(plan.as_ptr(), plan.len(), words, len) };
+    Ok((accepted(answer)? >> 32) as u32)
+}
+
+/// The part of the ledger that holds a track's pairs of code and deviation,
+/// oldest first; empty on a refusal, which [`ready`] tells.
+#[must_use]
+pub fn entries<'a>(plan: &[u8], ledger: &'a [u16], track: u16) -> &'a [u16] {
+    let (words, len) = (ledger.as_ptr(), ledger.len());
+    // SAFETY: as under `begin`; the ledger is only read.
+    let answer = unsafe { c::retraction_entries(plan.as_ptr(), plan.len(), words, len, track) };
+    let from = (answer >> 16) as usize;
+    &ledger[from..][..usize::from(answer as u16)]
+}
+
+pub(crate) fn entry(code: u16, deviation: u16) -> Entry {
+    Entry {
+        code,
+        deviation: Some(deviation).filter(|&state| state != NONE),
+    }
+}

@@ -1,0 +1,188 @@
+//! The program `unwind` as a function of plan bytes and journal bytes.
+
+use std::io::Write;
+
+use crate::ledger::{Entry, Ledger};
+use crate::plan::{self, Plan, NONE};
+use crate::record::{self, Header};
+use crate::refusal::{demand, Refusal};
+use crate::rules::{self, Moved};
+
+/// The most bytes a plan file or a journal may have.
+pub const MAX_BYTES: usize = 32_768;
+
+/// Record kinds of a journal.
+pub const EVENT: u16 = 16;
+pub const SIGNAL: u16 = 17;
+pub const FIRE: u16 = 18;
+pub const FIRE_LOWEST: u16 = 19;
+
+/// A journal record.
+#[derive(Clone, Copy, Debug, PartialEq, Eq)]
+pub enum Record {
+    Event(u16),
+    Signal,
+    Fire(u16),
+    FireLowest,
+}
+
+impl Record {
+    /// Appends the record to a journal.
+    pub fn encode(self, out: &mut Vec<u8>) {
+        match self {
+            Record::Event(event) => record::put(out, EVENT, &[event]),
+            Record::Signal => record::put(out, SIGNAL, &[]),
+            Record::Fire(track) => record::put(out, FIRE, &[track]),
+            Record::FireLowest => record::put(out, FIRE_LOWEST, &[]),
+        }
+    }
+
+    /// The record at the front of `bytes`, and its length; 23 if broken.
+    fn read(bytes: &[u8]) -> Result<(Record, usize), Refusal> {
+        let header = Header::read(bytes).ok_or(Refusal::BrokenRecord)?;
+        let length = kind_length(header.kind).ok_or(Refusal::BrokenRecord)?;
+        let whole = header.length == length && usize::from(length) <= bytes.len();
+        demand(whole, Refusal::BrokenRecord)?;
+        let record = match header.kind {
+            EVENT => Record::Event(record::field(bytes, 0)),
+            SIGNAL => Record::Signal,
+            FIRE => Record::Fire(record::field(bytes, 0)),
+            _ => Record::FireLowest,
+        };
+        Ok((record, usize::from(length)))
+    }
+}
+
+/// The length of each kind of journal record; `None` for an unknown kind.
+fn kind_length(kind: u16) -> Option<u16> {
+    match kind {
+        EVENT | FIRE => Some(6),
+        SIGNAL | FIRE_LOWEST => Some(4),
+        _ => None,
+    }
+}
+
+/// The records of a journal in order; a broken one ends the reading.
+pub struct Records<'a> {
+    rest: &'a [u8],
+}
+
+impl<'a> Records<'a> {
+    pub fn new(journal: &'a [u8]) -> Self {
+        Records { rest: journal }
+    }
+}
+
+impl Iterator for Records<'_> {
+    type Item = Result<Record, Refusal>;
+
+    fn next(&mut self) -> Option<Self::Item> {
+        if self.rest.is_empty() {
+            return None;
+        }
+        let read = Record::read(self.rest);
+        self.rest = match read {
+            Ok((_, length)) => &self.rest[length..],
+            Err(_) => &[],
+        };
+        Some(read.map(|(record, _)| record))
+    }
+}
+
+/// What a journal record did.
+#[derive(Clone, Copy, Debug, PartialEq, Eq)]
+pub enum Outcome {
+    Event(u16, Moved),
+    Signal(u16),
+    Fire(u16, Entry),
+    Refused(Refusal),
+}
+
+/// Does one record on an accepted plan and a sound ledger.
+pub fn perform(plan: &Plan, ledger: &mut Ledger, record: Record) -> Outcome {
+    let fired = |track, done: Result<Entry, Refusal>| done.map(|e| Outcome::Fire(track, e));
+    let done = match record {
+        Record::Event(event) => rules::event(plan, ledger, event).map(|m| Outcome::Event(event, m)),
+        Record::Signal => rules::signal(plan, ledger).map(Outcome::Signal),
+        Record::Fire(track) => fired(track, rules::fire(plan, ledger, track)),
+        Record::FireLowest => {
+            let track = lowest_ready(plan, ledger);
+            fired(track, rules::fire(plan, ledger, track))
+        }
+    };
+    done.unwrap_or_else(Outcome::Refused)
+}
+
+/// The lowest ready track; with none, a track that no plan has, so that the
+/// firing is refused as 20 or 22.
+fn lowest_ready(plan: &Plan, ledger: &Ledger) -> u16 {
+    rules::ready(plan, ledger).trailing_zeros() as u16
+}
+
+/// The whole output of `unwind`.
+pub fn unwind(plan: &[u8], journal: &[u8]) -> Vec<u8> {
+    let mut text = Vec::new();
+    match open(plan, journal) {
+        Ok(plan) => run(&plan, journal, &mut text),
+        Err(refusal) => print_refusal(&mut text, refusal),
+    }
+    text
+}
+
+/// 1 to 16: both files short enough, and an accepted plan.
+pub fn open(plan: &[u8], journal: &[u8]) -> Result<Plan, Refusal> {
+    let fits = plan.len() <= MAX_BYTES && journal.len() <= MAX_BYTES;
+    demand(fits, Refusal::TooLong)?;
+    plan::read(plan)
+}
+
+/// Begins, then does the records in order.
+fn run(plan: &Plan, journal: &[u8], text: &mut Vec<u8>) {
+    let mut ledger = rules::begin(plan);
+    let mut firings = 0;
+    print_plan(text, plan);
+    for record in Records::new(journal) {
+        let outcome = match record {
+            Ok(record) => perform(plan, &mut ledger, record),
+            Err(refusal) => Outcome::Refused(refusal),
+        };
+        firings += u32::from(matches!(outcome, Outcome::Fire(..)));
+        print_outcome(text, outcome);
+    }
+    print_line(text, format_args!("H {} {}", ledger.total_held(), firings));
+}
+
+fn print_plan(text: &mut Vec<u8>, plan: &Plan) {
+    let (tracks, states) = (plan.track_count(), plan.state_count());
+    let transitions = plan.transition_count();
+    print_line(text, format_args!("PLAN {tracks} {states} {transitions}"));
+}
+
+fn print_outcome(text: &mut Vec<u8>, outcome: Outcome) {
+    match outcome {
+        Outcome::Event(event, m) => {
+            print_line(text, format_args!("E {event} {} {}", m.moved, m.closed))
+        }
+        Outcome::Signal(turned) => print_line(text, format_args!("S {turned}")),
+        Outcome::Fire(track, entry) => print_firing(text, track, entry),
+        Outcome::Refused(refusal) => print_refusal(text, refusal),
+    }
+}
+
+fn print_firing(text: &mut Vec<u8>, track: u16, entry: Entry) {
+    let Entry { code, deviation } = entry;
+    if deviation == NONE {
+        print_line(text, format_args!("F {track} {code} -"));
+    } else {
+        print_line(text, format_args!("F {track} {code} {deviation}"));
+    }
+}
+
+fn print_refusal(text: &mut Vec<u8>, refusal: Refusal) {
+    print_line(text, format_args!("R {}", refusal.number()));
+}
+
+/// Appends one line; writing to memory cannot fail.
+fn print_line(text: &mut Vec<u8>, line: std::fmt::Arguments) {
+    writeln!(text, "{line}").expect("writing to memory");
+}

@@ -1,0 +1,96 @@
+//! The six calls, on plan bytes and lent words. Every call checks 2 to 18
+//! first, begin 2 to 17. Refused calls change no word.
+
+use crate::ledger::{self, Entry, Ledger, PAIRS};
+use crate::plan::{self, Plan};
+use crate::refusal::{demand, Refusal};
+use crate::rules::{self, Moved};
+
+/// The result with its figures, or a refusal with its number.
+#[derive(Clone, Copy, Debug, PartialEq, Eq)]
+pub enum Answer<Figures> {
+    Done(Figures),
+    Refused(Refusal),
+}
+
+impl<Figures> From<Result<Figures, Refusal>> for Answer<Figures> {
+    fn from(result: Result<Figures, Refusal>) -> Self {
+        match result {
+            Ok(figures) => Answer::Done(figures),
+            Err(refusal) => Answer::Refused(refusal),
+        }
+    }
+}
+
+/// Begin overwrites the ledger.
+pub fn begin(plan: &[u8], words: &mut [u16]) -> Answer<()> {
+    let begun = accepted(plan, words).map(|plan| rules::begin(&plan).encode(words));
+    begun.into()
+}
+
+/// Event: tracks moved, scopes closed.
+pub fn event(plan: &[u8], words: &mut [u16], event: u16) -> Answer<Moved> {
+    call(plan, words, |p, l| rules::event(p, l, event))
+}
+
+/// Signal: tracks turned.
+pub fn signal(plan: &[u8], words: &mut [u16]) -> Answer<u16> {
+    call(plan, words, rules::signal)
+}
+
+/// Fire a named track: code and deviation.
+pub fn fire(plan: &[u8], words: &mut [u16], track: u16) -> Answer<Entry> {
+    call(plan, words, |p, l| rules::fire(p, l, track))
+}
+
+/// Ready: bit n set exactly if track n may be fired.
+pub fn ready(plan: &[u8], words: &[u16]) -> Answer<u32> {
+    sound(plan, words)
+        .map(|(plan, ledger)| rules::ready(&plan, &ledger))
+        .into()
+}
+
+/// Entries: the part of the ledger that holds one track's pairs, those held
+/// and no unused ones; the empty part on refusal.
+pub fn entries<'a>(plan: &[u8], words: &'a [u16], track: u16) -> &'a [u16] {
+    let track = usize::from(track);
+    match sound(plan, words) {
+        Ok((plan, ledger)) if track < plan.track_count() => {
+            let held = ledger.tracks[track].held();
+            &ledger::track_words(words, track)[PAIRS..][..2 * held]
+        }
+        _ => &[],
+    }
+}
+
+/// A call that may write: decodes, acts, and writes only if not refused.
+fn call<Figures>(
+    plan: &[u8],
+    words: &mut [u16],
+    act: impl FnOnce(&Plan, &mut Ledger) -> Result<Figures, Refusal>,
+) -> Answer<Figures> {
+    let done = sound(plan, words).and_then(|(plan, mut ledger)| {
+        let figures = act(&plan, &mut ledger)?;
+        ledger.encode(words);
+        Ok(figures)
+    });
+    done.into()
+}
+
+/// 2 to 17: an accepted plan, and enough words for it.
+fn accepted(plan: &[u8], words: &[u16]) -> Result<Plan, Refusal> {
+    let plan = plan::read(plan)?;
+    demand(
+        words.len() >= ledger::words_needed(&plan),
+        Refusal::FewWords,
+    )?;
+    Ok(plan)
+}
+
+/// 2 to 18: an accepted plan and a sound ledger.
+fn sound(plan: &[u8], words: &[u16]) -> Result<(Plan, Ledger), Refusal> {
+    let plan = accepted(plan, words)?;
+    demand(ledger::is_sound(&plan, words), Refusal::Unsound)?;
+    let ledger = Ledger::decode(&plan, words);
+    Ok((plan, ledger))
+}

@@ -1,0 +1,169 @@
+//! Sound and damaged ledgers under the sample plan and a deeper one.
+
+mod common;
+
+use common::*;
+use second::ledger::{self, Clause};
+use second::manager::{self, Answer};
+use second::plan::{self, NONE};
+use second::refusal::Refusal;
+use testing::generate::plans;
+
+/// The sample plan's ledger after events 10, 11 and 12.
+fn working() -> Vec<u16> {
+    let plan = sample();
+    let mut words = vec![0; 201];
+    manager::begin(&plan, &mut words);
+    for event in [10, 11, 12] {
+        manager::event(&plan, &mut words, event);
+    }
+    words
+}
+
+/// The clauses violated once words are changed, each given as place and word.
+fn violated(changes: &[(usize, u16)]) -> Vec<Clause> {
+    let mut words = working();
+    for &(at, word) in changes {
+        words[at] = word;
+    }
+    let plan = plan::read(&sample()).expect("accepted");
+    let clauses = ledger::violated(&plan, &words);
+    assert_eq!(ledger::is_sound(&plan, &words), clauses.is_empty());
+    clauses
+}
+
+#[test]
+fn the_working_ledger_is_laid_out_as_described() {
+    let words = working();
+    assert_eq!(words[..5], [1, 1, 1, 50, NONE]);
+    assert_eq!(words[67..72], [1, 4, 1, 51, NONE]);
+    assert_eq!(words[134..139], [1, 6, 1, 52, NONE]);
+    assert_eq!(violated(&[]), []);
+}
+
+#[test]
+fn words_not_as_described() {
+    assert_eq!(violated(&[(134, 3), (0, 3), (67, 3)]), [Clause::ModesKnown]);
+    assert_eq!(violated(&[(5, 1)]), [Clause::UnusedPairsZero]);
+    assert_eq!(violated(&[(66, 1)]), [Clause::UnusedPairsZero]);
+    assert_eq!(violated(&[(2, 0)]), [Clause::UnusedPairsZero]);
+}
+
+#[test]
+fn a_count_above_32_is_unsound_though_all_pairs_are_good() {
+    let mut words = working();
+    for pair in words[3..67].chunks_exact_mut(2) {
+        pair.copy_from_slice(&[7, NONE]);
+    }
+    let plan = plan::read(&sample()).expect("accepted");
+    words[2] = 32;
+    assert!(ledger::is_sound(&plan, &words));
+    words[2] = 33;
+    assert_eq!(ledger::violated(&plan, &words), [Clause::CountsInRange]);
+}
+
+#[test]
+fn an_asleep_track_is_all_zeros() {
+    let plan = plan::read(&sample()).expect("accepted");
+    let mut words = vec![0; 201];
+    assert!(ledger::is_sound(&plan, &words));
+    words[200] = 1;
+    assert_eq!(ledger::violated(&plan, &words), [Clause::AsleepTracksZero]);
+    words[200] = 0;
+    words[1] = 1;
+    assert_eq!(ledger::violated(&plan, &words), [Clause::AsleepTracksZero]);
+}
+
+#[test]
+fn states_codes_and_deviations() {
+    assert_eq!(violated(&[(135, 3)]), [Clause::StatesOwn]);
+    assert_eq!(violated(&[(135, 8)]), [Clause::StatesOwn]);
+    assert_eq!(violated(&[(3, 0)]), [Clause::CodesNotZero]);
+    assert_eq!(violated(&[(71, 3)]), [Clause::HostedHoldNoDeviation]);
+    assert_eq!(violated(&[(4, 0)]), []);
+    assert_eq!(violated(&[(4, 1)]), []);
+    assert_eq!(violated(&[(4, 2)]), [Clause::DeviationsNotFinal]);
+    assert_eq!(violated(&[(4, 3)]), [Clause::DeviationsOwn]);
+    assert_eq!(violated(&[(4, 8)]), [Clause::DeviationsOwn]);
+}
+
+#[test]
+fn scopes_and_hosts() {
+    let asleep: Vec<(usize, u16)> = (67..134).map(|at| (at, 0)).collect();
+    assert_eq!(violated(&asleep), [Clause::ScopesWhole]);
+    assert_eq!(violated(&[(1, 0)]), [Clause::HostsInHostingState]);
+    assert_eq!(violated(&[(0, 2)]), [Clause::ScopesInHostMode]);
+    assert_eq!(violated(&[(67, 2)]), [Clause::ScopesInHostMode]);
+    assert_eq!(violated(&[(0, 2), (67, 2), (134, 2)]), []);
+}
+
+#[test]
+fn a_host_in_the_middle_must_be_awake() {
+    let plan = plan::read(&plans::chain(3).encode()).expect("accepted");
+    let mut words = vec![0; 201];
+    manager::begin(&plans::chain(3).encode(), &mut words);
+    assert!(ledger::is_sound(&plan, &words));
+    words[67..134].fill(0);
+    assert_eq!(ledger::violated(&plan, &words), [Clause::HostsAwake]);
+}
+
+#[test]
+fn every_root_is_awake() {
+    let mut records = looping();
+    records.tracks.push(track(NONE));
+    records.states.push(state(1, 0, 0));
+    let plan = plan::read(&records.encode()).expect("accepted");
+    let mut words = vec![0; 134];
+    words[..2].copy_from_slice(&[1, 0]);
+    assert_eq!(ledger::violated(&plan, &words), [Clause::RootsAwake]);
+    words[67..69].copy_from_slice(&[2, 2]);
+    assert_eq!(ledger::violated(&plan, &words), []);
+}
+
+#[test]
+fn no_settling_is_left() {
+    assert_eq!(violated(&[(135, 7)]), [Clause::NoClosingLeft]);
+    let mut finished = vec![0; 201];
+    finished[..2].copy_from_slice(&[1, 2]);
+    let plan = plan::read(&sample()).expect("accepted");
+    assert_eq!(ledger::violated(&plan, &finished), [Clause::NoFinishLeft]);
+    let mut spent = vec![0; 201];
+    for (track, state) in [(0, 1), (1, 4), (2, 6)] {
+        spent[67 * track..67 * track + 2].copy_from_slice(&[2, state]);
+    }
+    assert_eq!(ledger::violated(&plan, &spent), [Clause::NoAbandoningLeft]);
+    // Undoing in final states is no settling left.
+    finished[0] = 2;
+    assert_eq!(ledger::violated(&plan, &finished), []);
+}
+
+#[test]
+fn a_damaged_ledger_is_refused_and_not_touched() {
+    let plan = sample();
+    let mut words = working();
+    words[135] = 7;
+    let before = words.clone();
+    let unsound = Refusal::Unsound;
+    assert_eq!(
+        manager::event(&plan, &mut words, 11),
+        Answer::Refused(unsound)
+    );
+    assert_eq!(manager::signal(&plan, &mut words), Answer::Refused(unsound));
+    assert_eq!(
+        manager::fire(&plan, &mut words, 1),
+        Answer::Refused(unsound)
+    );
+    assert_eq!(manager::ready(&plan, &words), Answer::Refused(unsound));
+    assert!(manager::entries(&plan, &words, 1).is_empty());
+    assert_eq!(words, before);
+}
+
+#[test]
+fn entries_are_the_callers_own_words() {
+    let plan = sample();
+    let words = working();
+    let part = manager::entries(&plan, &words, 1);
+    assert_eq!(part, [51, NONE]);
+    assert_eq!(part.as_ptr(), words[70..].as_ptr());
+    assert!(manager::entries(&plan, &words, 3).is_empty());
+}

@@ -1,0 +1,288 @@
+//! `theorems FOLDER HISTORIES PLANS LEDGERS`: reads the lines that `vectors`
+//! prints and writes them to FOLDER as theorems for antt, one to a case, each
+//! proved by computing the definitions of the rules.
+//!
+//! Taken are HISTORIES histories, PLANS refused plans and LEDGERS calls on
+//! damaged ledgers, and fewer whole runs, accepted plans and calls on sound
+//! ledgers: of each sort as many different ones as there are. Cases too large
+//! to be computed quickly are dropped.
+
+use std::collections::{BTreeSet, HashMap};
+use std::fs;
+use std::io;
+use std::path::Path;
+use std::process::ExitCode;
+
+use second::ledger::{self, TRACK_WORDS};
+use second::plan::{self, Plan};
+use second::record::{self, Header};
+use testing::theorems::{parts, statement};
+
+/// Theorems to a file.
+const FILE: usize = 30;
+
+/// The imports of each file.
+const IMPORTS: &str = "\
+use mathlib.Core.Path.{refl}
+use mathlib.Core.List.{[], _∷_}
+use Rattle.rules.specs.Acceptance.{turnedBack}
+use Rattle.rules.specs.Call.{refusal, done}
+use Rattle.starred.specs.Computing.{computing}
+use Rattle.agreement.specs.Statements.{e, f, s, acceptedWith, \
+    HistoryAgrees, PlanAgrees, CallAgrees, ReadyAgrees, EntriesAgree, RunAgrees}
+";
+
+/// The sorts of cases.
+#[derive(Clone, Copy, PartialEq)]
+enum Sort {
+    History,
+    Run,
+    Refused,
+    /// Refused for too many records or too great a height: never small.
+    Oversized,
+    Accepted,
+    Damaged,
+    /// A signal or a firing that is done: what abandoning follows.
+    Undoing,
+    Other,
+}
+
+/// How many cases of a sort are wanted, of a size that is computed quickly.
+struct Share {
+    sort: Sort,
+    name: &'static str,
+    wanted: usize,
+    limit: usize,
+}
+
+fn shares(histories: usize, plans: usize, ledgers: usize) -> [Share; 8] {
+    let share = |sort, name, wanted, limit| Share {
+        sort,
+        name,
+        wanted,
+        limit,
+    };
+    [
+        share(Sort::History, "histories", histories, 700),
+        share(Sort::Run, "whole runs", histories / 10, 1200),
+        share(Sort::Refused, "refused plans", plans, 300),
+        share(Sort::Oversized, "plans refused as 6 or 16", plans / 20, 500),
+        share(Sort::Accepted, "accepted plans", plans / 20, 300),
+        share(Sort::Damaged, "calls on damaged ledgers", ledgers, 200),
+        share(Sort::Undoing, "signals and firings done", ledgers / 4, 240),
+        share(Sort::Other, "other calls", ledgers / 4, 200),
+    ]
+}
+
+/// A case small enough to be taken.
+struct Case {
+    number: usize,
+    line: String,
+    /// How many cases that show the same stand before it.
+    rank: usize,
+}
+
+fn fields_of(line: &str) -> Vec<&str> {
+    line.split(';').collect()
+}
+
+/// The sort of a case and its size: the bytes of the plan, read once for
+/// the begin and once for each call.
+fn sort_of(fields: &[&str]) -> Option<(Sort, usize)> {
+    let plan = fields.get(1)?.len() / 2;
+    Some(match *fields {
+        ["H", _, _, calls, _, _] => (Sort::History, plan * (1 + parts(calls, ',').count())),
+        ["U", _, journal, _] => (Sort::Run, plan * (1 + journal.len() / 8)),
+        ["P", _, "6" | "16"] => (Sort::Oversized, plan),
+        ["P", _, answer] if answer.starts_with('A') => (Sort::Accepted, plan),
+        ["P", _, _] => (Sort::Refused, plan),
+        ["L", _, _, _, "R17" | "R18", _] => (Sort::Damaged, plan),
+        ["L", _, _, call, answer, _] if is_undoing(call, answer) => (Sort::Undoing, plan),
+        ["L", _, _, _, _, _] => (Sort::Other, plan),
+        _ => return None,
+    })
+}
+
+fn is_undoing(call: &str, answer: &str) -> bool {
+    call.starts_with(['S', 'F']) && answer.starts_with('D')
+}
+
+/// What a case shows: a history its plan's height and the outcomes of its
+/// calls, a run its sorts of lines, a plan its refusal, a call what it changes
+/// or the clauses violated.
+fn shows(fields: &[&str]) -> String {
+    match *fields {
+        ["H", plan, _, calls, answers, _] => {
+            let made = parts(calls, ',').zip(parts(answers, '|').skip(1));
+            let outcomes: BTreeSet<String> = made.map(|(c, a)| outcome(c, a)).collect();
+            format!("{:?} {outcomes:?}", height(plan))
+        }
+        ["U", _, _, output] => {
+            let output = String::from_utf8(numbers(output, 2)).unwrap_or_default();
+            let firsts: BTreeSet<&str> = output.lines().filter_map(|l| l.get(..1)).collect();
+            format!("{firsts:?}")
+        }
+        ["P", plan, "3"] => format!("3 {}", falls(&numbers(plan, 2))),
+        ["P", _, answer] => parts(answer, ',').take(1).collect(),
+        ["L", plan, before, call, answer, after] => match plan::read(&numbers(plan, 2)) {
+            Ok(plan) if answer == "R18" => {
+                format!("{:?}", ledger::violated(&plan, &numbers(before, 4)))
+            }
+            Ok(plan) if answer.starts_with('D') => {
+                let changes = changes(&plan, &numbers(before, 4), &numbers(after, 4));
+                format!("{} {changes}", outcome(call, answer))
+            }
+            _ => outcome(call, answer),
+        },
+        _ => String::new(),
+    }
+}
+
+/// Of a plan refused as 3: whether a kind falls, rather than being none.
+fn falls(plan: &[u8]) -> bool {
+    let mut kinds = Vec::new();
+    let mut rest = plan;
+    while let Some(header) = Header::read(rest) {
+        kinds.push(header.kind);
+        let length = usize::from(header.length).max(record::HEADER);
+        rest = rest.get(length..).unwrap_or_default();
+    }
+    let fall = kinds.windows(2).position(|pair| pair[1] < pair[0]);
+    fall.map_or(false, |at| {
+        kinds[..at + 2].iter().all(|kind| (1..=4).contains(kind))
+    })
+}
+
+fn height(plan: &str) -> Option<u32> {
+    let plan = plan::read(&numbers(plan, 2)).ok()?;
+    plan.heights().into_iter().max()
+}
+
+/// A call's letter and its refusal, whether an event closed, or whether a
+/// firing deviated.
+fn outcome(call: &str, answer: &str) -> String {
+    let letter = &call[..1];
+    match letter {
+        _ if answer.starts_with('R') => format!("{letter}{answer}"),
+        "E" => format!("E{}", !answer.ends_with(",0")),
+        "F" => format!("F{}", !answer.ends_with(",65535")),
+        _ => letter.to_string(),
+    }
+}
+
+/// The modes that changed, and whether a track fell asleep with its host.
+fn changes(plan: &Plan, before: &[u16], after: &[u16]) -> String {
+    let modes = |t: usize| (before[t * TRACK_WORDS], after[t * TRACK_WORDS]);
+    let changed = |t: &usize| modes(*t).0 != modes(*t).1;
+    let falls = |t: usize| changed(&t) && modes(t).1 == 0;
+    let tracks = 0..plan.track_count();
+    let climbs = tracks
+        .clone()
+        .any(|t| falls(t) && plan.host_track(t).map_or(false, falls));
+    let mut pairs: Vec<(u16, u16)> = tracks.filter(changed).map(modes).collect();
+    pairs.sort_unstable();
+    format!("{pairs:?} {climbs}")
+}
+
+/// Numbers of so many hex digits each.
+fn numbers<Number: TryFrom<u32>>(hex: &str, digits: usize) -> Vec<Number> {
+    let starts = (0..hex.len()).step_by(digits);
+    starts
+        .filter_map(|at| u32::from_str_radix(hex.get(at..at + digits)?, 16).ok())
+        .filter_map(|number| number.try_into().ok())
+        .collect()
+}
+
+/// The cases of a share, those that show something new first, and how many
+/// were too large.
+fn choose(share: &Share, lines: &[String]) -> (Vec<Case>, usize) {
+    let mut seen: HashMap<String, usize> = HashMap::new();
+    let mut cases = Vec::new();
+    let mut dropped = 0;
+    for (number, line) in lines.iter().enumerate() {
+        let fields = fields_of(line);
+        match sort_of(&fields) {
+            Some((sort, size)) if sort == share.sort && size <= share.limit => {
+                let before = seen.entry(shows(&fields)).or_default();
+                let (line, rank) = (line.clone(), *before);
+                cases.push(Case { number, line, rank });
+                *before += 1;
+            }
+            Some((sort, _)) => dropped += usize::from(sort == share.sort),
+            None => {}
+        }
+    }
+    cases.sort_by_key(|case| case.rank);
+    cases.truncate(share.wanted);
+    (cases, dropped)
+}
+
+/// A case's theorem, under the line that it comes from. A history's has two
+/// parts, its answers and its words.
+fn theorem(sort: Sort, case: &Case) -> Option<String> {
+    let Case { number, line, .. } = case;
+    let says = statement(&fields_of(line))?;
+    let proof = match sort {
+        Sort::History => "(refl, refl)",
+        _ => "refl",
+    };
+    let name = format!("case-{number}");
+    Some(format!(
+        "-- {line}\npub {name} : {says}\nunfolding computing\n{name} = {proof}\n"
+    ))
+}
+
+/// Writes the files and the list of them.
+fn write(folder: &Path, theorems: &[String]) -> io::Result<()> {
+    let mut modules = String::from("-- Cases of the second program.\n");
+    for (number, chunk) in theorems.chunks(FILE).enumerate() {
+        let text = format!(
+            "-- Cases of the second program.\n{IMPORTS}\n{}",
+            chunk.join("\n")
+        );
+        fs::write(folder.join(format!("Cases{number}.antt")), text)?;
+        modules.push_str(&format!("pub mod Cases{number}\n"));
+    }
+    fs::write(folder.join("Lib.antt"), modules)
+}
+
+fn run(folder: &Path, shares: &[Share]) -> io::Result<()> {
+    let lines: Vec<String> = io::stdin().lines().collect::<Result<_, _>>()?;
+    if lines.iter().any(|line| sort_of(&fields_of(line)).is_none()) {
+        return Err(io::ErrorKind::InvalidData.into());
+    }
+    let mut theorems = Vec::new();
+    for share in shares {
+        let (cases, dropped) = choose(share, &lines);
+        let (name, taken, wanted) = (share.name, cases.len(), share.wanted);
+        println!("{name}: {taken} of {wanted} wanted, {dropped} dropped as too large");
+        for case in &cases {
+            let theorem = theorem(share.sort, case);
+            theorems.push(theorem.ok_or(io::ErrorKind::InvalidData)?);
+        }
+    }
+    println!("{} cases", theorems.len());
+    write(folder, &theorems)
+}
+
+fn main() -> ExitCode {
+    let given: Vec<String> = std::env::args().skip(1).collect();
+    let counts = given.iter().skip(1).filter_map(|a| a.parse().ok());
+    let counts: Vec<usize> = counts.collect();
+    let done = match (given.first(), &counts[..]) {
+        (Some(folder), &[histories, plans, ledgers]) => {
+            run(Path::new(folder), &shares(histories, plans, ledgers))
+        }
+        _ => {
+            eprintln!("usage: theorems FOLDER HISTORIES PLANS LEDGERS < lines of vectors");
+            return ExitCode::FAILURE;
+        }
+    };
+    match done {
+        Ok(()) => ExitCode::SUCCESS,
+        Err(error) => {
+            eprintln!("theorems: {error}");
+            ExitCode::FAILURE
+        }
+    }
+}

@@ -1,0 +1,62 @@
+//! `vectors SEED HISTORIES SINGLES DAMAGED [TRACKS]`: prints HISTORIES lines
+//! `H`, DAMAGED lines `P`, SINGLES lines `L` and HISTORIES lines `U`. TRACKS
+//! limits the tracks of the plans.
+
+use std::io::{self, BufWriter, Write};
+use std::process::ExitCode;
+
+use second::plan::MAX_TRACKS;
+use testing::generate::rng::Rng;
+use testing::vectors;
+
+/// Prints `count` lines, each from its own source of random numbers.
+fn print_lines(
+    out: &mut impl Write,
+    (seed, kind): (u64, u64),
+    count: u64,
+    line: impl Fn(&mut Rng) -> String,
+) -> io::Result<()> {
+    for index in 0..count {
+        let mut rng = Rng::for_case(seed, kind, index);
+        writeln!(out, "{}", line(&mut rng))?;
+    }
+    Ok(())
+}
+
+fn print_all(numbers: &[u64]) -> io::Result<()> {
+    let (seed, histories, singles, damaged, tracks) = match *numbers {
+        [seed, histories, singles, damaged, tracks] => (seed, histories, singles, damaged, tracks),
+        _ => return Err(io::ErrorKind::InvalidInput.into()),
+    };
+    let limit = tracks as usize;
+    let mut out = BufWriter::new(io::stdout().lock());
+    print_lines(&mut out, (seed, 11), histories, |r| {
+        vectors::history_line(r, limit)
+    })?;
+    print_lines(&mut out, (seed, 12), damaged, |r| {
+        vectors::plan_line(r, limit)
+    })?;
+    print_lines(&mut out, (seed, 13), singles, |r| {
+        vectors::single_line(r, limit)
+    })?;
+    print_lines(&mut out, (seed, 14), histories, |r| {
+        vectors::unwind_line(r, limit)
+    })?;
+    out.flush()
+}
+
+fn main() -> ExitCode {
+    let given: Result<Vec<u64>, _> = std::env::args().skip(1).map(|a| a.parse()).collect();
+    let mut numbers = given.unwrap_or_default();
+    if numbers.len() == 4 {
+        numbers.push(MAX_TRACKS as u64);
+    }
+    match print_all(&numbers) {
+        Ok(()) => ExitCode::SUCCESS,
+        Err(error) if error.kind() == io::ErrorKind::BrokenPipe => ExitCode::SUCCESS,
+        Err(_) => {
+            eprintln!("usage: vectors SEED HISTORIES SINGLES DAMAGED [TRACKS]");
+            ExitCode::FAILURE
+        }
+    }
+}

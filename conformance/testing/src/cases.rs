@@ -1,0 +1,390 @@
+//! The stored runs: each a plan file or none, a journal, and by this program
+//! its whole output.
+
+use crate::generate::plans;
+use crate::samples::{brothers, journal, looping, sample, sample_records, state, step, track};
+use second::journal::Record::{self, Event, Fire, FireLowest, Signal};
+use second::journal::MAX_BYTES;
+use second::plan::{Records, State, Transition, MAX_STATES, MAX_TRACKS, MAX_TRANSITIONS, NONE};
+
+/// One stored run.
+pub struct Case {
+    /// Its folder, from the repository's root.
+    pub folder: String,
+    /// The bytes of `plan.bin`, `None` where there is no such file.
+    pub plan: Option<Vec<u8>>,
+    pub journal: Vec<u8>,
+}
+
+/// Every stored run.
+pub fn all() -> Vec<Case> {
+    let parts = [
+        samples(),
+        runs(),
+        mistakes(),
+        full(),
+        scopes(),
+        limits(),
+        unread_plans(),
+        unfit_plans(),
+        unfit_transitions(),
+        journals(),
+        sizes(),
+    ];
+    parts.into_iter().flatten().collect()
+}
+
+fn bytes(name: &str, plan: &[u8], journal: &[u8]) -> Case {
+    Case {
+        folder: format!("conformance/cases/{name}"),
+        plan: Some(plan.to_vec()),
+        journal: journal.to_vec(),
+    }
+}
+
+fn case(name: &str, plan: &Records, records: &[Record]) -> Case {
+    bytes(name, &plan.encode(), &journal(records))
+}
+
+/// A run under the sample plan P.
+fn under_sample(name: &str, records: &[Record]) -> Case {
+    case(name, &sample_records(), records)
+}
+
+/// A run under the sample plan P with a change to its records.
+fn changed(name: &str, change: impl FnOnce(&mut Records), records: &[Record]) -> Case {
+    let mut plan = sample_records();
+    change(&mut plan);
+    case(name, &plan, records)
+}
+
+/// A plan that is turned back, with a journal that is never read.
+fn refused(name: &str, change: impl FnOnce(&mut Records)) -> Case {
+    changed(name, change, &[Signal])
+}
+
+/// The event as often as that, and then the others.
+fn often(times: usize, event: u16, then: &[Record]) -> Vec<Record> {
+    let mut records = vec![Event(event); times];
+    records.extend_from_slice(then);
+    records
+}
+
+/// The two brothers and the two sisters.
+fn samples() -> Vec<Case> {
+    let mut halfway = [1, 31, 32, 30, 41, 2].map(Event).to_vec();
+    halfway.extend([Signal, Fire(0)]);
+    halfway.extend([FireLowest; 5]);
+    vec![Case {
+        folder: "samples/brothers_and_sisters".to_string(),
+        plan: Some(brothers().encode()),
+        journal: journal(&halfway),
+    }]
+}
+
+/// The sample, and "Runs and edges".
+fn runs() -> Vec<Case> {
+    let closing = [10, 11, 12, 14].map(Event);
+    let then = |records: &[Record]| [&closing, records].concat();
+    let withdrawn = [Signal, FireLowest, FireLowest, FireLowest, FireLowest];
+    let fired = [Event(10), Event(11), Signal, Fire(0), Fire(1), Fire(0)];
+    let over = [
+        Event(13),
+        Signal,
+        Event(10),
+        Event(0),
+        Fire(0),
+        Fire(99),
+        FireLowest,
+    ];
+    let entries = often(33, 1, &[]);
+    vec![
+        under_sample("sample", &[&closing[..3], &withdrawn].concat()),
+        under_sample("event_13_first", &[Event(13)]),
+        under_sample("event_13_scope_open", &[Event(10), Event(13)]),
+        under_sample(
+            "replaced_then_fired",
+            &then(&[Signal, FireLowest, FireLowest]),
+        ),
+        under_sample("over", &then(&over)),
+        under_sample("signal_first", &[Signal, FireLowest, Signal]),
+        under_sample(
+            "signal_after_10",
+            &[Event(10), Signal, FireLowest, FireLowest],
+        ),
+        under_sample("host_waits_for_branch", &fired),
+        case("entry_33", &looping(), &entries),
+        case("height_8", &plans::chain(8), &[Signal]),
+        case("height_9", &plans::chain(9), &[Signal]),
+    ]
+}
+
+/// "Mistakes that tempt", where the runs above do not show them.
+fn mistakes() -> Vec<Case> {
+    let twice = [10, 11, 12, 14, 14].map(Event);
+    let mut fired = twice[..4].to_vec();
+    fired.extend([Signal, FireLowest, FireLowest]);
+    vec![
+        changed(
+            "host_stays_on_closing_event",
+            |p| p.transitions[1].event = 14,
+            &twice,
+        ),
+        changed(
+            "branch_stays_on_opening_event",
+            |p| p.transitions[2].event = 10,
+            &[Event(10), Event(10)],
+        ),
+        changed("replacement_0", |p| p.states[1].replacement = 0, &fired),
+    ]
+}
+
+/// A host whose one branch loops under event 1 with a code, and reaches its
+/// final state by event 2 with a code and by event 3 without.
+fn looping_branch() -> Records {
+    Records {
+        tracks: vec![track(NONE), track(0)],
+        states: vec![
+            state(0, 0, 90),
+            state(0, 1, 0),
+            state(1, 0, 0),
+            state(1, 1, 0),
+        ],
+        transitions: vec![
+            step(0, 5, 0, 1),
+            step(2, 1, 7, 2),
+            step(2, 2, 8, 3),
+            step(2, 3, 0, 3),
+        ],
+    }
+}
+
+/// A root that loops under event 1 with a code, and by event 2 enters a state
+/// whose scope closes by event 3 with this replacement.
+fn looping_host(replacement: u16) -> Records {
+    let root = [state(0, 0, 0), state(0, 0, replacement), state(0, 1, 0)];
+    let branch = [state(1, 0, 0), state(1, 1, 0)];
+    Records {
+        tracks: vec![track(NONE), track(1)],
+        states: [&root[..], &branch].concat(),
+        transitions: vec![
+            step(0, 1, 7, 0),
+            step(0, 2, 0, 1),
+            step(1, 5, 0, 2),
+            step(3, 3, 9, 4),
+        ],
+    }
+}
+
+/// Entries beyond the 32nd that would be dropped at once or come from a
+/// closing; and what a full track may still do.
+fn full() -> Vec<Case> {
+    let closing = often(32, 1, &[Event(2), Event(3)]);
+    vec![
+        case("full_root_would_finish", &looping(), &closing),
+        case("full_branch_would_close", &looping_branch(), &closing),
+        case("full_host_replacement_90", &looping_host(90), &closing),
+        case("full_host_replacement_0", &looping_host(0), &closing),
+    ]
+}
+
+/// Two roots, the first with a deviation to its first state.
+fn two_roots() -> Records {
+    let mut first = step(0, 1, 50, 1);
+    first.deviation = 0;
+    Records {
+        tracks: vec![track(NONE), track(NONE)],
+        states: vec![
+            state(0, 0, 0),
+            state(0, 0, 0),
+            state(0, 1, 0),
+            state(1, 0, 0),
+            state(1, 1, 0),
+        ],
+        transitions: vec![first, step(1, 2, 0, 2), step(3, 1, 60, 4)],
+    }
+}
+
+/// A scope of tracks 1 and 3, with track 2 hosted inside track 1.
+fn nested() -> Records {
+    let pairs = (3..9).map(|n| state((n - 1) / 2, (n - 1) % 2, 0));
+    let mut states = vec![state(0, 0, 0), state(0, 0, 0), state(0, 1, 0)];
+    states.extend(pairs);
+    Records {
+        tracks: [NONE, 1, 3, 1].map(track).to_vec(),
+        states,
+        transitions: vec![step(0, 10, 50, 1)],
+    }
+}
+
+/// Abandoning that climbs, mixed modes and deviations.
+fn scopes() -> Vec<Case> {
+    let climbs = [Event(10), Signal, FireLowest, FireLowest];
+    let mut mixed = vec![Event(1), Signal, Fire(0), Event(1), Event(2)];
+    mixed.extend([Fire(1), FireLowest, Signal, FireLowest, FireLowest]);
+    let reopened = [
+        Event(10),
+        Signal,
+        Fire(0),
+        FireLowest,
+        Event(11),
+        Signal,
+        FireLowest,
+        FireLowest,
+    ];
+    vec![
+        case("abandoning_climbs", &nested(), &climbs),
+        case("two_roots_mixed_modes", &two_roots(), &mixed),
+        changed(
+            "deviation_opens_scope",
+            |p| p.transitions[0].deviation = 1,
+            &reopened,
+        ),
+    ]
+}
+
+/// The most tracks, states and transitions that a plan may have; one more is
+/// under `unread_plans`.
+fn limits() -> Vec<Case> {
+    let root = |states: Vec<State>, transitions: Vec<Transition>| Records {
+        tracks: vec![track(NONE)],
+        states,
+        transitions,
+    };
+    let roots = Records {
+        tracks: vec![track(NONE); MAX_TRACKS],
+        states: (0..MAX_TRACKS as u16).map(|t| state(t, 0, 0)).collect(),
+        transitions: Vec::new(),
+    };
+    let last = MAX_STATES as u16 - 1;
+    let far = root(vec![state(0, 0, 0); MAX_STATES], vec![step(0, 1, 7, last)]);
+    let events = 1..=MAX_TRANSITIONS as u16;
+    let steps = events.clone().map(|e| step(0, e, e, 0)).collect();
+    let wide = root(vec![state(0, 0, 0)], steps);
+    let widest = [events.end(), &(events.end() + 1)].map(|&e| Event(e));
+    vec![
+        case("tracks_32", &roots, &[Signal, FireLowest]),
+        case("states_128", &far, &[Event(1), Signal, FireLowest]),
+        case("transitions_256", &wide, &widest),
+    ]
+}
+
+/// Plan files that are turned back record by record, 2 to 7, and 8.
+fn unread_plans() -> Vec<Case> {
+    let sample = sample();
+    let tracks = |n: usize| [6, 0, 1, 0, 255, 255].repeat(n);
+    let states = |n: usize| [10, 0, 2, 0, 0, 0, 0, 0, 0, 0].repeat(n);
+    let transitions = |n: usize| [14, 0, 3, 0, 0, 0, 1, 0, 0, 0, 255, 255, 0, 0].repeat(n);
+    let after_end = [&sample[..], &[0]].concat();
+    let second_end = [&sample[..], &[4, 0, 4, 0]].concat();
+    let plan = |name: &str, file: &[u8]| bytes(name, file, &journal(&[Signal]));
+    vec![
+        plan("r2_no_bytes", &[]),
+        plan("r2_three_bytes", &[4, 0, 4]),
+        plan("r2_no_end", &sample[..sample.len() - 4]),
+        plan("r3_kind_9", &[4, 0, 9, 0]),
+        plan("r3_falling_kind", &[&states(1), &tracks(1)[..]].concat()),
+        plan("r4_track_of_8_bytes", &[8, 0, 1, 0]),
+        plan("r5_cut_track", &tracks(1)[..5]),
+        plan(
+            "r5_33rd_track_cut",
+            &tracks(MAX_TRACKS + 1)[..6 * MAX_TRACKS + 5],
+        ),
+        plan("r6_33rd_track", &tracks(MAX_TRACKS + 1)),
+        plan("r6_129th_state", &states(MAX_STATES + 1)),
+        plan("r6_257th_transition", &transitions(MAX_TRANSITIONS + 1)),
+        plan("r7_byte_after_end", &after_end),
+        plan("r7_second_end", &second_end),
+        plan("r8_end_only", &[4, 0, 4, 0]),
+    ]
+}
+
+/// Plans that are turned back over the whole plan, 9 to 12.
+fn unfit_plans() -> Vec<Case> {
+    let both = |p: &mut Records| {
+        p.states[0].track = 7;
+        p.transitions[0].source = 999;
+    };
+    vec![
+        refused("r9_no_such_track", |p| p.states[7].track = 3),
+        refused("r9_final_2", |p| p.states[7].last = 2),
+        refused("r9_before_13", both),
+        refused("r10_host_500", |p| p.tracks[1].host = 500),
+        refused("r10_host_of_same_track", |p| p.tracks[1].host = 3),
+        refused("r11_no_state", |p| p.tracks.push(track(NONE))),
+        refused("r11_first_state_final", |p| p.states[3].last = 1),
+        refused("r12_final_state_hosts", |p| p.states[1].last = 1),
+        refused("r12_replacement_without_scope", |p| {
+            p.states[5].replacement = 1
+        }),
+    ]
+}
+
+/// Transitions that are turned back, 13 to 15.
+fn unfit_transitions() -> Vec<Case> {
+    let deviate =
+        |name: &str, at: usize, to: u16| refused(name, |p| p.transitions[at].deviation = to);
+    vec![
+        refused("r13_no_source", |p| p.transitions[0].source = 8),
+        refused("r13_no_destination", |p| p.transitions[0].destination = 8),
+        refused("r13_two_tracks", |p| p.transitions[0].destination = 3),
+        refused("r13_final_source", |p| p.transitions[0].source = 2),
+        refused("r13_event_0", |p| p.transitions[0].event = 0),
+        deviate("r14_other_track", 0, 3),
+        deviate("r14_final", 0, 2),
+        deviate("r14_hosted_track", 2, 3),
+        deviate("r14_code_0", 1, 0),
+        refused("r15_same_source_and_event", |p| {
+            p.transitions.push(step(0, 10, 0, 0))
+        }),
+    ]
+}
+
+/// Journals: refusals that do not end the reading, and 23 in each form.
+fn journals() -> Vec<Case> {
+    let broken = |name: &str, record: &[u8]| {
+        let file = [&journal(&[Event(10)])[..], record].concat();
+        bytes(name, &sample(), &file)
+    };
+    vec![
+        under_sample("empty_journal", &[]),
+        under_sample("kinds_may_fall", &[Signal, Event(10), FireLowest, Signal]),
+        under_sample(
+            "r19_and_r22_go_on",
+            &[Event(0), Fire(3), Fire(0), Event(10)],
+        ),
+        broken("r23_one_byte", &[6]),
+        broken("r23_two_bytes", &[6, 0]),
+        broken("r23_three_bytes", &[6, 0, 16]),
+        broken("r23_unknown_kind", &[4, 0, 20, 0, 4, 0, 17, 0]),
+        broken("r23_plan_kind", &[4, 0, 4, 0, 4, 0, 17, 0]),
+        broken("r23_short_event", &[4, 0, 16, 0, 10, 0]),
+        broken("r23_long_signal", &[6, 0, 17, 0, 1, 0]),
+        broken("r23_cut_event", &[6, 0, 16, 0]),
+        broken("r23_cut_fire", &[6, 0, 18, 0, 0]),
+        bytes("refused_plan_broken_journal", &[4, 0, 4, 0], &[1]),
+    ]
+}
+
+/// The limit of 32,768 bytes, and a missing plan.
+fn sizes() -> Vec<Case> {
+    let signals = vec![Signal; MAX_BYTES / 4];
+    let longer = [&journal(&signals)[..], &[0]].concat();
+    let padded = |size: usize| {
+        let mut plan = sample();
+        plan.resize(size, 0);
+        plan
+    };
+    let missing = |name: &str, journal: &[u8]| Case {
+        plan: None,
+        ..bytes(name, &[], journal)
+    };
+    vec![
+        under_sample("journal_of_32768", &signals),
+        bytes("r1_journal_of_32769", &sample(), &longer),
+        missing("r1_journal_of_32769_no_plan", &longer),
+        bytes("plan_of_32768", &padded(MAX_BYTES), &[]),
+        bytes("r1_plan_of_32769", &padded(MAX_BYTES + 1), &[]),
+        missing("no_plan", &[]),
+    ]
+}

@@ -1,0 +1,502 @@
+//! Counts what happened over a generated batch, and holds it to floors.
+
+use crate::generate::journals::{self, Case};
+use crate::generate::rng::Rng;
+use crate::generate::singles::{self, Call, Single};
+use second::journal::{self, Outcome, Record, Records};
+use second::ledger::{self, Clause, Ledger, CAPACITY};
+use second::manager::{self, Answer};
+use second::plan::{self, members, Plan, MAX_TRACKS, NONE};
+use second::refusal::Refusal;
+use second::rules;
+
+/// Journals of the default batch.
+pub const JOURNALS: u64 = 20_000;
+/// Single calls for each journal of a batch.
+pub const SINGLES_PER_JOURNAL: u64 = 10;
+
+/// Records counted of one journal, so that the longest ones do not swell the
+/// table.
+const COUNTED: usize = 300;
+
+/// What can happen besides refusals and violated clauses.
+#[derive(Clone, Copy, Debug, PartialEq, Eq)]
+pub enum Happening {
+    EventMoves,
+    EventMovesSeveral,
+    Closing,
+    ClosingTwoAtOnce,
+    NestedClosings,
+    ClosingWithoutReplacement,
+    Finish,
+    Signal,
+    Abandoning,
+    AbandoningClimbsTwo,
+    AbandoningClimbsThree,
+    AbandoningByFiring,
+    AbandoningByFiringClimbsTwo,
+    Firing,
+    FiringDeviates,
+    DeviationIntoHosting,
+    ScopeReopens,
+    FullByDroppedEntry,
+    FullByReplacement,
+    Entry32Installed,
+    Height8Accepted,
+    LimitsAccepted,
+}
+
+const HAPPENINGS: usize = 22;
+
+/// Floors of refusals 1 to 23 for the default batch.
+const REFUSAL_FLOORS: [u64; 23] = [
+    15, 300, 400, 400, 300, 200, 400, 200, 250, 200, 200, 200, 200, 200, 200, 200, 5_000, 40_000,
+    3_000, 15_000, 6_000, 12_000, 1_800,
+];
+
+/// Names and floors of the happenings, in the order of the enum.
+const HAPPENING_FLOORS: [(Happening, &str, u64); HAPPENINGS] = [
+    (Happening::EventMoves, "event that moves", 100_000),
+    (
+        Happening::EventMovesSeveral,
+        "event that moves several",
+        20_000,
+    ),
+    (Happening::Closing, "closing", 18_000),
+    (
+        Happening::ClosingTwoAtOnce,
+        "two scopes closing in one call",
+        500,
+    ),
+    (
+        Happening::NestedClosings,
+        "nested scopes closing in one history",
+        1_500,
+    ),
+    (
+        Happening::ClosingWithoutReplacement,
+        "closing, replacement 0",
+        5_000,
+    ),
+    (Happening::Finish, "finish", 7_000),
+    (Happening::Signal, "signal", 20_000),
+    (Happening::Abandoning, "abandoning", 9_000),
+    (
+        Happening::AbandoningClimbsTwo,
+        "abandoning, two scopes up",
+        1_000,
+    ),
+    (
+        Happening::AbandoningClimbsThree,
+        "abandoning, three scopes up or more",
+        350,
+    ),
+    (
+        Happening::AbandoningByFiring,
+        "abandoning by a firing",
+        4_000,
+    ),
+    (
+        Happening::AbandoningByFiringClimbsTwo,
+        "abandoning by a firing, two up or more",
+        800,
+    ),
+    (Happening::Firing, "firing", 35_000),
+    (Happening::FiringDeviates, "firing with deviation", 4_000),
+    (
+        Happening::DeviationIntoHosting,
+        "deviation into a hosting state",
+        1_000,
+    ),
+    (
+        Happening::ScopeReopens,
+        "scope that reopens in one history",
+        1_500,
+    ),
+    (
+        Happening::FullByDroppedEntry,
+        "21 by an entry dropped in the call",
+        1_000,
+    ),
+    (Happening::FullByReplacement, "21 by a replacement", 500),
+    (Happening::Entry32Installed, "32nd entry installed", 600),
+    (
+        Happening::Height8Accepted,
+        "plan of height 8 accepted",
+        2_000,
+    ),
+    (
+        Happening::LimitsAccepted,
+        "plan of 32, 128 and 256 accepted",
+        1_500,
+    ),
+];
+
+/// Floor of each clause violated alone for the default batch.
+const CLAUSE_FLOOR: u64 = 1_200;
+
+/// A row of the table.
+pub struct Row {
+    pub name: String,
+    pub count: u64,
+    /// The floor for the default batch.
+    pub floor: u64,
+}
+
+/// The counts of a batch.
+#[derive(Clone, Debug, Default)]
+pub struct Coverage {
+    refusals: [u64; 23],
+    happenings: [u64; HAPPENINGS],
+    clauses: [u64; Clause::COUNT],
+}
+
+/// Generates a batch and counts what happens in it.
+pub fn batch(seed: u64, journals: u64) -> Coverage {
+    let mut coverage = Coverage::default();
+    for index in 0..journals {
+        let mut rng = Rng::for_case(seed, 1, index);
+        coverage.journal(&journals::case(&mut rng, MAX_TRACKS));
+    }
+    for index in 0..journals * SINGLES_PER_JOURNAL {
+        let mut rng = Rng::for_case(seed, 2, index);
+        coverage.single(&singles::single(&mut rng, MAX_TRACKS));
+    }
+    coverage
+}
+
+/// A call's ledger before and after, under its plan.
+struct Change<'a> {
+    plan: &'a Plan,
+    before: &'a Ledger,
+    after: &'a Ledger,
+}
+
+/// What a history has seen so far, by hosting state.
+struct Past {
+    closed: Vec<bool>,
+    opened: Vec<bool>,
+}
+
+impl Past {
+    fn new(plan: &Plan, ledger: &Ledger) -> Past {
+        let open = |s| ledger.is_open(plan, s);
+        Past {
+            closed: vec![false; plan.state_count()],
+            opened: plan.state_numbers().map(open).collect(),
+        }
+    }
+}
+
+impl Coverage {
+    /// The rows of the table.
+    pub fn rows(&self) -> Vec<Row> {
+        let mut rows = self.refusal_rows();
+        rows.extend(HAPPENING_FLOORS.map(|(happening, name, floor)| Row {
+            name: name.to_string(),
+            count: self.happenings[happening as usize],
+            floor,
+        }));
+        rows.extend(Clause::all().map(|clause| Row {
+            name: format!("violated alone: {clause:?}"),
+            count: self.clauses[clause as usize],
+            floor: CLAUSE_FLOOR,
+        }));
+        rows
+    }
+
+    fn refusal_rows(&self) -> Vec<Row> {
+        let row = |(at, &floor): (usize, &u64)| Row {
+            name: format!("refusal {}", at + 1),
+            count: self.refusals[at],
+            floor,
+        };
+        REFUSAL_FLOORS.iter().enumerate().map(row).collect()
+    }
+
+    fn count(&mut self, happening: Happening) {
+        self.happenings[happening as usize] += 1;
+    }
+
+    fn count_if(&mut self, happened: bool, happening: Happening) {
+        self.happenings[happening as usize] += u64::from(happened);
+    }
+
+    fn refused(&mut self, refusal: Refusal) {
+        self.refusals[usize::from(refusal.number()) - 1] += 1;
+    }
+
+    /// Counts a whole run of `unwind`.
+    pub fn journal(&mut self, case: &Case) {
+        match journal::open(&case.plan, &case.journal) {
+            Ok(plan) => self.history(&plan, &case.journal),
+            Err(refusal) => self.refused(refusal),
+        }
+    }
+
+    fn history(&mut self, plan: &Plan, journal: &[u8]) {
+        self.accepted(plan);
+        let mut ledger = rules::begin(plan);
+        let mut past = Past::new(plan, &ledger);
+        let mut nested = false;
+        let mut reopened = false;
+        for record in Records::new(journal).take(COUNTED) {
+            match record {
+                Ok(record) => {
+                    let before = ledger.clone();
+                    let outcome = journal::perform(plan, &mut ledger, record);
+                    let change = Change {
+                        plan,
+                        before: &before,
+                        after: &ledger,
+                    };
+                    self.outcome(&change, record, outcome);
+                    let closing = matches!(outcome, Outcome::Event(..));
+                    nested |= closing && change.closes_around(&mut past);
+                    reopened |= change.reopens(&mut past);
+                }
+                Err(refusal) => self.refused(refusal),
+            }
+        }
+        self.count_if(nested, Happening::NestedClosings);
+        self.count_if(reopened, Happening::ScopeReopens);
+    }
+
+    fn accepted(&mut self, plan: &Plan) {
+        let height = plan.heights().into_iter().max();
+        self.count_if(height == Some(8), Happening::Height8Accepted);
+        let sizes = (
+            plan.track_count(),
+            plan.state_count(),
+            plan.transition_count(),
+        );
+        self.count_if(sizes == (32, 128, 256), Happening::LimitsAccepted);
+    }
+
+    fn outcome(&mut self, change: &Change, record: Record, outcome: Outcome) {
+        match (outcome, record) {
+            (Outcome::Event(_, m), _) => self.event(change, m.moved),
+            (Outcome::Signal(_), _) => self.signal(change),
+            (Outcome::Fire(_, entry), _) => self.firing(change, entry.deviation),
+            (Outcome::Refused(refusal), Record::Event(event)) => {
+                self.event_refused(change.plan, change.before, event, refusal)
+            }
+            (Outcome::Refused(refusal), _) => self.refused(refusal),
+        }
+    }
+
+    fn event(&mut self, change: &Change, moved: u16) {
+        self.count_if(moved > 0, Happening::EventMoves);
+        self.count_if(moved > 1, Happening::EventMovesSeveral);
+        let over = change.after.is_over();
+        self.count_if(over, Happening::Finish);
+        let closed = change.fallen_asleep();
+        for &hosting in &closed {
+            self.count(Happening::Closing);
+            let none = change.plan.replacement(hosting) == 0;
+            self.count_if(none, Happening::ClosingWithoutReplacement);
+        }
+        self.count_if(closed.len() > 1, Happening::ClosingTwoAtOnce);
+        self.count_if(change.fills(), Happening::Entry32Installed);
+    }
+
+    fn signal(&mut self, change: &Change) {
+        self.count(Happening::Signal);
+        self.abandoning(change);
+    }
+
+    fn abandoning(&mut self, change: &Change) {
+        let abandoned = change.fallen_asleep();
+        for _ in &abandoned {
+            self.count(Happening::Abandoning);
+        }
+        let climb = change.climb(&abandoned);
+        self.count_if(climb == 2, Happening::AbandoningClimbsTwo);
+        self.count_if(climb > 2, Happening::AbandoningClimbsThree);
+    }
+
+    fn firing(&mut self, change: &Change, deviation: u16) {
+        self.count(Happening::Firing);
+        self.count_if(deviation != NONE, Happening::FiringDeviates);
+        let hosting = change.plan.scope(deviation) != 0;
+        self.count_if(hosting, Happening::DeviationIntoHosting);
+        self.abandoning(change);
+        let climb = change.climb(&change.fallen_asleep());
+        self.count_if(climb > 0, Happening::AbandoningByFiring);
+        self.count_if(climb > 1, Happening::AbandoningByFiringClimbsTwo);
+    }
+
+    fn event_refused(&mut self, plan: &Plan, before: &Ledger, event: u16, refusal: Refusal) {
+        self.refused(refusal);
+        if refusal == Refusal::Full {
+            self.full(plan, before, event);
+        }
+    }
+
+    /// Finds why 21 applied, from what the event does once full tracks have
+    /// given up their newest entry.
+    fn full(&mut self, plan: &Plan, before: &Ledger, event: u16) {
+        let mut eased = before.clone();
+        for track in eased.tracks.iter_mut().filter(|t| t.is_full()) {
+            track.remove();
+        }
+        let moves = rules::chosen_moves(plan, &eased, event);
+        let mut after = eased.clone();
+        if rules::event(plan, &mut after, event).is_err() {
+            return;
+        }
+        let full = |t: usize| before.tracks[t].is_full();
+        let dropped = moves
+            .iter()
+            .any(|&(t, x)| full(t) && x.code != 0 && !after.tracks[t].is_awake());
+        let change = Change {
+            plan,
+            before,
+            after: &after,
+        };
+        let replaced = change
+            .fallen_asleep()
+            .iter()
+            .any(|&s| full(plan.track_of(s)) && plan.replacement(s) != 0);
+        self.count_if(dropped, Happening::FullByDroppedEntry);
+        self.count_if(replaced, Happening::FullByReplacement);
+    }
+
+    /// Counts a single call.
+    pub fn single(&mut self, single: &Single) {
+        let plan = match plan::read(&single.plan) {
+            Ok(plan) => plan,
+            Err(_) => return self.answer(single, None),
+        };
+        self.accepted(&plan);
+        if single.words.len() < ledger::words_needed(&plan) {
+            return self.answer(single, None);
+        }
+        match ledger::violated(&plan, &single.words)[..] {
+            [] => self.answer(single, Some(&plan)),
+            [clause] => {
+                self.clauses[clause as usize] += 1;
+                self.answer(single, None);
+            }
+            _ => self.answer(single, None),
+        }
+    }
+
+    /// Makes the call; `plan` is given where the ledger is sound.
+    fn answer(&mut self, single: &Single, plan: Option<&Plan>) {
+        let (bytes, mut words) = (&single.plan[..], single.words.clone());
+        match single.call {
+            Call::Event(event) => {
+                let answer = manager::event(bytes, &mut words, event);
+                self.event_answer(single, plan, &words, event, answer);
+            }
+            Call::Signal => {
+                let answer = manager::signal(bytes, &mut words);
+                self.figures(single, plan, &words, answer, |c, change, _| {
+                    c.signal(change)
+                });
+            }
+            Call::Fire(track) => {
+                let answer = manager::fire(bytes, &mut words, track);
+                self.figures(single, plan, &words, answer, |c, change, entry| {
+                    c.firing(change, entry.deviation)
+                });
+            }
+            Call::Ready => {
+                let answer = manager::ready(bytes, &words);
+                self.figures(single, plan, &words, answer, |_, _, _| {});
+            }
+            Call::Entries(_) => {}
+        }
+    }
+
+    fn event_answer(
+        &mut self,
+        single: &Single,
+        plan: Option<&Plan>,
+        words: &[u16],
+        event: u16,
+        answer: Answer<rules::Moved>,
+    ) {
+        if let (Answer::Refused(Refusal::Full), Some(plan)) = (answer, plan) {
+            self.full(plan, &Ledger::decode(plan, &single.words), event);
+        }
+        self.figures(single, plan, words, answer, |c, change, m| {
+            c.event(change, m.moved)
+        });
+    }
+
+    fn figures<F>(
+        &mut self,
+        single: &Single,
+        plan: Option<&Plan>,
+        words: &[u16],
+        answer: Answer<F>,
+        observe: impl FnOnce(&mut Coverage, &Change, F),
+    ) {
+        match (answer, plan) {
+            (Answer::Refused(refusal), _) => self.refused(refusal),
+            (Answer::Done(figures), Some(plan)) => {
+                let change = Change {
+                    plan,
+                    before: &Ledger::decode(plan, &single.words),
+                    after: &Ledger::decode(plan, words),
+                };
+                observe(self, &change, figures);
+            }
+            (Answer::Done(_), None) => unreachable!("a call answered on an unsound ledger"),
+        }
+    }
+}
+
+impl Change<'_> {
+    /// The scopes open before and asleep after, by hosting state.
+    fn fallen_asleep(&self) -> Vec<u16> {
+        self.plan
+            .hosting_states()
+            .filter(|&s| self.before.is_open(self.plan, s) && !self.after.is_open(self.plan, s))
+            .collect()
+    }
+
+    /// Whether a track's 32nd entry was installed.
+    fn fills(&self) -> bool {
+        let pairs = self.before.tracks.iter().zip(&self.after.tracks);
+        pairs
+            .into_iter()
+            .any(|(b, a)| b.held() == CAPACITY - 1 && a.is_full())
+    }
+
+    /// The longest run of scopes abandoned one around the other.
+    fn climb(&self, abandoned: &[u16]) -> usize {
+        let around = |s: u16| {
+            let host = self.plan.host(self.plan.track_of(s));
+            Some(host).filter(|h| abandoned.contains(h))
+        };
+        let run = |&s: &u16| std::iter::successors(Some(s), |&s| around(s)).count();
+        abandoned.iter().map(run).max().unwrap_or(0)
+    }
+
+    /// Notes the scopes closed; whether one lay around one closed before.
+    fn closes_around(&self, past: &mut Past) -> bool {
+        let mut nested = false;
+        for hosting in self.fallen_asleep() {
+            let mut inner = members(self.plan.scope(hosting)).flat_map(|t| self.plan.states_of(t));
+            nested |= inner.any(|s| past.closed[usize::from(s)]);
+            past.closed[usize::from(hosting)] = true;
+        }
+        nested
+    }
+
+    /// Notes the scopes opened; whether one was open earlier.
+    fn reopens(&self, past: &mut Past) -> bool {
+        let mut again = false;
+        for hosting in self.plan.hosting_states() {
+            let opens =
+                !self.before.is_open(self.plan, hosting) && self.after.is_open(self.plan, hosting);
+            let seen = &mut past.opened[usize::from(hosting)];
+            again |= opens && *seen;
+            *seen |= opens;
+        }
+        again
+    }
+}

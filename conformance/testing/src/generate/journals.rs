@@ -1,0 +1,281 @@
+//! Histories and journals, steered by the rules so that they move, close,
+//! signal, abandon, fire and deviate.
+
+use super::damage;
+use super::plans;
+use super::rng::Rng;
+use second::journal::{self, Record, MAX_BYTES};
+use second::ledger::{Ledger, Mode};
+use second::plan::{self, members, Plan};
+use second::record;
+use second::rules;
+
+/// How a history goes, in percent.
+struct Temper {
+    /// Records that are likely to be useless.
+    useless: usize,
+    /// Signals while something can move.
+    signal: usize,
+    /// Events repeated while they still move something.
+    repeat: usize,
+    /// Events chosen for a move into a final state.
+    haste: usize,
+}
+
+/// A plan file and a journal for `unwind`.
+pub struct Case {
+    pub plan: Vec<u8>,
+    pub journal: Vec<u8>,
+}
+
+/// A whole run of `unwind`: mostly a good plan with a steered journal.
+pub fn case(rng: &mut Rng, limit: usize) -> Case {
+    let good = !rng.chance(6);
+    let plan = if good {
+        plans::bytes(rng, limit)
+    } else {
+        damage::any_plan(rng, limit)
+    };
+    let journal = match plan::read(&plan) {
+        Ok(plan) => journal(rng, &plan),
+        Err(_) => stray_journal(rng),
+    };
+    let mut case = Case { plan, journal };
+    if rng.below(250) == 0 {
+        stretch(rng, &mut case);
+    }
+    case
+}
+
+/// Brings the plan file or the journal to the greatest length, or one more.
+fn stretch(rng: &mut Rng, case: &mut Case) {
+    let length = MAX_BYTES + rng.below(2);
+    if rng.chance(30) {
+        case.plan.resize(length, 0);
+    } else {
+        pad(rng, &mut case.journal);
+        case.journal.resize(length, 0);
+    }
+}
+
+/// Appends whole records up to the greatest length.
+fn pad(rng: &mut Rng, journal: &mut Vec<u8>) {
+    if journal.len() % 4 == 2 {
+        Record::Event(1).encode(journal);
+    }
+    while journal.len() + record::HEADER <= MAX_BYTES {
+        let signal = rng.chance(10);
+        let record = if signal {
+            Record::Signal
+        } else {
+            Record::FireLowest
+        };
+        record.encode(journal);
+    }
+}
+
+/// A journal steered through the plan, sometimes ending in a broken record.
+pub fn journal(rng: &mut Rng, plan: &Plan) -> Vec<u8> {
+    let mut bytes = Vec::new();
+    for record in history(rng, plan).0 {
+        record.encode(&mut bytes);
+    }
+    if rng.chance(15) {
+        break_off(rng, &mut bytes);
+    }
+    bytes
+}
+
+/// A journal for a plan that is refused anyway.
+fn stray_journal(rng: &mut Rng) -> Vec<u8> {
+    let mut bytes = Vec::new();
+    for _ in 0..rng.below(4) {
+        Record::Event(rng.between(1, 5) as u16).encode(&mut bytes);
+    }
+    bytes
+}
+
+/// Appends a broken record of each form, and sometimes whole ones after it.
+fn break_off(rng: &mut Rng, bytes: &mut Vec<u8>) {
+    match rng.below(4) {
+        0 => bytes.extend((0..rng.between(1, 3)).map(|n| n as u8)),
+        1 => unknown_kind(rng, bytes),
+        2 => wrong_length(rng, bytes),
+        _ => cut_short(rng, bytes),
+    }
+}
+
+fn unknown_kind(rng: &mut Rng, bytes: &mut Vec<u8>) {
+    let kinds = [0, 1, 2, 3, 4, 5, 15, 20, 4096, 65535];
+    let kind = rng.pick(&kinds).unwrap_or(0);
+    record::put(bytes, kind, &[1][..rng.below(2)]);
+    Record::Signal.encode(bytes);
+}
+
+fn wrong_length(rng: &mut Rng, bytes: &mut Vec<u8>) {
+    let kind = rng.between(16, 19) as u16;
+    let named = kind == journal::EVENT || kind == journal::FIRE;
+    let right = if named { 6 } else { 4 };
+    let lengths: Vec<u16> = [0, 2, 4, 5, 6, 8, 65535]
+        .into_iter()
+        .filter(|&l| l != right)
+        .collect();
+    let length = rng.pick(&lengths).unwrap_or(0);
+    record::put_words(bytes, &[length, kind, 1, 0]);
+}
+
+fn cut_short(rng: &mut Rng, bytes: &mut Vec<u8>) {
+    let kind = if rng.chance(50) {
+        journal::EVENT
+    } else {
+        journal::FIRE
+    };
+    record::put_words(bytes, &[6, kind]);
+    if rng.chance(50) {
+        bytes.push(1);
+    }
+}
+
+/// A steered history from begin, and the ledger it leaves.
+pub fn history(rng: &mut Rng, plan: &Plan) -> (Vec<Record>, Ledger) {
+    let temper = temper(rng);
+    let mut ledger = rules::begin(plan);
+    let mut records: Vec<Record> = Vec::new();
+    let mut left = history_length(rng);
+    while left > 0 {
+        let record = next_record(rng, &temper, plan, &ledger, records.last());
+        journal::perform(plan, &mut ledger, record);
+        records.push(record);
+        left -= 1;
+        if is_spent(plan, &ledger) {
+            left = left.min(rng.below(5));
+        }
+    }
+    (records, ledger)
+}
+
+/// Whether nothing more can happen: over, or all undoing with none ready.
+fn is_spent(plan: &Plan, ledger: &Ledger) -> bool {
+    let forward = ledger.tracks.iter().any(|t| t.mode == Mode::Forward);
+    !forward && rules::ready(plan, ledger) == 0
+}
+
+fn temper(rng: &mut Rng) -> Temper {
+    let pumping = rng.chance(25);
+    Temper {
+        useless: rng.pick(&[0, 5, 10, 30]).unwrap_or(0),
+        signal: if pumping {
+            rng.between(1, 3)
+        } else {
+            rng.pick(&[3, 6, 15]).unwrap_or(0)
+        },
+        repeat: if pumping { 95 } else { 20 },
+        haste: rng.pick(&[0, 20, 50]).unwrap_or(0),
+    }
+}
+
+fn history_length(rng: &mut Rng) -> usize {
+    match rng.below(100) {
+        0..=2 => rng.below(3),
+        3..=49 => rng.between(4, 30),
+        50..=84 => rng.between(20, 80),
+        _ => rng.between(60, 180),
+    }
+}
+
+/// The next record: one that does something, or a useless one.
+fn next_record(
+    rng: &mut Rng,
+    temper: &Temper,
+    plan: &Plan,
+    ledger: &Ledger,
+    before: Option<&Record>,
+) -> Record {
+    if rng.chance(temper.useless) {
+        return useless(rng, plan);
+    }
+    let events = moving_events(plan, ledger, |_| true);
+    let ready: Vec<usize> = members(rules::ready(plan, ledger)).collect();
+    let fires = !ready.is_empty() && (events.is_empty() || rng.chance(55));
+    if fires {
+        return firing(rng, plan, &ready);
+    }
+    if rng.chance(temper.signal) {
+        return Record::Signal;
+    }
+    match before {
+        Some(&Record::Event(e)) if events.contains(&e) && rng.chance(temper.repeat) => {
+            Record::Event(e)
+        }
+        _ => moving_event(rng, temper, plan, ledger, &events),
+    }
+}
+
+/// A firing that is allowed, or now and then of any track.
+fn firing(rng: &mut Rng, plan: &Plan, ready: &[usize]) -> Record {
+    if rng.chance(8) {
+        return Record::Fire(rng.below(plan.track_count()) as u16);
+    }
+    match rng.pick(ready) {
+        Some(track) if rng.chance(60) => Record::Fire(track as u16),
+        _ => Record::FireLowest,
+    }
+}
+
+/// An event that moves something, or a signal or firing where none does.
+fn moving_event(
+    rng: &mut Rng,
+    temper: &Temper,
+    plan: &Plan,
+    ledger: &Ledger,
+    events: &[u16],
+) -> Record {
+    let hasty = moving_events(plan, ledger, |s| plan.is_final(s));
+    let hasty = rng.pick(&hasty).filter(|_| rng.chance(temper.haste));
+    match hasty.or_else(|| rng.pick(events)) {
+        Some(event) => Record::Event(event),
+        None if rng.chance(50) => Record::Signal,
+        None => useless(rng, plan),
+    }
+}
+
+/// The events that move a track into a destination of the wanted sort.
+pub fn moving_events(plan: &Plan, ledger: &Ledger, wanted: impl Fn(u16) -> bool) -> Vec<u16> {
+    let wanted = &wanted;
+    let mut events: Vec<u16> = (0..plan.track_count())
+        .filter(|&t| rules::may_move(plan, ledger, t))
+        .flat_map(|t| plan.transitions_from(ledger.tracks[t].state))
+        .filter(|x| wanted(x.destination))
+        .map(|x| x.event)
+        .collect();
+    events.sort_unstable();
+    events.dedup();
+    events
+}
+
+/// A record that need not do anything: any event of the plan, event 0, an
+/// unknown event, any track, a missing track, a signal, a firing.
+pub fn useless(rng: &mut Rng, plan: &Plan) -> Record {
+    match rng.below(12) {
+        0 => Record::Event(0),
+        1 => Record::Event(rng.word()),
+        2..=4 => Record::Event(any_event(rng, plan)),
+        5..=7 => Record::Fire(rng.below(plan.track_count()) as u16),
+        8 => Record::Fire(missing_track(rng, plan)),
+        9 => Record::Signal,
+        _ => Record::FireLowest,
+    }
+}
+
+/// Some event of the plan.
+pub fn any_event(rng: &mut Rng, plan: &Plan) -> u16 {
+    rng.pick(plan.transitions()).map_or(1, |x| x.event)
+}
+
+/// The number of no track.
+pub fn missing_track(rng: &mut Rng, plan: &Plan) -> u16 {
+    let next = plan.track_count() as u16;
+    rng.pick(&[next, 32, 33, 64, 65535])
+        .filter(|&t| t >= next)
+        .unwrap_or(next)
+}

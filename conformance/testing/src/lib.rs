@@ -1,0 +1,13 @@
+//! Cases for holding the proved program and the second one to each other.
+//!
+//! - [`generate`], [`coverage`], [`vectors`]: random cases, what they cover,
+//!   and their lines of text.
+//! - [`samples`], [`cases`]: plans and journals by hand, and the stored runs.
+//! - [`theorems`]: the same cases, said of the definitions of the rules.
+
+pub mod cases;
+pub mod coverage;
+pub mod generate;
+pub mod samples;
+pub mod theorems;
+pub mod vectors;

@@ -1,0 +1,103 @@
+//! Cases as theorems for antt: the lines of `vectors`, said of the
+//! definitions of the rules in the words of `agreement/Statements.antt`.
+
+/// What the theorem of a case says.
+pub fn statement(fields: &[&str]) -> Option<String> {
+    Some(match *fields {
+        ["H", plan, lent, calls, answers, after] => {
+            let given = format!("{} {}", bytes(plan)?, words(lent)?);
+            let calls = list(parts(calls, ',').map(call))?;
+            let answers = list(parts(answers, '|').map(answer))?;
+            format!("HistoryAgrees {given} {calls} {answers} {}", words(after)?)
+        }
+        ["P", plan, answer] => format!("PlanAgrees {} ({})", bytes(plan)?, reading(answer)?),
+        ["L", plan, before, called, answered, after] => {
+            let given = format!("{} {}", bytes(plan)?, words(before)?);
+            single(&given, called, answered, &words(after)?)?
+        }
+        ["U", plan, journal, output] => {
+            let given = format!("{} {}", bytes(plan)?, bytes(journal)?);
+            format!("RunAgrees {given} {}", bytes(output)?)
+        }
+        _ => return None,
+    })
+}
+
+/// The same for a single call, with the plan and the ledger it was given.
+fn single(given: &str, called: &str, answered: &str, after: &str) -> Option<String> {
+    Some(match first_letter(called)? {
+        ("N", track) => format!("EntriesAgree {given} {track} {}", words(answered)?),
+        ("Y", "") => format!("ReadyAgrees {given} ({}) {after}", answer(answered)?),
+        _ => {
+            let (called, answered) = (call(called)?, answer(answered)?);
+            format!("CallAgrees {given} ({called}) ({answered}) {after}")
+        }
+    })
+}
+
+/// A letter and what follows it.
+fn first_letter(text: &str) -> Option<(&str, &str)> {
+    Some((text.get(..1)?, text.get(1..)?))
+}
+
+fn call(text: &str) -> Option<String> {
+    match first_letter(text)? {
+        ("E", event) => Some(format!("e {event}")),
+        ("S", "") => Some("s".to_string()),
+        ("F", track) => Some(format!("f {track}")),
+        _ => None,
+    }
+}
+
+fn answer(text: &str) -> Option<String> {
+    if text == "begun" {
+        return Some("done []".to_string());
+    }
+    match first_letter(text)? {
+        ("R", number) => Some(format!("refusal {number}")),
+        ("D", figures) => Some(format!("done {}", numbers(figures)?)),
+        _ => None,
+    }
+}
+
+fn reading(text: &str) -> Option<String> {
+    Some(match text.strip_prefix('A') {
+        Some(counts) => format!("acceptedWith {}", counts.replace(',', " ")),
+        None => format!("turnedBack {text}"),
+    })
+}
+
+/// The parts of a text between separators; the empty text has none.
+pub fn parts(text: &str, separator: char) -> impl Iterator<Item = &str> {
+    text.split(separator).filter(|part| !part.is_empty())
+}
+
+fn list(items: impl Iterator<Item = Option<String>>) -> Option<String> {
+    let mut text = String::from("(");
+    for item in items {
+        text.push_str(&item?);
+        text.push_str(" ∷ ");
+    }
+    Some(text + "[])")
+}
+
+fn numbers(text: &str) -> Option<String> {
+    list(parts(text, ',').map(|part| Some(part.to_string())))
+}
+
+fn bytes(hex: &str) -> Option<String> {
+    hex_list(hex, 2)
+}
+
+fn words(hex: &str) -> Option<String> {
+    hex_list(hex, 4)
+}
+
+/// Numbers of so many hex digits each.
+fn hex_list(hex: &str, digits: usize) -> Option<String> {
+    let starts = (0..hex.len()).step_by(digits);
+    list(starts.map(|at| {
+        let number = u16::from_str_radix(hex.get(at..at + digits)?, 16).ok()?;
+        Some(number.to_string())
+    }))
+}

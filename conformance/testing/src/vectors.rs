@@ -1,0 +1,160 @@
+//! Cases as lines of text, for comparison with another implementation.
+//! Fields are separated by `;`; words are 4 hex digits each.
+
+use std::fmt::Write;
+
+use crate::generate::damage;
+use crate::generate::journals;
+use crate::generate::ledgers;
+use crate::generate::plans;
+use crate::generate::rng::Rng;
+use crate::generate::singles::{self, Call};
+use second::journal::{self, Record};
+use second::ledger::Entry;
+use second::manager::{self, Answer};
+use second::plan::{self, Plan};
+use second::rules::Moved;
+
+/// `H;plan;lent words;calls;answers;words after`: a history from begin.
+pub fn history_line(rng: &mut Rng, limit: usize) -> String {
+    let bytes = plans::bytes(rng, limit);
+    let plan = plan::read(&bytes).expect("a good plan is accepted");
+    let lent = ledgers::garbage(rng, &plan);
+    let mut words = lent.clone();
+    let mut answers = vec![begin(&bytes, &mut words)];
+    let calls = named_calls(rng, &plan);
+    for &call in &calls {
+        answers.push(answer(&bytes, &mut words, call));
+    }
+    let calls: Vec<String> = calls.into_iter().map(call_text).collect();
+    let fields = [
+        "H".to_string(),
+        byte_hex(&bytes),
+        word_hex(&lent),
+        calls.join(","),
+        answers.join("|"),
+        word_hex(&words),
+    ];
+    fields.join(";")
+}
+
+/// `P;plan;answer`: the plan reader on a good or damaged plan.
+pub fn plan_line(rng: &mut Rng, limit: usize) -> String {
+    let bytes = damage::any_plan(rng, limit);
+    let answer = match plan::read(&bytes) {
+        Ok(plan) => accepted_text(&plan),
+        Err(refusal) => refusal.number().to_string(),
+    };
+    format!("P;{};{answer}", byte_hex(&bytes))
+}
+
+/// `L;plan;words;call;answer;words after`: a single call.
+pub fn single_line(rng: &mut Rng, limit: usize) -> String {
+    let single = singles::single(rng, limit);
+    let mut words = single.words.clone();
+    let answer = answer(&single.plan, &mut words, single.call);
+    let fields = [
+        "L".to_string(),
+        byte_hex(&single.plan),
+        word_hex(&single.words),
+        call_text(single.call),
+        answer,
+        word_hex(&words),
+    ];
+    fields.join(";")
+}
+
+/// `U;plan;journal;output`: a whole run of `unwind`.
+pub fn unwind_line(rng: &mut Rng, limit: usize) -> String {
+    let case = journals::case(rng, limit);
+    let output = journal::unwind(&case.plan, &case.journal);
+    let (plan, journal) = (byte_hex(&case.plan), byte_hex(&case.journal));
+    format!("U;{plan};{journal};{}", byte_hex(&output))
+}
+
+fn begin(plan: &[u8], words: &mut [u16]) -> String {
+    match manager::begin(plan, words) {
+        Answer::Done(()) => "begun".to_string(),
+        Answer::Refused(refusal) => format!("R{}", refusal.number()),
+    }
+}
+
+/// A steered history with each firing under the name of its track.
+fn named_calls(rng: &mut Rng, plan: &Plan) -> Vec<Call> {
+    let records = journals::history(rng, plan).0;
+    let mut ledger = second::rules::begin(plan);
+    let mut calls = Vec::new();
+    for record in records {
+        let lowest = second::rules::ready(plan, &ledger).trailing_zeros();
+        calls.push(match record {
+            Record::Event(event) => Call::Event(event),
+            Record::Signal => Call::Signal,
+            Record::Fire(track) => Call::Fire(track),
+            Record::FireLowest => Call::Fire(lowest as u16),
+        });
+        journal::perform(plan, &mut ledger, record);
+    }
+    calls
+}
+
+fn answer(plan: &[u8], words: &mut [u16], call: Call) -> String {
+    match call {
+        Call::Event(event) => moved_text(manager::event(plan, words, event)),
+        Call::Signal => number_text(manager::signal(plan, words)),
+        Call::Fire(track) => fired_text(manager::fire(plan, words, track)),
+        Call::Ready => number_text(manager::ready(plan, words)),
+        Call::Entries(track) => word_hex(manager::entries(plan, words, track)),
+    }
+}
+
+fn call_text(call: Call) -> String {
+    match call {
+        Call::Event(event) => format!("E{event}"),
+        Call::Signal => "S".to_string(),
+        Call::Fire(track) => format!("F{track}"),
+        Call::Ready => "Y".to_string(),
+        Call::Entries(track) => format!("N{track}"),
+    }
+}
+
+fn moved_text(answer: Answer<Moved>) -> String {
+    match answer {
+        Answer::Done(m) => format!("D{},{}", m.moved, m.closed),
+        Answer::Refused(refusal) => format!("R{}", refusal.number()),
+    }
+}
+
+fn fired_text(answer: Answer<Entry>) -> String {
+    match answer {
+        Answer::Done(entry) => format!("D{},{}", entry.code, entry.deviation),
+        Answer::Refused(refusal) => format!("R{}", refusal.number()),
+    }
+}
+
+fn number_text<Number: std::fmt::Display>(answer: Answer<Number>) -> String {
+    match answer {
+        Answer::Done(number) => format!("D{number}"),
+        Answer::Refused(refusal) => format!("R{}", refusal.number()),
+    }
+}
+
+fn accepted_text(plan: &Plan) -> String {
+    let (tracks, states) = (plan.track_count(), plan.state_count());
+    format!("A{tracks},{states},{}", plan.transition_count())
+}
+
+fn byte_hex(bytes: &[u8]) -> String {
+    let mut hex = String::with_capacity(2 * bytes.len());
+    for byte in bytes {
+        write!(hex, "{byte:02x}").expect("writing to memory");
+    }
+    hex
+}
+
+fn word_hex(words: &[u16]) -> String {
+    let mut hex = String::with_capacity(4 * words.len());
+    for word in words {
+        write!(hex, "{word:04x}").expect("writing to memory");
+    }
+    hex
+}
