@@ -1,54 +1,68 @@
--- The words of the answers give the answers back. Assumes nothing.
-use mathlib.Core.Path.{_≡_, refl, ap, _∙_}
+-- Nothing is lost in words: every list of calls can be encoded, with the journal's kinds, and the words of the answers give the answers back.
+-- Assumes nothing.
+use mathlib.Core.Path.{_≡_, refl, ap, ap₂, _∙_}
 use mathlib.Core.List.{List, [], _∷_, _++_}
 use Prim.Native.Nat.{ℕ, zero, suc}
+use native.Mathlib.Omega.{arith}
 use Rattle.rules.specs.declared.Counts.{Counts}
 use Rattle.rules.specs.Plan.{Plan, planOf, trackCount}
 use Rattle.rules.specs.Ledger.{Ledger, ledgerAt, written}
 use Rattle.rules.specs.Fold.{firstRefusal}
 use Rattle.rules.specs.Acceptance.{accepted, readPlan}
-use Rattle.rules.specs.Call.{Answer, refusal, done, Outcome, Call, event, signal, fire, refusedOr, underPlan, ledgerRefusals, callRefusals, figures, after, callOutcome}
+use Rattle.rules.specs.Call.{Answer, refusal, done, Outcome, Call, event, signal, fire, nothing, refusedOr, underPlan, ledgerRefusals, callRefusals, figures, after, callOutcome}
+use Rattle.rules.specs.Journal.{called, recordOf}
 use Rattle.rules.specs.ReferenceRun.{answersFrom}
-use Rattle.property3.specs.Encoding.{encodedAnswer, encodedAnswers, decodedFigures, decodedAnswer, decodedAnswers}
+use Rattle.property3.specs.Encoding.{kindOf, argumentOf, encodedCalls, decodedCall, decodedCalls, encodedAnswer, encodedAnswers, decodedFigures, decodedAnswer, decodedAnswers}
+use Rattle.property3.proofs.Shapes.{Shaped, refused, figured, shaped}
 
--- what a call answers under a plan that is read: a refusal other than 0, or its figures
-data Shaped (d : Call) : Answer → Type 0 where
-  refused : (n : ℕ) → Shaped d (refusal (suc n))
-  figured : (x y : ℕ) → Shaped d (done (decodedFigures d x y))
+call-back : (c : Call) → decodedCall (kindOf c) (argumentOf c) ≡ c
+unfolding kindOf argumentOf decodedCall
+call-back (event a) = refl
+call-back (signal nothing) = refl
+call-back (fire a) = refl
 
-one : (d : Call) (r : Answer) → Shaped d r → (ds : List Call) (more rest : List ℕ)
-    → decodedAnswers (d ∷ ds) ((encodedAnswer r ++ more) ++ rest) ≡ r ∷ decodedAnswers ds (more ++ rest)
+pub calls-back : (cs : List Call) → decodedCalls (encodedCalls cs) ≡ cs
+unfolding encodedCalls decodedCalls
+calls-back [] = refl
+calls-back (c ∷ cs) = ap₂ (λ x xs. x ∷ xs) (call-back c) (calls-back cs)
+
+-- the kinds are the journal's
+pub journal-kinds : (c : Call) → recordOf (kindOf c) (argumentOf c) ≡ called c
+unfolding kindOf argumentOf recordOf
+journal-kinds (event a) = refl
+journal-kinds (signal nothing) = refl
+journal-kinds (fire a) = refl
+
+-- an answer that is no refusal by the number 0
+one-back : (c : Call) (r : Answer) → Shaped c r → (r ≡ refusal 0 → ⊥) → (cs : List Call) (more rest : List ℕ)
+    → decodedAnswers (c ∷ cs) ((encodedAnswer r ++ more) ++ rest) ≡ r ∷ decodedAnswers cs (more ++ rest)
 unfolding encodedAnswer decodedFigures decodedAnswer decodedAnswers
-one d r (refused n) ds more rest = refl
-one (event a) r (figured x y) ds more rest = refl
-one (signal a) r (figured x y) ds more rest = refl
-one (fire a) r (figured x y) ds more rest = refl
+one-back c r (refused zero) z cs more rest = absurd (z refl)
+one-back c r (refused (suc n)) z cs more rest = refl
+one-back (event a) r (figured x y) z cs more rest = refl
+one-back (signal a) r (figured x y) z cs more rest = refl
+one-back (fire a) r (figured x y) z cs more rest = refl
 
-module _ (limit : ℕ) (bs : List ℕ) (c : Counts) (read : readPlan bs ≡ accepted c) where
-  figures-shaped : (p : Plan) (l : Ledger) (d : Call) → Shaped d (done (figures limit p l d))
-  unfolding figures decodedFigures
-  figures-shaped p l (event a) = figured _ _
-  figures-shaped p l (signal a) = figured _ 0
-  figures-shaped p l (fire a) = figured _ _
+or-not-0 : (ws : List ℕ) (o : Outcome) (fs : List ℕ) → o .answer ≡ done fs → (n : ℕ) → refusedOr ws o n .answer ≡ refusal 0 → ⊥
+unfolding refusedOr
+or-not-0 ws o fs d zero e = let z : _≡_ {A = ℕ} 0 1 = cc in absurd (omega arith)
+or-not-0 ws o fs d (suc n) e = let z : suc n ≡ 0 = cc in absurd (omega arith)
 
-  or-shaped : (ws : List ℕ) (o : Outcome) (d : Call) → Shaped d (o .answer) → (n : ℕ) → Shaped d (refusedOr ws o n .answer)
-  unfolding refusedOr
-  or-shaped ws o d h zero = h
-  or-shaped ws o d h (suc n) = refused n
-
-  shaped : (ws : List ℕ) (d : Call) → Shaped d (callOutcome limit bs ws d .answer)
+module _ (limit : ℕ) (bs : List ℕ) (k : Counts) (read : readPlan bs ≡ accepted k) where
+  not-0 : (ws : List ℕ) (c : Call) → callOutcome limit bs ws c .answer ≡ refusal 0 → ⊥
   unfolding callOutcome underPlan
-  shaped ws d =
-      let p : Plan = planOf bs c in
+  not-0 ws c =
+      let p : Plan = planOf bs k in
       let l : Ledger = ledgerAt limit ws (trackCount p) in
       rw (read, callOutcome, underPlan)
-      (or-shaped ws (record { answer = done (figures limit p l d); words = written limit (trackCount p) (after limit p l d) ws }) d
-      (figures-shaped p l d) (firstRefusal (ledgerRefusals limit p ws ++ callRefusals limit p l d)))
+      (or-not-0 ws (record { answer = done (figures limit p l c); words = written limit (trackCount p) (after limit p l c) ws })
+      (figures limit p l c) refl (firstRefusal (ledgerRefusals limit p ws ++ callRefusals limit p l c)))
 
-  pub read-back : (cs : List Call) (ws rest : List ℕ)
+  pub answers-back : (cs : List Call) (ws rest : List ℕ)
       → decodedAnswers cs (encodedAnswers (answersFrom limit bs ws cs) ++ rest) ≡ answersFrom limit bs ws cs
   unfolding answersFrom encodedAnswers decodedAnswers
-  read-back [] ws rest = refl
-  read-back (d ∷ ds) ws rest =
-      one d (callOutcome limit bs ws d .answer) (shaped ws d) ds (encodedAnswers (answersFrom limit bs (callOutcome limit bs ws d .words) ds)) rest
-      ∙ ap (λ rs. callOutcome limit bs ws d .answer ∷ rs) (read-back ds (callOutcome limit bs ws d .words) rest)
+  answers-back [] ws rest = refl
+  answers-back (c ∷ cs) ws rest =
+      let o = callOutcome limit bs ws c in
+      one-back c (o .answer) (shaped limit bs ws c) (not-0 ws c) cs (encodedAnswers (answersFrom limit bs (o .words) cs)) rest
+      ∙ ap (λ rs. o .answer ∷ rs) (answers-back cs (o .words) rest)

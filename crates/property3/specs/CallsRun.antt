@@ -1,4 +1,5 @@
--- What a begin and a list of calls after it promise. Assumes nothing.
+-- What a begin and a list of calls after it promise: the answer, every word of the lent ledger and of the lent answers, and where the begin was
+-- accepted property 3. Assumes nothing.
 use mathlib.Core.Path.{_≡_}
 use mathlib.Core.Bool.{true, false}
 use mathlib.Core.List.{List, [], _++_}
@@ -9,7 +10,7 @@ use Rattle.rules.specs.Plan.{planOf}
 use Rattle.rules.specs.Acceptance.{accepted, readPlan}
 use Rattle.rules.specs.Layout.{entryLimit}
 use Rattle.rules.specs.Call.{refusal, done, beginOutcome}
-use Rattle.rules.specs.ReferenceRun.{wordsFrom, answersFrom}
+use Rattle.rules.specs.ReferenceRun.{wordsFrom, answersFrom, answersAfter}
 use Rattle.property3.specs.declared.CallsAnswer.{CallsAnswer}
 use Rattle.property3.specs.declared.CallsAnswer.the-variants.{Begun, Refused, NoRoom}
 use Rattle.property3.specs.SmallProperty3.{SmallProperty3}
@@ -21,13 +22,13 @@ pub record Untouched (told answer : CallsAnswer) (lent out end out′ : List ℕ
   pub ledger : end ≡ lent
   pub answers : out′ ≡ out
 
--- Where a begin was accepted: property 3 of the calls, the answers read out of the lent words, and the words beyond them as they were.
+-- Where the begin was accepted: property 3 of the calls and of the answers that the lent words hold, and each of these words.
 pub record BeginAccepted (bs lent calls out : List ℕ) (told : CallsAnswer) (end out′ : List ℕ) : Type 0 where
   pub answered : told ≡ Begun
   pub counts : Counts
   pub read : readPlan bs ≡ accepted counts
   pub property3 : SmallProperty3 entryLimit bs (planOf bs counts) lent (decodedCalls calls) (decodedAnswers (decodedCalls calls) out′) end
-  pub beyond : drop (answerRoom calls) out′ ≡ drop (answerRoom calls) out
+  pub written : out′ ≡ encodedAnswers (answersAfter entryLimit bs lent (decodedCalls calls)) ++ drop (answerRoom calls) out
 
 -- The whole promise: too few words for the answers, a begin refused, a begin accepted.
 pub record CallsRun (bs lent calls out : List ℕ) (told : CallsAnswer) (end out′ : List ℕ) : Type 0 where
@@ -37,8 +38,7 @@ pub record CallsRun (bs lent calls out : List ℕ) (told : CallsAnswer) (end out
   pub begun : lacksRoom calls out ≡ false → beginOutcome entryLimit bs lent .answer ≡ done []
       → BeginAccepted bs lent calls out told end out′
 
--- The same of the calls alone, from the words that a begin left.
+-- The calls alone, from the words that a begin left.
 pub record CallsMade (bs ws calls out end out′ : List ℕ) : Type 0 where
   pub left : end ≡ wordsFrom entryLimit bs ws (decodedCalls calls)
   pub written : out′ ≡ encodedAnswers (answersFrom entryLimit bs ws (decodedCalls calls)) ++ drop (answerRoom calls) out
-  pub beyond : drop (answerRoom calls) out′ ≡ drop (answerRoom calls) out

@@ -1,4 +1,4 @@
--- What the contract of `play` speaks of beside the rules.
+-- What the contract of `run_calls` speaks of beside the rules.
 pub mod FreeBooks
 pub mod SmallProperty3
 pub mod Encoding

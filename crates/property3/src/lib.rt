@@ -1,4 +1,5 @@
-// Property 3 of the calls, as a theorem about lists of them (proofs/Property3.antt), and as the contract of a function that makes them.
+// Property 3 of the calls: a theorem about lists of them (proofs/Property3.antt, Calls.antt), and the contract of `run_calls`, which makes such a
+// list. A call is two words, its kind as in a journal and its argument; its answer is three.
 use rules::BeginAnswer;
 use rules::EventAnswer;
 use rules::FireAnswer;
@@ -12,23 +13,25 @@ ghost use Rattle.rules.specs.Call.{nothing, callOutcome, eventOutcome, signalOu
 ghost use Rattle.property3.specs.Encoding.{decodedCall, encodedWords, answerRoom, CallMade};
 ghost use Rattle.property3.specs.CallsRun.{CallsMade, CallsRun};
 
-// Two words for a call, a kind and an argument; three for its answer.
-const CALL_WIDTH: usize = 2;
+pub const CALL_WIDTH: usize = 2;
 
-const ANSWER_WIDTH: usize = 3;
+pub const ANSWER_WIDTH: usize = 3;
 
-const EVENT: u16 = 16;
+// The journal's kinds. A kind that is neither an event's nor a signal's is a firing.
+pub const EVENT: u16 = 16;
 
-const SIGNAL: u16 = 17;
+pub const SIGNAL: u16 = 17;
 
-// The begin was accepted and the calls were made; or its refusal; or too few words for the answers, and nothing was done.
+pub const FIRE: u16 = 18;
+
+// The begin was accepted and the calls were made; or the begin's refusal; or too few words for the answers, and nothing was done.
 pub enum CallsAnswer {
     Begun,
     Refused(u8),
     NoRoom,
 }
 
-// An answer: the refusal's number, 0 where accepted, and the figures.
+// A call's answer: the refusal's number, 0 where accepted, and two figures, 0 where there is none.
 struct EncodedAnswer {
     refusal: u16,
     first: u16,
@@ -100,7 +103,6 @@ fn make_call(plan: &[u8], ledger: &mut [u16], kind: u16, argument: u16) -> Encod
     make_fire(plan, &mut ledger[..], argument)
 }
 
-// Writes an answer at a place.
 fn write_answer(answers: &mut [u16], at: usize, told: EncodedAnswer)
     requires { ⌜ at + 3 ≤ length (now answers) ⌝ }
     ensures { λ r. ⌜ now (answers .exit) ≡ take at (now (answers .entry)) ++ (encodedWords told ++ drop (at + 3) (now (answers .entry))) ⌝ }
@@ -126,7 +128,7 @@ fn make_calls(plan: &[u8], ledger: &mut [u16], calls: &[u16], answers: &mut [u16
     }
 }
 
-// BeginAccepted, and makes the calls after it; writes the answer of each.
+// Begins, makes the calls after it, and writes the answer of each: where the begin is accepted, property 3 holds of them.
 pub fn run_calls(plan: &[u8], ledger: &mut [u16], calls: &[u16], answers: &mut [u16]) -> CallsAnswer
     ensures { λ r. ⌜ CallsRun (now (plan .entry)) (now (ledger .entry)) (now (calls .entry)) (now (answers .entry)) r (now (ledger .exit)) (now (answers .exit)) ⌝ }
 {

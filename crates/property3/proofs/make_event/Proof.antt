@@ -2,7 +2,7 @@
 use mathlib.Core.Path.{sym, ap, _∙_}
 use Rattle.rules.specs.Answers.{eventTold}
 use Rattle.property3.specs.Encoding.{encodedAnswer, encodedWords}
-use Rattle.property3.proofs.OneCall.{made}
+use Rattle.property3.proofs.OneCall.{encoded}
 use borrow.Author.Needs.{needs}
 use Rattle.property3.proofs.make_event.Statement.{statement}
 use Rattle.property3.proofs.make_event.Tie as tie
@@ -24,14 +24,14 @@ same-length c = search needs
 
 returns : tie.Need-returns
 unfolding eventTold encodedAnswer encodedWords
-returns c = made _ _ _ _ (c .before .before .before .before .before .before .event .ensures) (ap encodedWords (c .encoded-refusal .ensures) ∙ sym (ap (λ x. encodedAnswer (eventTold x)) (c .before .before .answer .given .1)))
+returns c = encoded _ _ _ _ (c .before .before .before .before .before .before .event .ensures) (ap encodedWords (c .encoded-refusal .ensures) ∙ sym (ap (λ x. encodedAnswer (eventTold x)) (c .before .before .answer .given .1)))
 
 same-length-2 : tie.Need-same-length-2
 same-length-2 c = search needs
 
 returns-2 : tie.Need-returns-2
 unfolding eventTold encodedAnswer encodedWords
-returns-2 c = made _ _ _ _ (c .before .before .before .before .before .event .ensures) (sym (ap (λ x. encodedAnswer (eventTold x)) (c .before .answer2 .given .1)))
+returns-2 c = encoded _ _ _ _ (c .before .before .before .before .before .event .ensures) (sym (ap (λ x. encodedAnswer (eventTold x)) (c .before .answer2 .given .1)))
 
 pub make-event-spec : {M : Type 1} → statement M
 make-event-spec =

@@ -2,7 +2,7 @@
 use native.Mathlib.Omega.{arith}
 use lib.ListN.{length-set}
 use Rattle.property3.specs.Encoding.{encodedWords}
-use Rattle.property3.proofs.OneCall.{noted}
+use Rattle.property3.proofs.OneCall.{stored}
 use borrow.Author.Needs.{needs}
 use Rattle.property3.proofs.write_answer.Statement.{statement}
 use Rattle.property3.proofs.write_answer.Tie as tie
@@ -36,7 +36,7 @@ same-length c = search needs
 
 returns : tie.Need-returns
 unfolding encodedWords
-returns c = noted _ _ _ _ _ (c .pre)
+returns c = stored _ _ _ _ _ (c .pre)
 
 pub write-answer-spec : {M : Type 1} → statement M
 write-answer-spec =
