@@ -13,7 +13,24 @@ ghost use Prim.Native.Nat.{_<_};
 const COUNT: usize = 8;
 
 // "Journal: events 10, 11, 12, signal, four times kind 19": the firings that kind 19 comes to; the last is refused.
-const CALLS: [u16; CALL_WIDTH * COUNT] = [EVENT, 10, EVENT, 11, EVENT, 12, SIGNAL, 0, FIRE, 1, FIRE, 2, FIRE, 0, FIRE, 0];
+const CALLS: [u16; CALL_WIDTH * COUNT] = [
+    EVENT,
+    10,
+    EVENT,
+    11,
+    EVENT,
+    12,
+    SIGNAL,
+    0,
+    FIRE,
+    1,
+    FIRE,
+    2,
+    FIRE,
+    0,
+    FIRE,
+    0,
+];
 
 // The words of 3 tracks.
 const LEDGER_WORDS: usize = 3 * 67;
