@@ -1,2 +1,12 @@
 -- Property 3, about lists of the public calls.
 pub mod Property3
+pub mod Shapes
+pub mod EveryList
+pub mod Readings
+pub mod Calls
+pub mod FreeBooks
+pub mod OneCall
+pub mod EachCall
+pub mod Decoding
+pub mod WholeRun
+pub mod RunCalls

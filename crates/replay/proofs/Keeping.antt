@@ -36,7 +36,7 @@ module _ (bs : List ℕ) (c : Counts) where
       (call-holds entryLimit bs c (k .accepts .read) ws l (checked-holds ws k) d)
 
   module _ (a : Accepts bs c) (ws : List ℕ) (r : Roomy c ws) where
-    begun-outcome : beginOutcome entryLimit bs ws ≡ record { answer = done []; words = written entryLimit (trackCount (planOf bs c)) (begun (planOf bs c)) ws }
+    pub begun-outcome : beginOutcome entryLimit bs ws ≡ record { answer = done []; words = written entryLimit (trackCount (planOf bs c)) (begun (planOf bs c)) ws }
     begun-outcome = begin-accepted entryLimit bs c (a .read) ws (long-enough ws r)
 
     pub begin-words : written entryLimit (c .tracks) (begun (planOf bs c)) ws ≡ beginOutcome entryLimit bs ws .words

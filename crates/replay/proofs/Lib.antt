@@ -4,3 +4,5 @@ pub mod SameText
 pub mod Turning
 pub mod Underway
 pub mod WholeText
+pub mod JournalCalls
+pub mod ReferenceRun

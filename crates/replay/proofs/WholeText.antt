@@ -84,7 +84,7 @@ ran-begun bs js c a ws ws′ r e mid start vs out′ end g =
 
 module _ (bs js ws : List ℕ) where
   -- one of the inputs is too long
-  abbrev tooLong : Bool
+  abbrev pub tooLong : Bool
   tooLong = ltb mostBytes (length bs) || ltb mostBytes (length js)
 
   long-text : tooLong ≡ true → transcript bs js ≡ refusalLine 1
@@ -101,7 +101,7 @@ module _ (bs js ws : List ℕ) where
   long-journal : mostBytes < length js → tooLong ≡ true
   long-journal h = or-right (ltb mostBytes (length bs)) (ltb mostBytes (length js)) (lt-ltb mostBytes (length js) h)
 
-  neither : length bs ≤ mostBytes → length js ≤ mostBytes → tooLong ≡ false
+  pub neither : length bs ≤ mostBytes → length js ≤ mostBytes → tooLong ≡ false
   neither h k = rw (le-ltb mostBytes (length bs) h, le-ltb mostBytes (length js) k)
 
   refused-text : (n : ℕ) → tooLong ≡ false → readPlan bs ≡ turnedBack n → transcript bs js ≡ refusalLine n
@@ -117,7 +117,7 @@ module _ (bs js ws : List ℕ) where
   unfolding transcript
   accepted-own c e f = rw (e, transcript, f)
 
-  accepted-text : (c : Counts) → tooLong ≡ false → readPlan bs ≡ accepted c → wordCount entryLimit (mostOf 1) ≤ length ws
+  pub accepted-text : (c : Counts) → tooLong ≡ false → readPlan bs ≡ accepted c → wordCount entryLimit (mostOf 1) ≤ length ws
       → transcript bs js ≡ planLine c ++ replay bs js (planOf bs c) (suc (length js)) 0 (beginOutcome entryLimit bs ws .words) 0
   unfolding accepts
   accepted-text c e f h =
@@ -126,7 +126,7 @@ module _ (bs js ws : List ℕ) where
       (replay-same bs js c f (suc (length js)) 0 0 (beginOutcome entryLimit bs ownWords .words) (beginOutcome entryLimit bs ws .words) (begun (planOf bs c))
       (begin-holding bs c (accepts bs c f) ownWords (roomy bs c f ownWords own-long)) (begin-holding bs c (accepts bs c f) ws (roomy bs c f ws h)))
 
-  accepted-words : (c : Counts) → tooLong ≡ false → readPlan bs ≡ accepted c
+  pub accepted-words : (c : Counts) → tooLong ≡ false → readPlan bs ≡ accepted c
       → wordsLeft bs js ws ≡ wordsFrom bs js (planOf bs c) (suc (length js)) 0 (beginOutcome entryLimit bs ws .words)
   unfolding wordsLeft
   accepted-words c e f = rw (e, wordsLeft, f)

@@ -1,0 +1,98 @@
+-- The calls made one after the other: what is done so far, with the reference run of the calls left, is the whole. Assumes nothing.
+use mathlib.Core.Path.{_≡_, refl, sym, ap, ap₂, _∙_}
+use mathlib.Core.List.{List, [], _∷_, _++_, append-assoc, append-nil}
+use Prim.Native.Nat.{ℕ, suc, _+_, _*_, _/_, _≤_, _<_}
+use native.Mathlib.Omega.{arith}
+use lib.ListN.{length, take, drop, getD, length-drop, length-append, take-append-drop}
+use lib.Seq.{drop-cons, drop-drop, take-at, drop-at, length-take-le}
+use Rattle.rules.specs.Layout.{entryLimit}
+use Rattle.rules.specs.Call.{Call, callOutcome}
+use Rattle.rules.specs.ReferenceRun.{wordsFrom, answersFrom}
+use Rattle.property3.specs.declared.EncodedAnswer.{EncodedAnswer}
+use Rattle.property3.specs.Encoding.{decodedCall, decodedCalls, encodedAnswers, answerRoom, encodedWords, CallMade}
+use Rattle.property3.specs.CallsRun.{CallsMade}
+
+-- fewer than two words hold no call
+no-call : (ws : List ℕ) → length ws < 2 → decodedCalls ws ≡ []
+unfolding decodedCalls
+no-call [] h = refl
+no-call (k ∷ []) h = refl
+no-call (k ∷ x ∷ ws) h = absurd (omega arith)
+
+calls-end : (ws : List ℕ) (i : ℕ) → length ws / 2 ≤ i → decodedCalls (drop (2 * i) ws) ≡ []
+calls-end ws i h = no-call (drop (2 * i) ws) (rw (length-drop (2 * i) ws) (omega arith))
+
+calls-at : (ws : List ℕ) (i : ℕ) → i < length ws / 2
+    → decodedCalls (drop (2 * i) ws) ≡ decodedCall (getD ws (2 * i) 0) (getD ws (2 * i + 1) 0) ∷ decodedCalls (drop (2 * (i + 1)) ws)
+unfolding decodedCalls
+calls-at ws i h =
+    let a : drop (2 * i) ws ≡ getD ws (2 * i) 0 ∷ drop (suc (2 * i)) ws = drop-cons ws (2 * i) 0 (omega arith) in
+    let e : suc (2 * i) ≡ 2 * i + 1 = omega arith in
+    let f : suc (2 * i + 1) ≡ 2 * (i + 1) = omega arith in
+    let b : drop (2 * i + 1) ws ≡ getD ws (2 * i + 1) 0 ∷ drop (suc (2 * i + 1)) ws = drop-cons ws (2 * i + 1) 0 (omega arith) in
+    ap decodedCalls
+    (a
+    ∙ ap (λ (k : ℕ). getD ws (2 * i) 0 ∷ drop k ws) e
+    ∙ ap (λ (l : List ℕ). getD ws (2 * i) 0 ∷ l) (b ∙ ap (λ (k : ℕ). getD ws (2 * i + 1) 0 ∷ drop k ws) f))
+
+module _ (bs : List ℕ) where
+  abbrev words : List ℕ → List Call → List ℕ
+  words = wordsFrom entryLimit bs
+
+  abbrev answers : List ℕ → List Call → List ℕ
+  answers ws cs = encodedAnswers (answersFrom entryLimit bs ws cs)
+
+  -- before call number i: from the words ws and the answers out, the calls before it led to ws₁ and out₁
+  pub record Underway (ws calls out ws₁ out₁ : List ℕ) (i : ℕ) : Type 0 where
+    pub left : words ws₁ (decodedCalls (drop (2 * i) calls)) ≡ words ws (decodedCalls calls)
+    pub written : take (3 * i) out₁ ++ answers ws₁ (decodedCalls (drop (2 * i) calls)) ≡ answers ws (decodedCalls calls)
+    pub beyond : drop (3 * i) out₁ ≡ drop (3 * i) out
+    pub within : i ≤ length calls / 2
+
+  pub underway-start : (ws calls out : List ℕ) → Underway ws calls out ws out 0
+  underway-start ws calls out = record { left = refl; written = refl; beyond = refl; within = omega arith }
+
+  pub underway-next : (ws calls out ws₁ out₁ : List ℕ) (i : ℕ) → i < length calls / 2 → answerRoom calls ≤ length out₁
+      → Underway ws calls out ws₁ out₁ i
+      → (told : EncodedAnswer) (ws₂ out₂ : List ℕ)
+      → CallMade (callOutcome entryLimit bs ws₁ (decodedCall (getD calls (2 * i) 0) (getD calls (2 * i + 1) 0))) told ws₂
+      → out₂ ≡ take (3 * i) out₁ ++ (encodedWords told ++ drop (3 * i + 3) out₁)
+      → Underway ws calls out ws₂ out₂ (i + 1)
+  unfolding answerRoom wordsFrom answersFrom encodedAnswers encodedWords
+  underway-next ws calls out ws₁ out₁ i l room u told ws₂ out₂ m e =
+      let d : Call = decodedCall (getD calls (2 * i) 0) (getD calls (2 * i + 1) 0) in
+      let rest : List Call = decodedCalls (drop (2 * (i + 1)) calls) in
+      let q : decodedCalls (drop (2 * i) calls) ≡ d ∷ rest = calls-at calls i l in
+      let before : List ℕ = take (3 * i) out₁ in
+      let s : 3 * (i + 1) ≡ 3 * i + 3 = omega arith in
+      let n : length before ≡ 3 * i = length-take-le (3 * i) out₁ (omega arith) in
+      let n3 : length (before ++ encodedWords told) ≡ 3 * (i + 1) = length-append before (encodedWords told) ∙ omega (arith, n) in
+      let e3 : out₂ ≡ (before ++ encodedWords told) ++ drop (3 * i + 3) out₁ = e ∙ sym (append-assoc before (encodedWords told) (drop (3 * i + 3) out₁)) in
+      let t3 : take (3 * (i + 1)) out₂ ≡ before ++ encodedWords told =
+      ap (take (3 * (i + 1))) e3 ∙ take-at (before ++ encodedWords told) (drop (3 * i + 3) out₁) (3 * (i + 1)) n3 in
+      let d3 : drop (3 * (i + 1)) out₂ ≡ drop (3 * i + 3) out₁ =
+      ap (drop (3 * (i + 1))) e3 ∙ drop-at (before ++ encodedWords told) (drop (3 * i + 3) out₁) (3 * (i + 1)) n3 in
+      record {
+        left = ap (λ (v : List ℕ). words v rest) (m .left) ∙ sym (ap (words ws₁) q) ∙ u .left;
+        written = ap₂ (λ (x y : List ℕ). x ++ answers y rest) t3 (m .left)
+            ∙ append-assoc before (encodedWords told) (answers (callOutcome entryLimit bs ws₁ d .words) rest)
+            ∙ ap (λ (x : List ℕ). before ++ (x ++ answers (callOutcome entryLimit bs ws₁ d .words) rest)) (m .answered)
+            ∙ sym (ap (λ (cs : List Call). before ++ answers ws₁ cs) q)
+            ∙ u .written;
+        beyond = d3 ∙ sym (drop-drop 3 (3 * i) out₁) ∙ ap (drop 3) (u .beyond) ∙ drop-drop 3 (3 * i) out ∙ ap (λ (k : ℕ). drop k out) (sym s);
+        within = omega arith;
+      }
+
+  pub underway-done : (ws calls out ws₁ out₁ : List ℕ) (i : ℕ) → length calls / 2 ≤ i
+      → Underway ws calls out ws₁ out₁ i → CallsMade bs ws calls out ws₁ out₁
+  unfolding answerRoom wordsFrom answersFrom encodedAnswers
+  underway-done ws calls out ws₁ out₁ i h u =
+      let q : decodedCalls (drop (2 * i) calls) ≡ [] = calls-end calls i h in
+      let k : 3 * i ≡ answerRoom calls = omega (arith, u .within) in
+      record {
+        left = sym (ap (words ws₁) q) ∙ u .left;
+        written = sym (take-append-drop (3 * i) out₁)
+            ∙ ap₂ (λ (x y : List ℕ). x ++ y)
+            (sym (append-nil (take (3 * i) out₁)) ∙ sym (ap (λ (cs : List Call). take (3 * i) out₁ ++ answers ws₁ cs) q) ∙ u .written)
+            (u .beyond ∙ ap (λ (x : ℕ). drop x out) k);
+      }

@@ -1,0 +1,40 @@
+-- One call: its own promise with its answer encoded, and the three words of the answer stored. Assumes nothing.
+use mathlib.Core.Path.{_≡_, refl, ap, _∙_}
+use mathlib.Core.List.{List, [], _∷_, _++_}
+use Prim.Native.Nat.{ℕ, zero, suc, _+_, _≤_}
+use native.Mathlib.Nat.{suc-add}
+use native.Mathlib.Omega.{arith}
+use lib.ListN.{length, take, drop, set}
+use borrow.Author.Tests.{ne-eqb, eq-eqb}
+use Rattle.rules.specs.Call.{Answer, Outcome, nothing, callOutcome, eventOutcome, signalOutcome, fireOutcome, Meets}
+use Rattle.property3.specs.declared.EncodedAnswer.{EncodedAnswer}
+use Rattle.property3.specs.Encoding.{eventKind, signalKind, decodedCall, encodedAnswer, encodedWords, CallMade}
+
+pub encoded : (o : Outcome) (told : Answer) (t : EncodedAnswer) (ws : List ℕ) → Meets o told ws → encodedWords t ≡ encodedAnswer told → CallMade o t ws
+encoded o told t ws m e = record { answered = e ∙ ap encodedAnswer (m .answered); left = m .left }
+
+-- by the kind
+module _ (limit : ℕ) (bs ws : List ℕ) (kind x : ℕ) (t : EncodedAnswer) (ws′ : List ℕ) where
+  pub made-event : kind ≡ eventKind → CallMade (eventOutcome limit bs ws (record { event = x })) t ws′
+      → CallMade (callOutcome limit bs ws (decodedCall kind x)) t ws′
+  unfolding eventOutcome decodedCall
+  made-event e m = rw (eq-eqb kind 16 e, decodedCall) m
+
+  pub made-signal : (kind ≡ eventKind → ⊥) → kind ≡ signalKind → CallMade (signalOutcome limit bs ws nothing) t ws′
+      → CallMade (callOutcome limit bs ws (decodedCall kind x)) t ws′
+  unfolding signalOutcome decodedCall
+  made-signal e f m = rw (ne-eqb kind 16 e, eq-eqb kind 17 f, decodedCall) m
+
+  pub made-fire : (kind ≡ eventKind → ⊥) → (kind ≡ signalKind → ⊥) → CallMade (fireOutcome limit bs ws (record { track = x })) t ws′
+      → CallMade (callOutcome limit bs ws (decodedCall kind x)) t ws′
+  unfolding fireOutcome decodedCall
+  made-fire e f m = rw (ne-eqb kind 16 e, ne-eqb kind 17 f, decodedCall) m
+
+-- three words stored one by one
+pub stored : (out : List ℕ) (at a b d : ℕ) → at + 3 ≤ length out
+    → set (set (set out at a) (at + 1) b) (at + 2) d ≡ take at out ++ (a ∷ b ∷ d ∷ drop (at + 3) out)
+stored [] at a b d h = absurd (omega arith)
+stored (x ∷ []) zero a b d h = absurd (omega arith)
+stored (x ∷ y ∷ []) zero a b d h = absurd (omega arith)
+stored (x ∷ y ∷ z ∷ out) zero a b d h = refl
+stored (x ∷ out) (suc at) a b d h = rw (suc-add at 1, suc-add at 2, suc-add at 3) (ap (λ (l : List ℕ). x ∷ l) (stored out at a b d (omega arith)))

@@ -1,0 +1,47 @@
+-- The call's own promise, its answer as words case by case. Assumes nothing.
+use mathlib.Core.Path.{sym, ap, _∙_}
+use Rattle.rules.specs.Answers.{signalTold}
+use Rattle.property3.specs.Encoding.{encodedAnswer, encodedWords}
+use Rattle.property3.proofs.OneCall.{encoded}
+use borrow.Author.Needs.{needs}
+use Rattle.property3.proofs.make_signal.Statement.{statement}
+use Rattle.property3.proofs.make_signal.Tie as tie
+
+signal-requires : tie.Need-signal-requires
+signal-requires c κs = search needs
+
+enum-known-answer : tie.Need-enum-known-answer
+enum-known-answer c = search needs
+
+encoded-refusal-requires : tie.Need-encoded-refusal-requires
+encoded-refusal-requires c κs = search needs
+
+enum-known-answer-2 : tie.Need-enum-known-answer-2
+enum-known-answer-2 c = search needs
+
+same-length : tie.Need-same-length
+same-length c = search needs
+
+returns : tie.Need-returns
+unfolding signalTold encodedAnswer encodedWords
+returns c = encoded _ _ _ _ (c .before .before .before .before .before .before .signal .ensures) (ap encodedWords (c .encoded-refusal .ensures) ∙ sym (ap (λ x. encodedAnswer (signalTold x)) (c .before .before .answer .given .1)))
+
+same-length-2 : tie.Need-same-length-2
+same-length-2 c = search needs
+
+returns-2 : tie.Need-returns-2
+unfolding signalTold encodedAnswer encodedWords
+returns-2 c = encoded _ _ _ _ (c .before .before .before .before .before .signal .ensures) (sym (ap (λ x. encodedAnswer (signalTold x)) (c .before .answer2 .given .1)))
+
+pub make-signal-spec : {M : Type 1} → statement M
+make-signal-spec =
+    tie.close
+    (tie.spec
+    signal-requires
+    enum-known-answer
+    encoded-refusal-requires
+    enum-known-answer-2
+    same-length
+    returns
+    same-length-2
+    returns-2)
