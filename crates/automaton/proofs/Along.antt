@@ -40,7 +40,7 @@ use Rattle.automaton.proofs.Entered.{begin-init}
 use Rattle.automaton.proofs.Terminated.{view-compensated, compensated-of}
 use Rattle.automaton.proofs.Calls.{stepwise}
 use Rattle.automaton.proofs.Faithful.{over-unlike}
-use Rattle.automaton.proofs.BigSteps.{exactly}
+use Rattle.automaton.proofs.Exactly.{exactly}
 use Rattle.automaton.proofs.SelfCancelling.{corollary1}
 
 module _ (p : Plan) (ρ : Reading) (ok : Accepted p) where

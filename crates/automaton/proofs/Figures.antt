@@ -55,7 +55,7 @@ module _ (f : Act → Bool) (h : ℕ → Bool) (g : ℕ → Act) where
       let r = none-from y n (suc i) in
       elim (look (h i)) [ inl e ↦ rw (e, y i, r) (omega arith) | inr e ↦ rw e r ]
 
-  none-down : ((k : ℕ) → f (g k) ≡ false) → (n : ℕ) → numberOf f (listedDown n h g) ≡ 0
+  pub none-down : ((k : ℕ) → f (g k) ≡ false) → (n : ℕ) → numberOf f (listedDown n h g) ≡ 0
   unfolding numberOf listedDown
   none-down y zero = refl
   none-down y (suc n) =
@@ -70,7 +70,7 @@ module _ (f : Act → Bool) (h : ℕ → Bool) (g : ℕ → Act) where
       let x : ℕ = countBelow n h in
       elim (look (h n)) [ inl e ↦ rw (e, y n, r) (let e : 1 + x ≡ x + 1 = omega arith in e) | inr e ↦ rw (e, r) (let e : x ≡ x + 0 = omega arith in e) ]
 
-  all-listed : ((k : ℕ) → f (g k) ≡ true) → (n : ℕ) → numberOf f (listed n h g) ≡ countBelow n h
+  pub all-listed : ((k : ℕ) → f (g k) ≡ true) → (n : ℕ) → numberOf f (listed n h g) ≡ countBelow n h
   unfolding listed
   all-listed y n = all-from y n 0 ∙ listed-length n h g
 

@@ -211,6 +211,6 @@ module _ (p : Plan) (ρ : Reading) (f : Act → Bool) where
         let i′ : x ≡ w + z = i in let k′ : z ≡ 0 = k in let g : w ≡ x = omega arith in g
 
     -- two ways to settle: as many steps that pass the test
-    pub same-steps : {c d e : Conf} (s : Steps p ρ isSilent c d) → Exhausted p ρ isSilent d → (r : Steps p ρ isSilent c e) → Exhausted p ρ isSilent e
+    pub same-steps : {c b d e : Conf} → c ≡ b → (s : Steps p ρ isSilent c d) → Exhausted p ρ isSilent d → (r : Steps p ρ isSilent b e) → Exhausted p ρ isSilent e
         → numberOf f (actsIn p ρ s) ≡ numberOf f (actsIn p ρ r)
-    same-steps s h r k = all-steps s h ∙ sym (all-steps r k)
+    same-steps q s h r k = all-steps s h ∙ ap settlingOfAll q ∙ sym (all-steps r k)
