@@ -22,10 +22,10 @@ use Rattle.theory.proofs.Nesting.{Nested}
 use Rattle.restoration.proofs.Theorems01.{fire-accepted, moved-nested, closed-nested, turned-forward, turned-nested, mover-awake, Sound, event-roots, event-abandoning, signal-sound, fire-sound, unfinished}
 use Rattle.automaton.specs.Listing.{listedFrom, listed, listedDown, everyOf}
 use Rattle.automaton.specs.Configuration.{Conf}
-use Rattle.automaton.specs.Semantics.{Reading, basicAlone, nestedToo, Act, sucAt, failAt, compAt, devAt, nestsucAt, nestfailAt, nestcompAt, trace, VStep, Run, stop, step}
+use Rattle.automaton.specs.Semantics.{FailReading, basicAlone, nestedToo, Act, sucAt, failAt, compAt, devAt, nestsucAt, nestfailAt, nestcompAt, trace, VStep, Run, stop, step}
 use Rattle.automaton.specs.View.{view, leavesScope, isGoing, leaveAt, abandonings, deviationStep, movings, closers, turners}
 use Rattle.automaton.specs.CountedSteps.{isFail}
-use Rattle.automaton.specs.BigSteps.{ended, isMute, isSilent, actsIn, has, isOnceEach, sucs, Exhausted, Exhausts, OnEvent, OnSignal, OnFiring, Big, Ends}
+use Rattle.automaton.specs.BigSteps.{afterFinish, isMute, isSilent, actsIn, has, isOnceEach, sucs, Exhausted, Exhausts, OnEvent, OnSignal, OnFiring, Big, Ends}
 use Rattle.automaton.proofs.Listings.{alike, from-every}
 use Rattle.automaton.proofs.Settled.{view-settled}
 use Rattle.automaton.proofs.Moving.{moves-some, apart, moving-run}
@@ -109,7 +109,7 @@ every-join test [] w h k = k
 every-join test (x ∷ v) w h k =
     let (a, b) = and-true (test x) (everyOf test v) h in and-both (test x) (everyOf test (v ++ w)) a (every-join test v w b k)
 
-leave-silent : (ρ : Reading) (k : ℕ) → isSilent (leaveAt ρ k) ≡ true
+leave-silent : (ρ : FailReading) (k : ℕ) → isSilent (leaveAt ρ k) ≡ true
 unfolding leaveAt isSilent isMute trace
 leave-silent basicAlone k = refl
 leave-silent nestedToo k = refl
@@ -119,7 +119,7 @@ unfolding deviationStep everyOf isSilent isMute trace
 deviation-silent t none = refl
 deviation-silent t (some d) = refl
 
-module _ (p : Plan) (ρ : Reading) where
+module _ (p : Plan) (ρ : FailReading) where
   abandonings-silent : (l : Ledger) → everyOf isSilent (abandonings p ρ l) ≡ true
   unfolding abandonings
   abandonings-silent l = down-every isSilent (trackCount p) (leavesScope p l) (leaveAt ρ) (leave-silent ρ)
@@ -141,7 +141,7 @@ module _ (p : Plan) (ρ : Reading) where
   first-of {c} {d} (step {d = b} {a = a′} {w = w} s r) a v e =
       let x : a′ ≡ a = cc in let y : w ≡ v = cc in (b, subst (λ z. VStep p ρ c z b) x s, subst (λ z. Run p ρ b z d) y r)
 
-module _ (p : Plan) (ρ : Reading) (ok : Accepted p) (l : Ledger) (n : Nested p l) where
+module _ (p : Plan) (ρ : FailReading) (ok : Accepted p) (l : Ledger) (n : Nested p l) where
   -- after a signal nothing is forward
   pub none-going : Exhausted p ρ isFail (view p ρ (turned l))
   unfolding isFail
@@ -160,7 +160,7 @@ module _ (p : Plan) (ρ : Reading) (ok : Accepted p) (l : Ledger) (n : Nested p 
       go (nestfailAt A) d r h = clash h refl
       go (nestcompAt A) d r h = clash h refl
 
-module _ (p : Plan) (ρ : Reading) (ok : Accepted p) (limit : ℕ) (l : Ledger) (s : Sound limit p l) where
+module _ (p : Plan) (ρ : FailReading) (ok : Accepted p) (limit : ℕ) (l : Ledger) (s : Sound limit p l) where
   abbrev n : Nested p l
   n = s .formed .nested
 
@@ -303,8 +303,8 @@ module _ (p : Plan) (ρ : Reading) (ok : Accepted p) (limit : ℕ) (l : Ledger) 
   one-only (signal a) d e x y = signal-one (view p ρ l) d e x y
   one-only (fire a) d e x y = fire-one (a .track) (x .0) (y .0) d e (x .1) (y .1)
 
-  worked-ended : (c : Call) → view p ρ (after limit p l c) ≡ ended p c (worked c)
-  unfolding worked after afterEvent ended
+  worked-ended : (c : Call) → view p ρ (after limit p l c) ≡ afterFinish p c (worked c)
+  unfolding worked after afterEvent afterFinish
   worked-ended (event a) =
       let m = moved p l (a .event) in
       finished-view p ρ ok (closed p m) (closed-nested p ok m (moved-nested p l (a .event) ok n)) (event-roots limit p ok l (s .formed) (a .event) (s .roots))
@@ -315,6 +315,6 @@ module _ (p : Plan) (ρ : Reading) (ok : Accepted p) (limit : ℕ) (l : Ledger) 
   pub exactly-big : (c : Call) → callRefusal limit p l c ≡ 0 → (d : Conf) → Ends p ρ c (view p ρ l) d ↔ (d ≡ view p ρ (after limit p l c))
   unfolding Ends
   exactly-big c h d = (
-    λ x. let (e, b, q) = x in q ∙ ap (ended p c) (one-only c e (worked c) b (big c h)) ∙ sym (worked-ended c),
+    λ x. let (e, b, q) = x in q ∙ ap (afterFinish p c) (one-only c e (worked c) b (big c h)) ∙ sym (worked-ended c),
     λ q. (worked c, big c h, q ∙ worked-ended c),
   )

@@ -24,7 +24,7 @@ use Rattle.theory.proofs.Nesting.{Nested}
 use Rattle.restoration.proofs.Theorems01.{Sound, mover-awake, moved-nested}
 use Rattle.automaton.specs.Listing.{listed, listedDown}
 use Rattle.automaton.specs.Configuration.{Conf}
-use Rattle.automaton.specs.Semantics.{Reading, basicAlone, nestedToo, Act, sucAt, failAt, compAt, devAt, nestsucAt, nestfailAt, nestcompAt}
+use Rattle.automaton.specs.Semantics.{FailReading, basicAlone, nestedToo, Act, sucAt, failAt, compAt, devAt, nestsucAt, nestfailAt, nestcompAt}
 use Rattle.automaton.specs.View.{view, leavesScope, leaveAt, abandonings, deviationStep, closers}
 use Rattle.automaton.specs.CountedSteps.{isNestsuc, isFail, numberOf, deviationIn}
 use Rattle.automaton.specs.BigSteps.{isSilent, has, isOnceEach, actsIn, OnEvent, OnSignal, OnFiring, Big}
@@ -127,12 +127,12 @@ dev-some d (nestsucAt A ∷ w) h k = dev-some d w (rest-same (numberOf isDev w) 
 dev-some d (nestfailAt A ∷ w) h k = dev-some d w (rest-same (numberOf isDev w) 1 h) (rest-same (numberOf (isDevElsewhere d) w) 0 k)
 dev-some d (nestcompAt A ∷ w) h k = dev-some d w (rest-same (numberOf isDev w) 1 h) (rest-same (numberOf (isDevElsewhere d) w) 0 k)
 
-leave-dev : (ρ : Reading) (k : ℕ) → isDev (leaveAt ρ k) ≡ false
+leave-dev : (ρ : FailReading) (k : ℕ) → isDev (leaveAt ρ k) ≡ false
 unfolding isDev leaveAt
 leave-dev basicAlone k = refl
 leave-dev nestedToo k = refl
 
-leave-elsewhere : (d : ℕ) (ρ : Reading) (k : ℕ) → isDevElsewhere d (leaveAt ρ k) ≡ false
+leave-elsewhere : (d : ℕ) (ρ : FailReading) (k : ℕ) → isDevElsewhere d (leaveAt ρ k) ≡ false
 unfolding isDevElsewhere leaveAt
 leave-elsewhere d basicAlone k = refl
 leave-elsewhere d nestedToo k = refl
@@ -157,7 +157,7 @@ deviates-so t d u v h x y =
           dev-some d v (let g : a ≡ 1 = omega arith in g) (let g : a′ ≡ 0 = omega arith in g)
     ]
 
-module _ (p : Plan) (ρ : Reading) (ok : Accepted p) (limit : ℕ) (l : Ledger) (s : Sound limit p l) where
+module _ (p : Plan) (ρ : FailReading) (ok : Accepted p) (limit : ℕ) (l : Ledger) (s : Sound limit p l) where
   abbrev n : Nested p l
   n = s .formed .nested
 

@@ -11,7 +11,7 @@ use Rattle.rules.proofs.Tests.{look, clash, refuted, and-true, or-true}
 use Rattle.rules.proofs.Acceptance.{Accepted}
 use Rattle.automaton.specs.Listing.{listedFrom, listed, someOf, everyOf}
 use Rattle.automaton.specs.Configuration.{Direction, forward, backward, Comp, Dev, Stack, NConf, Basic, Nest, Conf, end, next, Vect, members, isForwards, isBackwards, isEmptyStack, isTerminated, isCompensated, hasTerminated, hasCompensated, initBy, gotoTo, goto}
-use Rattle.automaton.specs.Semantics.{Reading, Act, devAt, nestsucAt, nestfailAt, nestcompAt, trace, SUC, FAIL, FAILNEST, COMP, DEV, NESTSUC, NESTFAIL, NESTCOMP, NEST, VStep, VECT}
+use Rattle.automaton.specs.Semantics.{FailReading, Act, devAt, nestsucAt, nestfailAt, nestcompAt, trace, SUC, FAIL, FAILNEST, COMP, DEV, NESTSUC, NESTFAIL, NESTCOMP, NEST, VStep, VECT}
 use Rattle.automaton.specs.CountedSteps.{numberOf}
 use Rattle.automaton.specs.BigSteps.{isMute, isSilent, Steps, stay, more, actsIn, Exhausted}
 use Rattle.automaton.proofs.Confluence.{settleAll, terminated-still, compensated-still, finished-still, not-both, either, unterminated, uncompensated, start-still, silent-same, settled-still, Still, first-still, later-still}
@@ -25,7 +25,7 @@ none-first a b e = omega arith
 none-last : (a b : ℕ) → b ≡ 0 → a ≡ a + b
 none-last a b e = omega arith
 
-module _ (p : Plan) (ρ : Reading) (f : Act → Bool) where
+module _ (p : Plan) (ρ : FailReading) (f : Act → Bool) where
   one : Act → ℕ
   one a = cond (f a) 1 0
 

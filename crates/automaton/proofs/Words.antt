@@ -17,11 +17,11 @@ use Rattle.rules.proofs.Acceptance.{passed-all, read-passed, Accepted, accepts}
 use Rattle.restoration.proofs.SoundWords.{Holds, outcome, not-refused, passed-ledger, sound-holds, begin-holds, call-holds, call-accepted, call-refused}
 use Rattle.restoration.proofs.Theorems01.{over-refused, next-accepted, Sound, Kept, over-is}
 use Rattle.automaton.specs.Configuration.{Conf, init}
-use Rattle.automaton.specs.Semantics.{Reading}
+use Rattle.automaton.specs.Semantics.{FailReading}
 use Rattle.automaton.specs.View.{view}
-use Rattle.automaton.specs.CountedSteps.{counted}
+use Rattle.automaton.specs.CountedSteps.{countedSteps}
 use Rattle.automaton.specs.Exactly.{toldBy, Exactly}
-use Rattle.automaton.specs.Enabled.{Asked}
+use Rattle.automaton.specs.Enabled.{StepFor}
 use Rattle.automaton.specs.BigSteps.{Big, Ends}
 use Rattle.automaton.proofs.Entered.{begin-init}
 use Rattle.automaton.proofs.Enabled.{refused-none}
@@ -37,7 +37,7 @@ refusal-same r s e = cc
 not-both : (u : List ℕ) (r : ℕ) → done u ≡ refusal r → ⊥
 not-both u r e = let z : _≡_ {A = ℕ} 0 1 = cc in absurd (omega arith)
 
-module _ (ρ : Reading) (limit : ℕ) (bs : List ℕ) (k : Counts) (read : readPlan bs ≡ accepted k) where
+module _ (ρ : FailReading) (limit : ℕ) (bs : List ℕ) (k : Counts) (read : readPlan bs ≡ accepted k) where
   abbrev p : Plan
   p = planOf bs k
 
@@ -86,7 +86,7 @@ module _ (ρ : Reading) (limit : ℕ) (bs : List ℕ) (k : Counts) (read : readP
     pub before : Exactly p ρ limit (theLedger ws) c
     pub afterwards : theLedger (callOutcome limit bs ws c .words) ≡ after limit p (theLedger ws) c
     -- the figures are those of its steps, and of each of its big steps
-    pub figures : told ≡ counted p ρ (theLedger ws) c
+    pub figures : told ≡ countedSteps p ρ (theLedger ws) c
     pub tells : (d : Conf) (x : Big p ρ c (view p ρ (theLedger ws)) d) → told ≡ toldBy p ρ (theLedger ws) c (view p ρ (theLedger ws)) d x
     -- the view of the words afterwards is where the automaton's big steps end, and they end nowhere else
     pub ends : (d : Conf) → Ends p ρ c (view p ρ (theLedger ws)) d ↔ (d ≡ view p ρ (theLedger (callOutcome limit bs ws c .words)))
@@ -120,7 +120,7 @@ module _ (ρ : Reading) (limit : ℕ) (bs : List ℕ) (k : Counts) (read : readP
 
   -- one refused as 19, 20 or 22: no step that it asks for applies
   pub words-refused : (ws : List ℕ) (c : Call) (r : ℕ) → callOutcome limit bs ws c .answer ≡ refusal r → 18 < r → (r ≡ 21 → ⊥)
-      → Asked p ρ c (view p ρ (theLedger ws)) → ⊥
+      → StepFor p ρ c (view p ρ (theLedger ws)) → ⊥
   unfolding refusedOr ledgerRefusals firstRefusal
   words-refused ws c r h above full v =
       elim (look (tooShort limit p ws)) [

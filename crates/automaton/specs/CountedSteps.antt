@@ -6,7 +6,7 @@ use Rattle.rules.specs.Fold.{countBelow}
 use Rattle.rules.specs.Plan.{Plan, trackCount, noState}
 use Rattle.rules.specs.Ledger.{Ledger, isForward}
 use Rattle.rules.specs.Call.{Call, event, signal, fire}
-use Rattle.automaton.specs.Semantics.{Reading, Trace, Forw, Back, γ, τ, Act, sucAt, failAt, compAt, devAt, nestsucAt, nestfailAt, nestcompAt, trace}
+use Rattle.automaton.specs.Semantics.{FailReading, Trace, Forw, Back, γ, τ, Act, sucAt, failAt, compAt, devAt, nestsucAt, nestfailAt, nestcompAt, trace}
 use Rattle.automaton.specs.View.{isGoing, actsOf}
 
 -- steps by their rules
@@ -64,7 +64,7 @@ deviationIn (nestsucAt A ∷ w) = deviationIn w
 deviationIn (nestfailAt A ∷ w) = deviationIn w
 deviationIn (nestcompAt A ∷ w) = deviationIn w
 
-module _ (p : Plan) (ρ : Reading) (l : Ledger) where
+module _ (p : Plan) (ρ : FailReading) (l : Ledger) where
   -- a forward track that FAIL does not turn: a host of an open scope, which document 01's Signal turns at once. There is none where FAIL turns
   -- nested configurations too
   unfoldable pub isTurnedEarly : ℕ → Bool
@@ -72,7 +72,7 @@ module _ (p : Plan) (ρ : Reading) (l : Ledger) where
 
   -- The figures. Moved and closed are the numbers of SUC and NESTSUC; turned is the number of FAIL and of the hosts that turn early; a
   -- firing's code is the label of its COMP, its deviation the state of its DEV
-  unfoldable pub counted : Call → List ℕ
-  counted (event a) = numberOf isSuc (actsOf p ρ l (event a)) ∷ numberOf isNestsuc (actsOf p ρ l (event a)) ∷ []
-  counted (signal a) = (numberOf isFail (actsOf p ρ l (signal a)) + countBelow (trackCount p) isTurnedEarly) ∷ []
-  counted (fire a) = codesIn (actsOf p ρ l (fire a)) ++ (deviationIn (actsOf p ρ l (fire a)) ∷ [])
+  unfoldable pub countedSteps : Call → List ℕ
+  countedSteps (event a) = numberOf isSuc (actsOf p ρ l (event a)) ∷ numberOf isNestsuc (actsOf p ρ l (event a)) ∷ []
+  countedSteps (signal a) = (numberOf isFail (actsOf p ρ l (signal a)) + countBelow (trackCount p) isTurnedEarly) ∷ []
+  countedSteps (fire a) = codesIn (actsOf p ρ l (fire a)) ++ (deviationIn (actsOf p ρ l (fire a)) ∷ [])

@@ -9,20 +9,20 @@ use Rattle.rules.specs.Plan.{Plan, trackCount}
 use Rattle.rules.specs.Ledger.{Ledger}
 use Rattle.rules.specs.Call.{Call, event, signal, fire, figures, after}
 use Rattle.automaton.specs.Configuration.{Conf}
-use Rattle.automaton.specs.Semantics.{Reading, Run, Settled}
+use Rattle.automaton.specs.Semantics.{FailReading, Run, Settled}
 use Rattle.automaton.specs.View.{view, actsOf}
-use Rattle.automaton.specs.CountedSteps.{isNestsuc, isFail, numberOf, deviationIn, isTurnedEarly, counted}
-use Rattle.automaton.specs.BigSteps.{ended, actsIn, Big, Ends}
+use Rattle.automaton.specs.CountedSteps.{isNestsuc, isFail, numberOf, deviationIn, isTurnedEarly, countedSteps}
+use Rattle.automaton.specs.BigSteps.{afterFinish, actsIn, Big, Ends}
 
 -- the figures as a big step tells them: how many automata moved, how often NESTSUC, how often FAIL and how many hosts turn early, and what COMP and
 -- DEV tell
-unfoldable pub toldBy : (p : Plan) (ρ : Reading) (l : Ledger) (call : Call) (c d : Conf) → Big p ρ call c d → List ℕ
+unfoldable pub toldBy : (p : Plan) (ρ : FailReading) (l : Ledger) (call : Call) (c d : Conf) → Big p ρ call c d → List ℕ
 unfolding Big
 toldBy p ρ l (event a) c d x = length (x .order) ∷ numberOf isNestsuc (actsIn p ρ (x .settling .0)) ∷ []
 toldBy p ρ l (signal a) c d x = (numberOf isFail (actsIn p ρ (x .turning .0)) + countBelow (trackCount p) (isTurnedEarly p ρ l)) ∷ []
 toldBy p ρ l (fire a) c d x = x .0 ∷ deviationIn (actsIn p ρ (x .1 .settling .0)) ∷ []
 
-module _ (p : Plan) (ρ : Reading) (limit : ℕ) (l : Ledger) (c : Call) where
+module _ (p : Plan) (ρ : FailReading) (limit : ℕ) (l : Ledger) (c : Call) where
   -- its steps, one after the other
   pub record Stepwise : Type 0 where
     -- the configuration that they lead to
@@ -30,8 +30,8 @@ module _ (p : Plan) (ρ : Reading) (limit : ℕ) (l : Ledger) (c : Call) where
     pub run : Run p ρ (view p ρ l) (actsOf p ρ l c) reached
     -- no silent rule applies afterwards
     pub settled : Settled p ρ reached
-    pub left : view p ρ (after limit p l c) ≡ ended p c reached
-    pub told : figures limit p l c ≡ counted p ρ l c
+    pub left : view p ρ (after limit p l c) ≡ afterFinish p c reached
+    pub told : figures limit p l c ≡ countedSteps p ρ l c
 
   -- and both ways: the automaton's big steps, which speak of no ledger, end in the view afterwards and nowhere else
   pub record Exactly : Type 0 where
