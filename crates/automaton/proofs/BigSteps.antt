@@ -24,8 +24,8 @@ use Rattle.automaton.specs.Listing.{listedFrom, listed, listedDown, ever
 use Rattle.automaton.specs.Configuration.{Conf}
 use Rattle.automaton.specs.Semantics.{FailReading, basicAlone, nestedToo, Act, sucAt, failAt, compAt, devAt, nestsucAt, nestfailAt, nestcompAt, trace, VStep, Run, stop, step}
 use Rattle.automaton.specs.View.{view, leavesScope, isGoing, leaveAt, abandonings, deviationStep, movings, closers, turners}
-use Rattle.automaton.specs.CountedSteps.{isFail}
-use Rattle.automaton.specs.BigSteps.{afterFinish, isMute, isSilent, actsIn, has, isOnceEach, sucs, Exhausted, Exhausts, OnEvent, OnSignal, OnFiring, Big, Ends}
+use Rattle.automaton.specs.StepTests.{isFail, isMute, isSilent}
+use Rattle.automaton.specs.BigSteps.{afterFinish, actsIn, has, isOnceEach, sucs, Exhausted, Exhausts, OnEvent, OnSignal, OnFiring, Big, Ends}
 use Rattle.automaton.proofs.Listings.{alike, from-every}
 use Rattle.automaton.proofs.Settled.{view-settled}
 use Rattle.automaton.proofs.Moving.{moves-some, apart, moving-run}

@@ -26,8 +26,8 @@ use Rattle.automaton.specs.Listing.{listed, listedDown}
 use Rattle.automaton.specs.Configuration.{Conf}
 use Rattle.automaton.specs.Semantics.{FailReading, basicAlone, nestedToo, Act, sucAt, failAt, compAt, devAt, nestsucAt, nestfailAt, nestcompAt}
 use Rattle.automaton.specs.View.{view, leavesScope, leaveAt, abandonings, deviationStep, closers}
-use Rattle.automaton.specs.CountedSteps.{isNestsuc, isFail, numberOf, deviationIn}
-use Rattle.automaton.specs.BigSteps.{isSilent, has, isOnceEach, actsIn, OnEvent, OnSignal, OnFiring, Big}
+use Rattle.automaton.specs.StepTests.{isNestsuc, isFail, numberOf, deviationIn, isSilent}
+use Rattle.automaton.specs.BigSteps.{has, isOnceEach, actsIn, OnEvent, OnSignal, OnFiring, Big}
 use Rattle.automaton.specs.Exactly.{toldBy, Exactly}
 use Rattle.automaton.proofs.Listings.{listed-length}
 use Rattle.automaton.proofs.Moving.{moves-some}

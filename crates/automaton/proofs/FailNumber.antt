@@ -17,7 +17,8 @@ use Rattle.automaton.specs.Listing.{everyOf}
 use Rattle.automaton.specs.Configuration.{Direction, forward, backward, NConf, Basic, Nest, Conf, end, next, Vect, isForwards}
 use Rattle.automaton.specs.Semantics.{FailReading, basicAlone, nestedToo, Act, failAt, SUC, FAIL, FAILNEST, COMP, DEV, NESTSUC, NESTFAIL, NESTCOMP, NEST, VStep, VECT, Run, stop, step}
 use Rattle.automaton.specs.View.{view, isGoing, turners}
-use Rattle.automaton.specs.CountedSteps.{isFail, numberOf, isTurnedEarly}
+use Rattle.automaton.specs.CountedSteps.{isTurnedEarly}
+use Rattle.automaton.specs.StepTests.{isFail, numberOf}
 use Rattle.automaton.specs.BigSteps.{Steps, stay, more, actsIn, Exhausted}
 use Rattle.automaton.proofs.Figures.{all-down, forward-split}
 use Rattle.automaton.proofs.Turning.{turning-run}

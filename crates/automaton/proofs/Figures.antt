@@ -24,7 +24,8 @@ use Rattle.restoration.proofs.Theorems01.{moved-nested}
 use Rattle.automaton.specs.Listing.{listedFrom, listed, listedDown}
 use Rattle.automaton.specs.Semantics.{FailReading, basicAlone, nestedToo, Act, sucAt, failAt, nestsucAt, trace}
 use Rattle.automaton.specs.View.{leavesScope, isGoing, leaveAt, abandonings, deviationStep, movings, closers, turners, actsOf}
-use Rattle.automaton.specs.CountedSteps.{isSuc, isNestsuc, isFail, numberOf, codeIn, codesIn, deviationIn, isTurnedEarly, countedSteps}
+use Rattle.automaton.specs.CountedSteps.{isTurnedEarly, countedSteps}
+use Rattle.automaton.specs.StepTests.{isSuc, isNestsuc, isFail, numberOf, codeIn, codesIn, deviationIn}
 use Rattle.automaton.proofs.Listings.{listed-length}
 use Rattle.automaton.proofs.Closing.{closings-counted}
 use Rattle.automaton.proofs.Turning.{going-forward}

@@ -23,7 +23,7 @@ use Rattle.theory.proofs.Nesting.{Awake, Nested, state-of}
 use Rattle.automaton.specs.Listing.{listedFrom, listed}
 use Rattle.automaton.specs.Configuration.{forward, backward, Comp, Dev, Stack, NConf, Basic, Nest, Conf, end, next, Vect, push, initBy, gotoTo, goto}
 use Rattle.automaton.specs.Semantics.{FailReading, Act, sucAt, failAt, compAt, devAt, nestsucAt, nestfailAt, nestcompAt, SUC, FAIL, FAILNEST, COMP, DEV, NESTSUC, NESTFAIL, NESTCOMP, NEST, VStep, VECT, Run, stop, step}
-use Rattle.automaton.specs.CountedSteps.{isSuc}
+use Rattle.automaton.specs.StepTests.{isSuc}
 use Rattle.automaton.specs.BigSteps.{has, isOnceEach, sucs}
 use Rattle.automaton.specs.View.{isWithin, basic, nested, viewOf, isOnTop, view}
 use Rattle.automaton.proofs.Frames.{down, reach-up, beside, roots-beside, within-parts, top-parts, shown-free, shown-busy, view-law}

@@ -19,7 +19,7 @@ use Rattle.theory.proofs.Nesting.{Awake, Nested, state-of}
 use Rattle.automaton.specs.Listing.{listed, everyOf}
 use Rattle.automaton.specs.Configuration.{Direction, forward, backward, Comp, Dev, Stack, NConf, Basic, Nest, Conf, end, next, Vect, hasTerminated, hasCompensated, pushComp}
 use Rattle.automaton.specs.Semantics.{FailReading, τ, Act, trace, SUC, FAIL, FAILNEST, COMP, DEV, NESTSUC, NESTFAIL, NESTCOMP, NEST, VStep, VECT, Settled}
-use Rattle.automaton.specs.BigSteps.{isMute}
+use Rattle.automaton.specs.StepTests.{isMute}
 use Rattle.automaton.specs.View.{stackOf, isWithin, basic, nested, viewOf, isOnTop, view, scopeView}
 use Rattle.automaton.proofs.Listings.{listed-every}
 use Rattle.automaton.proofs.Frames.{down, within-parts, top-parts, shown-free, shown-busy, view-law}

@@ -12,8 +12,8 @@ use Rattle.rules.proofs.Acceptance.{Accepted}
 use Rattle.automaton.specs.Listing.{listedFrom, listed, someOf, everyOf}
 use Rattle.automaton.specs.Configuration.{Direction, forward, backward, Comp, Dev, Stack, NConf, Basic, Nest, Conf, end, next, Vect, members, isForwards, isBackwards, isEmptyStack, isTerminated, isCompensated, hasTerminated, hasCompensated, initBy, gotoTo, goto}
 use Rattle.automaton.specs.Semantics.{FailReading, Act, devAt, nestsucAt, nestfailAt, nestcompAt, trace, SUC, FAIL, FAILNEST, COMP, DEV, NESTSUC, NESTFAIL, NESTCOMP, NEST, VStep, VECT}
-use Rattle.automaton.specs.CountedSteps.{numberOf}
-use Rattle.automaton.specs.BigSteps.{isMute, isSilent, Steps, stay, more, actsIn, Exhausted}
+use Rattle.automaton.specs.StepTests.{numberOf, isMute, isSilent}
+use Rattle.automaton.specs.BigSteps.{Steps, stay, more, actsIn, Exhausted}
 use Rattle.automaton.proofs.Confluence.{settleAll, terminated-still, compensated-still, finished-still, not-both, either, unterminated, uncompensated, start-still, silent-same, settled-still, Still, first-still, later-still}
 
 both-none : (a b : ℕ) → a ≡ 0 → b ≡ 0 → a + b ≡ 0

@@ -1,4 +1,5 @@
--- What is claimed of an accepted call: "exactly as a compensating automaton of report CS2012-01 does, narrowed by document 01". Assumes nothing.
+-- What is claimed of an accepted call: "exactly as a compensating automaton of report CS2012-01 does, narrowed by document 01".
+-- Assumes nothing.
 use mathlib.Core.Path.{_≡_}
 use mathlib.Core.Logic.{_↔_}
 use mathlib.Core.List.{List, [], _∷_}
@@ -11,11 +12,12 @@ use Rattle.rules.specs.Call.{Call, event, signal, fire, figures, after}
 use Rattle.automaton.specs.Configuration.{Conf}
 use Rattle.automaton.specs.Semantics.{FailReading, Run, Settled}
 use Rattle.automaton.specs.View.{view, actsOf}
-use Rattle.automaton.specs.CountedSteps.{isNestsuc, isFail, numberOf, deviationIn, isTurnedEarly, countedSteps}
+use Rattle.automaton.specs.CountedSteps.{isTurnedEarly, countedSteps}
+use Rattle.automaton.specs.StepTests.{isNestsuc, isFail, numberOf, deviationIn}
 use Rattle.automaton.specs.BigSteps.{afterFinish, actsIn, Big, Ends}
 
--- the figures as a big step tells them: how many automata moved, how often NESTSUC, how often FAIL and how many hosts turn early, and what COMP and
--- DEV tell
+-- the figures as a big step tells them: how many automata moved, how often NESTSUC; how often FAIL, and how many hosts turn early; what COMP
+-- and DEV tell
 unfoldable pub toldBy : (p : Plan) (ρ : FailReading) (l : Ledger) (call : Call) (c d : Conf) → Big p ρ call c d → List ℕ
 unfolding Big
 toldBy p ρ l (event a) c d x = length (x .order) ∷ numberOf isNestsuc (actsIn p ρ (x .settling .0)) ∷ []
@@ -23,7 +25,7 @@ toldBy p ρ l (signal a) c d x = (numberOf isFail (actsIn p ρ (x .turning .0)) 
 toldBy p ρ l (fire a) c d x = x .0 ∷ deviationIn (actsIn p ρ (x .1 .settling .0)) ∷ []
 
 module _ (p : Plan) (ρ : FailReading) (limit : ℕ) (l : Ledger) (c : Call) where
-  -- its steps, one after the other
+  -- one way: its steps, one after the other
   pub record Stepwise : Type 0 where
     -- the configuration that they lead to
     pub reached : Conf
