@@ -29,9 +29,9 @@ use Rattle.restoration.proofs.SoundWords.{Holds, begin-holds, call-holds, call-
 use Rattle.restoration.proofs.Theorems01.{over-refused, next-accepted, next-refused, sleeping-asleep, Sound, Over, Kept, over-is}
 use Rattle.automaton.specs.Listing.{everyOf}
 use Rattle.automaton.specs.Configuration.{Conf, Vect, members, isTerminated, hasCompensated, init}
-use Rattle.automaton.specs.Semantics.{Reading, Act, Run, stop}
+use Rattle.automaton.specs.Semantics.{FailReading, Act, Run, stop}
 use Rattle.automaton.specs.View.{isOnTop, viewOf, view, actsOf}
-use Rattle.automaton.specs.BigSteps.{ended}
+use Rattle.automaton.specs.BigSteps.{afterFinish}
 use Rattle.automaton.specs.Along.{made, actsFrom, actsAfter, Answered, EndsFrom, Played}
 use Rattle.automaton.specs.SelfCancelling.{projected, cancOut, PerfectAt}
 use Rattle.automaton.proofs.Listings.{run-then, run-same}
@@ -40,13 +40,13 @@ use Rattle.automaton.proofs.Entered.{begin-init}
 use Rattle.automaton.proofs.Terminated.{view-compensated, compensated-of}
 use Rattle.automaton.proofs.Calls.{stepwise}
 use Rattle.automaton.proofs.Faithful.{over-unlike}
-use Rattle.automaton.proofs.BigSteps.{exactly}
+use Rattle.automaton.proofs.Exactly.{exactly}
 use Rattle.automaton.proofs.SelfCancelling.{corollary1}
 
-module _ (p : Plan) (ρ : Reading) (ok : Accepted p) where
+module _ (p : Plan) (ρ : FailReading) (ok : Accepted p) where
   -- unless the call finishes, the steps lead to the view afterwards
-  goes-on : (limit : ℕ) (m : Ledger) (c : Call) (reached : Conf) → Sound limit p m → view p ρ m ≡ ended p c reached → reached ≡ view p ρ m
-  unfolding ended
+  goes-on : (limit : ℕ) (m : Ledger) (c : Call) (reached : Conf) → Sound limit p m → view p ρ m ≡ afterFinish p c reached → reached ≡ view p ρ m
+  unfolding afterFinish
   goes-on limit m (event a) reached s e =
       elim (look (everyOf (isTerminated p) (members reached))) [
         | inl h ↦ absurd (over-unlike p ρ ok limit m s (e ∙ ap (λ x. cond x (Vect []) reached) h))
@@ -55,9 +55,9 @@ module _ (p : Plan) (ρ : Reading) (ok : Accepted p) where
   goes-on limit m (signal a) reached s e = sym e
   goes-on limit m (fire a) reached s e = sym e
 
-  shown-or-ended : (c : Call) (m : Ledger) (reached : Conf) → view p ρ m ≡ ended p c reached
+  shown-or-ended : (c : Call) (m : Ledger) (reached : Conf) → view p ρ m ≡ afterFinish p c reached
       → (view p ρ m ≡ reached) ⊎ ((everyOf (isTerminated p) (members reached) ≡ true) × (view p ρ m ≡ Vect []))
-  unfolding ended
+  unfolding afterFinish
   shown-or-ended (event a) m reached e =
       elim (look (everyOf (isTerminated p) (members reached))) [
         | inl h ↦ inr (h, e ∙ ap (λ x. cond x (Vect []) reached) h)
@@ -81,7 +81,7 @@ module _ (p : Plan) (ρ : Reading) (ok : Accepted p) where
       view-compensated p ρ ok l n t a
       ∙ bare-of p l t (is-undoing (l t .mode) (d .undoing)) (ap isEmpty (d .empty)) (d .shut))
 
-module _ (ρ : Reading) (limit : ℕ) (bs : List ℕ) (k : Counts) (read : readPlan bs ≡ accepted k) where
+module _ (ρ : FailReading) (limit : ℕ) (bs : List ℕ) (k : Counts) (read : readPlan bs ≡ accepted k) where
   abbrev p : Plan
   p = planOf bs k
 

@@ -22,11 +22,10 @@ use Rattle.theory.proofs.Nesting.{Nested}
 use Rattle.restoration.proofs.Theorems01.{fire-accepted, moved-nested, closed-nested, turned-forward, turned-nested, mover-awake, Sound, event-roots, event-abandoning, signal-sound, fire-sound, unfinished}
 use Rattle.automaton.specs.Listing.{listedFrom, listed, listedDown, everyOf}
 use Rattle.automaton.specs.Configuration.{Conf}
-use Rattle.automaton.specs.Semantics.{Reading, basicAlone, nestedToo, Act, sucAt, failAt, compAt, devAt, nestsucAt, nestfailAt, nestcompAt, trace, VStep, Run, stop, step}
+use Rattle.automaton.specs.Semantics.{FailReading, basicAlone, nestedToo, Act, sucAt, failAt, compAt, devAt, nestsucAt, nestfailAt, nestcompAt, trace, VStep, Run, stop, step}
 use Rattle.automaton.specs.View.{view, leavesScope, isGoing, leaveAt, abandonings, deviationStep, movings, closers, turners}
-use Rattle.automaton.specs.CountedSteps.{isFail}
-use Rattle.automaton.specs.BigSteps.{ended, isMute, isSilent, has, isOnceEach, sucs, Exhausted, Exhausts, OnEvent, OnSignal, OnFiring, Big, Ends}
-use Rattle.automaton.specs.Exactly.{Exactly}
+use Rattle.automaton.specs.StepTests.{isFail, isMute, isSilent}
+use Rattle.automaton.specs.BigSteps.{afterFinish, actsIn, has, isOnceEach, sucs, Exhausted, Exhausts, OnEvent, OnSignal, OnFiring, Big, Ends}
 use Rattle.automaton.proofs.Listings.{alike, from-every}
 use Rattle.automaton.proofs.Settled.{view-settled}
 use Rattle.automaton.proofs.Moving.{moves-some, apart, moving-run}
@@ -34,9 +33,9 @@ use Rattle.automaton.proofs.Closing.{closing-run}
 use Rattle.automaton.proofs.Leaving.{abandoning-run}
 use Rattle.automaton.proofs.Turning.{going-forward, turning-run}
 use Rattle.automaton.proofs.Firing.{fire-run}
-use Rattle.automaton.proofs.Calls.{finished-view, stepwise}
+use Rattle.automaton.proofs.Calls.{finished-view}
 use Rattle.automaton.proofs.Enabled.{suc-enabled, fail-enabled}
-use Rattle.automaton.proofs.Confluence.{silent-unique, fail-unique, run-steps, settled-exhausted}
+use Rattle.automaton.proofs.Confluence.{silent-unique, fail-unique, run-steps, run-acts, settled-exhausted}
 use Rattle.automaton.proofs.OnePlace.{comp-unique, suc-unique, view-once}
 
 -- The automata of a sequence in track order.
@@ -110,7 +109,7 @@ every-join test [] w h k = k
 every-join test (x ∷ v) w h k =
     let (a, b) = and-true (test x) (everyOf test v) h in and-both (test x) (everyOf test (v ++ w)) a (every-join test v w b k)
 
-leave-silent : (ρ : Reading) (k : ℕ) → isSilent (leaveAt ρ k) ≡ true
+leave-silent : (ρ : FailReading) (k : ℕ) → isSilent (leaveAt ρ k) ≡ true
 unfolding leaveAt isSilent isMute trace
 leave-silent basicAlone k = refl
 leave-silent nestedToo k = refl
@@ -120,7 +119,7 @@ unfolding deviationStep everyOf isSilent isMute trace
 deviation-silent t none = refl
 deviation-silent t (some d) = refl
 
-module _ (p : Plan) (ρ : Reading) where
+module _ (p : Plan) (ρ : FailReading) where
   abandonings-silent : (l : Ledger) → everyOf isSilent (abandonings p ρ l) ≡ true
   unfolding abandonings
   abandonings-silent l = down-every isSilent (trackCount p) (leavesScope p l) (leaveAt ρ) (leave-silent ρ)
@@ -142,7 +141,7 @@ module _ (p : Plan) (ρ : Reading) where
   first-of {c} {d} (step {d = b} {a = a′} {w = w} s r) a v e =
       let x : a′ ≡ a = cc in let y : w ≡ v = cc in (b, subst (λ z. VStep p ρ c z b) x s, subst (λ z. Run p ρ b z d) y r)
 
-module _ (p : Plan) (ρ : Reading) (ok : Accepted p) (l : Ledger) (n : Nested p l) where
+module _ (p : Plan) (ρ : FailReading) (ok : Accepted p) (l : Ledger) (n : Nested p l) where
   -- after a signal nothing is forward
   pub none-going : Exhausted p ρ isFail (view p ρ (turned l))
   unfolding isFail
@@ -161,7 +160,7 @@ module _ (p : Plan) (ρ : Reading) (ok : Accepted p) (l : Ledger) (n : Nested p 
       go (nestfailAt A) d r h = clash h refl
       go (nestcompAt A) d r h = clash h refl
 
-module _ (p : Plan) (ρ : Reading) (ok : Accepted p) (limit : ℕ) (l : Ledger) (s : Sound limit p l) where
+module _ (p : Plan) (ρ : FailReading) (ok : Accepted p) (limit : ℕ) (l : Ledger) (s : Sound limit p l) where
   abbrev n : Nested p l
   n = s .formed .nested
 
@@ -179,34 +178,49 @@ module _ (p : Plan) (ρ : Reading) (ok : Accepted p) (limit : ℕ) (l : Ledger) 
         from-has (moves p l e) (trackCount p) 0 A (omega arith) (omega arith) h,
   )
 
+  pub event-settling : (e : ℕ) → Exhausts p ρ isSilent (view p ρ (moved p l e)) (view p ρ (closed p (moved p l e)))
+  event-settling e =
+      let m = moved p l e in
+      let nm = moved-nested p l e ok n in (
+        run-steps p ρ isSilent (closing-run p ρ ok m nm) (closers-silent p ρ m),
+        settled-exhausted p ρ (view p ρ (closed p m))
+            (view-settled p ρ ok (closed p m) (closed-nested p ok m nm) (closed-done p m) (event-abandoning limit p ok l (s .formed) e (s .abandoning))),
+      )
+
+  pub event-settling-acts : (e : ℕ) → actsIn p ρ (event-settling e .0) ≡ closers p (moved p l e)
+  unfolding event-settling
+  event-settling-acts e = run-acts p ρ isSilent (closing-run p ρ ok (moved p l e) (moved-nested p l e ok n)) (closers-silent p ρ (moved p l e))
+
   event-big : (e : ℕ) → OnEvent p ρ e (view p ρ l) (view p ρ (closed p (moved p l e)))
   unfolding movings order listed
   event-big e =
-      let m = moved p l e in
-      let nm = moved-nested p l e ok n in
       record {
         order = order e;
         once = from-once (moves p l e) (trackCount p) 0;
         those = λ A. (λ c. order-has e A .1 (suc-enabled p ρ l ok n A e .0 c), λ h. suc-enabled p ρ l ok n A e .1 (order-has e A .0 h));
-        between = view p ρ m;
-        moving = subst (λ w. Run p ρ (view p ρ l) w (view p ρ m)) (sym (from-sucs (moves p l e) e (trackCount p) 0)) (moving-run p l e ρ ok n);
-        settling = (
-          run-steps p ρ isSilent (closing-run p ρ ok m nm) (closers-silent p ρ m),
-          settled-exhausted p ρ (view p ρ (closed p m))
-              (view-settled p ρ ok (closed p m) (closed-nested p ok m nm) (closed-done p m) (event-abandoning limit p ok l (s .formed) e (s .abandoning))),
-        );
+        between = view p ρ (moved p l e);
+        moving = subst (λ w. Run p ρ (view p ρ l) w (view p ρ (moved p l e))) (sym (from-sucs (moves p l e) e (trackCount p) 0)) (moving-run p l e ρ ok n);
+        settling = event-settling e;
       }
+
+  -- in any of them: the automata that move, and what is reached before the settling
+  pub order-moves : (e : ℕ) (d : Conf) (x : OnEvent p ρ e (view p ρ l) d) (A : ℕ) → has (x .order) A ≡ moves p l e A
+  order-moves e d x A =
+      alike (has (x .order) A) (moves p l e A) (λ h. suc-enabled p ρ l ok n A e .0 (x .those A .1 h)) (λ h. x .those A .0 (suc-enabled p ρ l ok n A e .1 h))
+
+  pub event-between : (e : ℕ) (d : Conf) (x : OnEvent p ρ e (view p ρ l) d) → x .between ≡ view p ρ (moved p l e)
+  unfolding event-big
+  event-between e d x =
+      let y = event-big e in
+      suc-unique p ρ ok e (view p ρ l) (x .between) (y .between) (x .order) (y .order) (x .moving) (y .moving) (x .once) (y .once)
+      (fun-ext (λ A. order-moves e d x A ∙ sym (order-moves e (view p ρ (closed p (moved p l e))) y A)))
+      (λ A. view-once p ρ ok l n A)
+      (λ A B h k. apart p l e ρ ok n A B (sym (order-moves e d x A) ∙ h) (sym (order-moves e d x B) ∙ k))
 
   event-one : (e : ℕ) (c d : Conf) → OnEvent p ρ e (view p ρ l) c → OnEvent p ρ e (view p ρ l) d → c ≡ d
   event-one e c d x y =
-      let same : x .between ≡ y .between =
-      suc-unique p ρ ok e (view p ρ l) (x .between) (y .between) (x .order) (y .order) (x .moving) (y .moving) (x .once) (y .once)
-      (fun-ext
-      (λ A.
-      alike (has (x .order) A) (has (y .order) A) (λ h. y .those A .0 (x .those A .1 h)) (λ h. x .those A .0 (y .those A .1 h))))
-      (λ A. view-once p ρ ok l n A)
-      (λ A B h k. apart p l e ρ ok n A B (suc-enabled p ρ l ok n A e .0 (x .those A .1 h)) (suc-enabled p ρ l ok n B e .0 (x .those B .1 k))) in
-      silent-unique p ρ ok (y .between) c d (subst (λ z. Exhausts p ρ isSilent z c) same (x .settling)) (y .settling)
+      silent-unique p ρ ok (y .between) c d
+      (subst (λ z. Exhausts p ρ isSilent z c) (event-between e c x ∙ sym (event-between e d y)) (x .settling)) (y .settling)
 
   -- A signal.
   signal-big : (a : SignalArguments) → callRefusal limit p l (signal a) ≡ 0 → OnSignal p ρ (view p ρ l) (view p ρ (afterSignal p l))
@@ -229,26 +243,41 @@ module _ (p : Plan) (ρ : Reading) (ok : Accepted p) (limit : ℕ) (l : Ledger) 
       silent-unique p ρ ok (y .between) d e (subst (λ z. Exhausts p ρ isSilent z d) same (x .settling)) (y .settling)
 
   -- A firing.
-  fire-big : (a : FireArguments) → callRefusal limit p l (fire a) ≡ 0
-      → OnFiring p ρ (a .track) (newest (l (a .track) .held) .code) (view p ρ l) (view p ρ (afterFire p l (a .track)))
-  unfolding afterFire
-  fire-big a h =
+  unfoldable pub firingActs : ℕ → List Act
+  firingActs t = nestcompAt t ∷ (deviationStep t (optional (newest (l t .held) .deviation)) ++ abandonings p ρ (fired p l t))
+
+  -- after its COMP
+  pub record Fired (t : ℕ) : Type 0 where
+    pub between : Conf
+    pub firing : VStep p ρ (view p ρ l) (compAt t (newest (l t .held) .code)) between
+    pub settling : Exhausts p ρ isSilent between (view p ρ (afterFire p l t))
+    pub acts : actsIn p ρ (settling .0) ≡ firingActs t
+
+  pub fire-fired : (a : FireArguments) → callRefusal limit p l (fire a) ≡ 0 → Fired (a .track)
+  unfolding afterFire firingActs
+  fire-fired a h =
       let t = a .track in
       let may = fire-accepted limit p l a h .1 in
       let k = fire-sound limit p ok l s t may (unfinished limit p ok l s (fire a) h refl) in
       let (b, v, r) = first-of p ρ (fire-run p ρ ok l n t (s .formed .good t) may) _ _ refl in
+      let silent =
+      back-silent p ρ t (deviationStep t (optional (newest (l t .held) .deviation)) ++ abandonings p ρ (fired p l t))
+      (every-join isSilent (deviationStep t (optional (newest (l t .held) .deviation))) (abandonings p ρ (fired p l t))
+      (deviation-silent t (optional (newest (l t .held) .deviation))) (abandonings-silent p ρ (fired p l t))) in
       record {
         between = b;
         firing = v;
         settling = (
-          run-steps p ρ isSilent r
-              (back-silent p ρ t (deviationStep t (optional (newest (l t .held) .deviation)) ++ abandonings p ρ (fired p l t))
-              (every-join isSilent (deviationStep t (optional (newest (l t .held) .deviation))) (abandonings p ρ (fired p l t))
-              (deviation-silent t (optional (newest (l t .held) .deviation))) (abandonings-silent p ρ (fired p l t)))),
+          run-steps p ρ isSilent r silent,
           settled-exhausted p ρ (view p ρ (afterFire p l t))
               (view-settled p ρ ok (abandoned p (fired p l t)) (k .formed .nested) (k .closing) (k .abandoning)),
         );
+        acts = run-acts p ρ isSilent r silent;
       }
+
+  fire-big : (a : FireArguments) → callRefusal limit p l (fire a) ≡ 0
+      → OnFiring p ρ (a .track) (newest (l (a .track) .held) .code) (view p ρ l) (view p ρ (afterFire p l (a .track)))
+  fire-big a h = let x = fire-fired a h in record { between = x .between; firing = x .firing; settling = x .settling }
 
   fire-one : (A j k : ℕ) (c d : Conf) → OnFiring p ρ A j (view p ρ l) c → OnFiring p ρ A k (view p ρ l) d → c ≡ d
   fire-one A j k c d x y =
@@ -274,8 +303,8 @@ module _ (p : Plan) (ρ : Reading) (ok : Accepted p) (limit : ℕ) (l : Ledger) 
   one-only (signal a) d e x y = signal-one (view p ρ l) d e x y
   one-only (fire a) d e x y = fire-one (a .track) (x .0) (y .0) d e (x .1) (y .1)
 
-  worked-ended : (c : Call) → view p ρ (after limit p l c) ≡ ended p c (worked c)
-  unfolding worked after afterEvent ended
+  worked-ended : (c : Call) → view p ρ (after limit p l c) ≡ afterFinish p c (worked c)
+  unfolding worked after afterEvent afterFinish
   worked-ended (event a) =
       let m = moved p l (a .event) in
       finished-view p ρ ok (closed p m) (closed-nested p ok m (moved-nested p l (a .event) ok n)) (event-roots limit p ok l (s .formed) (a .event) (s .roots))
@@ -283,13 +312,9 @@ module _ (p : Plan) (ρ : Reading) (ok : Accepted p) (limit : ℕ) (l : Ledger) 
   worked-ended (fire a) = refl
 
   -- an accepted call leads exactly where the automaton's big steps end
-  exactly-big : (c : Call) → callRefusal limit p l c ≡ 0 → (d : Conf) → Ends p ρ c (view p ρ l) d ↔ (d ≡ view p ρ (after limit p l c))
+  pub exactly-big : (c : Call) → callRefusal limit p l c ≡ 0 → (d : Conf) → Ends p ρ c (view p ρ l) d ↔ (d ≡ view p ρ (after limit p l c))
   unfolding Ends
   exactly-big c h d = (
-    λ x. let (e, b, q) = x in q ∙ ap (ended p c) (one-only c e (worked c) b (big c h)) ∙ sym (worked-ended c),
+    λ x. let (e, b, q) = x in q ∙ ap (afterFinish p c) (one-only c e (worked c) b (big c h)) ∙ sym (worked-ended c),
     λ q. (worked c, big c h, q ∙ worked-ended c),
   )
-
-  -- property 2's word, of every accepted call on every sound ledger
-  pub exactly : (c : Call) → callRefusal limit p l c ≡ 0 → Exactly p ρ limit l c
-  exactly c h = record { steps = stepwise p ρ ok limit l s c h; ends = exactly-big c h }

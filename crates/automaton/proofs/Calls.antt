@@ -21,9 +21,9 @@ use Rattle.theory.proofs.Soundness.{RootsAwake}
 use Rattle.restoration.proofs.Theorems01.{fire-accepted, moved-nested, sleeping-asleep, closed-nested, Sound, event-roots, event-abandoning, signal-sound, fire-sound, unfinished}
 use Rattle.automaton.specs.Listing.{listed, everyOf}
 use Rattle.automaton.specs.Configuration.{Vect, members, isTerminated}
-use Rattle.automaton.specs.Semantics.{Reading}
+use Rattle.automaton.specs.Semantics.{FailReading}
 use Rattle.automaton.specs.View.{isOnTop, viewOf, view, actsOf}
-use Rattle.automaton.specs.BigSteps.{ended}
+use Rattle.automaton.specs.BigSteps.{afterFinish}
 use Rattle.automaton.specs.Exactly.{Stepwise}
 use Rattle.automaton.proofs.Listings.{alike, listed-none, listed-every, listed-every-at, run-then}
 use Rattle.automaton.proofs.Frames.{top-parts, top-of}
@@ -35,7 +35,7 @@ use Rattle.automaton.proofs.Turning.{signal-run}
 use Rattle.automaton.proofs.Firing.{fire-run}
 use Rattle.automaton.proofs.Figures.{figures-counted}
 
-module _ (p : Plan) (ρ : Reading) (ok : Accepted p) where
+module _ (p : Plan) (ρ : FailReading) (ok : Accepted p) where
   -- Finish: all roots are terminated
   finishing-ended : (l : Ledger) → Nested p l → RootsAwake p l → isFinishing p l ≡ everyOf (isTerminated p) (members (view p ρ l))
   unfolding isFinishing view
@@ -83,7 +83,7 @@ module _ (p : Plan) (ρ : Reading) (ok : Accepted p) where
     n = s .formed .nested
 
     event-steps : (a : EventArguments) → callRefusal limit p l (event a) ≡ 0 → Stepwise p ρ limit l (event a)
-    unfolding actsOf after afterEvent ended
+    unfolding actsOf after afterEvent afterFinish
     event-steps a h =
         let m = moved p l (a .event) in
         let nm = moved-nested p l (a .event) ok n in
@@ -98,7 +98,7 @@ module _ (p : Plan) (ρ : Reading) (ok : Accepted p) where
         }
 
     signal-steps : (a : SignalArguments) → callRefusal limit p l (signal a) ≡ 0 → Stepwise p ρ limit l (signal a)
-    unfolding actsOf after afterSignal ended
+    unfolding actsOf after afterSignal afterFinish
     signal-steps a h =
         let k = signal-sound limit p ok l s a (unfinished limit p ok l s (signal a) h refl) in
         record {
@@ -110,7 +110,7 @@ module _ (p : Plan) (ρ : Reading) (ok : Accepted p) where
         }
 
     fire-steps : (a : FireArguments) → callRefusal limit p l (fire a) ≡ 0 → Stepwise p ρ limit l (fire a)
-    unfolding actsOf after afterFire ended
+    unfolding actsOf after afterFire afterFinish
     fire-steps a h =
         let may = fire-accepted limit p l a h .1 in
         let k = fire-sound limit p ok l s (a .track) may (unfinished limit p ok l s (fire a) h refl) in

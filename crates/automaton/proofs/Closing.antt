@@ -20,7 +20,7 @@ use Rattle.theory.proofs.Nesting.{Awake, Nested, state-of, open-host}
 use Rattle.theory.proofs.Closing.{closing-open, closes-known, closes-of, closing-busy, closing-open-track, closing-direct}
 use Rattle.restoration.proofs.Theorems01.{installed-mode, installed-state, installed-held, closed-awake}
 use Rattle.automaton.specs.Configuration.{forward, NConf, Basic, Nest, push, hasTerminated}
-use Rattle.automaton.specs.Semantics.{Reading, nestsucAt, Step, NESTSUC, Run}
+use Rattle.automaton.specs.Semantics.{FailReading, nestsucAt, Step, NESTSUC, Run}
 use Rattle.automaton.specs.View.{stackOf, directionOf, isWithin, basic, nested, viewOf, isOnTop, view, scopeView, closers}
 use Rattle.automaton.proofs.Listings.{alike, listed-length, run-same}
 use Rattle.automaton.proofs.Frames.{same-conf, within-parts, within-of, top-parts, top-of, hosted-above, shown-free, shown-busy, view-law}
@@ -33,7 +33,7 @@ no-state : optional noState ≡ none
 unfolding optional
 no-state = rw (eq-eqb noState noState refl)
 
-module _ (p : Plan) (ρ : Reading) (ok : Accepted p) (l : Ledger) (n : Nested p l) where
+module _ (p : Plan) (ρ : FailReading) (ok : Accepted p) (l : Ledger) (n : Nested p l) where
   abbrev m : Ledger
   m = closed p l
 

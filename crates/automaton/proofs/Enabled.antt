@@ -29,10 +29,10 @@ use Rattle.theory.proofs.Nesting.{Awake, Nested}
 use Rattle.theory.proofs.Entries.{Good}
 use Rattle.automaton.specs.Listing.{listedFrom, listed}
 use Rattle.automaton.specs.Configuration.{forward, backward, Comp, Stack, NConf, Basic, Nest, Conf, end, next, Vect, isForwards, pushComp}
-use Rattle.automaton.specs.Semantics.{Reading, basicAlone, nestedToo, Act, sucAt, failAt, compAt, devAt, nestsucAt, nestfailAt, nestcompAt, Step, SUC, FAIL, FAILNEST, COMP, DEV, NESTSUC, NESTFAIL, NESTCOMP, NEST, VStep, VECT}
+use Rattle.automaton.specs.Semantics.{FailReading, basicAlone, nestedToo, Act, sucAt, failAt, compAt, devAt, nestsucAt, nestfailAt, nestcompAt, Step, SUC, FAIL, FAILNEST, COMP, DEV, NESTSUC, NESTFAIL, NESTCOMP, NEST, VStep, VECT}
 use Rattle.automaton.specs.View.{stackOf, directionOf, facing, isWithin, basic, nested, shown, viewOf, isOnTop, view, isGoing}
 use Rattle.restoration.proofs.Theorems01.{move-takes, mover-awake, fire-accepted, Sound, Over, Kept}
-use Rattle.automaton.specs.Enabled.{Allows, Asked}
+use Rattle.automaton.specs.Enabled.{Allows, StepFor}
 use Rattle.automaton.proofs.Settled.{view-settled}
 use Rattle.automaton.proofs.Frames.{down, frame, frames, instead-some, within-parts, top-parts, shown-free, shown-busy, view-frame, view-frames, view-law, frame-law, replaced}
 use Rattle.automaton.proofs.Moving.{moves-some, on-event, takes, arrival}
@@ -52,7 +52,7 @@ way-backward Asleep a h = a
 way-backward Forward a h = ap isForwards h
 way-backward Undoing a h = refl
 
-facing-going : (p : Plan) (l : Ledger) (ρ : Reading) (t : ℕ) → ρ ≡ nestedToo → forward ≡ facing ρ (l t .mode) → isGoing p ρ l t ≡ true
+facing-going : (p : Plan) (l : Ledger) (ρ : FailReading) (t : ℕ) → ρ ≡ nestedToo → forward ≡ facing ρ (l t .mode) → isGoing p ρ l t ≡ true
 unfolding facing isGoing
 facing-going p l basicAlone t w h = let z : _≡_ {A = ℕ} 0 1 = cc in absurd (omega arith)
 facing-going p l nestedToo t w h = way-forward (l t .mode) h
@@ -63,7 +63,7 @@ unfolding stackOf pushComp isEmpty newest
 top-newest [] c S h = let z : _≡_ {A = ℕ} 0 1 = cc in absurd (omega arith)
 top-newest (e ∷ es) c S h = (refl, cc)
 
-module _ (p : Plan) (ρ : Reading) (l : Ledger) where
+module _ (p : Plan) (ρ : FailReading) (l : Ledger) where
   -- as the ledger has it: each basic configuration is its track's, awake and without an open scope, and each host has its track's direction
   mutual
     Shows : NConf → Type 0
@@ -225,7 +225,7 @@ module _ (p : Plan) (ok : Accepted p) (limit : ℕ) (l : Ledger) (s : Sound limi
         | inl e ↦ clash (s .roots 0 (ok .some-track) e) (not-true (isAwake (l 0 .mode)) (every-at (trackCount p) (λ t. not (isAwake (l t .mode))) h 0 (ok .some-track)))
       ])
 
-module _ (p : Plan) (ρ : Reading) (ok : Accepted p) (limit : ℕ) (l : Ledger) (s : Sound limit p l) where
+module _ (p : Plan) (ρ : FailReading) (ok : Accepted p) (limit : ℕ) (l : Ledger) (s : Sound limit p l) where
   abbrev n′ : Nested p l
   n′ = s .formed .nested
 
@@ -241,7 +241,7 @@ module _ (p : Plan) (ρ : Reading) (ok : Accepted p) (limit : ℕ) (l : Ledger) 
       }
 
 -- Refusals 19, 20 and 22: no step that the call asks for applies. 21 alone refuses one that would.
-module _ (p : Plan) (passed : Passed p) (ρ : Reading) where
+module _ (p : Plan) (passed : Passed p) (ρ : FailReading) where
   ok : Accepted p
   ok = accepted-facts p passed
 
@@ -264,8 +264,8 @@ module _ (p : Plan) (passed : Passed p) (ρ : Reading) where
       go e (VECT α β {n = n} s) = filled α n β e
 
   sound-none : (limit : ℕ) (l : Ledger) → Sound limit p l → (c : Call) (r : ℕ) → callRefusal limit p l c ≡ suc r → (suc r ≡ 21 → ⊥)
-      → Asked p ρ c (view p ρ l) → ⊥
-  unfolding Asked callRefusal callRefusals firstRefusal
+      → StepFor p ρ c (view p ρ l) → ⊥
+  unfolding StepFor callRefusal callRefusals firstRefusal
   sound-none limit l s (event a) r e f v =
       elim (look (eqb (a .event) 0)) [
         | inl z ↦ let (A, d, w) = v in zero-none l (s .formed .nested) A d (subst (λ i. VStep p ρ (view p ρ l) (sucAt A i) d) (eqb-true (a .event) 0 z) w)
@@ -281,8 +281,8 @@ module _ (p : Plan) (passed : Passed p) (ρ : Reading) where
 
   -- of every sound ledger, over ones too
   pub refused-none : (limit : ℕ) (l : Ledger) → Kept limit p l → (c : Call) (r : ℕ) → callRefusal limit p l c ≡ suc r → (suc r ≡ 21 → ⊥)
-      → Asked p ρ c (view p ρ l) → ⊥
-  unfolding Asked
+      → StepFor p ρ c (view p ρ l) → ⊥
+  unfolding StepFor
   refused-none limit l (inr s) c r e f v = sound-none limit l s c r e f v
   refused-none limit l (inl o) (event a) r e f v = let (A, d, w) = v in over-none l o (sucAt A (a .event)) d w
   refused-none limit l (inl o) (signal a) r e f v = let (A, d, w) = v in over-none l o (failAt A) d w
@@ -290,8 +290,8 @@ module _ (p : Plan) (passed : Passed p) (ρ : Reading) where
 
   -- and a firing is accepted wherever its COMP applies
   pub fire-accepted-if : (limit : ℕ) (l : Ledger) → Sound limit p l → (a : FireArguments)
-      → Asked p ρ (fire a) (view p ρ l) ↔ (callRefusal limit p l (fire a) ≡ 0)
-  unfolding Asked
+      → StepFor p ρ (fire a) (view p ρ l) ↔ (callRefusal limit p l (fire a) ≡ 0)
+  unfolding StepFor
   fire-accepted-if limit l s a = (
     λ v. accepting (allows p ρ ok limit l s .comp (a .track) .0 v),
     λ h. allows p ρ ok limit l s .comp (a .track) .1 (fire-accepted limit p l a h .1),

@@ -26,13 +26,13 @@ use Rattle.theory.proofs.Entering.{Enterable, fresh-awake, woken-asleep, awake-
 use Rattle.theory.proofs.SoundBegin.{all-asleep, asleep-formed, roots-free}
 use Rattle.automaton.specs.Listing.{listed}
 use Rattle.automaton.specs.Configuration.{forward, Stack, Basic, Nest, Vect, initBy, gotoTo, goto, init}
-use Rattle.automaton.specs.Semantics.{Reading, basicAlone, nestedToo}
+use Rattle.automaton.specs.Semantics.{FailReading, basicAlone, nestedToo}
 use Rattle.automaton.specs.View.{stackOf, directionOf, facing, isWithin, basic, nested, shown, viewOf, isOnTop, view}
 use Rattle.automaton.proofs.Listings.{alike, listed-same}
 use Rattle.automaton.proofs.Frames.{down, within-parts, within-of, view-law}
 
 -- a forward host is shown forward in either reading
-pub facing-forward : (ρ : Reading) (m : Mode) → isForward m ≡ true → facing ρ m ≡ forward
+pub facing-forward : (ρ : FailReading) (m : Mode) → isForward m ≡ true → facing ρ m ≡ forward
 unfolding facing directionOf
 facing-forward basicAlone m h = refl
 facing-forward nestedToo m h = rw h
@@ -58,7 +58,7 @@ module _ (p : Plan) (ok : Accepted p) where
   goto-law A q S h b = goto-more (trackCount p) A q S b (omega arith) (state-of p A q h .1)
 
   -- a track forward in a state, with that state's scope open and all in it at the start
-  module _ (ρ : Reading) (m : Ledger) (t q : ℕ) (es : List Entry) (b : t < trackCount p) (own : isStateOf p t q ≡ true)
+  module _ (ρ : FailReading) (m : Ledger) (t q : ℕ) (es : List Entry) (b : t < trackCount p) (own : isStateOf p t q ≡ true)
       (at : m t ≡ record { mode = Forward; state = q; held = es })
       (same : (u : ℕ) → u < trackCount p → isWithin p m t u ≡ isIn p q u)
       (inner : (u : ℕ) → u < trackCount p → isIn p q u ≡ true → viewOf p ρ m u ≡ goto p u (firstState p u) []) where
@@ -110,11 +110,11 @@ module _ (p : Plan) (ok : Accepted p) where
         let e = in-host p q u i in
         within-of p m t u (subst (λ x. isHostedBy p x u ≡ true) (state-of p t q own .1) (in-owner q u i)) (woken-awake u q (w u i) e))
 
-    pub record Goes (ρ : Reading) (t : ℕ) : Type 0 where
+    pub record Goes (ρ : FailReading) (t : ℕ) : Type 0 where
       pub enters : (q : ℕ) → to t ≡ some q → viewOf p ρ m t ≡ goto p t q (stackOf (l t .held))
       pub wakens : to t ≡ none → wakes p to t ≡ true → viewOf p ρ m t ≡ goto p t (firstState p t) []
 
-    pub goes : (ρ : Reading) (t : ℕ) → t < trackCount p → Goes ρ t
+    pub goes : (ρ : FailReading) (t : ℕ) → t < trackCount p → Goes ρ t
     unfolding fresh stackOf
     goes ρ =
         down (trackCount p) (Goes ρ)
@@ -159,7 +159,7 @@ module _ (p : Plan) (ok : Accepted p) where
         ]
 
   -- the view of begin's ledger is the initial configuration of the vector of roots
-  pub begin-init : (ρ : Reading) → view p ρ (begun p) ≡ init p (isRoot p)
+  pub begin-init : (ρ : FailReading) → view p ρ (begun p) ≡ init p (isRoot p)
   unfolding view init initBy isOnTop sleeping
   begin-init ρ =
       ap Vect

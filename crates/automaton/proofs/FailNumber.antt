@@ -15,30 +15,31 @@ use Rattle.rules.proofs.Acceptance.{Accepted}
 use Rattle.theory.proofs.Nesting.{Nested}
 use Rattle.automaton.specs.Listing.{everyOf}
 use Rattle.automaton.specs.Configuration.{Direction, forward, backward, NConf, Basic, Nest, Conf, end, next, Vect, isForwards}
-use Rattle.automaton.specs.Semantics.{Reading, basicAlone, nestedToo, Act, failAt, SUC, FAIL, FAILNEST, COMP, DEV, NESTSUC, NESTFAIL, NESTCOMP, NEST, VStep, VECT, Run, stop, step}
+use Rattle.automaton.specs.Semantics.{FailReading, basicAlone, nestedToo, Act, failAt, SUC, FAIL, FAILNEST, COMP, DEV, NESTSUC, NESTFAIL, NESTCOMP, NEST, VStep, VECT, Run, stop, step}
 use Rattle.automaton.specs.View.{view, isGoing, turners}
-use Rattle.automaton.specs.CountedSteps.{isFail, numberOf, isTurnedEarly}
+use Rattle.automaton.specs.CountedSteps.{isTurnedEarly}
+use Rattle.automaton.specs.StepTests.{isFail, numberOf}
 use Rattle.automaton.specs.BigSteps.{Steps, stay, more, actsIn, Exhausted}
 use Rattle.automaton.proofs.Figures.{all-down, forward-split}
 use Rattle.automaton.proofs.Turning.{turning-run}
 use Rattle.automaton.proofs.Confluence.{Still, first-still, later-still, run-steps, run-acts}
 use Rattle.automaton.proofs.BigSteps.{turners-fail, none-going}
 
-hostTurns : Reading → Direction → ℕ
+hostTurns : FailReading → Direction → ℕ
 hostTurns basicAlone r = 0
 hostTurns nestedToo r = cond (isForwards r) 1 0
 
-host-less : (ρ : Reading) → ρ ≡ nestedToo → (n : ℕ) → hostTurns ρ forward + n ≡ suc (hostTurns ρ backward + n)
+host-less : (ρ : FailReading) → ρ ≡ nestedToo → (n : ℕ) → hostTurns ρ forward + n ≡ suc (hostTurns ρ backward + n)
 unfolding hostTurns isForwards
 host-less basicAlone w n = let z : _≡_ {A = ℕ} 0 1 = cc in absurd (omega arith)
 host-less nestedToo w n = omega arith
 
-host-back : (ρ : Reading) → hostTurns ρ backward ≡ 0
+host-back : (ρ : FailReading) → hostTurns ρ backward ≡ 0
 unfolding hostTurns isForwards
 host-back basicAlone = refl
 host-back nestedToo = refl
 
-host-none : (ρ : Reading) → (ρ ≡ nestedToo → ⊥) → hostTurns ρ forward ≡ 0
+host-none : (ρ : FailReading) → (ρ ≡ nestedToo → ⊥) → hostTurns ρ forward ≡ 0
 unfolding hostTurns
 host-none basicAlone h = refl
 host-none nestedToo h = absurd (h refl)
@@ -50,7 +51,7 @@ inner-less : (a b c : ℕ) → b ≡ suc c → a + b ≡ suc (a + c)
 inner-less a b c e = omega arith
 
 -- how many configurations FAIL may turn
-module _ (ρ : Reading) where
+module _ (ρ : FailReading) where
   mutual
     turnsIn : NConf → ℕ
     turnsIn (Basic A q r S) = cond (isForwards r) 1 0
@@ -119,7 +120,7 @@ module _ (ρ : Reading) where
         let x : ℕ = turnsInAll c in let z : ℕ = turnsInAll d in let w : ℕ = numberOf isFail (actsIn p ρ s) in
         let i′ : x ≡ w + z = i in let k′ : z ≡ 0 = k in let g : w ≡ x = omega arith in g
 
-module _ (p : Plan) (ρ : Reading) (ok : Accepted p) (l : Ledger) (n : Nested p l) where
+module _ (p : Plan) (ρ : FailReading) (ok : Accepted p) (l : Ledger) (n : Nested p l) where
   fails-counted : (d : Conf) (s : Steps p ρ isFail (view p ρ l) d) → Exhausted p ρ isFail d → numberOf isFail (actsIn p ρ s) ≡ countBelow (trackCount p) (isGoing p ρ l)
   fails-counted d s h =
       all-steps ρ p s h ∙ sym (all-steps ρ p (run-steps p ρ isFail (turning-run p ρ ok l n) (turners-fail p ρ l)) (none-going p ρ ok l n))

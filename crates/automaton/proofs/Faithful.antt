@@ -23,7 +23,7 @@ use Rattle.theory.proofs.Soundness.{RootsAwake}
 use Rattle.restoration.proofs.Theorems01.{Sound, Kept}
 use Rattle.automaton.specs.Listing.{listedFrom, listed, someOf}
 use Rattle.automaton.specs.Configuration.{Direction, Dev, Stack, NConf, Basic, Nest, Conf, Vect, members, pushComp, pushDev}
-use Rattle.automaton.specs.Semantics.{Reading}
+use Rattle.automaton.specs.Semantics.{FailReading}
 use Rattle.automaton.specs.View.{stackOf, directionOf, isWithin, basic, nested, viewOf, isOnTop, view}
 use Rattle.automaton.proofs.Listings.{alike, listed-some}
 use Rattle.automaton.proofs.Frames.{down, within-parts, within-of, top-parts, top-of, shown-free, shown-busy, view-law}
@@ -121,7 +121,7 @@ nest-parts A B q r d e S T c k h = (cc, cc, cc)
 basic-nest {ℓ} : {Z : Type ℓ} (A B q r : ℕ) (d e : Direction) (S T : Stack) (c : Conf) → Basic A q d S ≡ Nest B r e T c → Z
 basic-nest A B q r d e S T c h = let z : _≡_ {A = ℕ} 0 1 = cc in absurd (omega arith)
 
-module _ (p : Plan) (ρ : Reading) (ok : Accepted p) where
+module _ (p : Plan) (ρ : FailReading) (ok : Accepted p) where
   -- two tracks shown alike
   record Same (l m : Ledger) (t : ℕ) : Type 0 where
     busy : hasOpenScope p l t ≡ hasOpenScope p m t

@@ -22,9 +22,10 @@ use Rattle.rules.proofs.Acceptance.{Accepted}
 use Rattle.theory.proofs.Nesting.{Nested}
 use Rattle.restoration.proofs.Theorems01.{moved-nested}
 use Rattle.automaton.specs.Listing.{listedFrom, listed, listedDown}
-use Rattle.automaton.specs.Semantics.{Reading, basicAlone, nestedToo, Act, sucAt, failAt, nestsucAt, trace}
+use Rattle.automaton.specs.Semantics.{FailReading, basicAlone, nestedToo, Act, sucAt, failAt, nestsucAt, trace}
 use Rattle.automaton.specs.View.{leavesScope, isGoing, leaveAt, abandonings, deviationStep, movings, closers, turners, actsOf}
-use Rattle.automaton.specs.CountedSteps.{isSuc, isNestsuc, isFail, numberOf, codeIn, codesIn, deviationIn, isTurnedEarly, counted}
+use Rattle.automaton.specs.CountedSteps.{isTurnedEarly, countedSteps}
+use Rattle.automaton.specs.StepTests.{isSuc, isNestsuc, isFail, numberOf, codeIn, codesIn, deviationIn}
 use Rattle.automaton.proofs.Listings.{listed-length}
 use Rattle.automaton.proofs.Closing.{closings-counted}
 use Rattle.automaton.proofs.Turning.{going-forward}
@@ -55,7 +56,7 @@ module _ (f : Act → Bool) (h : ℕ → Bool) (g : ℕ → Act) where
       let r = none-from y n (suc i) in
       elim (look (h i)) [ inl e ↦ rw (e, y i, r) (omega arith) | inr e ↦ rw e r ]
 
-  none-down : ((k : ℕ) → f (g k) ≡ false) → (n : ℕ) → numberOf f (listedDown n h g) ≡ 0
+  pub none-down : ((k : ℕ) → f (g k) ≡ false) → (n : ℕ) → numberOf f (listedDown n h g) ≡ 0
   unfolding numberOf listedDown
   none-down y zero = refl
   none-down y (suc n) =
@@ -70,7 +71,7 @@ module _ (f : Act → Bool) (h : ℕ → Bool) (g : ℕ → Act) where
       let x : ℕ = countBelow n h in
       elim (look (h n)) [ inl e ↦ rw (e, y n, r) (let e : 1 + x ≡ x + 1 = omega arith in e) | inr e ↦ rw (e, r) (let e : x ≡ x + 0 = omega arith in e) ]
 
-  all-listed : ((k : ℕ) → f (g k) ≡ true) → (n : ℕ) → numberOf f (listed n h g) ≡ countBelow n h
+  pub all-listed : ((k : ℕ) → f (g k) ≡ true) → (n : ℕ) → numberOf f (listed n h g) ≡ countBelow n h
   unfolding listed
   all-listed y n = all-from y n 0 ∙ listed-length n h g
 
@@ -79,27 +80,27 @@ module _ (f : Act → Bool) (h : ℕ → Bool) (g : ℕ → Act) where
   none-listed y n = none-from y n 0
 
 -- An abandoned scope's step has no label of its own and deviates to nothing, by whichever rule it is.
-leave-code : (ρ : Reading) (k : ℕ) → codeIn (trace (leaveAt ρ k)) ≡ []
+leave-code : (ρ : FailReading) (k : ℕ) → codeIn (trace (leaveAt ρ k)) ≡ []
 unfolding codeIn trace leaveAt
 leave-code basicAlone k = refl
 leave-code nestedToo k = refl
 
-leave-fail : (ρ : Reading) (k : ℕ) → isFail (leaveAt ρ k) ≡ false
+leave-fail : (ρ : FailReading) (k : ℕ) → isFail (leaveAt ρ k) ≡ false
 unfolding isFail leaveAt
 leave-fail basicAlone k = refl
 leave-fail nestedToo k = refl
 
-leave-deviation : (ρ : Reading) (k : ℕ) (w : List Act) → deviationIn (leaveAt ρ k ∷ w) ≡ deviationIn w
+leave-deviation : (ρ : FailReading) (k : ℕ) (w : List Act) → deviationIn (leaveAt ρ k ∷ w) ≡ deviationIn w
 unfolding deviationIn leaveAt
 leave-deviation basicAlone k w = refl
 leave-deviation nestedToo k w = refl
 
-no-codes-down : (ρ : Reading) (h : ℕ → Bool) (n : ℕ) → codesIn (listedDown n h (leaveAt ρ)) ≡ []
+no-codes-down : (ρ : FailReading) (h : ℕ → Bool) (n : ℕ) → codesIn (listedDown n h (leaveAt ρ)) ≡ []
 unfolding codesIn listedDown
 no-codes-down ρ h zero = refl
 no-codes-down ρ h (suc n) = elim (look (h n)) [ inl e ↦ rw (e, leave-code ρ n) (no-codes-down ρ h n) | inr e ↦ rw e (no-codes-down ρ h n) ]
 
-no-deviation-down : (ρ : Reading) (h : ℕ → Bool) (n : ℕ) → deviationIn (listedDown n h (leaveAt ρ)) ≡ noState
+no-deviation-down : (ρ : FailReading) (h : ℕ → Bool) (n : ℕ) → deviationIn (listedDown n h (leaveAt ρ)) ≡ noState
 unfolding deviationIn listedDown
 no-deviation-down ρ h zero = refl
 no-deviation-down ρ h (suc n) =
@@ -138,11 +139,11 @@ count-split (suc n) f g h =
     ap₂ (λ x y. x + y) i j ∙ (let e : (a + b) + (c + d) ≡ (a + c) + (b + d) = omega arith in e)
 
 -- a signal turns the tracks that FAIL turns, and the hosts that turn early
-pub forward-split : (p : Plan) (l : Ledger) (ρ : Reading) → turnings p l ≡ countBelow (trackCount p) (isGoing p ρ l) + countBelow (trackCount p) (isTurnedEarly p ρ l)
+pub forward-split : (p : Plan) (l : Ledger) (ρ : FailReading) → turnings p l ≡ countBelow (trackCount p) (isGoing p ρ l) + countBelow (trackCount p) (isTurnedEarly p ρ l)
 unfolding turnings isTurnedEarly
 forward-split p l ρ = count-split (trackCount p) (λ t. isForward (l t .mode)) (isGoing p ρ l) (λ t h. going-forward p l ρ t h)
 
-module _ (p : Plan) (ρ : Reading) (ok : Accepted p) (l : Ledger) (n : Nested p l) where
+module _ (p : Plan) (ρ : FailReading) (ok : Accepted p) (l : Ledger) (n : Nested p l) where
   right-none : (a b c : ℕ) → a ≡ c → b ≡ 0 → a + b ≡ c
   right-none a b c e f = omega arith
 
@@ -150,8 +151,8 @@ module _ (p : Plan) (ρ : Reading) (ok : Accepted p) (l : Ledger) (n : Nested p 
   left-none a b c e f = omega arith
 
   -- moved and closed are the numbers of SUC and NESTSUC, turned that of FAIL and of the hosts that turn early; a firing tells its COMP and its DEV
-  pub figures-counted : (limit : ℕ) (c : Call) → figures limit p l c ≡ counted p ρ l c
-  unfolding figures counted actsOf movings closers turners abandonings
+  pub figures-counted : (limit : ℕ) (c : Call) → figures limit p l c ≡ countedSteps p ρ l c
+  unfolding figures countedSteps actsOf movings closers turners abandonings
   figures-counted limit (event a) =
       let m = moved p l (a .event) in
       let T = trackCount p in

@@ -27,7 +27,7 @@ use Rattle.theory.proofs.Firing.{fired-is, removed-mode, removed-state, removed
 use Rattle.restoration.proofs.Theorems01.{may-fire}
 use Rattle.automaton.specs.Listing.{someOf, everyOf}
 use Rattle.automaton.specs.Configuration.{backward, Comp, Dev, Stack, NConf, Basic, Nest, end, members, pushComp, pushDev, hasTerminated, hasCompensated, goto}
-use Rattle.automaton.specs.Semantics.{Reading, compAt, devAt, nestcompAt, Step, COMP, DEV, NESTCOMP, VStep, Run, stop, step}
+use Rattle.automaton.specs.Semantics.{FailReading, compAt, devAt, nestcompAt, Step, COMP, DEV, NESTCOMP, VStep, Run, stop, step}
 use Rattle.automaton.specs.View.{stackOf, directionOf, isWithin, basic, shown, viewOf, isOnTop, view, abandonings, deviationStep}
 use Rattle.automaton.proofs.Listings.{alike, run-then}
 use Rattle.automaton.proofs.Frames.{same-conf, frame, frames, instead-some, top-parts, top-of, shown-free, busy-alike, view-frame, view-frames, view-law, frame-law, replaced}
@@ -41,7 +41,7 @@ unfolding stackOf newest older isEmpty pushComp
 stack-newest [] h = clash refl h
 stack-newest (e ∷ es) h = refl
 
-module _ (p : Plan) (ρ : Reading) (ok : Accepted p) (l : Ledger) (n : Nested p l) (t : ℕ) (g : Good p t (l t .held)) (may : mayFire p l t ≡ true) where
+module _ (p : Plan) (ρ : FailReading) (ok : Accepted p) (l : Ledger) (n : Nested p l) (t : ℕ) (g : Good p t (l t .held)) (may : mayFire p l t ≡ true) where
   abbrev m : Ledger
   m = fired p l t
 

@@ -20,7 +20,7 @@ use Rattle.rules.proofs.Abandoning.{hosts-higher}
 use Rattle.theory.proofs.Nesting.{Awake, Nested, host-awake, host-busy}
 use Rattle.automaton.specs.Listing.{listed}
 use Rattle.automaton.specs.Configuration.{NConf, Basic, Nest, Conf, Vect}
-use Rattle.automaton.specs.Semantics.{Reading, Act, Step, NEST, VStep}
+use Rattle.automaton.specs.Semantics.{FailReading, Act, Step, NEST, VStep}
 use Rattle.automaton.specs.View.{stackOf, directionOf, facing, isWithin, basic, nested, shown, viewTo, viewOf, isOnTop, view}
 use Rattle.automaton.proofs.Listings.{listed-same, listed-step}
 
@@ -103,7 +103,7 @@ module _ (p : Plan) (l : Ledger) where
   unfolding isOnTop
   top-of t e a = and-both (isRoot p t) (isAwake (l t .mode)) (root-of p t e) a
 
-module _ (p : Plan) (ρ : Reading) (l : Ledger) where
+module _ (p : Plan) (ρ : FailReading) (l : Ledger) where
   -- the view in which the tracks of o are shown as it says
   unfoldable pub frameTo : (ℕ → Option NConf) → ℕ → ℕ → NConf
   frameTo o zero t = instead (o t) (basic p l t)
@@ -232,7 +232,7 @@ module _ (p : Plan) (l m : Ledger) (t : ℕ) (within : (u : ℕ) → u < trackCo
   unfolding hasOpenScope isWithin
   busy-alike = some-same (trackCount p) (λ u. isHostedBy p t u && isAwake (l u .mode)) (λ u. isHostedBy p t u && isAwake (m u .mode)) within
 
-  pub shown-alike : (ρ : Reading) (g g′ : ℕ → NConf) → l t .state ≡ m t .state → l t .held ≡ m t .held
+  pub shown-alike : (ρ : FailReading) (g g′ : ℕ → NConf) → l t .state ≡ m t .state → l t .held ≡ m t .held
       → (hasOpenScope p l t ≡ false → isForward (l t .mode) ≡ isForward (m t .mode))
       → (hasOpenScope p l t ≡ true → facing ρ (l t .mode) ≡ facing ρ (m t .mode)) → ((u : ℕ) → u < trackCount p → isWithin p l t u ≡ true → g u ≡ g′ u) → shown p ρ l t g ≡ shown p ρ m t g′
   unfolding nested basic

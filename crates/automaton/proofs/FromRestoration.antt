@@ -29,7 +29,7 @@ use Rattle.theory.proofs.Nesting.{Nested}
 use Rattle.restoration.proofs.SoundWords.{Holds, begin-holds, call-holds, call-accepted, call-refused}
 use Rattle.restoration.proofs.Restoration.{restored}
 use Rattle.automaton.specs.Listing.{listedFrom, listed, listedDown}
-use Rattle.automaton.specs.Semantics.{Reading, basicAlone, nestedToo, Act, sucAt, failAt, compAt, nestsucAt, nestcompAt, trace}
+use Rattle.automaton.specs.Semantics.{FailReading, basicAlone, nestedToo, Act, sucAt, failAt, compAt, nestsucAt, nestcompAt, trace}
 use Rattle.automaton.specs.View.{leavesScope, isGoing, leaveAt, abandonings, deviationStep, movings, closers, turners, actsOf}
 use Rattle.automaton.specs.Along.{made, actsFrom, actsAfter}
 use Rattle.automaton.specs.SelfCancelling.{Symbol, activity, symbol, projected, leftAfter, leftOf, onto, cancOut, Perfect, Tagged}
@@ -57,7 +57,7 @@ no-symbols-down A zero f g h = refl
 no-symbols-down A (suc n) f g h =
     elim (look (f n)) [ inl e ↦ rw (e, h n) (no-symbols-down A n f g h) | inr e ↦ rw e (no-symbols-down A n f g h) ]
 
-leave-symbol : (A : ℕ) (ρ : Reading) (k : ℕ) → symbol A (trace (leaveAt ρ k)) ≡ []
+leave-symbol : (A : ℕ) (ρ : FailReading) (k : ℕ) → symbol A (trace (leaveAt ρ k)) ≡ []
 unfolding symbol trace leaveAt
 leave-symbol A basicAlone k = refl
 leave-symbol A nestedToo k = refl
@@ -87,7 +87,7 @@ one-symbol A e (suc n) i f b c =
           elim (look (f i)) [ inl y ↦ rw (y, q, ih) | inr y ↦ rw (y, ih) ]
     ]
 
-module _ (limit : ℕ) (p : Plan) (ρ : Reading) (ok : Accepted p) (comp : ℕ → ℕ) (perfect : Perfect comp p) (tagged : Tagged p)
+module _ (limit : ℕ) (p : Plan) (ρ : FailReading) (ok : Accepted p) (comp : ℕ → ℕ) (perfect : Perfect comp p) (tagged : Tagged p)
     (A : ℕ) (low : A < trackCount p) (root : isRoot p A ≡ true) (bs : List ℕ) where
   abbrev books : Books p limit
   books = stringBooks p ok comp perfect tagged A root limit
@@ -193,7 +193,7 @@ module _ (limit : ℕ) (p : Plan) (ρ : Reading) (ok : Accepted p) (comp : ℕ �
       fire-string l (fired p l t) t (newest (l t .held) .code) (optional (newest (l t .held) .deviation))
       (newest-own p t (l t .held) (reached-own p ok comp perfect limit r t) e) v
 
-module _ (ρ : Reading) (limit : ℕ) (bs : List ℕ) (k : Counts) (read : readPlan bs ≡ accepted k) where
+module _ (ρ : FailReading) (limit : ℕ) (bs : List ℕ) (k : Counts) (read : readPlan bs ≡ accepted k) where
   abbrev p : Plan
   p = planOf bs k
 

@@ -21,7 +21,7 @@ use Rattle.theory.proofs.Nesting.{Awake, Nested, state-of, host-busy}
 use Rattle.theory.proofs.Leaving.{left-awake, left-root}
 use Rattle.automaton.specs.Listing.{listed}
 use Rattle.automaton.specs.Configuration.{backward, Stack, NConf, Basic, Nest, Conf, Vect, isBackwards, isCompensated, hasTerminated, hasCompensated}
-use Rattle.automaton.specs.Semantics.{Reading, basicAlone, nestedToo, Step, NESTFAIL, NESTCOMP, Run}
+use Rattle.automaton.specs.Semantics.{FailReading, basicAlone, nestedToo, Step, NESTFAIL, NESTCOMP, Run}
 use Rattle.automaton.specs.View.{stackOf, directionOf, facing, isWithin, basic, nested, shown, viewOf, isOnTop, view, leavesScope, leaveAt, abandonings}
 use Rattle.automaton.proofs.Listings.{alike, run-same}
 use Rattle.automaton.proofs.Frames.{same-conf, frame, frames, instead-none, instead-some, within-parts, within-of, top-parts, top-of, shown-free, shown-busy, view-law, frame-law}
@@ -29,13 +29,13 @@ use Rattle.automaton.proofs.Replacing.{unchanged, frames-view, steppedF
 use Rattle.automaton.proofs.Terminated.{busy-open, bare-stack, basic-compensated, within-host, compensated-of}
 
 -- a host in undoing mode whose vector has compensated
-leaves-by : (p : Plan) (ρ : Reading) (m : Mode) (A q : ℕ) (S : Stack) (c : Conf) → isForward m ≡ false → hasCompensated p c ≡ true
+leaves-by : (p : Plan) (ρ : FailReading) (m : Mode) (A q : ℕ) (S : Stack) (c : Conf) → isForward m ≡ false → hasCompensated p c ≡ true
     → Step p ρ (Nest A q (facing ρ m) S c) (leaveAt ρ A) (Basic A q backward S)
 unfolding facing leaveAt directionOf
 leaves-by p basicAlone m A q S c h k = NESTFAIL A q S c k
 leaves-by p nestedToo m A q S c h k = rw h (NESTCOMP A q S c (or-right (hasTerminated p c) (hasCompensated p c) k))
 
-module _ (p : Plan) (ρ : Reading) (ok : Accepted p) (l : Ledger) (n : Nested p l) where
+module _ (p : Plan) (ρ : FailReading) (ok : Accepted p) (l : Ledger) (n : Nested p l) where
   abbrev m : Ledger
   m = abandoned p l
 

@@ -16,7 +16,7 @@ use Rattle.rules.proofs.Folds.{count-same}
 use Rattle.rules.proofs.Tests.{look, clash, and-true, and-both, or-true, or-right}
 use Rattle.automaton.specs.Listing.{listedFrom, listed, listedDown, someOf, everyOf}
 use Rattle.automaton.specs.Configuration.{NConf, Conf, Vect}
-use Rattle.automaton.specs.Semantics.{Reading, Act, Step, VStep, VECT, Run, stop, step}
+use Rattle.automaton.specs.Semantics.{FailReading, Act, Step, VStep, VECT, Run, stop, step}
 
 -- two tests that imply each other
 pub alike : (a b : Bool) → (a ≡ true → b ≡ true) → (b ≡ true → a ≡ true) → a ≡ b
@@ -161,7 +161,7 @@ unfolding listed
 listed-length n f g = from-length n 0 f g ∙ count-same n (λ k. f (0 + k)) f (λ k b. ap f (omega arith))
 
 -- Steps of vectors.
-module _ (p : Plan) (ρ : Reading) where
+module _ (p : Plan) (ρ : FailReading) where
   -- one member takes a step
   pub record Splits (a : Act) (xs ys : List NConf) : Type 0 where
     pub front : List NConf

@@ -19,7 +19,7 @@ use Rattle.theory.proofs.Nesting.{Awake, Nested, free-below}
 use Rattle.theory.proofs.Entering.{Fate, enters, wakens, stays, fate, arrived-awake}
 use Rattle.restoration.proofs.Theorems01.{move-takes, by-some, to-none, to-some, to-destination, recorded, goes, moved-is, recorded-awake, mover-awake, mover-is, recorded-nested, goes-free, moved-still}
 use Rattle.automaton.specs.Configuration.{forward, NConf, Basic, push, goto}
-use Rattle.automaton.specs.Semantics.{Reading, sucAt, Step, SUC, Run}
+use Rattle.automaton.specs.Semantics.{FailReading, sucAt, Step, SUC, Run}
 use Rattle.automaton.specs.View.{stackOf, directionOf, isWithin, basic, viewOf, isOnTop, view, movings}
 use Rattle.automaton.proofs.Listings.{alike, run-same}
 use Rattle.automaton.proofs.Frames.{same-conf, top-parts, top-of, shown-free, view-law}
@@ -70,7 +70,7 @@ module _ (p : Plan) (l : Ledger) (e : ℕ) where
   unfolding arrival arrives
   arrival-is t x q = rw (q, arrives)
 
-  module _ (ρ : Reading) (ok : Accepted p) (n : Nested p l) where
+  module _ (ρ : FailReading) (ok : Accepted p) (n : Nested p l) where
     abbrev m : Ledger
     m = moved p l e
 

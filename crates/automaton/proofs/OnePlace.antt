@@ -22,8 +22,8 @@ use Rattle.rules.proofs.Abandoning.{hosts-higher}
 use Rattle.theory.proofs.Nesting.{Awake, Nested, state-of}
 use Rattle.automaton.specs.Listing.{listedFrom, listed}
 use Rattle.automaton.specs.Configuration.{forward, backward, Comp, Dev, Stack, NConf, Basic, Nest, Conf, end, next, Vect, push, initBy, gotoTo, goto}
-use Rattle.automaton.specs.Semantics.{Reading, Act, sucAt, failAt, compAt, devAt, nestsucAt, nestfailAt, nestcompAt, SUC, FAIL, FAILNEST, COMP, DEV, NESTSUC, NESTFAIL, NESTCOMP, NEST, VStep, VECT, Run, stop, step}
-use Rattle.automaton.specs.CountedSteps.{isSuc}
+use Rattle.automaton.specs.Semantics.{FailReading, Act, sucAt, failAt, compAt, devAt, nestsucAt, nestfailAt, nestcompAt, SUC, FAIL, FAILNEST, COMP, DEV, NESTSUC, NESTFAIL, NESTCOMP, NEST, VStep, VECT, Run, stop, step}
+use Rattle.automaton.specs.StepTests.{isSuc}
 use Rattle.automaton.specs.BigSteps.{has, isOnceEach, sucs}
 use Rattle.automaton.specs.View.{isWithin, basic, nested, viewOf, isOnTop, view}
 use Rattle.automaton.proofs.Frames.{down, reach-up, beside, roots-beside, within-parts, top-parts, shown-free, shown-busy, view-law}
@@ -96,7 +96,7 @@ cut-join A (k ∷ α) β n m x y h =
     let u : ℕ = count A k in let v : ℕ = countAll A (Vect α) in let e : u + v ≡ 0 = x in
     ap₂ next (cut-none A k (omega arith)) (cut-join A α β n m (omega arith) y h)
 
-module _ (p : Plan) (ρ : Reading) where
+module _ (p : Plan) (ρ : FailReading) where
   comp-cut : (A k : ℕ) {c d : Conf} {a : Act} → VStep p ρ c a d → a ≡ compAt A k → (1 ≤ countAll A c) × (countAll A c ≤ 1 → cutAll A c ≡ d)
   unfolding count countAll cut cutAll isComp
   comp-cut A k s =
@@ -192,7 +192,7 @@ module _ (p : Plan) (i : ℕ) where
       (went-join f g α β n m
       (λ B (b : 1 ≤ countAll B (Vect α)). x B (let u : ℕ = count B k in let v : ℕ = countAll B (Vect α) in let g : 1 ≤ u + v = omega arith in g)) y h)
 
-module _ (p : Plan) (ρ : Reading) (ok : Accepted p) where
+module _ (p : Plan) (ρ : FailReading) (ok : Accepted p) where
   -- what goto enters is below
   listed-none-there : (A n i : ℕ) (f : ℕ → Bool) (g : ℕ → NConf) → ((k : ℕ) → i ≤ k → k < i + n → f k ≡ true → count A (g k) ≡ 0) → countAll A (Vect (listedFrom n i f g)) ≡ 0
   unfolding listedFrom Vect countAll

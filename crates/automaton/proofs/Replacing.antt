@@ -18,12 +18,12 @@ use Rattle.rules.proofs.Abandoning.{hosts-higher}
 use Rattle.theory.proofs.Nesting.{Awake, Nested}
 use Rattle.automaton.specs.Listing.{listed, listedDown}
 use Rattle.automaton.specs.Configuration.{NConf, Vect}
-use Rattle.automaton.specs.Semantics.{Reading, Act, Step, VStep, Run}
+use Rattle.automaton.specs.Semantics.{FailReading, Act, Step, VStep, Run}
 use Rattle.automaton.specs.View.{facing, isWithin, shown, viewOf, isOnTop, view}
 use Rattle.automaton.proofs.Listings.{listed-same, run-listed, run-down, run-same}
 use Rattle.automaton.proofs.Frames.{down, frame, frames, instead-none, instead-some, within-parts, top-parts, shown-same, hosted-above, view-frames, view-law, frame-law, frames-same, replaced, shown-alike}
 
-module _ (p : Plan) (ρ : Reading) (ok : Accepted p) (l : Ledger) where
+module _ (p : Plan) (ρ : FailReading) (ok : Accepted p) (l : Ledger) where
   -- where nothing at or below a track is replaced, it is as in the view
   untouched : (o : ℕ → Option NConf) (t : ℕ) → t < trackCount p → o t ≡ none → ((u : ℕ) → isAbove p t u ≡ true → Awake l u → o u ≡ none)
       → frame p ρ l o t ≡ viewOf p ρ l t

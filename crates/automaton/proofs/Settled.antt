@@ -18,8 +18,8 @@ use Rattle.rules.proofs.Abandoning.{hosts-higher}
 use Rattle.theory.proofs.Nesting.{Awake, Nested, state-of}
 use Rattle.automaton.specs.Listing.{listed, everyOf}
 use Rattle.automaton.specs.Configuration.{Direction, forward, backward, Comp, Dev, Stack, NConf, Basic, Nest, Conf, end, next, Vect, hasTerminated, hasCompensated, pushComp}
-use Rattle.automaton.specs.Semantics.{Reading, τ, Act, trace, SUC, FAIL, FAILNEST, COMP, DEV, NESTSUC, NESTFAIL, NESTCOMP, NEST, VStep, VECT, Settled}
-use Rattle.automaton.specs.BigSteps.{isMute}
+use Rattle.automaton.specs.Semantics.{FailReading, τ, Act, trace, SUC, FAIL, FAILNEST, COMP, DEV, NESTSUC, NESTFAIL, NESTCOMP, NEST, VStep, VECT, Settled}
+use Rattle.automaton.specs.StepTests.{isMute}
 use Rattle.automaton.specs.View.{stackOf, isWithin, basic, nested, viewOf, isOnTop, view, scopeView}
 use Rattle.automaton.proofs.Listings.{listed-every}
 use Rattle.automaton.proofs.Frames.{down, within-parts, top-parts, shown-free, shown-busy, view-law}
@@ -30,7 +30,7 @@ deviates [] = false
 deviates (Comp c ∷ S) = false
 deviates (Dev d ∷ S) = true
 
-module _ (p : Plan) (ρ : Reading) where
+module _ (p : Plan) (ρ : FailReading) where
   mutual
     calm : NConf → Bool
     calm (Basic A q r S) = not (deviates S)

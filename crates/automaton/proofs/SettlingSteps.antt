@@ -11,9 +11,9 @@ use Rattle.rules.proofs.Tests.{look, clash, refuted, and-true, or-true}
 use Rattle.rules.proofs.Acceptance.{Accepted}
 use Rattle.automaton.specs.Listing.{listedFrom, listed, someOf, everyOf}
 use Rattle.automaton.specs.Configuration.{Direction, forward, backward, Comp, Dev, Stack, NConf, Basic, Nest, Conf, end, next, Vect, members, isForwards, isBackwards, isEmptyStack, isTerminated, isCompensated, hasTerminated, hasCompensated, initBy, gotoTo, goto}
-use Rattle.automaton.specs.Semantics.{Reading, Act, devAt, nestsucAt, nestfailAt, nestcompAt, trace, SUC, FAIL, FAILNEST, COMP, DEV, NESTSUC, NESTFAIL, NESTCOMP, NEST, VStep, VECT}
-use Rattle.automaton.specs.CountedSteps.{numberOf}
-use Rattle.automaton.specs.BigSteps.{isMute, isSilent, Steps, stay, more, actsIn, Exhausted}
+use Rattle.automaton.specs.Semantics.{FailReading, Act, devAt, nestsucAt, nestfailAt, nestcompAt, trace, SUC, FAIL, FAILNEST, COMP, DEV, NESTSUC, NESTFAIL, NESTCOMP, NEST, VStep, VECT}
+use Rattle.automaton.specs.StepTests.{numberOf, isMute, isSilent}
+use Rattle.automaton.specs.BigSteps.{Steps, stay, more, actsIn, Exhausted}
 use Rattle.automaton.proofs.Confluence.{settleAll, terminated-still, compensated-still, finished-still, not-both, either, unterminated, uncompensated, start-still, silent-same, settled-still, Still, first-still, later-still}
 
 both-none : (a b : ℕ) → a ≡ 0 → b ≡ 0 → a + b ≡ 0
@@ -25,7 +25,7 @@ none-first a b e = omega arith
 none-last : (a b : ℕ) → b ≡ 0 → a ≡ a + b
 none-last a b e = omega arith
 
-module _ (p : Plan) (ρ : Reading) (f : Act → Bool) where
+module _ (p : Plan) (ρ : FailReading) (f : Act → Bool) where
   one : Act → ℕ
   one a = cond (f a) 1 0
 
@@ -211,6 +211,6 @@ module _ (p : Plan) (ρ : Reading) (f : Act → Bool) where
         let i′ : x ≡ w + z = i in let k′ : z ≡ 0 = k in let g : w ≡ x = omega arith in g
 
     -- two ways to settle: as many steps that pass the test
-    pub same-steps : {c d e : Conf} (s : Steps p ρ isSilent c d) → Exhausted p ρ isSilent d → (r : Steps p ρ isSilent c e) → Exhausted p ρ isSilent e
+    pub same-steps : {c b d e : Conf} → c ≡ b → (s : Steps p ρ isSilent c d) → Exhausted p ρ isSilent d → (r : Steps p ρ isSilent b e) → Exhausted p ρ isSilent e
         → numberOf f (actsIn p ρ s) ≡ numberOf f (actsIn p ρ r)
-    same-steps s h r k = all-steps s h ∙ sym (all-steps r k)
+    same-steps q s h r k = all-steps s h ∙ ap settlingOfAll q ∙ sym (all-steps r k)

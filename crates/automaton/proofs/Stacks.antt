@@ -18,7 +18,7 @@ use Rattle.rules.proofs.Scopes.{in-host, host-by}
 use Rattle.theory.proofs.Nesting.{state-of}
 use Rattle.automaton.specs.Listing.{listed, everyOf}
 use Rattle.automaton.specs.Configuration.{Comp, Dev, Stack, NConf, Basic, Nest, Conf, end, next, Vect, pushComp, pushDev, push, initBy, gotoTo, goto}
-use Rattle.automaton.specs.Semantics.{Reading, Act, sucAt, failAt, compAt, devAt, nestsucAt, nestfailAt, nestcompAt, trace, Step, SUC, FAIL, FAILNEST, COMP, DEV, NESTSUC, NESTFAIL, NESTCOMP, NEST, VECT, NRun, halt, then}
+use Rattle.automaton.specs.Semantics.{FailReading, Act, sucAt, failAt, compAt, devAt, nestsucAt, nestfailAt, nestcompAt, trace, Step, SUC, FAIL, FAILNEST, COMP, DEV, NESTSUC, NESTFAIL, NESTCOMP, NEST, VECT, NRun, halt, then}
 use Rattle.automaton.specs.SelfCancelling.{Symbol, activity, symbol, projected, leftOf, PerfectAt}
 use Rattle.automaton.proofs.Listings.{listed-every}
 use Rattle.automaton.proofs.Frames.{hosted-above, reach-up}
@@ -195,7 +195,7 @@ module _ (p : Plan) where
       not-self A a h e = let b = above-lower p ok A (actor a) h in omega arith
 
       -- rule by rule
-      pub step-facts : {ρ : Reading} {n m : NConf} {a : Act} → Step p ρ n a m → tidy n ≡ true → Facts n a m
+      pub step-facts : {ρ : FailReading} {n m : NConf} {a : Act} → Step p ρ n a m → tidy n ≡ true → Facts n a m
       unfolding automatonOf stackIn actor tidy ownDevs symbol trace
       step-facts s =
           elim s as (λ n a m x. tidy n ≡ true → Facts n a m) (λ c a d x. Within c a d) [
@@ -286,7 +286,7 @@ module _ (p : Plan) where
               let c = above-lower p ok A B (hosted-above p ok A B i) in let d = above-lower p ok B u e in omega arith
 
       -- Lemma 1: the stack reached records what is left of what was recorded and the string
-      pub lemma1 : {ρ : Reading} {n m : NConf} {w : List Act} → NRun p ρ n w m → tidy n ≡ true → automatonOf n ≡ Z → (v : List Symbol) → Records (stackIn n) v
+      pub lemma1 : {ρ : FailReading} {n m : NConf} {w : List Act} → NRun p ρ n w m → tidy n ≡ true → automatonOf n ≡ Z → (v : List Symbol) → Records (stackIn n) v
           → Records (stackIn m) (leftOf comp v (projected (automatonOf n) w))
       unfolding projected leftOf
       lemma1 halt t z v r = r

@@ -27,7 +27,7 @@ use Rattle.theory.proofs.SoundBegin.{abandoning-bare}
 use Rattle.theory.proofs.SoundEvent.{abandoning-of}
 use Rattle.automaton.specs.Listing.{listed, someOf, everyOf}
 use Rattle.automaton.specs.Configuration.{NConf, Conf, Vect, members, pushComp, isForwards, isBackwards, isEmptyStack, isTerminated, isCompensated, hasTerminated, hasCompensated}
-use Rattle.automaton.specs.Semantics.{Reading}
+use Rattle.automaton.specs.Semantics.{FailReading}
 use Rattle.automaton.specs.View.{stackOf, directionOf, isWithin, basic, nested, viewOf, scopeView}
 use Rattle.automaton.proofs.Listings.{alike, listed-every, listed-every-at, listed-some, listed-some-find}
 use Rattle.automaton.proofs.Frames.{within-parts, within-of, shown-free, shown-busy, view-law}
@@ -64,11 +64,11 @@ module _ (p : Plan) where
   unfolding isCompensated basic
   basic-compensated l t a = ap₂ (λ x y. x && y) (bare-stack (l t .held)) (coming (l t .mode) a) ∙ and-comm (isEmpty (l t .held)) (isUndoing (l t .mode))
 
-  nested-terminated : (ρ : Reading) (l : Ledger) (t : ℕ) (c : Conf) → isTerminated p (nested p ρ l t c) ≡ false
+  nested-terminated : (ρ : FailReading) (l : Ledger) (t : ℕ) (c : Conf) → isTerminated p (nested p ρ l t c) ≡ false
   unfolding isTerminated nested
   nested-terminated ρ l t c = refl
 
-  nested-compensated : (ρ : Reading) (l : Ledger) (t : ℕ) (c : Conf) → isCompensated p (nested p ρ l t c) ≡ false
+  nested-compensated : (ρ : FailReading) (l : Ledger) (t : ℕ) (c : Conf) → isCompensated p (nested p ρ l t c) ≡ false
   unfolding isCompensated nested
   nested-compensated ρ l t c = refl
 
@@ -131,7 +131,7 @@ module _ (p : Plan) (ok : Accepted p) (l : Ledger) (n : Nested p l) where
     some-track : (w : ℕ) × (w < trackCount p) × (host p w ≡ some s) × Awake l w
     some-track = open-find p l s open-s
 
-module _ (p : Plan) (ρ : Reading) (ok : Accepted p) (l : Ledger) (n : Nested p l) where
+module _ (p : Plan) (ρ : FailReading) (ok : Accepted p) (l : Ledger) (n : Nested p l) where
   -- a track's configuration is terminated exactly if the track is forward in a final state, compensated exactly if it is bare
   pub view-terminated : (t : ℕ) → Awake l t → isTerminated p (viewOf p ρ l t) ≡ (isForward (l t .mode) && isFinal p (l t .state))
   view-terminated t a =

@@ -23,7 +23,7 @@ use Rattle.theory.proofs.Nesting.{Awake, Nested, busy-same}
 use Rattle.restoration.proofs.Theorems01.{turned-awake, turned-state, turned-held, turned-forward, turned-nested}
 use Rattle.automaton.specs.Listing.{listed}
 use Rattle.automaton.specs.Configuration.{backward, NConf, Basic, Nest, Conf, Vect}
-use Rattle.automaton.specs.Semantics.{Reading, basicAlone, nestedToo, failAt, Step, FAIL, FAILNEST, Run}
+use Rattle.automaton.specs.Semantics.{FailReading, basicAlone, nestedToo, failAt, Step, FAIL, FAILNEST, Run}
 use Rattle.automaton.specs.View.{stackOf, directionOf, facing, isWithin, basic, nested, shown, viewOf, isOnTop, view, isGoing, abandonings, turners}
 use Rattle.automaton.proofs.Listings.{listed-same, run-then, run-same}
 use Rattle.automaton.proofs.Frames.{down, same-conf, instead-none, instead-some, within-parts, frame, shown-free, shown-busy, shown-alike, view-law, frame-law}
@@ -33,32 +33,32 @@ use Rattle.automaton.proofs.Leaving.{abandoning-run}
 
 -- Whom FAIL turns, by the reading.
 module _ (p : Plan) (l : Ledger) where
-  pub going-forward : (ρ : Reading) (t : ℕ) → isGoing p ρ l t ≡ true → isForward (l t .mode) ≡ true
+  pub going-forward : (ρ : FailReading) (t : ℕ) → isGoing p ρ l t ≡ true → isForward (l t .mode) ≡ true
   unfolding isGoing
   going-forward basicAlone t h = and-true (isForward (l t .mode)) (not (hasOpenScope p l t)) h .0
   going-forward nestedToo t h = h
 
-  pub going-of : (ρ : Reading) (t : ℕ) → isForward (l t .mode) ≡ true → hasOpenScope p l t ≡ false → isGoing p ρ l t ≡ true
+  pub going-of : (ρ : FailReading) (t : ℕ) → isForward (l t .mode) ≡ true → hasOpenScope p l t ≡ false → isGoing p ρ l t ≡ true
   unfolding isGoing
   going-of basicAlone t f b = rw (f, b)
   going-of nestedToo t f b = f
 
   -- a host only where nested configurations are turned too
-  going-host : (ρ : Reading) (t : ℕ) → isGoing p ρ l t ≡ true → hasOpenScope p l t ≡ true → ρ ≡ nestedToo
+  going-host : (ρ : FailReading) (t : ℕ) → isGoing p ρ l t ≡ true → hasOpenScope p l t ≡ true → ρ ≡ nestedToo
   unfolding isGoing
   going-host basicAlone t h b = clash b (not-true (hasOpenScope p l t) (and-true (isForward (l t .mode)) (not (hasOpenScope p l t)) h .1))
   going-host nestedToo t h b = refl
 
-  still-facing : (ρ : Reading) (t : ℕ) (m : Mode) → isGoing p ρ l t ≡ false → isForward m ≡ false → facing ρ (l t .mode) ≡ facing ρ m
+  still-facing : (ρ : FailReading) (t : ℕ) (m : Mode) → isGoing p ρ l t ≡ false → isForward m ≡ false → facing ρ (l t .mode) ≡ facing ρ m
   unfolding isGoing facing
   still-facing basicAlone t m h f = refl
   still-facing nestedToo t m h f = rw (h, f)
 
-facing-turned : (ρ : Reading) (m : Mode) → ρ ≡ nestedToo → isForward m ≡ false → facing ρ m ≡ backward
+facing-turned : (ρ : FailReading) (m : Mode) → ρ ≡ nestedToo → isForward m ≡ false → facing ρ m ≡ backward
 unfolding facing directionOf
 facing-turned ρ m e f = ap (λ x. facing x m) e ∙ rw f
 
-module _ (p : Plan) (ρ : Reading) (ok : Accepted p) (l : Ledger) (n : Nested p l) where
+module _ (p : Plan) (ρ : FailReading) (ok : Accepted p) (l : Ledger) (n : Nested p l) where
   abbrev m : Ledger
   m = turned l
 

@@ -11,22 +11,22 @@ use Rattle.rules.specs.Plan.{Plan, trackCount, planOf, isRoot}
 use Rattle.rules.specs.Acceptance.{accepted, readPlan}
 use Rattle.rules.specs.Ledger.{Ledger, ledgerAt}
 use Rattle.rules.specs.Soundness.{isSound}
-use Rattle.rules.specs.Call.{refusal, done, Call, refusedOr, tooShort, ledgerRefusals, callRefusals, callRefusal, after, callOutcome, beginOutcome}
+use Rattle.rules.specs.Call.{refusal, done, Call, refusedOr, tooShort, ledgerRefusals, callRefusals, callRefusal, figures, after, callOutcome, beginOutcome}
 use Rattle.rules.proofs.Tests.{look}
 use Rattle.rules.proofs.Acceptance.{passed-all, read-passed, Accepted, accepts}
 use Rattle.restoration.proofs.SoundWords.{Holds, outcome, not-refused, passed-ledger, sound-holds, begin-holds, call-holds, call-accepted, call-refused}
 use Rattle.restoration.proofs.Theorems01.{over-refused, next-accepted, Sound, Kept, over-is}
 use Rattle.automaton.specs.Configuration.{Conf, init}
-use Rattle.automaton.specs.Semantics.{Reading}
+use Rattle.automaton.specs.Semantics.{FailReading}
 use Rattle.automaton.specs.View.{view}
-use Rattle.automaton.specs.CountedSteps.{counted}
-use Rattle.automaton.specs.Exactly.{Exactly}
-use Rattle.automaton.specs.Enabled.{Asked}
-use Rattle.automaton.specs.BigSteps.{Ends}
+use Rattle.automaton.specs.CountedSteps.{countedSteps}
+use Rattle.automaton.specs.Exactly.{toldBy, Exactly}
+use Rattle.automaton.specs.Enabled.{StepFor}
+use Rattle.automaton.specs.BigSteps.{Big, Ends}
 use Rattle.automaton.proofs.Entered.{begin-init}
 use Rattle.automaton.proofs.Enabled.{refused-none}
 use Rattle.automaton.proofs.Faithful.{kept-faithful}
-use Rattle.automaton.proofs.BigSteps.{exactly}
+use Rattle.automaton.proofs.Exactly.{exactly}
 
 done-same : (u v : List ℕ) → done u ≡ done v → u ≡ v
 done-same u v e = cc
@@ -37,7 +37,7 @@ refusal-same r s e = cc
 not-both : (u : List ℕ) (r : ℕ) → done u ≡ refusal r → ⊥
 not-both u r e = let z : _≡_ {A = ℕ} 0 1 = cc in absurd (omega arith)
 
-module _ (ρ : Reading) (limit : ℕ) (bs : List ℕ) (k : Counts) (read : readPlan bs ≡ accepted k) where
+module _ (ρ : FailReading) (limit : ℕ) (bs : List ℕ) (k : Counts) (read : readPlan bs ≡ accepted k) where
   abbrev p : Plan
   p = planOf bs k
 
@@ -85,8 +85,9 @@ module _ (ρ : Reading) (limit : ℕ) (bs : List ℕ) (k : Counts) (read : readP
     -- it is so of the ledger that the words hold, and the words afterwards hold the ledger afterwards
     pub before : Exactly p ρ limit (theLedger ws) c
     pub afterwards : theLedger (callOutcome limit bs ws c .words) ≡ after limit p (theLedger ws) c
-    -- the figures are those of its steps
-    pub figures : told ≡ counted p ρ (theLedger ws) c
+    -- the figures are those of its steps, and of each of its big steps
+    pub figures : told ≡ countedSteps p ρ (theLedger ws) c
+    pub tells : (d : Conf) (x : Big p ρ c (view p ρ (theLedger ws)) d) → told ≡ toldBy p ρ (theLedger ws) c (view p ρ (theLedger ws)) d x
     -- the view of the words afterwards is where the automaton's big steps end, and they end nowhere else
     pub ends : (d : Conf) → Ends p ρ c (view p ρ (theLedger ws)) d ↔ (d ≡ view p ρ (theLedger (callOutcome limit bs ws c .words)))
     -- and no other sound ledger is shown so
@@ -96,10 +97,12 @@ module _ (ρ : Reading) (limit : ℕ) (bs : List ℕ) (k : Counts) (read : readP
   words-exactly ws c told h =
       let m = made ws c told h in
       let x = exactly p ρ ok limit (theLedger ws) (m .sound) c (m .taken) in
+      let q = done-same told (figures limit p (theLedger ws) c) (sym h ∙ ap (λ o. o .answer) (call-accepted limit bs k read ws (theLedger ws) (m .holds) c (m .taken))) in
       record {
         before = x;
         afterwards = m .leaves;
-        figures = done-same told _ (sym h ∙ ap (λ o. o .answer) (call-accepted limit bs k read ws (theLedger ws) (m .holds) c (m .taken))) ∙ x .steps .told;
+        figures = q ∙ x .steps .told;
+        tells = λ d y. q ∙ x .tells d y;
         ends = λ d. (λ y. x .ends d .0 y ∙ ap (view p ρ) (sym (m .leaves)), λ y. x .ends d .1 (y ∙ ap (view p ρ) (m .leaves)));
         only =
             λ l s y.
@@ -117,7 +120,7 @@ module _ (ρ : Reading) (limit : ℕ) (bs : List ℕ) (k : Counts) (read : readP
 
   -- one refused as 19, 20 or 22: no step that it asks for applies
   pub words-refused : (ws : List ℕ) (c : Call) (r : ℕ) → callOutcome limit bs ws c .answer ≡ refusal r → 18 < r → (r ≡ 21 → ⊥)
-      → Asked p ρ c (view p ρ (theLedger ws)) → ⊥
+      → StepFor p ρ c (view p ρ (theLedger ws)) → ⊥
   unfolding refusedOr ledgerRefusals firstRefusal
   words-refused ws c r h above full v =
       elim (look (tooShort limit p ws)) [

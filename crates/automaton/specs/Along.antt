@@ -9,7 +9,7 @@ use Rattle.rules.specs.Ledger.{Ledger, ledgerAt}
 use Rattle.rules.specs.Call.{Answer, refusal, done, Call, callOutcome, beginOutcome}
 use Rattle.automaton.specs.Listing.{everyOf}
 use Rattle.automaton.specs.Configuration.{Conf, Vect, members, isTerminated}
-use Rattle.automaton.specs.Semantics.{Reading, Act, Run}
+use Rattle.automaton.specs.Semantics.{FailReading, Act, Run}
 use Rattle.automaton.specs.View.{view, actsOf}
 use Rattle.automaton.specs.BigSteps.{Ends}
 
@@ -18,7 +18,7 @@ unfoldable pub made : Answer → List Act → List Act
 made (refusal n) w = []
 made (done figures) w = w
 
-module _ (limit : ℕ) (bs : List ℕ) (p : Plan) (ρ : Reading) where
+module _ (limit : ℕ) (bs : List ℕ) (p : Plan) (ρ : FailReading) where
   unfoldable pub actsFrom : List ℕ → List Call → List Act
   actsFrom ws [] = []
   actsFrom ws (c ∷ cs) =
@@ -28,18 +28,18 @@ module _ (limit : ℕ) (bs : List ℕ) (p : Plan) (ρ : Reading) where
   actsAfter lent cs = actsFrom (beginOutcome limit bs lent .words) cs
 
 -- the big step of a call that was answered so: a refused one takes none
-unfoldable pub Answered : Plan → Reading → Answer → Call → Conf → Conf → Type 0
+unfoldable pub Answered : Plan → FailReading → Answer → Call → Conf → Conf → Type 0
 Answered p ρ (refusal n) call c d = d ≡ c
 Answered p ρ (done figures) call c d = Ends p ρ call c d
 
 -- the big steps along a list of calls
-unfoldable pub EndsFrom : ℕ → List ℕ → Plan → Reading → List ℕ → List Call → Conf → Conf → Type 0
+unfoldable pub EndsFrom : ℕ → List ℕ → Plan → FailReading → List ℕ → List Call → Conf → Conf → Type 0
 EndsFrom limit bs p ρ ws [] c d = d ≡ c
 EndsFrom limit bs p ρ ws (call ∷ cs) c d =
     (e : Conf) × Answered p ρ (callOutcome limit bs ws call .answer) call c e × EndsFrom limit bs p ρ (callOutcome limit bs ws call .words) cs e d
 
 -- a run to what the ledger shows, or to a vector all of whose automata are terminated, of which nothing is shown
-pub record Played (p : Plan) (ρ : Reading) (start : Conf) (acts : List Act) (l : Ledger) : Type 0 where
+pub record Played (p : Plan) (ρ : FailReading) (start : Conf) (acts : List Act) (l : Ledger) : Type 0 where
   pub reached : Conf
   pub run : Run p ρ start acts reached
   pub shown : (view p ρ l ≡ reached) ⊎ ((everyOf (isTerminated p) (members reached) ≡ true) × (view p ρ l ≡ Vect []))
