@@ -8,10 +8,11 @@ use Prim.Native.Nat.{ℕ, zero, suc, _≤_}
 use native.Mathlib.Omega.{arith}
 use lib.Dec.{eqb}
 use Rattle.rules.specs.declared.Counts.{Counts}
+use Rattle.rules.specs.declared.Mode.the-variants.{Undoing}
 use Rattle.rules.specs.Fold.{firstRefusal}
 use Rattle.rules.specs.Plan.{Plan, planOf}
 use Rattle.rules.specs.Acceptance.{accepted, readPlan}
-use Rattle.rules.specs.Ledger.{Ledger}
+use Rattle.rules.specs.Ledger.{Ledger, isEmpty}
 use Rattle.rules.specs.Scope.{isOver}
 use Rattle.rules.specs.Event.{isFull}
 use Rattle.rules.specs.Fire.{newest, mayFire}
@@ -19,8 +20,13 @@ use Rattle.rules.specs.Soundness.{isSound}
 use Rattle.rules.specs.Call.{refusal, done, Call, event, signal, fire, nothing, tooShort, callRefusals, callRefusal, figures, callOutcome, beginOutcome}
 use Rattle.rules.specs.ReferenceRun.{wordsAfter, ledgerAfter}
 use Rattle.rules.proofs.Ready.{fireable-not-over}
-use Rattle.restoration.proofs.SoundWords.{theLedger, sound-holds, call-accepted, call-refused}
-use Rattle.restoration.proofs.Restoration.{history-holds}
+use Rattle.restoration.proofs.SoundWords.{theLedger, Holds, sound-holds, call-accepted, call-refused}
+use Rattle.restoration.proofs.Restoration.{history-holds, goes-on}
+
+-- a table of refusals from 19 on, its head taken off
+head : (b : Bool) (n r m : ℕ) → 19 ≤ n → cond b n r ≡ m → (r ≡ m → (m ≡ 0) ⊎ (19 ≤ m)) → (m ≡ 0) ⊎ (19 ≤ m)
+head true n r m h e f = inr (omega arith)
+head false n r m h e f = f e
 
 module _ (limit : ℕ) (p : Plan) (l : Ledger) where
   -- what is accepted: a signal where the ledger is not over, a firing where the track may be fired
@@ -33,10 +39,6 @@ module _ (limit : ℕ) (p : Plan) (l : Ledger) where
   fire-allowed t h = rw (fireable-not-over p l t h, h)
 
   -- the numbers by which a ledger refuses
-  head : (b : Bool) (n r m : ℕ) → 19 ≤ n → cond b n r ≡ m → (r ≡ m → (m ≡ 0) ⊎ (19 ≤ m)) → (m ≡ 0) ⊎ (19 ≤ m)
-  head true n r m h e f = inr (omega arith)
-  head false n r m h e f = f e
-
   pub refused-high : (c : Call) (m : ℕ) → callRefusal limit p l c ≡ m → (m ≡ 0) ⊎ (19 ≤ m)
   unfolding callRefusal callRefusals firstRefusal
   refused-high (event a) m e =
@@ -50,15 +52,27 @@ module _ (limit : ℕ) (bs : List ℕ) (k : Counts) (read : readPlan bs ≡ acce
   abbrev p : Plan
   p = planOf bs k
 
-  -- "a firing is allowed where the rule under Fire lets that track be fired": on sound words such a call is done, with the newest entry
-  pub allowed-done : (ws : List ℕ) → tooShort limit p ws ≡ false → isSound limit p ws ≡ true → (t : ℕ) → mayFire p (theLedger limit bs k read ws) t ≡ true
-      → callOutcome limit bs ws (fire (record { track = t })) .answer
-      ≡ done (newest (theLedger limit bs k read ws t .held) .code ∷ newest (theLedger limit bs k read ws t .held) .deviation ∷ [])
+  -- "Answer: code and deviation." of the newest entry
+  abbrev pub Done : List ℕ → Ledger → ℕ → Type 0
+  Done ws l t =
+      callOutcome limit bs ws (fire (record { track = t })) .answer ≡ done (newest (l t .held) .code ∷ newest (l t .held) .deviation ∷ [])
+
+  pub fire-done : (ws : List ℕ) (l : Ledger) → Holds limit bs k read ws l → (t : ℕ) → mayFire p l t ≡ true → Done ws l t
   unfolding figures
-  allowed-done ws b s t m =
-      let l = theLedger limit bs k read ws in
-      ap (λ o. o .answer)
-      (call-accepted limit bs k read ws l (sound-holds limit bs k read ws b s) (fire (record { track = t })) (fire-allowed limit p l t m))
+  fire-done ws l h t m = ap (λ o. o .answer) (call-accepted limit bs k read ws l h (fire (record { track = t })) (fire-allowed limit p l t m))
+
+  -- "a firing is allowed where the rule under Fire lets that track be fired": on sound words such a call is done
+  pub allowed-done : (ws : List ℕ) → tooShort limit p ws ≡ false → isSound limit p ws ≡ true
+      → (t : ℕ) → mayFire p (theLedger limit bs k read ws) t ≡ true → Done ws (theLedger limit bs k read ws) t
+  allowed-done ws b s = fire-done ws (theLedger limit bs k read ws) (sound-holds limit bs k read ws b s)
+
+  -- so in a list from an accepted begin, "if any track is undoing and holds an entry", some firing would be done
+  pub goes-on-done : (lent : List ℕ) → beginOutcome limit bs lent .answer ≡ done [] → (cs : List Call)
+      → (t : ℕ) → ledgerAfter limit bs p lent cs t .mode ≡ Undoing → isEmpty (ledgerAfter limit bs p lent cs t .held) ≡ false
+      → (u : ℕ) × Done (wordsAfter limit bs lent cs) (ledgerAfter limit bs p lent cs) u
+  goes-on-done lent h cs t d e =
+      let (u, m) = goes-on limit bs k read lent cs h t d e in
+      (u, fire-done (wordsAfter limit bs lent cs) (ledgerAfter limit bs p lent cs) (history-holds limit bs k read lent cs h) u m)
 
   -- "Its first call gets the ledger as an accepted begin left it, each later one the ledger as the call before left it": that is long enough
   -- and sound, so no call of the list is refused by 17 or 18, nor by a lower number

@@ -1,7 +1,7 @@
 -- The bound on firings, on words: the words hold the ledger of the rules, so the firings done are the theory's; and words that are not
 -- sound allow none. Assumes nothing.
 use Prim.{tt}
-use mathlib.Core.Path.{_≡_, refl, sym, ap, ap₂, _∙_, subst}
+use mathlib.Core.Path.{_≡_, refl, sym, ap, ap₂, _∙_}
 use mathlib.Core.Logic.{_⊎_, inl, inr}
 use mathlib.Core.Bool.{true, false, cond, not, _&&_}
 use mathlib.Core.List.{List, [], _∷_, _++_}
@@ -26,7 +26,7 @@ use Rattle.theory.specs.Runs.{firingsFrom, isEventless}
 use Rattle.restoration.specs.Firings.{firingsIn, isEventDone, isDeviation, isWithout}
 use Rattle.theory.proofs.FiringsFall as theorem
 use Rattle.restoration.proofs.Document01.{document01, asRules, asTheory, there-and-back, laws01}
-use Rattle.restoration.proofs.SoundWords.{theLedger, Holds, sound-holds, outcome, passed-ledger, call-accepted, call-refused, call-holds}
+use Rattle.restoration.proofs.SoundWords.{theLedger, Holds, sound-holds, outcome, passed-ledger, call-accepted, call-refused, next-holds}
 use Rattle.restoration.proofs.Restoration.{listed}
 
 -- an accepted call's firings, and whether it is an event, by the rules and by the theory
@@ -85,18 +85,13 @@ module _ (limit : ℕ) (bs : List ℕ) (k : Counts) (read : readPlan bs ≡ acce
           let no : eqb (number l c) 0 ≡ false = ne-eqb (number l c) 0 (λ z. let w : suc r ≡ 0 = sym e ∙ sym back ∙ z in omega arith) in
           rw (call-refused limit bs k read ws l h c r e, no) (refused-firing c (suc r), refused-event c (suc r))
 
-  after-holds : (ws : List ℕ) (l : Ledger) → Holds limit bs k read ws l → (c : Call)
-      → Holds limit bs k read (callOutcome limit bs ws c .words) (next limit p l (asRules (asTheory c)))
-  after-holds ws l h c =
-      subst (λ d. Holds limit bs k read (callOutcome limit bs ws c .words) (next limit p l d)) (sym (there-and-back c)) (call-holds limit bs k read ws l h c)
-
   same-firings : (cs : List Call) (ws : List ℕ) (l : Ledger) → Holds limit bs k read ws l
       → firingsIn cs (answers ws cs) ≡ firingsFrom document01 p limit tt l (listed cs)
   unfolding firingsIn answersFrom firingsFrom listed
   same-firings [] ws l h = refl
   same-firings (c ∷ cs) ws l h =
       ap₂ (λ x y. x + y) (step ws l h c .0)
-      (same-firings cs (callOutcome limit bs ws c .words) (next limit p l (asRules (asTheory c))) (after-holds ws l h c))
+      (same-firings cs (callOutcome limit bs ws c .words) (next limit p l (asRules (asTheory c))) (next-holds limit bs k read ws l h c))
 
   same-eventless : (cs : List Call) (ws : List ℕ) (l : Ledger) → Holds limit bs k read ws l
       → isWithout isEventDone cs (answers ws cs) ≡ isEventless document01 p limit tt l (listed cs)
@@ -104,7 +99,7 @@ module _ (limit : ℕ) (bs : List ℕ) (k : Counts) (read : readPlan bs ≡ acce
   same-eventless [] ws l h = refl
   same-eventless (c ∷ cs) ws l h =
       ap₂ (λ x y. not x && y) (step ws l h c .1)
-      (same-eventless cs (callOutcome limit bs ws c .words) (next limit p l (asRules (asTheory c))) (after-holds ws l h c))
+      (same-eventless cs (callOutcome limit bs ws c .words) (next limit p l (asRules (asTheory c))) (next-holds limit bs k read ws l h c))
 
   -- words that are too few or not sound: every call is refused
   refused-all : (cs : List Call) (ws : List ℕ) → (tooShort limit p ws ≡ true) ⊎ (isSound limit p ws ≡ false) → firingsIn cs (answers ws cs) ≡ 0

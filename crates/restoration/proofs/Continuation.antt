@@ -17,10 +17,10 @@ use Rattle.rules.specs.Ledger.{Configuration, Ledger, isForward, isUndoing, isE
 use Rattle.rules.specs.Scope.{hasOpenScope, isOver}
 use Rattle.rules.specs.Signal.{turned, abandoned, afterSignal}
 use Rattle.rules.specs.Fire.{mayFire, fired, afterFire}
-use Rattle.rules.specs.Call.{done, Call, signal, fire, nothing, after, next, callOutcome, beginOutcome}
-use Rattle.rules.specs.Transcript.{heldTotal}
+use Rattle.rules.specs.Call.{Answer, refusal, done, Call, signal, fire, nothing, after, next, callOutcome, beginOutcome}
+use Rattle.rules.specs.Transcript.{heldTotal, firingsOf}
 use Rattle.rules.specs.Books.{Books}
-use Rattle.rules.specs.ReferenceRun.{wordsFrom, wordsAfter, booksAfter, ledgerAfter, AllWithdrawn}
+use Rattle.rules.specs.ReferenceRun.{wordsFrom, wordsAfter, answersFrom, booksAfter, ledgerAfter, AllWithdrawn}
 use Rattle.rules.proofs.Tests.{look, clash, refuted}
 use Rattle.rules.proofs.Modes.{forward-awake, awake-undoing, undoing-is}
 use Rattle.rules.proofs.Folds.{some-find, some-not}
@@ -33,12 +33,13 @@ use Rattle.theory.proofs.Entries.{empty-nil}
 use Rattle.theory.proofs.SoundKept.{sound-not-over, kept-sound}
 use Rattle.theory.proofs.Progress.{some-firing}
 use Rattle.theory.proofs.FiringsFall.{call-fewer, most-held}
+use Rattle.restoration.specs.Firings.{firingsIn}
 use Rattle.restoration.specs.Continuation.{withdrawing}
 use Rattle.restoration.proofs.Document01.{next-accepted, laws01}
 use Rattle.restoration.proofs.Theorems01.{Sound, turned-forward, signal-sound, fire-sound, unfinished}
 use Rattle.restoration.proofs.SoundWords.{Holds, call-holds}
 use Rattle.restoration.proofs.Restoration.{history-holds, restored}
-use Rattle.restoration.proofs.Allowed.{signal-allowed, fire-allowed}
+use Rattle.restoration.proofs.Allowed.{signal-allowed, fire-allowed, fire-done}
 
 -- The ledger after a signal, and after a firing.
 module _ (limit : ℕ) (p : Plan) (ok : Accepted p) (l : Ledger) (s : Sound limit p l) where
@@ -107,7 +108,9 @@ module _ (limit : ℕ) (bs : List ℕ) (k : Counts) (read : readPlan bs ≡ acce
   step : (ws : List ℕ) (l : Ledger) → Holds limit bs k read ws l → Sound limit p l
       → AllWithdrawn p (ledgerAt limit (callOutcome limit bs ws (signal nothing) .words) (trackCount p))
       ⊎ ((t : ℕ) × (m : Ledger) × Holds limit bs k read (callOutcome limit bs (callOutcome limit bs ws (signal nothing) .words) (fire (record { track = t })) .words) m
-      × Sound limit p m × (heldTotal p m < heldTotal p l))
+      × Sound limit p m × (heldTotal p m < heldTotal p l)
+      × (firingsOf (fire (record { track = t })) (callOutcome limit bs (callOutcome limit bs ws (signal nothing) .words) (fire (record { track = t })) .answer) ≡ 1))
+  unfolding firingsOf
   step ws l h s =
       let m = next limit p l (signal nothing) in
       let ws′ = callOutcome limit bs ws (signal nothing) .words in
@@ -128,36 +131,55 @@ module _ (limit : ℕ) (bs : List ℕ) (k : Counts) (read : readPlan bs ≡ acce
               call-holds limit bs k read ws′ m g (fire (record { track = t })),
               fired-sound limit p ok m v t may,
               omega arith,
+              rw (fire-done limit bs k read ws′ m g t may),
             )
       ]
 
-  -- from sound words, with at most as many firings as entries are held
+  -- the firings that a list does on words
+  abbrev done-from : List ℕ → List Call → ℕ
+  done-from ws cs = firingsIn cs (answersFrom limit bs ws cs)
+
+  signal-fires-none : (r : Answer) → firingsOf (signal nothing) r ≡ 0
+  unfolding firingsOf
+  signal-fires-none (refusal n) = refl
+  signal-fires-none (done fs) = refl
+
+  -- from sound words, with at most as many firings as entries are held, each of them done
   onward : (n : ℕ) (ws : List ℕ) (l : Ledger) → Holds limit bs k read ws l → Sound limit p l → heldTotal p l ≤ n
-      → (ts : List ℕ) × (length ts ≤ n) × AllWithdrawn p (ledgerAt limit (wordsFrom limit bs ws (withdrawing ts)) (trackCount p))
-  unfolding wordsFrom withdrawing
-  onward zero ws l h s b = elim (step ws l h s) [ inl w ↦ ([], omega arith, w) | inr r ↦ let f = r .4 in absurd (omega arith) ]
+      → (ts : List ℕ) × (length ts ≤ n) × (done-from ws (withdrawing ts) ≡ length ts)
+      × AllWithdrawn p (ledgerAt limit (wordsFrom limit bs ws (withdrawing ts)) (trackCount p))
+  unfolding wordsFrom answersFrom firingsIn withdrawing
+  onward zero ws l h s b =
+      let z = signal-fires-none (callOutcome limit bs ws (signal nothing) .answer) in
+      elim (step ws l h s) [ inl w ↦ ([], omega arith, omega arith, w) | inr r ↦ let f = r .4 in absurd (omega arith) ]
   onward (suc n) ws l h s b =
+      let z = signal-fires-none (callOutcome limit bs ws (signal nothing) .answer) in
       elim (step ws l h s) [
-        | inl w ↦ ([], omega arith, w)
+        | inl w ↦ ([], omega arith, omega arith, w)
         | inr r ↦
             let f = r .4 in
-            let (ts, c, w) = onward n _ (r .1) (r .2) (r .3) (omega arith) in
-            (r .0 ∷ ts, omega arith, w)
+            let g = r .5 in
+            let (ts, c, d, w) = onward n _ (r .1) (r .2) (r .3) (omega arith) in
+            (r .0 ∷ ts, omega arith, omega arith, w)
       ]
 
-  -- Every list that does not end over can be continued by signals and at most `limit` firings for each track until every root is withdrawn,
+  -- Every list that does not end over can be continued by signals and at most `limit` firings for each track, all of them done, until every
+  -- root is withdrawn,
   pub withdrawable : (lent : List ℕ) (cs : List Call) → beginOutcome limit bs lent .answer ≡ done [] → isOver p (ledgerAfter limit bs p lent cs) ≡ false
-      → (ts : List ℕ) × (length ts ≤ limit * trackCount p) × AllWithdrawn p (ledgerAfter limit bs p lent (cs ++ withdrawing ts))
+      → (ts : List ℕ) × (length ts ≤ limit * trackCount p)
+      × (firingsIn (withdrawing ts) (answersFrom limit bs (wordsAfter limit bs lent cs) (withdrawing ts)) ≡ length ts)
+      × AllWithdrawn p (ledgerAfter limit bs p lent (cs ++ withdrawing ts))
   unfolding ledgerAfter wordsAfter
   withdrawable lent cs h o =
       let l = ledgerAfter limit bs p lent cs in
       let g = history-holds limit bs k read lent cs h in
-      let (ts, b, w) = onward (limit * trackCount p) (wordsAfter limit bs lent cs) l g (kept-sound limit p l (g .kept) o) (most-held laws01 limit p ok l (g .kept)) in
-      (ts, b, subst (λ ws. AllWithdrawn p (ledgerAt limit ws (trackCount p))) (sym (words-append cs (withdrawing ts) (beginOutcome limit bs lent .words))) w)
+      let (ts, b, d, w) =
+      onward (limit * trackCount p) (wordsAfter limit bs lent cs) l g (kept-sound limit p l (g .kept) o) (most-held laws01 limit p ok l (g .kept)) in
+      (ts, b, d, subst (λ ws. AllWithdrawn p (ledgerAt limit ws (trackCount p))) (sym (words-append cs (withdrawing ts) (beginOutcome limit bs lent .words))) w)
 
   -- and then all books stand as at the begin.
   pub restorable : (lent : List ℕ) (cs : List Call) → beginOutcome limit bs lent .answer ≡ done [] → isOver p (ledgerAfter limit bs p lent cs) ≡ false
       → (ts : List ℕ) × (length ts ≤ limit * trackCount p) × ((b : Books p limit) (x : b .State) → booksAfter limit bs p b lent (cs ++ withdrawing ts) x ≡ x)
   restorable lent cs h o =
-      let (ts, n, w) = withdrawable lent cs h o in
+      let (ts, n, d, w) = withdrawable lent cs h o in
       (ts, n, λ b x. restored limit bs k read b lent (cs ++ withdrawing ts) h x w)

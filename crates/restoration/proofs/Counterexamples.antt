@@ -5,7 +5,7 @@ use mathlib.Core.Logic.{_⊎_, inl, inr}
 use mathlib.Core.Bool.{Bool, true, false, cond}
 use mathlib.Core.List.{List, [], _∷_}
 use mathlib.Core.Option.{some}
-use Prim.Native.Nat.{ℕ, zero, suc, _+_, _-_, _<_}
+use Prim.Native.Nat.{ℕ, zero, suc, _-_, _<_}
 use native.Mathlib.Omega.{arith}
 use lib.ListN.{length}
 use lib.Dec.{eqb}
@@ -18,6 +18,7 @@ use Rattle.rules.specs.ReferenceRun.{ledgerAfter, AllWithdrawn}
 use Rattle.rules.proofs.Tests.{clash, none-some}
 use Rattle.starred.specs.SamplePlan.{bytesOf, lentFor}
 use Rattle.starred.specs.Computing.{computing}
+use Rattle.restoration.specs.SamplePiles.{without}
 use Rattle.restoration.specs.LenientBooks.{Lenient, freelyCall, freelyBooked, freely, Claim, noneOf, onlyReal, onlyZero, allAsked, withoutNothing, undoneWhere, replacedWhere, withoutCommuting, changesAlone}
 use Rattle.restoration.proofs.Runs01.{same-act, to-finished}
 use Rattle.restoration.proofs.Restoration.{freely-restored}
@@ -259,19 +260,14 @@ unhosted zero s e = none-some refl e
 unhosted (suc zero) s e = none-some refl e
 unhosted (suc (suc t)) s e = none-some refl e
 
--- a pile: a change puts its transition on top, and its code takes it off where it lies on top
-unfoldable unpiled : ℕ → List ℕ → List ℕ
-unpiled zero b = b
-unpiled (suc c) [] = []
-unpiled (suc c) (x ∷ b) = cond (eqb c (4 + x)) b (x ∷ b)
-
+-- one pile for both tracks: a change puts its transition on top, and its code, 5 more, takes it off where it lies on top
 piled : Lenient W entryLimit withoutCommuting
-unfolding computing planW unpiled
+unfolding computing planW without
 piled =
     record {
       State = List ℕ;
       changed = λ x b. x ∷ b;
-      retracted = unpiled;
+      retracted = λ c b. cond (eqb c 0) b (without (c - 5) b);
       nothing = λ h b. refl;
       undo = undone;
       undo-run = λ s t e h w f b. unhosted t s e;
@@ -279,14 +275,15 @@ piled =
       commute-all = λ h t u a d e b. contrary h;
     }
   where
-    undone : (x : ℕ) → x < 2 → true ≡ true → (b : List ℕ) → unpiled (transition W x .code) (x ∷ b) ≡ b
+    undone : (x : ℕ) → x < 2 → true ≡ true → (b : List ℕ)
+        → cond (eqb (transition W x .code) 0) (x ∷ b) (without (transition W x .code - 5) (x ∷ b)) ≡ b
     undone zero l h b = refl
     undone (suc zero) l h b = refl
     undone (suc (suc x)) l h b = absurd (omega arith)
 
 -- "changes and retractions of two tracks commute where neither hosts the other"
 pub commute-needed : Claim withoutCommuting → ⊥
-unfolding computing planW piled unpiled freely freelyBooked freelyCall act
+unfolding computing planW piled without freely freelyBooked freelyCall act
 commute-needed claim =
     let z : _≡_ {A = List ℕ} (0 ∷ []) [] = claim planW countsW refl piled (lentFor 2) made refl withdrawn [] in
     let y : _≡_ {A = ℕ} 1 0 = ap length z in omega arith

@@ -26,7 +26,7 @@ use Rattle.theory.specs.Runs.{ledgerFrom}
 use Rattle.theory.proofs.Histories as theorem
 use Rattle.restoration.proofs.Document01.{document01, asRules, asTheory, there-and-back, laws01, unfinished01}
 use Rattle.restoration.proofs.Runs01.{books01, same-call}
-use Rattle.restoration.proofs.SoundWords.{Holds, call-accepted, call-refused, call-holds, begin-holds}
+use Rattle.restoration.proofs.SoundWords.{Holds, call-accepted, call-refused, next-holds, begin-holds}
 
 -- the free run is the clerk's, where the changes are those of books
 module _ (limit : ℕ) (bs : List ℕ) (p : Plan) (k : Books p limit) where
@@ -79,7 +79,7 @@ module _ (limit : ℕ) (bs : List ℕ) (c : Counts) (read : readPlan bs ≡ acce
   list-follows [] ws l h = h
   list-follows (d ∷ cs) ws l h =
       list-follows cs (callOutcome limit bs ws d .words) (next limit p l (asRules (asTheory d)))
-      (subst (λ e. Hold (callOutcome limit bs ws d .words) (next limit p l e)) (sym (there-and-back d)) (call-holds limit bs c read ws l h d))
+      (next-holds limit bs c read ws l h d)
 
   pub list-holds : (cs : List Call) (ws : List ℕ) (l : Ledger) → Hold ws l → (m : Ledger) × Hold (wordsFrom limit bs ws cs) m
   list-holds cs ws l h = (ledgerBy l cs, list-follows cs ws l h)
@@ -126,7 +126,7 @@ module _ (limit : ℕ) (bs : List ℕ) (c : Counts) (read : readPlan bs ≡ acce
     same-books (d ∷ cs) ws l h b =
         ap (freely limit bs p (k .changed) (k .retracted) (callOutcome limit bs ws d .words) cs) (same-booked ws l h d b)
         ∙ same-books cs (callOutcome limit bs ws d .words) (next limit p l (asRules (asTheory d)))
-        (subst (λ e. Hold (callOutcome limit bs ws d .words) (next limit p l e)) (sym (there-and-back d)) (call-holds limit bs c read ws l h d))
+        (next-holds limit bs c read ws l h d)
         (theory.booked document01 p limit k tt l (asTheory d) b)
 
     pub freely-restored : (lent : List ℕ) (cs : List Call) → beginOutcome limit bs lent .answer ≡ done [] → (b : k .State)

@@ -22,7 +22,7 @@ use Rattle.rules.proofs.Acceptance.{Accepted, accepts}
 use Rattle.rules.proofs.Stored.{read-written, length-written}
 use Rattle.theory.proofs.SoundBegin.{begun-sound}
 use Rattle.theory.proofs.SoundKept.{Kept}
-use Rattle.restoration.proofs.Document01.{document01, next-accepted, next-refused, laws01}
+use Rattle.restoration.proofs.Document01.{document01, asRules, asTheory, there-and-back, next-accepted, next-refused, laws01}
 use Rattle.restoration.proofs.SoundLive.{kept-storable, kept-next, words-sound, words-kept}
 
 module _ (limit : ℕ) (bs : List ℕ) (k : Counts) (read : readPlan bs ≡ accepted k) where
@@ -110,6 +110,10 @@ module _ (limit : ℕ) (bs : List ℕ) (k : Counts) (read : readPlan bs ≡ acce
       go (suc r) e =
           rw (call-refused ws l h c r e)
           (subst (Holds ws) (sym (next-refused limit thePlan l c (λ z. let w : suc r ≡ 0 = sym e ∙ z in omega arith))) h)
+
+  -- the same of the call as the theory has it
+  pub next-holds : (ws : List ℕ) (l : Ledger) → Holds ws l → (c : Call) → Holds (callOutcome limit bs ws c .words) (next limit thePlan l (asRules (asTheory c)))
+  next-holds ws l h c = subst (λ d. Holds (callOutcome limit bs ws c .words) (next limit thePlan l d)) (sym (there-and-back c)) (call-holds ws l h c)
 
   pub begin-accepted : (ws : List ℕ) → tooShort limit thePlan ws ≡ false
       → beginOutcome limit bs ws ≡ record { answer = done []; words = written limit n (begun thePlan) ws }

@@ -18,28 +18,26 @@ use Rattle.rules.proofs.Tests.{look, look-option, clash}
 use Rattle.rules.proofs.Modes.{forward-awake}
 use Rattle.rules.proofs.Acceptance.{Accepted}
 use Rattle.rules.proofs.Scopes.{root-of, open-at, open-find}
-use Rattle.rules.proofs.Closing.{closing-final}
 use Rattle.rules.proofs.Abandoning.{awake-kept}
-use Rattle.rules.proofs.Ready.{may-fire}
 use Rattle.theory.specs.Seams.{Seams, Call, event, signal, fire, turned}
 use Rattle.theory.specs.Runs as run
 use Rattle.theory.specs.Runs.{act, replacementOf, Reached, Running, by-begin, by-call, over-event, over-signal, over-fire, Books, bookedCall}
 use Rattle.theory.proofs.Composition as all
 use Rattle.theory.proofs.Composition.{when, join, when-nil, join-nil}
-use Rattle.theory.proofs.Nesting.{Nested, open-host, hosted-asleep}
+use Rattle.theory.proofs.Nesting.{Nested, hosted-asleep}
 use Rattle.theory.proofs.Entering.{fresh-held}
-use Rattle.theory.proofs.Firing.{removed-mode, fired-busy}
 use Rattle.theory.proofs.Soundness.{Sound, Over, sleeping-asleep, sleeping-held}
 use Rattle.theory.proofs.Laws.{Laws, Unfinished}
 use Rattle.theory.proofs.Settling.{next-cases, over-refused}
 use Rattle.theory.proofs.Turning.{turned-awake, scope-untouched}
-use Rattle.theory.proofs.Moving.{moved-nested, moved-busy}
-use Rattle.theory.proofs.Closing.{closing-open, closed-alike, closed-awake}
+use Rattle.theory.proofs.Moving.{moved-nested}
+use Rattle.theory.proofs.Closing.{closing-open}
 use Rattle.theory.proofs.Leaving.{turned-nested}
 use Rattle.theory.proofs.SoundBegin.{root-zero, begun-sound, begun-fresh}
 use Rattle.theory.proofs.SoundEvent.{was-open}
-use Rattle.theory.proofs.SoundRetraction.{fired-awake, fired-formed}
+use Rattle.theory.proofs.SoundRetraction.{fired-formed}
 use Rattle.theory.proofs.SoundKept.{over-is, kept-next}
+use Rattle.theory.proofs.ForwardScopes.{closing-forward, event-forward, fire-forward}
 use Rattle.theory.proofs.Invariant.{Undoes, Held, Blocks, quiet}
 use Rattle.theory.proofs.InvariantMoving.{grown, fresher, moves-last, moved-blocks}
 use Rattle.theory.proofs.InvariantClosing.{settled, closed-blocks, closed-whole}
@@ -96,18 +94,12 @@ module _ {σ : Seams} (ω : Laws σ) (υ : Unfinished σ) (limit : ℕ) (p : Pla
       after-moves : Blocks limit p ok k m W₁ R₁
       after-moves = moved-blocks ω limit p ok k l n W R (v .blocks) a
 
-      -- the host of a scope that was open did not move
-      host-still : (z : ℕ) → isOpen p l z ≡ true → m (owner p z) ≡ l (owner p z)
-      host-still z o = let (w, b, q) = open-host p ok l n z o in moved-busy ω p l a ok n (owner p z) w b
-
       -- the run of a scope that closes is finished, so its replacement undoes it
       closing-undone : (z : ℕ) → isClosing p m z ≡ true → Undoes limit p ok k (replacementOf σ p a z) (R₁ z)
       closing-undone z c =
           let o = was-open ω limit p ok l (s .formed) a z c in
           let (u, b, i, w) = open-find p m z (closing-open p m z c) in
-          let f : isForward (l (owner p z) .mode) ≡ true =
-          ap (λ (y : Configuration). isForward (y .mode)) (sym (host-still z o))
-          ∙ ap isForward (m-nested .hosted u z w i .1) ∙ closing-final p m z u c b i .0 in
+          let f = closing-forward ω limit p ok l s z o a c in
           rw o (k .undo-run z u i a (R z ++ movesOf p (isInside p z) l a) (run.closed (v .running z o f) a acc c))
 
       -- words after the closings
@@ -116,12 +108,6 @@ module _ {σ : Seams} (ω : Laws σ) (υ : Unfinished σ) (limit : ℕ) (p : Pla
 
       after-closings : Blocks limit p ok k (closed p m a) W₂ R₁
       after-closings = closed-blocks ω limit p ok k m m-nested W₁ R₁ after-moves a closing-undone
-
-      -- a scope that was open and is forward after the closings was forward before
-      was-forward : (z : ℕ) → isOpen p l z ≡ true → isForward (closed p m a (owner p z) .mode) ≡ true → isForward (l (owner p z) .mode) ≡ true
-      was-forward z o f =
-          let (c, w) = closed-awake ω p m a (owner p z) (forward-awake (closed p m a (owner p z) .mode) f) in
-          ap (λ (y : Configuration). isForward (y .mode)) (sym (host-still z o)) ∙ ap isForward (sym (closed-alike ω p m a (owner p z) c .0)) ∙ f
 
       event-booked : x ≡ closed p m a → Booked (nextHead limit p h l (event a)) x first (act (k .changed) (movesOf p (λ t. true) l a) now)
       event-booked q =
@@ -133,7 +119,7 @@ module _ {σ : Seams} (ω : Laws σ) (υ : Unfinished σ) (limit : ℕ) (p : Pla
                 λ z o f.
                 let f′ = subst (λ y. isForward (y (owner p z) .mode) ≡ true) q f in
                 elim (look (isOpen p l z)) [
-                  | inl w ↦ rw w (over-event (v .running z w (was-forward z w f′)) a acc o)
+                  | inl w ↦ rw w (over-event (v .running z w (event-forward ω limit p ok l s z w a f′)) a acc o)
                   | inr w ↦ rw w (by-call reach (event a) w o)
                 ];
             books =
@@ -189,14 +175,6 @@ module _ {σ : Seams} (ω : Laws σ) (υ : Unfinished σ) (limit : ℕ) (p : Pla
       abbrev R₃ : ℕ → List Change
       R₃ z = when (isOpen p l z) (R z)
 
-      -- the host of a scope that was open is left in its mode
-      fire-host : (z : ℕ) → isOpen p l z ≡ true → isForward (abandoned p (fired p l t) (owner p z) .mode) ≡ true → isForward (l (owner p z) .mode) ≡ true
-      fire-host z w f =
-          let (c, r) = awake-kept p ok (fired p l t) (owner p z) (forward-awake (abandoned p (fired p l t) (owner p z) .mode) f) in
-          let (i, j, d) = open-host p ok l n z w in
-          let y = fired-busy p l t ok n (s .formed .good t) (may-fire p l t may .3) (fired-awake ω limit p ok l s t may) (owner p z) i j in
-          ap isForward (sym (ap (λ (y : Configuration). y .mode) (r ∙ y) ∙ removed-mode p l t (owner p z))) ∙ f
-
       fire-booked : next limit p h l (fire a) ≡ abandoned p (fired p l t)
           → Booked (nextHead limit p h l (fire a)) (next limit p h l (fire a)) first (k .retracted (retraction (newest (l t .held))) now)
       fire-booked q =
@@ -212,7 +190,7 @@ module _ {σ : Seams} (ω : Laws σ) (υ : Unfinished σ) (limit : ℕ) (p : Pla
                 let f′ = subst (λ y. isForward (y (owner p z) .mode) ≡ true) q f in
                 elim (look (isOpen p l z)) [
                   | inr w ↦ rw w (by-call reach (fire a) w o)
-                  | inl w ↦ rw w (over-fire (v .running z w (fire-host z w f′)) a acc o)
+                  | inl w ↦ rw w (over-fire (v .running z w (fire-forward ω limit p ok l s z w t may f′)) a acc o)
                 ];
             books =
                 ap (k .retracted (retraction (newest (l t .held)))) (v .books) ∙ fired-books ω limit p ok k l s W R (v .blocks) t may first;

@@ -25,6 +25,7 @@ pub mod SoundKept
 pub mod Progress
 pub mod FiringsFall
 -- Restoration: the invariant, each part of a call, whole calls, lists of calls.
+pub mod ForwardScopes
 pub mod Invariant
 pub mod InvariantMoving
 pub mod InvariantClosing

@@ -1,51 +1,27 @@
 -- Progress: a track that is undoing and holds an entry, or has an open scope, may be fired, or its scope, to which abandoning is not due,
 -- has a track of which the same holds; and that track's number is higher. Assumes nothing.
-use mathlib.Core.Path.{_≡_, refl, sym, ap, _∙_, subst}
+use mathlib.Core.Path.{_≡_, sym, ap, _∙_, subst}
 use mathlib.Core.Logic.{_⊎_, inl, inr}
-use mathlib.Core.Bool.{Bool, true, false, not, _||_}
+use mathlib.Core.Bool.{true, false, not}
 use Prim.Native.Nat.{ℕ, zero, suc, _+_, _<_, _≤_}
 use native.Mathlib.Omega.{arith}
-use lib.Dec.{eqb}
-use borrow.Author.Tests.{eqb-true, eqb-false}
+use borrow.Author.Tests.{not-true}
 use Rattle.rules.specs.declared.Mode.the-variants.{Undoing}
-use Rattle.rules.specs.Plan.{Plan, trackCount, isIn}
+use Rattle.rules.specs.Plan.{Plan, trackCount, someIn}
 use Rattle.rules.specs.Ledger.{Ledger, isUndoing, isEmpty}
 use Rattle.rules.specs.Scope.{hasOpenScope}
 use Rattle.rules.specs.Signal.{isBare}
 use Rattle.rules.specs.Fire.{mayFire}
-use Rattle.rules.proofs.Tests.{look, clash, implies}
+use Rattle.rules.proofs.Tests.{look, clash}
 use Rattle.rules.proofs.Modes.{is-undoing}
 use Rattle.rules.proofs.Acceptance.{Accepted}
-use Rattle.rules.proofs.Scopes.{in-host, host-in, open-at, busy-find}
+use Rattle.rules.proofs.Scopes.{in-host, host-in, some-in-at, some-in-find, open-at, busy-find}
 use Rattle.rules.proofs.Abandoning.{undoing-awake}
 use Rattle.rules.proofs.Ready.{fire-may}
 use Rattle.theory.specs.Seams.{Seams}
 use Rattle.theory.proofs.Nesting.{Awake, Nested}
 use Rattle.theory.proofs.Soundness.{Sound}
 use Rattle.theory.proofs.SoundEvent.{bare-of, abandoning-of}
-
--- a test fails somewhere below n, or holds everywhere
-search : (n : ℕ) (f : ℕ → Bool) → ((k : ℕ) × (k < n) × (f k ≡ false)) ⊎ ((k : ℕ) → k < n → f k ≡ true)
-search zero f = inr (λ k l. absurd (omega arith))
-search (suc n) f =
-    elim (search n f) [
-      | inl h ↦ inl (h .0, (let l = h .1 in omega arith), h .2)
-      | inr h ↦
-          elim (look (f n)) [
-            | inr e ↦ inl (n, omega arith, e)
-            | inl e ↦
-                inr
-                (λ k l.
-                elim (look (eqb k n)) [
-                  | inl q ↦ subst (λ x. f x ≡ true) (sym (eqb-true k n q)) e
-                  | inr q ↦ let d : k ≡ n → ⊥ = eqb-false k n q in h k (omega arith)
-                ])
-          ]
-    ]
-
-not-implied : (a b : Bool) → (not a || b) ≡ false → (a ≡ true) × (b ≡ false)
-not-implied true b h = (refl, h)
-not-implied false b h = clash refl h
 
 module _ {σ : Seams} (limit : ℕ) (p : Plan) (ok : Accepted p) (l : Ledger) (s : Sound σ limit p l) where
   abbrev n : Nested p l
@@ -56,16 +32,18 @@ module _ {σ : Seams} (limit : ℕ) (p : Plan) (ok : Accepted p) (l : Ledger) (s
       → (u : ℕ) × (t < u) × (isUndoing (l u .mode) ≡ true) × ((isEmpty (l u .held) ≡ false) ⊎ (hasOpenScope p l u ≡ true))
   loaded t d b =
       let (u, h, c, e, o, a) = busy-find p l t b in
-      elim (search (trackCount p) (λ v. not (isIn p h v) || isBare p l v)) [
-        | inr all ↦
+      elim (look (someIn p h (λ v. not (isBare p l v)))) [
+        | inr none ↦
             clash
             (abandoning-of p l h (open-at p l h u c e a)
             (λ v f.
-            implies (isIn p h v) (isBare p l v) (all v (ok .hosted v h f)) (host-in p h v f)))
+            elim (look (isBare p l v)) [
+              | inl y ↦ y
+              | inr y ↦ clash (some-in-at p h (λ v. not (isBare p l v)) v (ok .hosted v h f) (host-in p h v f) (rw y)) none
+            ]))
             (s .abandoning h)
-        | inl r ↦
-            let v = r .0 in
-            let (i, k) = not-implied (isIn p h v) (isBare p l v) (r .2) in
+        | inl some ↦
+            let (v, b, i, k) = some-in-find p h (λ v. not (isBare p l v)) some in
             let f = in-host p h v i in
             let w : Awake l v = n .whole v u h f e ∙ a in
             let m : isUndoing (l v .mode) ≡ true = ap isUndoing (sym (n .hosted v h w f .1) ∙ ap (λ x. l x .mode) o) ∙ d in (
@@ -74,7 +52,8 @@ module _ {σ : Seams} (limit : ℕ) (p : Plan) (ok : Accepted p) (l : Ledger) (s
               m,
               elim (look (isEmpty (l v .held))) [
                 | inr y ↦ inl y
-                | inl y ↦ elim (look (hasOpenScope p l v)) [ inl z ↦ inr z | inr z ↦ clash (bare-of p l v m y z) k ]
+                | inl y ↦
+                    elim (look (hasOpenScope p l v)) [ inl z ↦ inr z | inr z ↦ clash (bare-of p l v m y z) (not-true (isBare p l v) k) ]
               ],
             )
       ]

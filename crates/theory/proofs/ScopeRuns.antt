@@ -113,14 +113,18 @@ module _ {σ : Seams} (ω : Laws σ) (υ : Unfinished σ) (limit : ℕ) (p : Pla
       closed-state : (d : Event) → Awake (closed p (moved p l d) d) t → Awake (moved p l d) t × (closed p (moved p l d) d t .state ≡ moved p l d t .state)
       closed-state d a = let (c, w) = closed-awake ω p (moved p l d) d t a in (w, closed-alike ω p (moved p l d) d t c .1)
 
-      after-open : (h : Head) (c : Call σ) → isOpen p (next limit p h l c) s ≡ true → Awake (next limit p h l c) t
-      after-open h c o = open-awake (next limit p h l c) (open-sound (next limit p h l c) s (kept-next ω υ limit p ok h l (inr k) c) o) o
+      -- an accepted call that leaves the scope open leaves its work, and the track awake
+      worked : (h : Head) (c : Call σ) → refusal limit p h l c ≡ 0 → isOpen p (next limit p h l c) s ≡ true
+          → (next limit p h l c ≡ work σ p l c) × Awake (work σ p l c) t
+      worked h c z o =
+          let q = open-next s h l c z o in
+          let a = open-awake (next limit p h l c) (open-sound (next limit p h l c) s (kept-next ω υ limit p ok h l (inr k) c) o) o in
+          (q, subst (λ (m : Ledger). isAwake (m t .mode) ≡ true) q a)
 
       pub event-state : (h : Head) (a : Event) → refusal limit p h l (event a) ≡ 0 → isOpen p l s ≡ true → isOpen p (next limit p h l (event a)) s ≡ true
           → next limit p h l (event a) t .state ≡ stepped p (move p l a t) (l t .state)
       event-state h a z o o′ =
-          let q = open-next s h l (event a) z o′ in
-          let w = subst (λ (m : Ledger). isAwake (m t .mode) ≡ true) q (after-open h (event a) o′) in
+          let (q, w) = worked h (event a) z o′ in
           ap (λ (m : Ledger). m t .state) q ∙ closed-state a w .1 ∙ moved-state a (open-awake l k o)
 
       -- a signal and a firing leave it
@@ -128,12 +132,10 @@ module _ {σ : Seams} (ω : Laws σ) (υ : Unfinished σ) (limit : ℕ) (p : Pla
           → isOpen p (next limit p h l c) s ≡ true → next limit p h l c t .state ≡ l t .state
       retraction-state h (event a) v z o o′ = clash refl v
       retraction-state h (signal a) v z o o′ =
-          let q = open-next s h l (signal a) z o′ in
-          let w = subst (λ (m : Ledger). isAwake (m t .mode) ≡ true) q (after-open h (signal a) o′) in
+          let (q, w) = worked h (signal a) z o′ in
           ap (λ (m : Ledger). m t .state) q ∙ ap (λ (c : Configuration). c .state) (awake-kept p ok (turned σ p l a) t w .1) ∙ turned-state ω p l a t
       retraction-state h (fire a) v z o o′ =
-          let q = open-next s h l (fire a) z o′ in
-          let w = subst (λ (m : Ledger). isAwake (m t .mode) ≡ true) q (after-open h (fire a) o′) in
+          let (q, w) = worked h (fire a) z o′ in
           ap (λ (m : Ledger). m t .state) q
           ∙ ap (λ (c : Configuration). c .state) (awake-kept p ok (fired p l (track a)) t w .1)
           ∙ hosted-kept ω limit p ok l k (track a) (ω .fire-accepted limit p h l a z .1) t s e (open-awake l k o) .1
@@ -152,18 +154,15 @@ module _ {σ : Seams} (ω : Laws σ) (υ : Unfinished σ) (limit : ℕ) (p : Pla
 
           go : (c : Call σ) → refusal limit p h l c ≡ 0 → isOpen p (next limit p h l c) s ≡ true → next limit p h l c t .state ≡ firstState p t
           go (event a) z o′ =
-              let q = open-next s h l (event a) z o′ in
-              let w = subst (λ (m : Ledger). isAwake (m t .mode) ≡ true) q (after-open h (event a) o′) in
+              let (q, w) = worked h (event a) z o′ in
               let (x, y) = closed-state a w in
               ap (λ (m : Ledger). m t .state) q ∙ y
               ∙ ap (λ (c : Configuration). c .state) (moved-new ω p l a ok n t slept x) ∙ fresh-state p t
           go (signal a) z o′ =
-              let q = open-next s h l (signal a) z o′ in
-              let w = subst (λ (m : Ledger). isAwake (m t .mode) ≡ true) q (after-open h (signal a) o′) in
+              let (q, w) = worked h (signal a) z o′ in
               clash (sym (turned-awake ω p l a t) ∙ ap (λ (c : Configuration). isAwake (c .mode)) (sym (awake-kept p ok (turned σ p l a) t w .1)) ∙ w) slept
           go (fire a) z o′ =
-              let q = open-next s h l (fire a) z o′ in
-              let w = subst (λ (m : Ledger). isAwake (m t .mode) ≡ true) q (after-open h (fire a) o′) in
+              let (q, w) = worked h (fire a) z o′ in
               let may = ω .fire-accepted limit p h l a z .1 in
               let r = awake-kept p ok (fired p l (track a)) t w .1 in
               ap (λ (m : Ledger). m t .state) q
