@@ -4,7 +4,7 @@ ghost use mathlib.Core.Path.{_≡_};
 ghost use Prim.Native.Nat.{_+_, _*_, _<_};
 ghost use lib.ListN.{length};
 ghost use Rattle.rules.specs.Record.{word};
-ghost use Rattle.rules.specs.Plan.{planOf, hostWord, owner, replacement, state, transition, stateRecord, transitionRecord, isRoot, isFinal, isStateOf, isIn};
+ghost use Rattle.rules.specs.Plan.{planOf, hostWord, owner, replacement, state, transition, stateRecord, transitionRecord, isRoot, isFinal, isStateOf};
 ghost use Rattle.plan.specs.Holds.{Holds};
 
 // A record's length in bytes, of a track, a state and a transition.
@@ -166,16 +166,4 @@ pub fn is_state_of(plan: &[u8], c: Counts, t: usize, s: usize) -> bool
         return false;
     }
     track_of(plan, c, s) as usize == t
-}
-
-// Whether a track is in the scope of a state.
-pub fn is_in(plan: &[u8], c: Counts, s: usize, t: usize) -> bool
-    requires { ⌜ Holds (now plan) c × (t < c .tracks) ⌝ }
-    ensures { λ r. ⌜ r ≡ isIn (planOf (now (plan .entry)) c) s t ⌝ }
-{
-    let h = host_word(plan, c, t);
-    if h == NO_STATE {
-        return false;
-    }
-    h as usize == s
 }
