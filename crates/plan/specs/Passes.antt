@@ -27,10 +27,6 @@ module _ (p : Plan) where
   unfoldable pub firstMarks : ℕ → List ℕ
   firstMarks n = tabulate slots (firstAmong n)
 
-  -- for each state whether it hosts a track below n
-  unfoldable pub hostingMarks : ℕ → List Bool
-  hostingMarks n = tabulate stateSlots (λ s. someBelow n (isIn p s))
-
   -- s is a state of the track t that hosts a track
   unfoldable pub isHostOf : ℕ → ℕ → Bool
   isHostOf t s = isStateOf p t s && isHosting p s

@@ -5,11 +5,11 @@ use crate::fields::track_of;
 use rules::Counts;
 ghost use mathlib.Core.Path.{_≡_};
 ghost use mathlib.Core.Bool.{false};
-ghost use Rattle.rules.specs.Fold.{someBelow};
-ghost use Rattle.rules.specs.Plan.{planOf, isIn};
+ghost use Rattle.rules.specs.Fold.{someBelow, tabulate};
+ghost use Rattle.rules.specs.Plan.{planOf, isIn, isHosting};
 ghost use Rattle.rules.specs.Acceptance.{badState, badHost};
 ghost use Rattle.plan.specs.Holds.{Holds};
-ghost use Rattle.plan.specs.Passes.{firstMarks, hostingMarks, isHostOf, Ends, Chains};
+ghost use Rattle.plan.specs.Passes.{firstMarks, isHostOf, Ends, Chains};
 
 // The first state of each track, 65535 where it has none: a state is its track's first if none was met before it. Every state's track
 // exists, as 9 has it.
@@ -33,7 +33,7 @@ pub fn first_states(plan: &[u8], c: Counts) -> [u16; 32]
 // For each state whether it hosts a track. Every host is a state, as 10 has it.
 pub fn hosting_states(plan: &[u8], c: Counts) -> [bool; 128]
     requires { ⌜ Holds (now plan) c × (someBelow (c .tracks) (badHost (planOf (now plan) c)) ≡ false) ⌝ }
-    ensures { λ r. ⌜ r ≡ hostingMarks (planOf (now (plan .entry)) c) (c .tracks) ⌝ }
+    ensures { λ r. ⌜ r ≡ tabulate 128 (isHosting (planOf (now (plan .entry)) c)) ⌝ }
 {
     let mut hosting = [false; 128];
     let tracks = c.tracks;
