@@ -43,7 +43,7 @@ module _ (isOf : ℕ → ℕ → Bool) (owners : ℕ) where
   pub chains-none : (m : ℕ) → Chains isOf owners 0 (replicate owners 0) (replicate m 0)
   chains-none m =
       record {
-        ends = λ a l. rw (getD-replicate {A = ℕ} owners a 0 0 l) (last-none (isOf a));
+        ends = record { at = λ a l. rw (getD-replicate {A = ℕ} owners a 0 0 l) (last-none (isOf a)) };
         links = λ a k l. absurd (not-suc-le-zero l);
       }
 
@@ -51,7 +51,7 @@ module _ (isOf : ℕ → ℕ → Bool) (owners : ℕ) where
   pub chains-pass : (n : ℕ) (last before : List ℕ) → ((a : ℕ) → isOf a n ≡ false) → Chains isOf owners n last before → Chains isOf owners (n + 1) last before
   chains-pass n last before h w =
       record {
-        ends = λ a l. last-stays n (isOf a) (getD last a 0) (h a) (w .ends a l);
+        ends = record { at = λ a l. last-stays n (isOf a) (getD last a 0) (h a) (w .ends .at a l) };
         links = λ a k l i. ⊎-elim (λ (e : k ≡ n). clash i (ap (isOf a) e ∙ h a)) (λ (m : k < n). w .links a k m i) (eq-or-lt-of-le (let q : k ≤ n = omega arith in q));
       }
 
@@ -59,7 +59,7 @@ module _ (isOf : ℕ → ℕ → Bool) (owners : ℕ) where
   pub chains-add : (n a : ℕ) (last before : List ℕ) → length last ≡ owners → a < owners → n < length before → isOf a n ≡ true
       → ((b : ℕ) → isOf b n ≡ true → b ≡ a) → Chains isOf owners n last before
       → Chains isOf owners (n + 1) (set last a (n + 1)) (set before n (getD last a 0))
-  chains-add n a last before e la ln h one w = record { ends = lasts; links = befores }
+  chains-add n a last before e la ln h one w = record { ends = record { at = lasts }; links = befores }
     where
       lasts : (b : ℕ) → b < owners → Last (n + 1) (isOf b) (getD (set last a (n + 1)) b 0)
       lasts b l =
@@ -70,7 +70,7 @@ module _ (isOf : ℕ → ℕ → Bool) (owners : ℕ) where
                 (rw (getD-set-same last a (n + 1) 0 (omega arith)) (last-here n (isOf a) h))
             | inr q ↦
                 rw (getD-set-other last a b (n + 1) 0 (eqb-false b a q))
-                (last-stays n (isOf b) (getD last b 0) (refuted (isOf b n) (λ i. eqb-false b a q (one b i))) (w .ends b l))
+                (last-stays n (isOf b) (getD last b 0) (refuted (isOf b n) (λ i. eqb-false b a q (one b i))) (w .ends .at b l))
           ]
 
       befores : (b k : ℕ) → k < n + 1 → isOf b k ≡ true → Last k (isOf b) (getD (set before n (getD last a 0)) k 0)
@@ -79,7 +79,7 @@ module _ (isOf : ℕ → ℕ → Bool) (owners : ℕ) where
           (λ (q : k ≡ n).
           let z = one b (ap (isOf b) (sym q) ∙ i) in
           subst (λ v. Last v (isOf b) (getD (set before n (getD last a 0)) v 0)) (sym q)
-          (rw (getD-set-same before n (getD last a 0) 0 ln) (subst (λ v. Last n (isOf v) (getD last a 0)) (sym z) (w .ends a la))))
+          (rw (getD-set-same before n (getD last a 0) 0 ln) (subst (λ v. Last n (isOf v) (getD last a 0)) (sym z) (w .ends .at a la))))
           (λ (m : k < n). rw (getD-set-other before n k (getD last a 0) 0 (λ (q : k ≡ n). absurd (omega arith))) (w .links b k m i))
           (eq-or-lt-of-le (let q : k ≤ n = omega arith in q))
 

@@ -12,10 +12,10 @@ use lib.ListN.{getD, set, length-set}
 use lib.Seq.{ext-getD, getD-set-same, getD-set-other}
 use borrow.Author.Tests.{eqb-true, eqb-false, eq-eqb, ne-eqb}
 use Rattle.rules.specs.Fold.{someBelow, firstBelow, tabulate}
-use Rattle.rules.specs.Plan.{Plan, stateCount, noState, hostWord, owner, isIn, isStateOf}
+use Rattle.rules.specs.Plan.{Plan, trackCount, stateCount, noState, hostWord, owner, isIn, isStateOf, isHosting}
 use Rattle.rules.proofs.Tests.{look, or-right}
 use Rattle.rules.proofs.Folds.{first-found, first-more-none, first-more-here, first-stays, some-more, length-tabulate, getD-tabulate}
-use Rattle.plan.specs.Passes.{slots, stateSlots, firstAmong, firstMarks, hostingMarks}
+use Rattle.plan.specs.Passes.{slots, stateSlots, firstAmong, firstMarks}
 use Rattle.plan.proofs.Hosting.{in-root, in-hosted, within}
 
 module _ {A : Type 0} (n : ℕ) (f g : ℕ → A) where
@@ -110,16 +110,24 @@ module _ (p : Plan) where
         ∙ figures-set slots (firstAmong p s) (firstAmong p (s + 1)) t s lt
         (among-here s t m (sym figure ∙ n) (within p t s l ∙ eq-eqb (owner p s) t (sym o))) others
 
+  -- Hosting states: for each state whether it hosts a track below n
+  unfoldable pub hostingMarks : ℕ → List Bool
+  hostingMarks n = tabulate stateSlots (λ s. someBelow n (isIn p s))
+
+  pub hosting-done : (n : ℕ) → n ≡ trackCount p → hostingMarks n ≡ tabulate stateSlots (isHosting p)
+  unfolding hostingMarks isHosting
+  hosting-done n e = ap (λ m. tabulate stateSlots (λ s. someBelow m (isIn p s))) e
+
   -- a track's visit
-  module _ (t h : ℕ) (ms : List Bool) (e : ms ≡ hostingMarks p t) (w : h ≡ hostWord p t) where
+  module _ (t h : ℕ) (ms : List Bool) (e : ms ≡ hostingMarks t) (w : h ≡ hostWord p t) where
     unhosted : (s : ℕ) → isIn p s t ≡ false → someBelow t (isIn p s) ≡ someBelow (t + 1) (isIn p s)
     unhosted s i = sym (some-more t (isIn p s) ∙ rw i (or-false (someBelow t (isIn p s))))
 
-    pub hosting-kept : h ≡ noState → ms ≡ hostingMarks p (t + 1)
+    pub hosting-kept : h ≡ noState → ms ≡ hostingMarks (t + 1)
     unfolding hostingMarks
     hosting-kept n = e ∙ figures-same stateSlots _ _ (λ s k. unhosted s (in-root p s t (sym w ∙ n)))
 
-    pub hosting-set : h < stateSlots → (h ≡ noState → ⊥) → set ms h true ≡ hostingMarks p (t + 1)
+    pub hosting-set : h < stateSlots → (h ≡ noState → ⊥) → set ms h true ≡ hostingMarks (t + 1)
     unfolding hostingMarks
     hosting-set l n =
         let hosted : (s : ℕ) → isIn p s t ≡ eqb (hostWord p t) s = λ s. in-hosted p s t (λ q. n (w ∙ q)) in

@@ -7,12 +7,12 @@ use Prim.Native.Nat.{ℕ, _<_}
 use native.Mathlib.Omega.{arith}
 use lib.ListN.{getD}
 use Rattle.rules.specs.declared.Counts.{Counts}
-use Rattle.rules.specs.Fold.{someBelow}
-use Rattle.rules.specs.Plan.{Plan, planOf, trackCount, stateCount, noState, hostWord, owner, isIn, isHosting, first, firstState}
+use Rattle.rules.specs.Fold.{someBelow, tabulate}
+use Rattle.rules.specs.Plan.{Plan, planOf, stateCount, noState, hostWord, owner, isHosting, first, firstState}
 use Rattle.rules.specs.Acceptance.{badState, badHost}
 use Rattle.rules.proofs.Folds.{some-not, getD-tabulate}
 use Rattle.rules.proofs.Heights.{host-facts}
-use Rattle.plan.specs.Passes.{slots, stateSlots, firstAmong, firstMarks, hostingMarks}
+use Rattle.plan.specs.Passes.{slots, stateSlots, firstAmong, firstMarks}
 use Rattle.plan.specs.Holds.{Holds}
 use Rattle.plan.proofs.FieldLaws.{track-count, state-count}
 use Rattle.plan.proofs.Hosting.{host-some}
@@ -52,11 +52,8 @@ module _ (bs : List ℕ) (c : Counts) (holds : Holds bs c) where
 
   -- where 10 passed, each host is a state of a lower track
   module _ (passed : someBelow (c .tracks) (badHost (planOf bs c)) ≡ false) where
-    pub hosting-read : (ms : List Bool) (s : ℕ) (b : Bool) → s < c .states → ms ≡ hostingMarks (planOf bs c) (c .tracks) → b ≡ getD ms s false
+    pub hosting-read : (ms : List Bool) (s : ℕ) (b : Bool) → s < c .states → ms ≡ tabulate stateSlots (isHosting (planOf bs c)) → b ≡ getD ms s false
         → b ≡ isHosting (planOf bs c) s
-    unfolding hostingMarks isHosting
     hosting-read ms s b l e g =
         let n = holds .states in
-        g
-        ∙ ap (λ v. getD v s false) (e ∙ ap (hostingMarks (planOf bs c)) (sym (track-count bs c)))
-        ∙ getD-tabulate stateSlots s (λ s. someBelow (trackCount (planOf bs c)) (isIn (planOf bs c) s)) false (omega arith)
+        g ∙ ap (λ v. getD v s false) e ∙ getD-tabulate stateSlots s (isHosting (planOf bs c)) false (omega arith)

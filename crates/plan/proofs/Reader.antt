@@ -10,7 +10,7 @@ use Rattle.rules.specs.Fold.{someBelow, firstRefusal}
 use Rattle.rules.specs.Record.{Scan, refused, counted, scan}
 use Rattle.rules.specs.Plan.{planOf}
 use Rattle.rules.specs.Acceptance.{noTrack, badState, badHost, badFirst, badHosting, badTransition, badDeviation, repeatsEvent, tooHigh, judgePlan, turnedBack, accepted, judged, readPlan}
-use Rattle.plan.specs.Holds.{Holds}
+use Rattle.plan.specs.Holds.{Holds, TracksPass}
 use Rattle.plan.proofs.FieldLaws.{track-count, state-count, transition-count}
 use Rattle.plan.proofs.Scanning.{scan-holds}
 
@@ -32,6 +32,15 @@ module _ (bs : List ℕ) (c : Counts) where
       (cond (someBelow (c .tracks) (tooHigh (planOf bs c))) 16 0))))))))
   unfolding judgePlan firstRefusal
   in-order = rw (track-count bs c, state-count bs c, transition-count bs c)
+
+  -- what is left of it where the tracks pass
+  pub then-transitions : TracksPass bs c
+      → judgePlan (planOf bs c)
+      ≡ cond (someBelow (c .transitions) (badTransition (planOf bs c))) 13
+      (cond (someBelow (c .transitions) (badDeviation (planOf bs c))) 14
+      (cond (someBelow (c .transitions) (repeatsEvent (planOf bs c))) 15
+      (cond (someBelow (c .tracks) (tooHigh (planOf bs c))) 16 0)))
+  then-transitions a = in-order ∙ rw (a .some-track, a .states, a .hosts, a .firsts, a .hostings)
 
   pub plan-refused : (n : ℕ) → scan bs ≡ counted c → judgePlan (planOf bs c) ≡ n → (n ≡ 0 → ⊥) → readPlan bs ≡ turnedBack n
   unfolding readPlan judged

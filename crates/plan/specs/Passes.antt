@@ -27,10 +27,6 @@ module _ (p : Plan) where
   unfoldable pub firstMarks : ℕ → List ℕ
   firstMarks n = tabulate slots (firstAmong n)
 
-  -- for each state whether it hosts a track below n
-  unfoldable pub hostingMarks : ℕ → List Bool
-  hostingMarks n = tabulate stateSlots (λ s. someBelow n (isIn p s))
-
   -- s is a state of the track t that hosts a track
   unfoldable pub isHostOf : ℕ → ℕ → Bool
   isHostOf t s = isStateOf p t s && isHosting p s
@@ -41,9 +37,13 @@ pub record Last (n : ℕ) (f : ℕ → Bool) (y : ℕ) : Type 0 where
   pub passes : (k : ℕ) → y ≡ suc k → f k ≡ true
   pub none-after : (k : ℕ) → y ≤ k → k < n → f k ≡ false
 
+-- of the numbers below n the last one of each owner
+pub record Ends (isOf : ℕ → ℕ → Bool) (owners n : ℕ) (last : List ℕ) : Type 0 where
+  pub at : (a : ℕ) → a < owners → Last n (isOf a) (getD last a 0)
+
 -- the numbers below n chained by whose they are: the last one of each owner, and before each one the one before it of the same owner
 pub record Chains (isOf : ℕ → ℕ → Bool) (owners n : ℕ) (last before : List ℕ) : Type 0 where
-  pub ends : (a : ℕ) → a < owners → Last n (isOf a) (getD last a 0)
+  pub ends : Ends isOf owners n last
   pub links : (a k : ℕ) → k < n → isOf a k ≡ true → Last k (isOf a) (getD before k 0)
 
 -- a plan's forest in chains, where every host is a state of a lower-numbered track: the tracks of each scope, the hosting states of each track

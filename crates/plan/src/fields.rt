@@ -4,7 +4,7 @@ ghost use mathlib.Core.Path.{_≡_};
 ghost use Prim.Native.Nat.{_+_, _*_, _<_};
 ghost use lib.ListN.{length};
 ghost use Rattle.rules.specs.Record.{word};
-ghost use Rattle.rules.specs.Plan.{planOf, hostWord, owner, replacement, state, transition, stateRecord, transitionRecord, isRoot, isFinal, isStateOf, isIn};
+ghost use Rattle.rules.specs.Plan.{planOf, hostWord, owner, replacement, state, transition, stateRecord, transitionRecord, isRoot, isFinal, isStateOf};
 ghost use Rattle.plan.specs.Holds.{Holds};
 
 // A record's length in bytes, of a track, a state and a transition.
@@ -13,6 +13,25 @@ pub const TRACK_LENGTH: usize = 6;
 pub const STATE_LENGTH: usize = 10;
 
 pub const TRANSITION_LENGTH: usize = 14;
+
+// Where a record's fields start in it, after the length and the kind: a track's, a state's and a transition's.
+const TRACK_HOST: usize = 4;
+
+const STATE_TRACK: usize = 4;
+
+const STATE_FINAL: usize = 6;
+
+const STATE_REPLACEMENT: usize = 8;
+
+const TRANSITION_SOURCE: usize = 4;
+
+const TRANSITION_EVENT: usize = 6;
+
+const TRANSITION_CODE: usize = 8;
+
+const TRANSITION_DEVIATION: usize = 10;
+
+const TRANSITION_DESTINATION: usize = 12;
 
 // Stands for no state: a root's host, a transition without a deviation.
 pub const NO_STATE: u16 = 65535;
@@ -36,7 +55,7 @@ pub fn host_word(plan: &[u8], c: Counts, t: usize) -> u16
     requires { ⌜ Holds (now plan) c × (t < c .tracks) ⌝ }
     ensures { λ r. ⌜ r ≡ hostWord (planOf (now (plan .entry)) c) t ⌝ }
 {
-    word_at(plan, TRACK_LENGTH * t + 4)
+    word_at(plan, TRACK_LENGTH * t + TRACK_HOST)
 }
 
 // The field of a state's record that starts `at` bytes into it.
@@ -52,7 +71,7 @@ pub fn track_of(plan: &[u8], c: Counts, s: usize) -> u16
     requires { ⌜ Holds (now plan) c × (s < c .states) ⌝ }
     ensures { λ r. ⌜ r ≡ owner (planOf (now (plan .entry)) c) s ⌝ }
 {
-    state_word(plan, c, s, 4)
+    state_word(plan, c, s, STATE_TRACK)
 }
 
 // A state's final field: 0, or 1 for a final state.
@@ -60,7 +79,7 @@ pub fn final_field(plan: &[u8], c: Counts, s: usize) -> u16
     requires { ⌜ Holds (now plan) c × (s < c .states) ⌝ }
     ensures { λ r. ⌜ r ≡ state (planOf (now (plan .entry)) c) s .final ⌝ }
 {
-    state_word(plan, c, s, 6)
+    state_word(plan, c, s, STATE_FINAL)
 }
 
 // A state's replacement code, 0 for none.
@@ -68,7 +87,7 @@ pub fn replacement_of(plan: &[u8], c: Counts, s: usize) -> u16
     requires { ⌜ Holds (now plan) c × (s < c .states) ⌝ }
     ensures { λ r. ⌜ r ≡ replacement (planOf (now (plan .entry)) c) s ⌝ }
 {
-    state_word(plan, c, s, 8)
+    state_word(plan, c, s, STATE_REPLACEMENT)
 }
 
 // The field of a transition's record that starts `at` bytes into it.
@@ -87,7 +106,7 @@ pub fn source_of(plan: &[u8], c: Counts, x: usize) -> u16
     requires { ⌜ Holds (now plan) c × (x < c .transitions) ⌝ }
     ensures { λ r. ⌜ r ≡ transition (planOf (now (plan .entry)) c) x .source ⌝ }
 {
-    transition_word(plan, c, x, 4)
+    transition_word(plan, c, x, TRANSITION_SOURCE)
 }
 
 // The event that a transition answers.
@@ -95,7 +114,7 @@ pub fn event_of(plan: &[u8], c: Counts, x: usize) -> u16
     requires { ⌜ Holds (now plan) c × (x < c .transitions) ⌝ }
     ensures { λ r. ⌜ r ≡ transition (planOf (now (plan .entry)) c) x .event ⌝ }
 {
-    transition_word(plan, c, x, 6)
+    transition_word(plan, c, x, TRANSITION_EVENT)
 }
 
 // A transition's retraction code, 0 for none.
@@ -103,7 +122,7 @@ pub fn code_of(plan: &[u8], c: Counts, x: usize) -> u16
     requires { ⌜ Holds (now plan) c × (x < c .transitions) ⌝ }
     ensures { λ r. ⌜ r ≡ transition (planOf (now (plan .entry)) c) x .code ⌝ }
 {
-    transition_word(plan, c, x, 8)
+    transition_word(plan, c, x, TRANSITION_CODE)
 }
 
 // A transition's deviation state, 65535 for none.
@@ -111,7 +130,7 @@ pub fn deviation_of(plan: &[u8], c: Counts, x: usize) -> u16
     requires { ⌜ Holds (now plan) c × (x < c .transitions) ⌝ }
     ensures { λ r. ⌜ r ≡ transition (planOf (now (plan .entry)) c) x .deviation ⌝ }
 {
-    transition_word(plan, c, x, 10)
+    transition_word(plan, c, x, TRANSITION_DEVIATION)
 }
 
 // The state that a transition enters.
@@ -119,7 +138,7 @@ pub fn destination_of(plan: &[u8], c: Counts, x: usize) -> u16
     requires { ⌜ Holds (now plan) c × (x < c .transitions) ⌝ }
     ensures { λ r. ⌜ r ≡ transition (planOf (now (plan .entry)) c) x .destination ⌝ }
 {
-    transition_word(plan, c, x, 12)
+    transition_word(plan, c, x, TRANSITION_DESTINATION)
 }
 
 // Whether a track has no host.
@@ -147,16 +166,4 @@ pub fn is_state_of(plan: &[u8], c: Counts, t: usize, s: usize) -> bool
         return false;
     }
     track_of(plan, c, s) as usize == t
-}
-
-// Whether a track is in the scope of a state.
-pub fn is_in(plan: &[u8], c: Counts, s: usize, t: usize) -> bool
-    requires { ⌜ Holds (now plan) c × (t < c .tracks) ⌝ }
-    ensures { λ r. ⌜ r ≡ isIn (planOf (now (plan .entry)) c) s t ⌝ }
-{
-    let h = host_word(plan, c, t);
-    if h == NO_STATE {
-        return false;
-    }
-    h as usize == s
 }

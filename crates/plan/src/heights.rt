@@ -102,7 +102,7 @@ pub fn some_too_high(plan: &[u8], c: Counts) -> bool
     let tracks = chain_tracks(plan, c);
     let scopes = tracks.last;
     let beside = tracks.before;
-    let states = chain_states(plan, c, &scopes, &beside);
+    let states = chain_states(plan, c, &scopes);
     let hosts = states.last;
     let earlier = states.before;
     let count = c.tracks;

@@ -23,7 +23,27 @@ ghost use mathlib.Core.Path.{_≡_};
 ghost use Rattle.rules.specs.Plan.{planOf};
 ghost use Rattle.rules.specs.Acceptance.{judgePlan, readPlan};
 ghost use Rattle.rules.specs.Answers.{planTold};
-ghost use Rattle.plan.specs.Holds.{Holds};
+ghost use Rattle.plan.specs.Holds.{Holds, TracksPass};
+
+// The lowest refusal 13 to 16 that applies anywhere in a plan in which none of 8 to 12 does; 0 where none does.
+fn judge_transitions(plan: &[u8], c: Counts) -> u8
+    requires { ⌜ TracksPass (now plan) c ⌝ }
+    ensures { λ r. ⌜ r ≡ judgePlan (planOf (now (plan .entry)) c) ⌝ }
+{
+    if some_bad_transition(plan, c) {
+        return 13;
+    }
+    if some_bad_deviation(plan, c) {
+        return 14;
+    }
+    if some_repeated_event(plan, c) {
+        return 15;
+    }
+    if some_too_high(plan, c) {
+        return 16;
+    }
+    0
+}
 
 // The lowest refusal 8 to 16 that applies anywhere in the plan, 0 where none does.
 fn judge_plan(plan: &[u8], c: Counts) -> u8
@@ -45,19 +65,7 @@ fn judge_plan(plan: &[u8], c: Counts) -> u8
     if some_bad_hosting(plan, c) {
         return 12;
     }
-    if some_bad_transition(plan, c) {
-        return 13;
-    }
-    if some_bad_deviation(plan, c) {
-        return 14;
-    }
-    if some_repeated_event(plan, c) {
-        return 15;
-    }
-    if some_too_high(plan, c) {
-        return 16;
-    }
-    0
+    judge_transitions(plan, c)
 }
 
 // Reads a plan: its counts, or the first refusal 2 to 16.

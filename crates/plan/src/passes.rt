@@ -5,11 +5,11 @@ use crate::fields::track_of;
 use rules::Counts;
 ghost use mathlib.Core.Path.{_≡_};
 ghost use mathlib.Core.Bool.{false};
-ghost use Rattle.rules.specs.Fold.{someBelow};
-ghost use Rattle.rules.specs.Plan.{planOf, isIn};
+ghost use Rattle.rules.specs.Fold.{someBelow, tabulate};
+ghost use Rattle.rules.specs.Plan.{planOf, isIn, isHosting};
 ghost use Rattle.rules.specs.Acceptance.{badState, badHost};
 ghost use Rattle.plan.specs.Holds.{Holds};
-ghost use Rattle.plan.specs.Passes.{firstMarks, hostingMarks, isHostOf, Chains};
+ghost use Rattle.plan.specs.Passes.{firstMarks, isHostOf, Ends, Chains};
 
 // The first state of each track, 65535 where it has none: a state is its track's first if none was met before it. Every state's track
 // exists, as 9 has it.
@@ -33,7 +33,7 @@ pub fn first_states(plan: &[u8], c: Counts) -> [u16; 32]
 // For each state whether it hosts a track. Every host is a state, as 10 has it.
 pub fn hosting_states(plan: &[u8], c: Counts) -> [bool; 128]
     requires { ⌜ Holds (now plan) c × (someBelow (c .tracks) (badHost (planOf (now plan) c)) ≡ false) ⌝ }
-    ensures { λ r. ⌜ r ≡ hostingMarks (planOf (now (plan .entry)) c) (c .tracks) ⌝ }
+    ensures { λ r. ⌜ r ≡ tabulate 128 (isHosting (planOf (now (plan .entry)) c)) ⌝ }
 {
     let mut hosting = [false; 128];
     let tracks = c.tracks;
@@ -79,14 +79,15 @@ pub fn chain_tracks(plan: &[u8], c: Counts) -> TrackChains
     }
 }
 
-// The hosting states of each track: for each track its last, for each of them the one before it of the same track, told as above.
+// The hosting states of each track: for each track its last one, for each of them the one before it of the same track, told as above.
 pub struct StateChains {
     pub last: [u8; 32],
     pub before: [u8; 128],
 }
 
-pub fn chain_states(plan: &[u8], c: Counts, scopes: &[u8; 128], beside: &[u8; 32]) -> StateChains
-    requires { ⌜ Holds (now plan) c × (someBelow (c .tracks) (badHost (planOf (now plan) c)) ≡ false) × Chains (isIn (planOf (now plan) c)) 128 (c .tracks) (now scopes) (now beside) ⌝ }
+// Every host is a state of a track, as 10 has it; `scopes` has the last track that each state hosts.
+pub fn chain_states(plan: &[u8], c: Counts, scopes: &[u8; 128]) -> StateChains
+    requires { ⌜ Holds (now plan) c × (someBelow (c .tracks) (badHost (planOf (now plan) c)) ≡ false) × Ends (isIn (planOf (now plan) c)) 128 (c .tracks) (now scopes) ⌝ }
     ensures { λ r. ⌜ Chains (isHostOf (planOf (now (plan .entry)) c)) 32 (c .states) (r .last) (r .before) ⌝ }
 {
     let mut last: [u8; 32] = [0; 32];

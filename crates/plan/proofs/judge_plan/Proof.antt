@@ -1,4 +1,5 @@
--- Each return knows that the tests before it in the table of refusals failed and that its own holds. Assumes nothing.
+-- Each return knows that the tests before it in the table of refusals failed and that its own holds; the last, that the tracks pass.
+-- Assumes nothing.
 use mathlib.Core.Path.{sym, _∙_}
 use Rattle.plan.proofs.Reader.{in-order}
 use borrow.Author.Needs.{needs}
@@ -10,8 +11,7 @@ no-track-requires c κs = search needs
 
 returns : tie.Need-returns
 returns c =
-    sym (in-order _ _ ∙ rw (
-    sym (c .before .no-track .ensures) ∙ c .if1 .taken))
+    sym (in-order _ _ ∙ rw (sym (c .before .no-track .ensures) ∙ c .if1 .taken))
 
 some-bad-state-requires : tie.Need-some-bad-state-requires
 some-bad-state-requires c κs = search needs
@@ -59,102 +59,19 @@ returns-5 c =
       sym (c .before .some-bad-hosting .ensures) ∙ c .if5 .taken,
     ))
 
-some-bad-transition-requires : tie.Need-some-bad-transition-requires
-some-bad-transition-requires c κs = search needs
+judge-transitions-requires : tie.Need-judge-transitions-requires
+judge-transitions-requires c κs =
+    record {
+      holds = search needs;
+      some-track = sym (c .before .before .before .before .before .before .before .before .before .no-track .ensures) ∙ c .before .before .before .before .before .before .before .before .if1 .left;
+      states = sym (c .before .before .before .before .before .before .before .some-bad-state .ensures) ∙ c .before .before .before .before .before .before .if2 .left;
+      hosts = sym (c .before .before .before .before .before .some-bad-host .ensures) ∙ c .before .before .before .before .if3 .left;
+      firsts = sym (c .before .before .before .some-bad-first .ensures) ∙ c .before .before .if4 .left;
+      hostings = sym (c .before .some-bad-hosting .ensures) ∙ c .if5 .left;
+    }
 
 returns-6 : tie.Need-returns-6
-returns-6 c =
-    sym (in-order _ _ ∙ rw (
-      sym (c .before .before .before .before .before .before .before .before .before .before .before .no-track .ensures) ∙ c .before .before .before .before .before .before .before .before .before .before .if1 .left,
-      sym (c .before .before .before .before .before .before .before .before .before .some-bad-state .ensures) ∙ c .before .before .before .before .before .before .before .before .if2 .left,
-      sym (c .before .before .before .before .before .before .before .some-bad-host .ensures) ∙ c .before .before .before .before .before .before .if3 .left,
-      sym (c .before .before .before .before .before .some-bad-first .ensures) ∙ c .before .before .before .before .if4 .left,
-      sym (c .before .before .before .some-bad-hosting .ensures) ∙ c .before .before .if5 .left,
-      sym (c .before .some-bad-transition .ensures) ∙ c .if6 .taken,
-    ))
-
-some-bad-deviation-requires : tie.Need-some-bad-deviation-requires
-some-bad-deviation-requires c κs = (search needs, sym (c .before .before .before .before .before .before .before .before .before .some-bad-state .ensures) ∙ c .before .before .before .before .before .before .before .before .if2 .left, sym (c .before .some-bad-transition .ensures) ∙ c .if6 .left)
-
-returns-7 : tie.Need-returns-7
-returns-7 c =
-    sym (in-order _ _ ∙ rw (
-      sym (c .before .before .before .before .before .before .before .before .before .before .before .before .before .no-track .ensures) ∙ c .before .before .before .before .before .before .before .before .before .before .before .before .if1 .left,
-      sym (c .before .before .before .before .before .before .before .before .before .before .before .some-bad-state .ensures) ∙ c .before .before .before .before .before .before .before .before .before .before .if2 .left,
-      sym (c .before .before .before .before .before .before .before .before .before .some-bad-host .ensures) ∙ c .before .before .before .before .before .before .before .before .if3 .left,
-      sym (c .before .before .before .before .before .before .before .some-bad-first .ensures) ∙ c .before .before .before .before .before .before .if4 .left,
-      sym (c .before .before .before .before .before .some-bad-hosting .ensures) ∙ c .before .before .before .before .if5 .left,
-      sym (c .before .before .before .some-bad-transition .ensures) ∙ c .before .before .if6 .left,
-      sym (c .before .some-bad-deviation .ensures) ∙ c .if7 .taken,
-    ))
-
-some-repeated-event-requires : tie.Need-some-repeated-event-requires
-some-repeated-event-requires c κs = (search needs, sym (c .before .before .before .some-bad-transition .ensures) ∙ c .before .before .if6 .left)
-
-returns-8 : tie.Need-returns-8
-returns-8 c =
-    sym (in-order _ _ ∙ rw (
-      sym (c .before .before .before .before .before .before .before .before .before .before .before .before .before .before .before .no-track .ensures) ∙ c .before .before .before .before .before .before .before .before .before .before .before .before .before .before .if1 .left,
-      sym (c .before .before .before .before .before .before .before .before .before .before .before .before .before .some-bad-state .ensures) ∙ c .before .before .before .before .before .before .before .before .before .before .before .before .if2 .left,
-      sym (c .before .before .before .before .before .before .before .before .before .before .before .some-bad-host .ensures) ∙ c .before .before .before .before .before .before .before .before .before .before .if3 .left,
-      sym (c .before .before .before .before .before .before .before .before .before .some-bad-first .ensures) ∙ c .before .before .before .before .before .before .before .before .if4 .left,
-      sym (c .before .before .before .before .before .before .before .some-bad-hosting .ensures) ∙ c .before .before .before .before .before .before .if5 .left,
-      sym (c .before .before .before .before .before .some-bad-transition .ensures) ∙ c .before .before .before .before .if6 .left,
-      sym (c .before .before .before .some-bad-deviation .ensures) ∙ c .before .before .if7 .left,
-      sym (c .before .some-repeated-event .ensures) ∙ c .if8 .taken,
-    ))
-
-some-too-high-requires : tie.Need-some-too-high-requires
-some-too-high-requires c κs = (search needs, sym (c .before .before .before .before .before .before .before .before .before .before .before .some-bad-host .ensures) ∙ c .before .before .before .before .before .before .before .before .before .before .if3 .left)
-
-returns-9 : tie.Need-returns-9
-returns-9 c =
-    sym (in-order _ _ ∙ rw (
-      sym (c .before .before .before .before .before .before .before .before .before .before .before .before .before .before .before .before .before .no-track .ensures) ∙ c .before .before .before .before .before .before .before .before .before .before .before .before .before .before .before .before .if1 .left,
-      sym (c .before .before .before .before .before .before .before .before .before .before .before .before .before .before .before .some-bad-state .ensures) ∙ c .before .before .before .before .before .before .before .before .before .before .before .before .before .before .if2 .left,
-      sym (c .before .before .before .before .before .before .before .before .before .before .before .before .before .some-bad-host .ensures) ∙ c .before .before .before .before .before .before .before .before .before .before .before .before .if3 .left,
-      sym (c .before .before .before .before .before .before .before .before .before .before .before .some-bad-first .ensures) ∙ c .before .before .before .before .before .before .before .before .before .before .if4 .left,
-      sym (c .before .before .before .before .before .before .before .before .before .some-bad-hosting .ensures) ∙ c .before .before .before .before .before .before .before .before .if5 .left,
-      sym (c .before .before .before .before .before .before .before .some-bad-transition .ensures) ∙ c .before .before .before .before .before .before .if6 .left,
-      sym (c .before .before .before .before .before .some-bad-deviation .ensures) ∙ c .before .before .before .before .if7 .left,
-      sym (c .before .before .before .some-repeated-event .ensures) ∙ c .before .before .if8 .left,
-      sym (c .before .some-too-high .ensures) ∙ c .if9 .taken,
-    ))
-
-returns-10 : tie.Need-returns-10
-returns-10 c =
-    sym (in-order _ _ ∙ rw (
-      sym (c .before .before .before .before .before .before .before .before .before .before .before .before .before .before .before .before .before .no-track .ensures) ∙ c .before .before .before .before .before .before .before .before .before .before .before .before .before .before .before .before .if1 .left,
-      sym (c .before .before .before .before .before .before .before .before .before .before .before .before .before .before .before .some-bad-state .ensures) ∙ c .before .before .before .before .before .before .before .before .before .before .before .before .before .before .if2 .left,
-      sym (c .before .before .before .before .before .before .before .before .before .before .before .before .before .some-bad-host .ensures) ∙ c .before .before .before .before .before .before .before .before .before .before .before .before .if3 .left,
-      sym (c .before .before .before .before .before .before .before .before .before .before .before .some-bad-first .ensures) ∙ c .before .before .before .before .before .before .before .before .before .before .if4 .left,
-      sym (c .before .before .before .before .before .before .before .before .before .some-bad-hosting .ensures) ∙ c .before .before .before .before .before .before .before .before .if5 .left,
-      sym (c .before .before .before .before .before .before .before .some-bad-transition .ensures) ∙ c .before .before .before .before .before .before .if6 .left,
-      sym (c .before .before .before .before .before .some-bad-deviation .ensures) ∙ c .before .before .before .before .if7 .left,
-      sym (c .before .before .before .some-repeated-event .ensures) ∙ c .before .before .if8 .left,
-      sym (c .before .some-too-high .ensures) ∙ c .if9 .left,
-    ))
+returns-6 c = search needs
 
 pub judge-plan-spec : {M : Type 1} → statement M
-judge-plan-spec =
-    tie.close
-    (tie.spec
-    no-track-requires
-    returns
-    some-bad-state-requires
-    returns-2
-    some-bad-host-requires
-    returns-3
-    some-bad-first-requires
-    returns-4
-    some-bad-hosting-requires
-    returns-5
-    some-bad-transition-requires
-    returns-6
-    some-bad-deviation-requires
-    returns-7
-    some-repeated-event-requires
-    returns-8
-    some-too-high-requires
-    returns-9
-    returns-10)
+judge-plan-spec = tie.close (tie.spec no-track-requires returns some-bad-state-requires returns-2 some-bad-host-requires returns-3 some-bad-first-requires returns-4 some-bad-hosting-requires returns-5 judge-transitions-requires returns-6)

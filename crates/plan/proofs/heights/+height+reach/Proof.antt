@@ -69,7 +69,7 @@ height-cast-s : (t : ℕ) → height-lts.Need-cast-s (
   larger-reads.Asked,
   larger-reads.Learnt,
 ) (height-at t) height.Post height-Inv-loop height-μ-loop
-height-cast-s t c = let n = c .before .before .before .pre .1 .0 .holds in let w = c .before .before .before .pre .1 .0 .states .ends (c .before .before .before .args .t) (search needs) .within in search needs
+height-cast-s t c = let n = c .before .before .before .pre .1 .0 .holds in let w = c .before .before .before .pre .1 .0 .states .ends .at (c .before .before .before .args .t) (search needs) .within in search needs
 
 height-loop-holds : (t : ℕ) → height-lts.Need-loop-holds (
   reach-below t,
@@ -77,7 +77,7 @@ height-loop-holds : (t : ℕ) → height-lts.Need-loop-holds (
   larger-reads.Asked,
   larger-reads.Learnt,
 ) (height-at t) height.Post height-Inv-loop height-μ-loop
-height-loop-holds t c = walk-start _ _ _ _ (c .before .before .before .pre .1 .0 .states .ends _ (let n = c .before .before .before .pre .1 .0 .holds .tracks in search needs))
+height-loop-holds t c = walk-start _ _ _ _ (c .before .before .before .pre .1 .0 .states .ends .at _ (let n = c .before .before .before .pre .1 .0 .holds .tracks in search needs))
 
 height-sub-reach : (t : ℕ) → height-lts.Need-sub-reach (
   reach-below t,
@@ -187,7 +187,7 @@ reach-cast-t : (t : ℕ) → reach-lts.Need-cast-t (
   larger-reads.Asked,
   larger-reads.Learnt,
 ) (reach-at t) reach.Post reach-Inv-loop reach-μ-loop
-reach-cast-t t c = let n = c .before .before .pre .1 .0 .holds in let w = c .before .before .pre .1 .0 .tracks .ends (c .before .before .args .s) (search needs) .within in search needs
+reach-cast-t t c = let n = c .before .before .pre .1 .0 .holds in let w = c .before .before .pre .1 .0 .tracks .ends .at (c .before .before .args .s) (search needs) .within in search needs
 
 reach-loop-holds : (t : ℕ) → reach-lts.Need-loop-holds (
   height-below t,
@@ -195,7 +195,7 @@ reach-loop-holds : (t : ℕ) → reach-lts.Need-loop-holds (
   larger-reads.Asked,
   larger-reads.Learnt,
 ) (reach-at t) reach.Post reach-Inv-loop reach-μ-loop
-reach-loop-holds t c = walk-start _ _ _ _ (c .before .before .pre .1 .0 .tracks .ends _ (let n = c .before .before .pre .1 .0 .holds .states in search needs))
+reach-loop-holds t c = walk-start _ _ _ _ (c .before .before .pre .1 .0 .tracks .ends .at _ (let n = c .before .before .pre .1 .0 .holds .states in search needs))
 
 reach-sub-height : (t : ℕ) → reach-lts.Need-sub-height (
   height-below t,

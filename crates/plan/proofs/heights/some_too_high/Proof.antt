@@ -29,11 +29,11 @@ unfolding someBelow
 loop-holds c = (search needs, refl)
 
 high-root-requires : tie.Need-high-root-requires Inv-loop μ-loop
-high-root-requires c κs = (record { holds = search needs; hosted = search needs; tracks = c .before .before .before .before .before .before .before .before .before .before .before .before .before .chain-tracks .ensures; states = c .before .before .before .before .before .before .before .before .chain-states .ensures }, search needs)
+high-root-requires c κs = (record { holds = search needs; hosted = search needs; tracks = c .before .before .before .before .before .before .before .before .before .before .before .before .chain-tracks .ensures; states = c .before .before .before .before .before .before .before .before .chain-states .ensures }, search needs)
 
 returns : tie.Need-returns Inv-loop μ-loop
 unfolding isHighRoot
-returns c = sym (sym (roots-enough _ _ (c .before .before .before .before .before .before .before .before .before .before .before .before .before .before .before .before .before .pre .0) (c .before .before .before .before .before .before .before .before .before .before .before .before .before .before .before .before .before .pre .1)) ∙ some-at _ _ (c .before .before .before .before .before .before .before .loop .t) (search needs) (sym (c .before .high-root .ensures) ∙ c .if1 .taken))
+returns c = sym (sym (roots-enough _ _ (c .before .before .before .before .before .before .before .before .before .before .before .before .before .before .before .before .pre .0) (c .before .before .before .before .before .before .before .before .before .before .before .before .before .before .before .before .pre .1)) ∙ some-at _ _ (c .before .before .before .before .before .before .before .loop .t) (search needs) (sym (c .before .high-root .ensures) ∙ c .if1 .taken))
 
 add-t : tie.Need-add-t Inv-loop μ-loop
 add-t c = search needs
@@ -46,7 +46,7 @@ unfolding isHighRoot
 loop-again c = (search needs, none-more _ _ (c .before .before .before .before .before .before .before .loop .inv .1) (sym (c .before .high-root .ensures) ∙ c .if1 .left))
 
 returns-2 : tie.Need-returns-2 Inv-loop μ-loop
-returns-2 c = sym (sym (roots-enough _ _ (c .before .before .before .before .before .before .before .before .before .before .before .pre .0) (c .before .before .before .before .before .before .before .before .before .before .before .pre .1)) ∙ none-all _ _ _ (search needs) (search needs) (c .before .loop .inv .1))
+returns-2 c = sym (sym (roots-enough _ _ (c .before .before .before .before .before .before .before .before .before .before .pre .0) (c .before .before .before .before .before .before .before .before .before .before .pre .1)) ∙ none-all _ _ _ (search needs) (search needs) (c .before .loop .inv .1))
 
 pub some-too-high-spec : {M : Type 1} → statement M
 some-too-high-spec =

@@ -13,10 +13,10 @@ use Rattle.plan.proofs.passes.chain_states.Statement.{statement}
 use Rattle.plan.proofs.passes.chain_states.Tie as tie
 
 abbrev Inv-loop : tie.InvT-loop
-Inv-loop plan c scopes beside last₀ before₀ states s₀ last before s = (s ≤ c .states) × Chained (isHostOf (planOf plan c)) 32 s 128 last before
+Inv-loop plan c scopes last₀ before₀ states s₀ last before s = (s ≤ c .states) × Chained (isHostOf (planOf plan c)) 32 s 128 last before
 
 abbrev μ-loop : tie.MeasureT-loop
-μ-loop plan c scopes beside last₀ before₀ states s₀ last before s = c .states - s
+μ-loop plan c scopes last₀ before₀ states s₀ last before s = c .states - s
 
 loop-holds : tie.Need-loop-holds Inv-loop μ-loop
 loop-holds c = (search needs, chained-none _ 32 128)
@@ -31,7 +31,7 @@ cast-t : tie.Need-cast-t Inv-loop μ-loop
 cast-t c = search needs
 
 array-read-before : tie.Need-array-read-before Inv-loop μ-loop
-array-read-before c = let q = host-within _ _ (c .before .before .before .before .before .before .pre .0) (c .before .before .before .before .before .before .pre .1) _ (some-scope _ _ _ _ (sym (track-count _ _)) (c .before .before .before .before .before .before .pre .2 .ends _ (search needs)) (c .before .if1 .taken)) in let e = c .track-of .ensures in omega arith
+array-read-before c = let q = host-within _ _ (c .before .before .before .before .before .before .pre .0) (c .before .before .before .before .before .before .pre .1) _ (some-scope _ _ _ _ (sym (track-count _ _)) (c .before .before .before .before .before .before .pre .2 .at _ (search needs)) (c .before .if1 .taken)) in let e = c .track-of .ensures in omega arith
 
 array-write-before : tie.Need-array-write-before Inv-loop μ-loop
 array-write-before c = search needs
@@ -43,7 +43,7 @@ cast-last : tie.Need-cast-last Inv-loop μ-loop
 cast-last c = search needs
 
 array-write-last : tie.Need-array-write-last Inv-loop μ-loop
-array-write-last c = let q = host-within _ _ (c .before .before .before .before .before .before .pre .0) (c .before .before .before .before .before .before .pre .1) _ (some-scope _ _ _ _ (sym (track-count _ _)) (c .before .before .before .before .before .before .pre .2 .ends _ (search needs)) (c .before .if1 .taken)) in let e = c .track-of .ensures in omega arith
+array-write-last c = let q = host-within _ _ (c .before .before .before .before .before .before .pre .0) (c .before .before .before .before .before .before .pre .1) _ (some-scope _ _ _ _ (sym (track-count _ _)) (c .before .before .before .before .before .before .pre .2 .at _ (search needs)) (c .before .if1 .taken)) in let e = c .track-of .ensures in omega arith
 
 add-s : tie.Need-add-s Inv-loop μ-loop
 add-s c = search needs
@@ -55,7 +55,7 @@ loop-again : tie.Need-loop-again Inv-loop μ-loop
 loop-again c =
     let pre = c .before .before .before .before .before .pre in
     let inv = c .before .before .before .loop .inv .1 in
-    let end = pre .2 .ends (c .before .before .before .loop .s) (search needs) in (
+    let end = pre .2 .at (c .before .before .before .loop .s) (search needs) in (
       search needs,
       elim (c .if1 .came) [
         | inl w ↦ rw (w .2, w .3) (visit-hosting _ _ (pre .0) (pre .1) _ _ _ _ (search needs) (w .1 .ensures) (some-scope _ _ _ _ (sym (track-count _ _)) end (w .0 .taken)) inv)

@@ -2,12 +2,11 @@
 use mathlib.Core.Path.{_≡_, refl, _∙_}
 use mathlib.Core.Logic.{inl, inr}
 use Prim.Native.Nat.{_≤_, _-_}
-use native.Mathlib.Omega.{arith}
 use Rattle.rules.specs.Fold.{someBelow, tabulate, tabulateFrom}
 use Rattle.rules.specs.Plan.{planOf, noState}
 use Rattle.rules.proofs.Folds.{some-not}
-use Rattle.plan.specs.Passes.{hostingMarks}
-use Rattle.plan.proofs.PassLaws.{hosting-kept, hosting-set}
+use Rattle.plan.proofs.FieldLaws.{track-count}
+use Rattle.plan.proofs.PassLaws.{hostingMarks, hosting-done, hosting-kept, hosting-set}
 use Rattle.plan.proofs.PassTurns.{host-low}
 use borrow.Author.Needs.{needs}
 use Rattle.plan.proofs.passes.hosting_states.Statement.{statement}
@@ -53,7 +52,7 @@ loop-again c =
     )
 
 returns : tie.Need-returns Inv-loop μ-loop
-returns c = let e : c .before .loop .t ≡ c .before .before .before .args .c .tracks = omega arith in rw e at (c .before .loop .inv .1)
+returns c = c .before .loop .inv .1 ∙ hosting-done _ _ (rw track-count (search needs))
 
 pub hosting-states-spec : {M : Type 1} → statement M
 hosting-states-spec =
