@@ -22,10 +22,10 @@ use Rattle.lookup.specs.Going.{Accepts, ledgerOf, hostTrack}
 use Rattle.lookup.proofs.Facts.{plan-facts, few-tracks, no-host-track, host-of-track, host-track-low}
 use Rattle.withdrawal.specs.Orderly.{Orderly, withConfiguration}
 use Rattle.withdrawal.specs.declared.abandoning.Scopes.{Scopes}
-use Rattle.withdrawal.specs.Scopes.{Nested, Counted, keptBy, keeping, Standing, Climbed, Cleared}
+use Rattle.withdrawal.specs.Scopes.{Nested, Counted, keptBy, keeping, Figures, Climbed, Cleared}
 use Rattle.withdrawal.proofs.Standing.{holds, kept-track, put-asleep, Fitting, pass-start, pass-orderly, pass-length, pass-more, pass-end}
 use Rattle.withdrawal.proofs.Storing.{Stores, stores-sleeping, stores-at}
-use Rattle.withdrawal.proofs.Climbing.{keep-root, keep-open, keep-shut, keep-case, keep-sleeping, step-busy, step-root, some-busy, step-standing, step-more, step-open, step-on, cleared-start, cleared-shut, cleared-busy, cleared-more, cleared-end}
+use Rattle.withdrawal.proofs.Climbing.{keep-root, keep-open, keep-shut, keep-case, keep-sleeping, Due, step-busy, step-root, some-busy, step-figures, step-more, step-open, step-on, cleared-start, cleared-shut, cleared-busy, cleared-more, cleared-end}
 
 -- the host's track has a lower number
 pub host-lower : (bs : List ℕ) (c : Counts) → Accepts bs c → (t u : ℕ) → u ≡ hostTrack (planOf bs c) t → (u ≡ noState → ⊥) → u < t
@@ -37,73 +37,79 @@ host-lower bs c acc t u g z =
 
 -- a climb: still busy, a root, others busy, and on to the host's track
 module _ (bs : List ℕ) (c : Counts) (acc : Accepts bs c) (ws : List ℕ) (o : Orderly c ws) (x : Scopes)
-    (st : Standing (planOf bs c) (ledgerOf c ws) x) (t : ℕ) (b : t < c .tracks) (marked : getD (x .opens) t false ≡ true)
+    (figures : Figures (planOf bs c) (ledgerOf c ws) x) (t : ℕ) (b : t < c .tracks) (marked : getD (x .opens) t false ≡ true)
     (idle : getD (x .busy) t 0 ≡ 0) {r : Bool} (f : r ≡ (isUndoing (ledgerOf c ws t .mode) && isEmpty (ledgerOf c ws t .held))) where
+  abbrev p : Plan
+  p = planOf bs c
+
   abbrev l : Ledger
   l = ledgerOf c ws
-
-  abbrev pl : Plan
-  pl = planOf bs c
 
   abbrev shut : List Bool
   shut = set (x .opens) t false
 
-  low : t < trackCount pl
-  low = omega (arith, track-count bs c)
+  -- after the climb
+  abbrev Done : Scopes → Type 0
+  Done y = Figures p l y × Climbed p (keeping p (x .opens) l) (keeping p (y .opens) l) t
 
-  abbrev Last : Scopes → Type 0
-  Last y = Standing pl l y × Climbed pl (keeping pl (x .opens) l) (keeping pl (y .opens) l) t
+  due : Due p l x t
+  due =
+      record {
+        accepted = plan-facts bs c acc;
+        few = few-tracks bs c acc;
+        blank = holds c ws o .blank;
+        figures = figures;
+        low = omega (arith, track-count bs c);
+        marked = marked;
+        idle = idle;
+      }
 
-  pub climb-busy : not r ≡ true → Last (record { opens = shut; busy = x .busy })
-  climb-busy n =
-      step-busy pl (plan-facts bs c acc) (few-tracks bs c acc) l (holds c ws o .blank) x st t low marked idle (sym f ∙ not-true r n)
+  pub climb-busy : not r ≡ true → Done (record { opens = shut; busy = x .busy })
+  climb-busy n = step-busy due (sym f ∙ not-true r n)
 
-  module _ (n : not r ≡ false) {u : ℕ} (g : u ≡ hostTrack pl t) where
-    pub climb-root : u ≡ noState → Last (record { opens = shut; busy = x .busy })
-    climb-root z =
-        step-root pl (plan-facts bs c acc) (few-tracks bs c acc) l (holds c ws o .blank) x st t low marked idle
-        (no-host-track bs c t acc (sym g ∙ z))
+  module _ (n : not r ≡ false) {u : ℕ} (g : u ≡ hostTrack p t) where
+    pub climb-root : u ≡ noState → Done (record { opens = shut; busy = x .busy })
+    climb-root z = step-root due (no-host-track bs c t acc (sym g ∙ z))
 
     module _ (z : u ≡ noState → ⊥) where
-      at : (h : ℕ) × (host pl t ≡ some h) × (owner pl h ≡ u)
-      at = let (h, e, q) = host-of-track pl t (λ y. z (g ∙ y)) in (h, e, q ∙ sym g)
+      at : (h : ℕ) × (host p t ≡ some h) × (owner p h ≡ u)
+      at = let (h, e, q) = host-of-track p t (λ y. z (g ∙ y)) in (h, e, q ∙ sym g)
+
+      back : (isUndoing (l t .mode) && isEmpty (l t .held)) ≡ true
+      back = sym f ∙ not-false r n
 
       pub climb-some : 0 < getD (x .busy) u 0
-      climb-some =
-          subst (λ v. 0 < getD (x .busy) v 0) (at .2)
-          (some-busy pl (plan-facts bs c acc) (few-tracks bs c acc) l (holds c ws o .blank) x st t low marked idle (at .0) (at .1) (sym f ∙ not-false r n))
+      climb-some = subst (λ v. 0 < getD (x .busy) v 0) (at .2) (some-busy due (at .0) (at .1) back)
 
       module _ {k : ℕ} (e : k ≡ getD (x .busy) u 0 - 1) where
-        less : k ≡ getD (x .busy) (owner pl (at .0)) 0 - 1
+        abbrev next : Scopes
+        next = record { opens = shut; busy = set (x .busy) u k }
+
+        less : k ≡ getD (x .busy) (owner p (at .0)) 0 - 1
         less = e ∙ ap (λ (v : ℕ). getD (x .busy) v 0 - 1) (sym (at .2))
 
-        standing : Standing pl l (record { opens = shut; busy = set (x .busy) u k })
-        standing =
-            subst (λ (v : ℕ). Standing pl l (record { opens = shut; busy = set (x .busy) v k })) (at .2)
-            (step-standing pl (plan-facts bs c acc) (few-tracks bs c acc) l (holds c ws o .blank) x st t low marked idle (at .0) (at .1) (sym f ∙ not-false r n) less)
+        next-figures : Figures p l next
+        next-figures =
+            subst (λ (v : ℕ). Figures p l (record { opens = shut; busy = set (x .busy) v k })) (at .2) (step-figures due (at .0) (at .1) back less)
 
-        pub climb-more : (k ≡ 0 → ⊥) → Last (record { opens = shut; busy = set (x .busy) u k })
-        climb-more y = (
-          standing,
-          step-more pl (plan-facts bs c acc) (few-tracks bs c acc) l (holds c ws o .blank) x st t low marked idle (at .0) (at .1) (sym f ∙ not-false r n) less y,
-        )
+        pub climb-more : (k ≡ 0 → ⊥) → Done next
+        climb-more y = (next-figures, step-more due (at .0) (at .1) back less y)
 
-        pub climb-next : k ≡ 0 → Standing pl l (record { opens = shut; busy = set (x .busy) u k }) × (u < c .tracks) × (getD shut u false ≡ true) × (getD (set (x .busy) u k) u 0 ≡ 0)
+        pub climb-next : k ≡ 0 → Figures p l next × (u < c .tracks) × (getD shut u false ≡ true) × (getD (set (x .busy) u k) u 0 ≡ 0)
         climb-next y =
             let up = host-track-low bs c t u acc g z in
-            let w : u < length (x .busy) = let q = st .counted .busy-size in let m = acc .holds .tracks in omega arith in (
-              standing,
+            let w : u < length (x .busy) = let q = figures .counted .busy-size in let m = acc .holds .tracks in omega arith in (
+              next-figures,
               up,
-              subst (λ v. getD shut v false ≡ true) (at .2)
-                  (step-open pl (plan-facts bs c acc) (few-tracks bs c acc) l (holds c ws o .blank) x st t low marked idle (at .0) (at .1) (sym f ∙ not-false r n) less),
+              subst (λ v. getD shut v false ≡ true) (at .2) (step-open due (at .0) (at .1) back less),
               getD-set-same (x .busy) u k 0 w ∙ y,
             )
 
-        pub climb-on : {y : Scopes} → Standing pl l y × Climbed pl (keeping pl shut l) (keeping pl (y .opens) l) u → Last y
+        pub climb-on : {y : Scopes} → Figures p l y × Climbed p (keeping p shut l) (keeping p (y .opens) l) u → Done y
         climb-on {y} d = (
           d .0,
-          step-on pl (plan-facts bs c acc) (few-tracks bs c acc) l (holds c ws o .blank) x st t low marked idle (at .0) (at .1) (sym f ∙ not-false r n) less
-              (subst (λ v. Climbed pl (keeping pl shut l) (keeping pl (y .opens) l) v) (sym (at .2)) (d .1)),
+          step-on due (at .0) (at .1) back less
+              (subst (λ v. Climbed p (keeping p shut l) (keeping p (y .opens) l) v) (sym (at .2)) (d .1)),
         )
 
 -- the visits, in track order
@@ -128,7 +134,7 @@ module _ (bs : List ℕ) (c : Counts) (acc : Accepts bs c) (ws : List ℕ) where
       visit-busy z = cleared-busy (planOf bs c) (plan-facts bs c acc) (ledgerOf c ws) x t there k z
 
       pub visit-climb : {y : Scopes}
-          → Standing (planOf bs c) (ledgerOf c ws) y
+          → Figures (planOf bs c) (ledgerOf c ws) y
           × Climbed (planOf bs c) (keeping (planOf bs c) (x .opens) (ledgerOf c ws)) (keeping (planOf bs c) (y .opens) (ledgerOf c ws)) t
           → Cleared (planOf bs c) (ledgerOf c ws) y (t + 1)
       visit-climb d = cleared-more (planOf bs c) (plan-facts bs c acc) (ledgerOf c ws) x t there k (d .0) (d .1)
@@ -136,37 +142,34 @@ module _ (bs : List ℕ) (c : Counts) (acc : Accepts bs c) (ws : List ℕ) where
 -- one track: asleep, a root, in a scope that is left open, in one that is not
 module _ (bs : List ℕ) (c : Counts) (acc : Accepts bs c) (ws : List ℕ) (o : Orderly c ws) (opens : List Bool) (t : ℕ) {r : Bool}
     (f : r ≡ isAwake (ledgerOf c ws t .mode)) where
-  abbrev p : Plan
-  p = planOf bs c
-
   abbrev Left : List ℕ → Type 0
-  Left vs = vs ≡ withConfiguration c ws t (keptBy p opens t (ledgerOf c ws t))
+  Left vs = vs ≡ withConfiguration c ws t (keptBy (planOf bs c) opens t (ledgerOf c ws t))
 
-  as-it-is : keeping p opens (ledgerOf c ws) t ≡ ledgerOf c ws t → Left ws
+  as-it-is : keeping (planOf bs c) opens (ledgerOf c ws) t ≡ ledgerOf c ws t → Left ws
   unfolding keeping
-  as-it-is e = kept-track c ws o t (keptBy p opens t (ledgerOf c ws t)) e
+  as-it-is e = kept-track c ws o t (keptBy (planOf bs c) opens t (ledgerOf c ws t)) e
 
   pub leave-asleep : not r ≡ true → Left ws
   leave-asleep n =
       let z = holds c ws o .blank t (sym f ∙ not-true r n) in
-      as-it-is (keep-sleeping p opens (ledgerOf c ws) t z ∙ sym z)
+      as-it-is (keep-sleeping (planOf bs c) opens (ledgerOf c ws) t z ∙ sym z)
 
-  module _ {u : ℕ} (g : u ≡ hostTrack p t) where
+  module _ {u : ℕ} (g : u ≡ hostTrack (planOf bs c) t) where
     pub leave-root : u ≡ noState → Left ws
-    leave-root z = as-it-is (keep-root p opens (ledgerOf c ws) t (no-host-track bs c t acc (sym g ∙ z)))
+    leave-root z = as-it-is (keep-root (planOf bs c) opens (ledgerOf c ws) t (no-host-track bs c t acc (sym g ∙ z)))
 
     module _ (n : u ≡ noState → ⊥) where
       pub leave-not : getD opens u false ≡ true → Left ws
       leave-not m =
-          let (h, e, q) = host-of-track p t (λ y. n (g ∙ y)) in
-          as-it-is (keep-open p opens (ledgerOf c ws) t h e (subst (λ v. getD opens v false ≡ true) (g ∙ sym q) m))
+          let (h, e, q) = host-of-track (planOf bs c) t (λ y. n (g ∙ y)) in
+          as-it-is (keep-open (planOf bs c) opens (ledgerOf c ws) t h e (subst (λ v. getD opens v false ≡ true) (g ∙ sym q) m))
 
       pub leave-done : t < c .tracks → getD opens u false ≡ false → {vs : List ℕ} → vs ≡ withAsleep ws t → Left vs
       unfolding keeping
       leave-done b m d =
-          let (h, e, q) = host-of-track p t (λ y. n (g ∙ y)) in
+          let (h, e, q) = host-of-track (planOf bs c) t (λ y. n (g ∙ y)) in
           d ∙ put-asleep c ws o t b
-          ∙ ap (withConfiguration c ws t) (sym (keep-shut p opens (ledgerOf c ws) t h e (subst (λ v. getD opens v false ≡ false) (g ∙ sym q) m)))
+          ∙ ap (withConfiguration c ws t) (sym (keep-shut (planOf bs c) opens (ledgerOf c ws) t h e (subst (λ v. getD opens v false ≡ false) (g ∙ sym q) m)))
 
 -- the pass
 module _ (bs : List ℕ) (c : Counts) (ws : List ℕ) (o : Orderly c ws) (opens : List Bool)

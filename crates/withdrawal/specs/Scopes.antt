@@ -42,8 +42,8 @@ module _ (p : Plan) where
   unfoldable pub keeping : List Bool → Ledger → Ledger
   keeping opens l t = keptBy opens t (l t)
 
-  -- what holds of a ledger and the figures for it while scopes are abandoned
-  pub record Standing (l : Ledger) (x : Scopes) : Type 0 where
+  -- while scopes are abandoned: the figures are those of the ledger with the scopes asleep that have no mark, and these are nested
+  pub record Figures (l : Ledger) (x : Scopes) : Type 0 where
     pub nested : Nested (keeping (x .opens) l)
     pub counted : Counted (keeping (x .opens) l) x
 
@@ -55,6 +55,6 @@ module _ (p : Plan) where
 
   -- abandoning is due to no scope of a track below n any more, and its outcome is the same as at first
   pub record Cleared (l : Ledger) (x : Scopes) (n : ℕ) : Type 0 where
-    pub standing : Standing l x
+    pub figures : Figures l x
     pub same : (u : ℕ) → abandoned p (keeping (x .opens) l) u ≡ abandoned p l u
     pub due : (s : ℕ) → isAbandoning p (keeping (x .opens) l) s ≡ true → n ≤ owner p s

@@ -18,7 +18,7 @@ ghost use Rattle.rules.specs.Signal.{abandoned};
 ghost use Rattle.plan.specs.Passes.{slots};
 ghost use Rattle.lookup.specs.Going.{Accepts, Roomy, ledgerOf};
 ghost use Rattle.withdrawal.specs.Orderly.{Orderly, withConfiguration};
-ghost use Rattle.withdrawal.specs.Scopes.{Nested, isBusy, Counted, keptBy, keeping, Standing, Climbed, Cleared};
+ghost use Rattle.withdrawal.specs.Scopes.{Nested, isBusy, Counted, keptBy, keeping, Figures, Climbed, Cleared};
 
 // For each track: whether it has an open scope, and how many busy tracks it hosts there.
 pub struct Scopes {
@@ -102,19 +102,19 @@ fn open_scopes(plan: &[u8], c: Counts, ledger: &[u16]) -> Scopes
 // The scope of a track, which is due, goes to sleep. If that leaves the track busy no longer, its host's track has one busy track fewer,
 // and where that was the last one the scope there is next.
 fn climb(plan: &[u8], c: Counts, ledger: &[u16], scopes: Scopes, t: usize) -> Scopes
-    requires { ⌜ Accepts (now plan) c × Orderly c (now ledger) × Standing (planOf (now plan) c) (ledgerOf c (now ledger)) scopes × (t < c .tracks) × (getD (scopes .opens) t false ≡ true) × (getD (scopes .busy) t 0 ≡ 0) ⌝ }
-    ensures { λ r. ⌜ Standing (planOf (now (plan .entry)) c) (ledgerOf c (now (ledger .entry))) r × Climbed (planOf (now (plan .entry)) c) (keeping (planOf (now (plan .entry)) c) (scopes .opens) (ledgerOf c (now (ledger .entry)))) (keeping (planOf (now (plan .entry)) c) (r .opens) (ledgerOf c (now (ledger .entry)))) t ⌝ }
+    requires { ⌜ Accepts (now plan) c × Orderly c (now ledger) × Figures (planOf (now plan) c) (ledgerOf c (now ledger)) scopes × (t < c .tracks) × (getD (scopes .opens) t false ≡ true) × (getD (scopes .busy) t 0 ≡ 0) ⌝ }
+    ensures { λ r. ⌜ Figures (planOf (now (plan .entry)) c) (ledgerOf c (now (ledger .entry))) r × Climbed (planOf (now (plan .entry)) c) (keeping (planOf (now (plan .entry)) c) (scopes .opens) (ledgerOf c (now (ledger .entry)))) (keeping (planOf (now (plan .entry)) c) (r .opens) (ledgerOf c (now (ledger .entry)))) t ⌝ }
 {
     let mut next = scopes;
     next.opens[t] = false;
     if !is_taken_back(c, ledger, t) {
         return next;
     }
-    let u = reading::host_track(plan, c, t);
-    if u == NO_STATE {
+    let up = reading::host_track(plan, c, t);
+    if up == NO_STATE {
         return next;
     }
-    let at = u as usize;
+    let at = up as usize;
     let count = next.busy[at] - 1;
     next.busy[at] = count;
     if count != 0 {
