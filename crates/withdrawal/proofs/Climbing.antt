@@ -11,7 +11,7 @@ use native.Mathlib.Omega.{arith}
 use lib.Dec.{eqb}
 use lib.ListN.{length, getD, set, length-set}
 use lib.Seq.{getD-set-same, getD-set-other}
-use borrow.Author.Tests.{eqb-true, eqb-false, not-true, not-false}
+use borrow.Author.Tests.{eqb-true, eqb-false, not-true}
 use Rattle.rules.specs.Plan.{Plan, trackCount, host, owner, isIn, isHostedBy, everyIn}
 use Rattle.rules.specs.Ledger.{Configuration, Ledger, isAwake, isUndoing, isEmpty, sleeping}
 use Rattle.rules.specs.Scope.{isOpen, hasOpenScope}
@@ -20,10 +20,10 @@ use Rattle.rules.proofs.Tests.{look, look-option, clash, none-some, refuted, an
 use Rattle.rules.proofs.Folds.{some-same, some-none, count-same}
 use Rattle.rules.proofs.Acceptance.{Accepted}
 use Rattle.rules.proofs.Scopes.{in-host, host-in, by-host, host-by, every-in-at, every-in-of, open-at, open-find, busy-at, busy-find, free-at}
-use Rattle.rules.proofs.Abandoning.{undoing-awake, bare-parts, abandonedOne, abandoned-one, abandoned-steady}
+use Rattle.rules.proofs.Abandoning.{bare-parts, abandonedOne, abandoned-one, abandoned-steady}
 use Rattle.plan.specs.Passes.{slots}
 use Rattle.withdrawal.specs.declared.abandoning.Scopes.{Scopes}
-use Rattle.withdrawal.specs.Scopes.{Nested, isBusy, busyTracks, Counted, keptBy, keeping, Figures, Climbed, Cleared}
+use Rattle.withdrawal.specs.Scopes.{Nested, isBusy, busyBelow, busyTracks, Counted, keptBy, keeping, Figures, Due, Climbed, Cleared}
 use Rattle.withdrawal.proofs.Counted.{count-none, count-zero, count-less, same-host, set-figure}
 
 module _ (p : Plan) (l : Ledger) where
@@ -74,7 +74,7 @@ module _ (p : Plan) (l : Ledger) where
     due-open s d = let (t, b, e, a) = open-find p l s (due-parts s d .0) in busy-at p l t s b e a
 
     due-idle : (s : ℕ) → isAbandoning p l s ≡ true → busyTracks p l (owner p s) ≡ 0
-    unfolding busyTracks
+    unfolding busyBelow
     due-idle s d =
         let (t, b, e, a) = open-find p l s (due-parts s d .0) in
         count-none (trackCount p) (λ u. isHostedBy p (owner p s) u && isBusy p l u)
@@ -91,7 +91,7 @@ module _ (p : Plan) (l : Ledger) where
 
     -- an open scope without a busy track is due
     idle-due : (t : ℕ) → hasOpenScope p l t ≡ true → busyTracks p l t ≡ 0 → (s : ℕ) × (owner p s ≡ t) × (isAbandoning p l s ≡ true)
-    unfolding busyTracks
+    unfolding busyBelow
     idle-due t o n =
         let (u, h, b, e, r, a) = busy-find p l t o in
         let each : (v : ℕ) → v < trackCount p → isIn p h v ≡ true → isBare p l v ≡ true =
@@ -161,29 +161,26 @@ module _ (p : Plan) (opens : List Bool) (l : Ledger) where
               ]
         ])
 
--- The scope of a track is due: the track's mark is set, and its count is 0.
-pub record Due (p : Plan) (l : Ledger) (x : Scopes) (t : ℕ) : Type 0 where
+-- The scope of a track is due.
+pub record Step (p : Plan) (l : Ledger) (x : Scopes) (t : ℕ) : Type 0 where
   pub accepted : Accepted p
   pub few : trackCount p ≤ slots
   pub blank : (t : ℕ) → isAwake (l t .mode) ≡ false → l t ≡ sleeping
-  pub figures : Figures p l x
-  pub low : t < trackCount p
-  pub marked : getD (x .opens) t false ≡ true
-  pub idle : getD (x .busy) t 0 ≡ 0
+  pub due : Due p l x t
 
 -- It goes to sleep: m is the ledger before, n the one after.
-module _ {p : Plan} {l : Ledger} {x : Scopes} {t : ℕ} (due : Due p l x t) where
+module _ {p : Plan} {l : Ledger} {x : Scopes} {t : ℕ} (step : Step p l x t) where
   ok : Accepted p
-  ok = due .accepted
+  ok = step .accepted
 
   low : t < trackCount p
-  low = due .low
+  low = step .due .low
 
   idle : getD (x .busy) t 0 ≡ 0
-  idle = due .idle
+  idle = step .due .idle
 
   st : Figures p l x
-  st = due .figures
+  st = step .due .figures
 
   abbrev m : Ledger
   m = keeping p (x .opens) l
@@ -192,7 +189,7 @@ module _ {p : Plan} {l : Ledger} {x : Scopes} {t : ℕ} (due : Due p l x t) wher
   n = keeping p (set (x .opens) t false) l
 
   sized : t < length (x .opens)
-  sized = let q = st .counted .opens-size in let f = due .few in let b = low in omega arith
+  sized = let q = st .counted .opens-size in let f = step .few in let b = low in omega arith
 
   -- the tracks that it hosts are asleep, and no other changes
   asleep-now : (u : ℕ) → isHostedBy p t u ≡ true → n u ≡ sleeping
@@ -235,7 +232,7 @@ module _ {p : Plan} {l : Ledger} {x : Scopes} {t : ℕ} (due : Due p l x t) wher
       ]
 
   open-here : hasOpenScope p m t ≡ true
-  open-here = sym (st .counted .opens t low) ∙ due .marked
+  open-here = sym (st .counted .mark t low) ∙ step .due .marked
 
   -- it had an open scope, so it was awake, and busy
   awake-here : isAwake (m t .mode) ≡ true
@@ -281,10 +278,10 @@ module _ {p : Plan} {l : Ledger} {x : Scopes} {t : ℕ} (due : Due p l x t) wher
       ]
 
   none-busy : busyTracks p m t ≡ 0
-  none-busy = sym (st .counted .busy t low) ∙ idle
+  none-busy = sym (st .counted .count t low) ∙ idle
 
   none-busy-now : busyTracks p n t ≡ 0
-  unfolding busyTracks
+  unfolding busyBelow
   none-busy-now =
       count-none (trackCount p) (λ u. isHostedBy p t u && isBusy p n u)
       (λ u b.
@@ -316,7 +313,7 @@ module _ {p : Plan} {l : Ledger} {x : Scopes} {t : ℕ} (due : Due p l x t) wher
             rw i
             (elim (look (isHostedBy p t u)) [
               | inr k ↦ as-before u k
-              | inl k ↦ asleep-now u k ∙ sym (keep-blank p (x .opens) l (due .blank) u (refuted (isAwake (m u .mode)) (λ a. clash (in-due u k a) i)))
+              | inl k ↦ asleep-now u k ∙ sym (keep-blank p (x .opens) l (step .blank) u (refuted (isAwake (m u .mode)) (λ a. clash (in-due u k a) i)))
             ])
       ])
 
@@ -368,7 +365,7 @@ module _ {p : Plan} {l : Ledger} {x : Scopes} {t : ℕ} (due : Due p l x t) wher
   -- the mark taken: who has an open scope now
   open-marks : (u : ℕ) → u < trackCount p → getD (set (x .opens) t false) u false ≡ hasOpenScope p n u
   open-marks u b =
-      set-figure (x .opens) t false false (hasOpenScope p n) sized (sym shut-here) u (λ d. st .counted .opens u b ∙ sym (same-open u d))
+      set-figure (x .opens) t false false (hasOpenScope p n) sized (sym shut-here) u (λ d. st .counted .mark u b ∙ sym (same-open u d))
 
   opens-sized : length (set (x .opens) t false) ≡ slots
   opens-sized = length-set (x .opens) t false ∙ st .counted .opens-size
@@ -387,12 +384,12 @@ module _ {p : Plan} {l : Ledger} {x : Scopes} {t : ℕ} (due : Due p l x t) wher
 
   -- a count changes only where the track itself is counted
   same-count : (u : ℕ) → u < trackCount p → (isHostedBy p u t ≡ true → isBusy p n t ≡ true) → getD (x .busy) u 0 ≡ busyTracks p n u
-  unfolding busyTracks
+  unfolding busyBelow
   same-count u b still =
       elim (look (eqb u t)) [
         | inl e ↦ subst (λ v. getD (x .busy) v 0 ≡ busyTracks p n v) (sym (eqb-true u t e)) (idle ∙ sym none-busy-now)
         | inr e ↦
-            st .counted .busy u b
+            st .counted .count u b
             ∙ count-same (trackCount p) (λ v. isHostedBy p u v && isBusy p m v) (λ v. isHostedBy p u v && isBusy p n v)
             (λ v c.
             elim (look (eqb v t)) [
@@ -405,26 +402,26 @@ module _ {p : Plan} {l : Ledger} {x : Scopes} {t : ℕ} (due : Due p l x t) wher
 
   -- the track is still busy, or is a root: the counts are as before
   module _ (still : (u : ℕ) → isHostedBy p u t ≡ true → isBusy p n t ≡ true) where
-    pub step-last : ((r : ℕ) → isIn p r t ≡ true → isAbandoning p n r ≡ true → ⊥)
-        → Figures p l (record { opens = set (x .opens) t false; busy = x .busy }) × Climbed p m n t
-    step-last none-due = (
-      record {
-        nested = nested-now;
-        counted = record { opens-size = opens-sized; busy-size = st .counted .busy-size; opens = open-marks; busy = λ u b. same-count u b (still u) };
-      },
-      record {
-        same = same-outcome;
-        due = λ r d. elim (look (isIn p r t)) [ inl i ↦ absurd (none-due r i d) | inr i ↦ due-before r d i ];
-      },
-    )
+    step-last : ((r : ℕ) → isIn p r t ≡ true → isAbandoning p n r ≡ true → ⊥) → Climbed p l x (record { opens = set (x .opens) t false; busy = x .busy }) t
+    step-last none-due =
+        record {
+          figures = record {
+            nested = nested-now;
+            counted = record {
+              opens-size = opens-sized;
+              busy-size = st .counted .busy-size;
+              mark = open-marks;
+              count = λ u b. same-count u b (still u);
+            };
+          };
+          same = same-outcome;
+          due = λ r d. elim (look (isIn p r t)) [ inl i ↦ absurd (none-due r i d) | inr i ↦ due-before r d i ];
+        }
 
-  abbrev Last : Type 0
-  Last = Figures p l (record { opens = set (x .opens) t false; busy = x .busy }) × Climbed p m n t
-
-  pub step-busy : taken-back ≡ false → Last
+  pub step-busy : taken-back ≡ false → Climbed p l x (record { opens = set (x .opens) t false; busy = x .busy }) t
   step-busy k = step-last (λ u i. busy-now ∙ ap not k) (λ r i d. clash (sym as-read ∙ due-own r d i) k)
 
-  pub step-root : host p t ≡ none → Last
+  pub step-root : host p t ≡ none → Climbed p l x (record { opens = set (x .opens) t false; busy = x .busy }) t
   step-root e = step-last (λ u i. none-some e (by-host p u t i .1)) (λ r i d. none-some e (in-host p r t i))
 
   -- Busy no longer: its host's track has one busy track fewer.
@@ -439,7 +436,7 @@ module _ {p : Plan} {l : Ledger} {x : Scopes} {t : ℕ} (due : Due p l x t) wher
     up-other z = let d = ok .lower t h e in omega arith
 
     one-less : busyTracks p m up ≡ busyTracks p n up + 1
-    unfolding busyTracks
+    unfolding busyBelow
     one-less =
         count-less (trackCount p) (λ v. isHostedBy p up v && isBusy p m v) (λ v. isHostedBy p up v && isBusy p n v) t low
         (and-both (isHostedBy p up t) (isBusy p m t) (host-by p t h e) busy-here)
@@ -447,30 +444,30 @@ module _ {p : Plan} {l : Ledger} {x : Scopes} {t : ℕ} (due : Due p l x t) wher
         (λ v c d. sym (hosted-busy up v up-other d))
 
     pub some-busy : 0 < getD (x .busy) up 0
-    some-busy = let q = st .counted .busy up up-low in omega (arith, one-less)
+    some-busy = let q = st .counted .count up up-low in omega (arith, one-less)
 
     module _ {k : ℕ} (less : k ≡ getD (x .busy) up 0 - 1) where
       abbrev next : Scopes
       next = record { opens = set (x .opens) t false; busy = set (x .busy) up k }
 
       here-now : k ≡ busyTracks p n up
-      here-now = let q = st .counted .busy up up-low in omega (arith, one-less)
+      here-now = let q = st .counted .count up up-low in omega (arith, one-less)
 
       fewer-counts : (u : ℕ) → u < trackCount p → getD (set (x .busy) up k) u 0 ≡ busyTracks p n u
       fewer-counts u b =
           set-figure (x .busy) up k 0 (busyTracks p n)
-          (let q = st .counted .busy-size in let f = due .few in let r = up-low in omega arith) here-now u
+          (let q = st .counted .busy-size in let f = step .few in let r = up-low in omega arith) here-now u
           (λ z. same-count u b (λ g. let (r, f, o) = by-host p u t g in absurd (z (sym o ∙ ap (owner p) (same-host f e)))))
 
-      pub step-figures : Figures p l next
+      step-figures : Figures p l next
       step-figures =
           record {
             nested = nested-now;
             counted = record {
               opens-size = opens-sized;
               busy-size = length-set (x .busy) up k ∙ st .counted .busy-size;
-              opens = open-marks;
-              busy = fewer-counts;
+              mark = open-marks;
+              count = fewer-counts;
             };
           }
 
@@ -478,9 +475,10 @@ module _ {p : Plan} {l : Ledger} {x : Scopes} {t : ℕ} (due : Due p l x t) wher
       own-scope r i = ap (owner p) (same-host (in-host p r t i) e)
 
       -- others keep the host's scope open
-      pub step-more : (k ≡ 0 → ⊥) → Climbed p m n t
+      pub step-more : (k ≡ 0 → ⊥) → Climbed p l x next t
       step-more z =
           record {
+            figures = step-figures;
             same = same-outcome;
             due = λ r d.
                 elim (look (isIn p r t)) [
@@ -490,25 +488,30 @@ module _ {p : Plan} {l : Ledger} {x : Scopes} {t : ℕ} (due : Due p l x t) wher
           }
 
       -- none does: it is due, and next
-      pub step-open : getD (set (x .opens) t false) up false ≡ true
-      step-open =
-          open-marks up up-low
-          ∙ busy-at p n t h low e (ap (λ (y : Configuration). isAwake (y .mode)) same-here ∙ awake-here)
+      pub step-due : k ≡ 0 → Due p l next up
+      step-due z =
+          record {
+            low = up-low;
+            figures = step-figures;
+            marked = open-marks up up-low ∙ busy-at p n t h low e (ap (λ (y : Configuration). isAwake (y .mode)) same-here ∙ awake-here);
+            idle = fewer-counts up up-low ∙ sym here-now ∙ z;
+          }
 
-      pub step-on : {w : Ledger} → Climbed p n w up → Climbed p m w t
+      pub step-on : {y : Scopes} → Climbed p l next y up → Climbed p l x y t
       step-on c =
           record {
+            figures = c .figures;
             same = λ u. c .same u ∙ same-outcome u;
             due = λ r d. let (q, o) = c .due r d in due-before r q (refuted (isIn p r t) (λ i. o (own-scope r i)));
           }
 
 -- Track by track, each scope that is due at its track's visit.
 module _ (p : Plan) (ok : Accepted p) (l : Ledger) where
-  pub cleared-start : ((t : ℕ) → isAwake (l t .mode) ≡ false → l t ≡ sleeping) → Nested p l → (x : Scopes) → Counted p l x → Cleared p l x 0
+  pub cleared-start : ((t : ℕ) → isAwake (l t .mode) ≡ false → l t ≡ sleeping) → Nested p l → (x : Scopes) → Counted p l (x .opens) (x .busy) (trackCount p) → Cleared p l x 0
   cleared-start blank nest x k =
-      let e = keep-all p (x .opens) l blank ok (k .opens) in
+      let e = keep-all p (x .opens) l blank ok (k .mark) in
       record {
-        figures = record { nested = subst (Nested p) (sym e) nest; counted = subst (λ (m : Ledger). Counted p m x) (sym e) k };
+        figures = record { nested = subst (Nested p) (sym e) nest; counted = subst (λ (m : Ledger). Counted p m (x .opens) (x .busy) (trackCount p)) (sym e) k };
         same = λ u. ap (λ (m : Ledger). abandoned p m u) e;
         due = λ s d. omega arith;
       }
@@ -530,17 +533,17 @@ module _ (p : Plan) (ok : Accepted p) (l : Ledger) where
     cleared-shut z =
         passed-by
         (λ s o d.
-        clash (subst (λ v. hasOpenScope p at v ≡ true) o (due-open p at ok (k .figures .nested) s d)) (sym (k .figures .counted .opens t low) ∙ z))
+        clash (subst (λ v. hasOpenScope p at v ≡ true) o (due-open p at ok (k .figures .nested) s d)) (sym (k .figures .counted .mark t low) ∙ z))
 
     pub cleared-busy : (getD (x .busy) t 0 ≡ 0 → ⊥) → Cleared p l x (t + 1)
     cleared-busy z =
         passed-by
-        (λ s o d. z (k .figures .counted .busy t low ∙ ap (busyTracks p at) (sym o) ∙ due-idle p at ok (k .figures .nested) s d))
+        (λ s o d. z (k .figures .counted .count t low ∙ ap (busyTracks p at) (sym o) ∙ due-idle p at ok (k .figures .nested) s d))
 
-    pub cleared-more : {y : Scopes} → Figures p l y → Climbed p at (keeping p (y .opens) l) t → Cleared p l y (t + 1)
-    cleared-more st c =
+    pub cleared-more : {y : Scopes} → Climbed p l x y t → Cleared p l y (t + 1)
+    cleared-more c =
         record {
-          figures = st;
+          figures = c .figures;
           same = λ u. c .same u ∙ k .same u;
           due = λ s d. let (q, o) = c .due s d in let f : owner p s ≡ t → ⊥ = o in let b = k .due s q in omega arith;
         }

@@ -14,12 +14,12 @@ use borrow.Author.Tests.{eqb-true, eqb-false, not-true, not-false}
 use Rattle.rules.specs.declared.Counts.{Counts}
 use Rattle.rules.specs.declared.Track.{Track}
 use Rattle.rules.specs.Fold.{countBelow}
-use Rattle.rules.specs.Plan.{Plan, planOf, trackCount, noState, owner, isHostedBy}
+use Rattle.rules.specs.Plan.{Plan, planOf, noState, owner, isHostedBy}
 use Rattle.rules.specs.Ledger.{Ledger, isAwake, isUndoing, isEmpty}
 use Rattle.rules.specs.Scope.{hasOpenScope}
 use Rattle.rules.specs.Signal.{isBare}
-use Rattle.rules.proofs.Tests.{look, none-some, refuted}
-use Rattle.rules.proofs.Folds.{count-same, count-more, count-most}
+use Rattle.rules.proofs.Tests.{look, clash, none-some, refuted, and-not}
+use Rattle.rules.proofs.Folds.{count-same, count-more, count-most as most}
 use Rattle.rules.proofs.Scopes.{by-host, host-by}
 use Rattle.plan.specs.Passes.{slots}
 use Rattle.plan.proofs.FieldLaws.{track-count}
@@ -30,7 +30,7 @@ use Rattle.lookup.specs.Marks.{openMarks}
 use Rattle.lookup.proofs.Facts.{plan-facts, few-tracks, no-host-track, host-of-track, host-track-low}
 use Rattle.lookup.proofs.Marks.{length-open}
 use Rattle.lookup.proofs.Turns.{open-read}
-use Rattle.withdrawal.specs.Scopes.{isBusy, busyTracks, Counted}
+use Rattle.withdrawal.specs.Scopes.{isBusy, busyBelow, Counted}
 
 -- Counts: none passes, and one that passes no longer.
 pub count-none : (n : ℕ) (f : ℕ → Bool) → ((k : ℕ) → k < n → f k ≡ false) → countBelow n f ≡ 0
@@ -121,84 +121,76 @@ module _ (p : Plan) (l : Ledger) (t : ℕ) {r : Bool} (f : r ≡ isAwake (l t .m
         go true = refl
         go false = refl
 
--- one track counted
-module _ (bs : List ℕ) (c : Counts) (acc : Accepts bs c) (l : Ledger) (busy : List ℕ) (size : length busy ≡ slots) (t : ℕ) {b : Bool}
-    (f : b ≡ isBusy (planOf bs c) l t) where
+-- the pass: after the tracks below n each count is the definition's at n
+module _ (bs : List ℕ) (c : Counts) (acc : Accepts bs c) (l : Ledger) (opens : List Bool) where
   abbrev p : Plan
   p = planOf bs c
 
-  -- the counts after the track
-  abbrev Added : List ℕ → Type 0
-  Added r = (length r ≡ slots) × ((u : ℕ) → u < c .tracks → getD r u 0 ≡ getD busy u 0 + cond (isHostedBy p u t && isBusy p l t) 1 0)
+  pub count-start : opens ≡ openMarks p l (c .tracks) → Counted p l opens (replicate slots 0) 0
+  unfolding busyBelow countBelow
+  count-start e =
+      let q = track-count bs c in
+      let f = acc .holds .tracks in
+      record {
+        opens-size = ap length e ∙ length-open p (plan-facts bs c acc) (few-tracks bs c acc) l (c .tracks);
+        busy-size = length-replicate {A = ℕ} slots 0;
+        mark = λ u d. open-read bs c acc l opens u e (omega arith);
+        count = λ u d. getD-replicate slots u 0 0 (omega arith);
+      }
 
-  not-added : ((u : ℕ) → (isHostedBy p u t && isBusy p l t) ≡ false) → Added busy
-  not-added h = (size, λ u k. let q = h u in rw q (omega arith))
+  module _ (busy : List ℕ) (t : ℕ) (k : Counted p l opens busy t) where
+    pub count-mark : t < c .tracks → getD opens t false ≡ hasOpenScope p l t
+    count-mark b = k .mark t (omega (arith, track-count bs c))
 
-  pub added-idle : not b ≡ true → Added busy
-  added-idle n = not-added (λ u. let q = sym f ∙ not-true b n in rw q (go (isHostedBy p u t)))
-    where
-      go : (a : Bool) → (a && false) ≡ false
-      go true = refl
-      go false = refl
+    module _ {b : Bool} (f : b ≡ isBusy p l t) where
+      -- the counts with the track's own
+      abbrev added : ℕ → ℕ
+      added u = getD busy u 0 + cond (isHostedBy p u t && isBusy p l t) 1 0
 
-  module _ (n : not b ≡ false) {v : ℕ} (g : v ≡ hostTrack p t) where
-    pub added-root : v ≡ noState → Added busy
-    added-root z =
-        not-added
-        (λ u.
-        let q : isHostedBy p u t ≡ false = refuted (isHostedBy p u t) (λ i. let (h, e, o) = by-host p u t i in none-some (no-host-track bs c t acc (sym g ∙ z)) e) in
-        rw q)
+      count-next : (r : List ℕ) → length r ≡ slots → ((u : ℕ) → getD r u 0 ≡ added u) → Counted p l opens r (t + 1)
+      unfolding busyBelow
+      count-next r size h =
+          record {
+            opens-size = k .opens-size;
+            busy-size = size;
+            mark = k .mark;
+            count = λ u d.
+                h u ∙ ap (λ z. z + cond (isHostedBy p u t && isBusy p l t) 1 0) (k .count u d)
+                ∙ sym (count-more t (λ v. isHostedBy p u v && isBusy p l v));
+          }
 
-    pub added-host : (v ≡ noState → ⊥) → Added (set busy v (getD busy v 0 + 1))
-    added-host z =
-        let (h, e, o) = host-of-track p t (λ y. z (g ∙ y)) in
-        let w : owner p h ≡ v = o ∙ sym g in
-        let low : v < length busy = let q = host-track-low bs c t v acc g z in let r = acc .holds .tracks in omega arith in
-        let here : isHostedBy p v t ≡ true = subst (λ a. isHostedBy p a t ≡ true) w (host-by p t h e) in (
-          length-set busy v (getD busy v 0 + 1) ∙ size,
-          λ u k.
-              set-figure busy v (getD busy v 0 + 1) 0 (λ u. getD busy u 0 + cond (isHostedBy p u t && isBusy p l t) 1 0) low
-              (rw (here, ← f, not-false b n)) u
+      not-added : ((u : ℕ) → (isHostedBy p u t && isBusy p l t) ≡ false) → Counted p l opens busy (t + 1)
+      not-added h = count-next busy (k .busy-size) (λ u. let q = h u in rw q (omega arith))
+
+      pub count-idle : not b ≡ true → Counted p l opens busy (t + 1)
+      count-idle n = not-added (λ u. and-not (isHostedBy p u t) (isBusy p l t) (λ i j. clash (f ∙ j) (not-true b n)))
+
+      module _ (n : not b ≡ false) {v : ℕ} (g : v ≡ hostTrack p t) where
+        pub count-root : v ≡ noState → Counted p l opens busy (t + 1)
+        count-root z =
+            not-added
+            (λ u.
+            and-not (isHostedBy p u t) (isBusy p l t)
+            (λ i j. let (h, e, o) = by-host p u t i in none-some (no-host-track bs c t acc (sym g ∙ z)) e))
+
+        module _ (z : v ≡ noState → ⊥) where
+          pub count-most : getD busy v 0 ≤ t
+          unfolding busyBelow
+          count-most =
+              let q = k .count v (let w = host-track-low bs c t v acc g z in omega (arith, track-count bs c)) in
+              let r = most t (λ w. isHostedBy p v w && isBusy p l w) in
+              omega arith
+
+          pub count-host : Counted p l opens (set busy v (getD busy v 0 + 1)) (t + 1)
+          count-host =
+              let (h, e, o) = host-of-track p t (λ y. z (g ∙ y)) in
+              let w : owner p h ≡ v = o ∙ sym g in
+              let low : v < length busy = let q = host-track-low bs c t v acc g z in let r = acc .holds .tracks in let s = k .busy-size in omega arith in
+              let here : isHostedBy p v t ≡ true = subst (λ a. isHostedBy p a t ≡ true) w (host-by p t h e) in
+              count-next (set busy v (getD busy v 0 + 1)) (length-set busy v (getD busy v 0 + 1) ∙ k .busy-size)
+              (λ u.
+              set-figure busy v (getD busy v 0 + 1) 0 added low (rw (here, ← f, not-false b n)) u
               (λ y.
               let q : isHostedBy p u t ≡ false =
               refuted (isHostedBy p u t) (λ j. let (r, d, a) = by-host p u t j in y (sym a ∙ ap (owner p) (same-host d e) ∙ w)) in
-              rw q (omega arith)),
-        )
-
--- the pass: after the tracks below n each count is the definition's at n
-module _ (p : Plan) (l : Ledger) (size : ℕ) where
-  abbrev pub Below : ℕ → List ℕ → Type 0
-  Below n busy = (length busy ≡ slots) × ((u : ℕ) → u < size → getD busy u 0 ≡ countBelow n (λ t. isHostedBy p u t && isBusy p l t))
-
-  pub below-start : size ≤ slots → Below 0 (replicate slots 0)
-  unfolding countBelow
-  below-start h = (length-replicate {A = ℕ} slots 0, λ u b. getD-replicate slots u 0 0 (omega arith))
-
-  module _ (n : ℕ) (busy : List ℕ) (k : Below n busy) where
-    pub below-most : (u : ℕ) → u < size → getD busy u 0 ≤ n
-    below-most u b = let q = k .1 u b in let r = count-most n (λ t. isHostedBy p u t && isBusy p l t) in omega arith
-
-    pub below-more : (r : List ℕ)
-        → (length r ≡ slots) × ((u : ℕ) → u < size → getD r u 0 ≡ getD busy u 0 + cond (isHostedBy p u n && isBusy p l n) 1 0)
-        → Below (n + 1) r
-    below-more r d = (
-      d .0,
-      λ u b.
-          d .1 u b ∙ ap (λ z. z + cond (isHostedBy p u n && isBusy p l n) 1 0) (k .1 u b)
-          ∙ sym (count-more n (λ t. isHostedBy p u t && isBusy p l t)),
-    )
-
-pub counted : (bs : List ℕ) (c : Counts) → Accepts bs c → (l : Ledger) {opens : List Bool} {busy : List ℕ}
-    → opens ≡ openMarks (planOf bs c) l (c .tracks) → (n : ℕ) → n ≤ c .tracks → c .tracks ≤ n → Below (planOf bs c) l (c .tracks) n busy
-    → Counted (planOf bs c) l (record { opens = opens; busy = busy })
-unfolding busyTracks
-counted bs c acc l {opens} {busy} e n a b k =
-    let q = track-count bs c in
-    let p : Plan = planOf bs c in
-    let same : n ≡ trackCount p = omega arith in
-    record {
-      opens-size = ap length e ∙ length-open p (plan-facts bs c acc) (few-tracks bs c acc) l (c .tracks);
-      busy-size = k .0;
-      opens = λ u d. open-read bs c acc l opens u e (omega arith);
-      busy = λ u d. k .1 u (omega arith) ∙ ap (λ (j : ℕ). countBelow j (λ t. isHostedBy p u t && isBusy p l t)) same;
-    }
+              rw q (omega arith)))

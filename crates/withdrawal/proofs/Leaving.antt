@@ -4,11 +4,10 @@ use mathlib.Core.Path.{_≡_, sym, ap, _∙_, subst}
 use mathlib.Core.Logic.{inl, inr}
 use mathlib.Core.Bool.{Bool, true, false, not, _&&_}
 use mathlib.Core.List.{List}
-use mathlib.Core.Option.{none, some}
+use mathlib.Core.Option.{some}
 use Prim.Native.Nat.{ℕ, _+_, _-_, _<_, _≤_}
 use native.Mathlib.Omega.{arith}
 use lib.ListN.{length, getD, set}
-use lib.Seq.{getD-set-same}
 use borrow.Author.Tests.{not-true, not-false}
 use Rattle.rules.specs.declared.Counts.{Counts}
 use Rattle.rules.specs.Plan.{Plan, planOf, trackCount, noState, host, owner}
@@ -19,108 +18,77 @@ use Rattle.rules.proofs.Passes.{upTo}
 use Rattle.plan.proofs.FieldLaws.{track-count}
 use Rattle.ledger.specs.Words.{withAsleep}
 use Rattle.lookup.specs.Going.{Accepts, ledgerOf, hostTrack}
-use Rattle.lookup.proofs.Facts.{plan-facts, few-tracks, no-host-track, host-of-track, host-track-low}
+use Rattle.lookup.proofs.Facts.{plan-facts, few-tracks, no-host-track, host-of-track}
 use Rattle.withdrawal.specs.Orderly.{Orderly, withConfiguration}
 use Rattle.withdrawal.specs.declared.abandoning.Scopes.{Scopes}
-use Rattle.withdrawal.specs.Scopes.{Nested, Counted, keptBy, keeping, Figures, Climbed, Cleared}
+use Rattle.withdrawal.specs.Scopes.{Nested, Counted, keptBy, keeping, Due, Climbed, Cleared, LeftOpen}
 use Rattle.withdrawal.proofs.Standing.{holds, kept-track, put-asleep, Fitting, pass-start, pass-orderly, pass-length, pass-more, pass-end}
 use Rattle.withdrawal.proofs.Storing.{Stores, stores-sleeping, stores-at}
-use Rattle.withdrawal.proofs.Climbing.{keep-root, keep-open, keep-shut, keep-case, keep-sleeping, Due, step-busy, step-root, some-busy, step-figures, step-more, step-open, step-on, cleared-start, cleared-shut, cleared-busy, cleared-more, cleared-end}
-
--- the host's track has a lower number
-pub host-lower : (bs : List ℕ) (c : Counts) → Accepts bs c → (t u : ℕ) → u ≡ hostTrack (planOf bs c) t → (u ≡ noState → ⊥) → u < t
-host-lower bs c acc t u g z =
-    let (h, q, o) = host-of-track (planOf bs c) t (λ y. z (g ∙ y)) in
-    let d = plan-facts bs c acc .lower t h q in
-    let e : u ≡ owner (planOf bs c) h = g ∙ sym o in
-    omega arith
+use Rattle.withdrawal.proofs.Climbing.{keep-root, keep-open, keep-shut, keep-case, keep-sleeping, Step, step-busy, step-root, some-busy, step-more, step-due, step-on, cleared-start, cleared-shut, cleared-busy, cleared-more, cleared-end}
 
 -- a climb: still busy, a root, others busy, and on to the host's track
-module _ (bs : List ℕ) (c : Counts) (acc : Accepts bs c) (ws : List ℕ) (o : Orderly c ws) (x : Scopes)
-    (figures : Figures (planOf bs c) (ledgerOf c ws) x) (t : ℕ) (b : t < c .tracks) (marked : getD (x .opens) t false ≡ true)
-    (idle : getD (x .busy) t 0 ≡ 0) {r : Bool} (f : r ≡ (isUndoing (ledgerOf c ws t .mode) && isEmpty (ledgerOf c ws t .held))) where
+module _ (bs : List ℕ) (c : Counts) (acc : Accepts bs c) (ws : List ℕ) (o : Orderly c ws) (x : Scopes) (t : ℕ)
+    (due : Due (planOf bs c) (ledgerOf c ws) x t) where
   abbrev p : Plan
   p = planOf bs c
 
   abbrev l : Ledger
   l = ledgerOf c ws
 
-  abbrev shut : List Bool
-  shut = set (x .opens) t false
+  pub climb-low : t < c .tracks
+  climb-low = let b = due .low in omega (arith, track-count bs c)
 
-  -- after the climb
-  abbrev Done : Scopes → Type 0
-  Done y = Figures p l y × Climbed p (keeping p (x .opens) l) (keeping p (y .opens) l) t
+  step : Step p l x t
+  step = record { accepted = plan-facts bs c acc; few = few-tracks bs c acc; blank = holds c ws o .blank; due = due }
 
-  due : Due p l x t
-  due =
-      record {
-        accepted = plan-facts bs c acc;
-        few = few-tracks bs c acc;
-        blank = holds c ws o .blank;
-        figures = figures;
-        low = omega (arith, track-count bs c);
-        marked = marked;
-        idle = idle;
-      }
+  module _ {r : Bool} (f : r ≡ (isUndoing (l t .mode) && isEmpty (l t .held))) where
+    pub climb-busy : not r ≡ true → Climbed p l x (record { opens = set (x .opens) t false; busy = x .busy }) t
+    climb-busy n = step-busy step (sym f ∙ not-true r n)
 
-  pub climb-busy : not r ≡ true → Done (record { opens = shut; busy = x .busy })
-  climb-busy n = step-busy due (sym f ∙ not-true r n)
+    module _ (n : not r ≡ false) {u : ℕ} (g : u ≡ hostTrack p t) where
+      pub climb-root : u ≡ noState → Climbed p l x (record { opens = set (x .opens) t false; busy = x .busy }) t
+      climb-root z = step-root step (no-host-track bs c t acc (sym g ∙ z))
 
-  module _ (n : not r ≡ false) {u : ℕ} (g : u ≡ hostTrack p t) where
-    pub climb-root : u ≡ noState → Done (record { opens = shut; busy = x .busy })
-    climb-root z = step-root due (no-host-track bs c t acc (sym g ∙ z))
+      module _ (z : u ≡ noState → ⊥) where
+        at : (h : ℕ) × (host p t ≡ some h) × (owner p h ≡ u)
+        at = let (h, e, q) = host-of-track p t (λ y. z (g ∙ y)) in (h, e, q ∙ sym g)
 
-    module _ (z : u ≡ noState → ⊥) where
-      at : (h : ℕ) × (host p t ≡ some h) × (owner p h ≡ u)
-      at = let (h, e, q) = host-of-track p t (λ y. z (g ∙ y)) in (h, e, q ∙ sym g)
+        back : (isUndoing (l t .mode) && isEmpty (l t .held)) ≡ true
+        back = sym f ∙ not-false r n
 
-      back : (isUndoing (l t .mode) && isEmpty (l t .held)) ≡ true
-      back = sym f ∙ not-false r n
+        pub climb-lower : u < t
+        climb-lower = subst (λ v. v < t) (at .2) (plan-facts bs c acc .lower t (at .0) (at .1))
 
-      pub climb-some : 0 < getD (x .busy) u 0
-      climb-some = subst (λ v. 0 < getD (x .busy) v 0) (at .2) (some-busy due (at .0) (at .1) back)
+        pub climb-some : 0 < getD (x .busy) u 0
+        climb-some = subst (λ v. 0 < getD (x .busy) v 0) (at .2) (some-busy step (at .0) (at .1) back)
 
-      module _ {k : ℕ} (e : k ≡ getD (x .busy) u 0 - 1) where
-        abbrev next : Scopes
-        next = record { opens = shut; busy = set (x .busy) u k }
+        module _ {k : ℕ} (e : k ≡ getD (x .busy) u 0 - 1) where
+          abbrev next : ℕ → Scopes
+          next v = record { opens = set (x .opens) t false; busy = set (x .busy) v k }
 
-        less : k ≡ getD (x .busy) (owner p (at .0)) 0 - 1
-        less = e ∙ ap (λ (v : ℕ). getD (x .busy) v 0 - 1) (sym (at .2))
+          less : k ≡ getD (x .busy) (owner p (at .0)) 0 - 1
+          less = e ∙ ap (λ (v : ℕ). getD (x .busy) v 0 - 1) (sym (at .2))
 
-        next-figures : Figures p l next
-        next-figures =
-            subst (λ (v : ℕ). Figures p l (record { opens = shut; busy = set (x .busy) v k })) (at .2) (step-figures due (at .0) (at .1) back less)
+          pub climb-more : (k ≡ 0 → ⊥) → Climbed p l x (next u) t
+          climb-more y = subst (λ v. Climbed p l x (next v) t) (at .2) (step-more step (at .0) (at .1) back less y)
 
-        pub climb-more : (k ≡ 0 → ⊥) → Done next
-        climb-more y = (next-figures, step-more due (at .0) (at .1) back less y)
+          pub climb-due : k ≡ 0 → Due p l (next u) u
+          climb-due y = subst (λ v. Due p l (next v) v) (at .2) (step-due step (at .0) (at .1) back less y)
 
-        pub climb-next : k ≡ 0 → Figures p l next × (u < c .tracks) × (getD shut u false ≡ true) × (getD (set (x .busy) u k) u 0 ≡ 0)
-        climb-next y =
-            let up = host-track-low bs c t u acc g z in
-            let w : u < length (x .busy) = let q = figures .counted .busy-size in let m = acc .holds .tracks in omega arith in (
-              next-figures,
-              up,
-              subst (λ v. getD shut v false ≡ true) (at .2) (step-open due (at .0) (at .1) back less),
-              getD-set-same (x .busy) u k 0 w ∙ y,
-            )
-
-        pub climb-on : {y : Scopes} → Figures p l y × Climbed p (keeping p shut l) (keeping p (y .opens) l) u → Done y
-        climb-on {y} d = (
-          d .0,
-          step-on due (at .0) (at .1) back less
-              (subst (λ v. Climbed p (keeping p shut l) (keeping p (y .opens) l) v) (sym (at .2)) (d .1)),
-        )
+          pub climb-on : {y : Scopes} → Climbed p l (next u) y u → Climbed p l x y t
+          climb-on {y} d = step-on step (at .0) (at .1) back less (subst (λ v. Climbed p l (next v) y v) (sym (at .2)) d)
 
 -- the visits, in track order
 module _ (bs : List ℕ) (c : Counts) (acc : Accepts bs c) (ws : List ℕ) where
-  pub visit-start : Orderly c ws → Nested (planOf bs c) (ledgerOf c ws) → (x : Scopes) → Counted (planOf bs c) (ledgerOf c ws) x
-      → Cleared (planOf bs c) (ledgerOf c ws) x 0
-  visit-start o nest x k = cleared-start (planOf bs c) (plan-facts bs c acc) (ledgerOf c ws) (holds c ws o .blank) nest x k
+  pub visit-start : Orderly c ws → Nested (planOf bs c) (ledgerOf c ws) → (x : Scopes)
+      → Counted (planOf bs c) (ledgerOf c ws) (x .opens) (x .busy) (c .tracks) → Cleared (planOf bs c) (ledgerOf c ws) x 0
+  visit-start o nest x k =
+      cleared-start (planOf bs c) (plan-facts bs c acc) (ledgerOf c ws) (holds c ws o .blank) nest x
+      (subst (Counted (planOf bs c) (ledgerOf c ws) (x .opens) (x .busy)) (sym (track-count bs c)) k)
 
   module _ (x : Scopes) (t : ℕ) where
     pub visit-end : c .tracks ≤ t → Cleared (planOf bs c) (ledgerOf c ws) x t
-        → keeping (planOf bs c) (x .opens) (ledgerOf c ws) ≡ abandoned (planOf bs c) (ledgerOf c ws)
+        → LeftOpen (planOf bs c) (ledgerOf c ws) (x .opens)
     visit-end h k = cleared-end (planOf bs c) (plan-facts bs c acc) (ledgerOf c ws) x t (omega (arith, track-count bs c)) k
 
     module _ (b : t < c .tracks) (k : Cleared (planOf bs c) (ledgerOf c ws) x t) where
@@ -133,11 +101,11 @@ module _ (bs : List ℕ) (c : Counts) (acc : Accepts bs c) (ws : List ℕ) where
       pub visit-busy : (getD (x .busy) t 0 ≡ 0 → ⊥) → Cleared (planOf bs c) (ledgerOf c ws) x (t + 1)
       visit-busy z = cleared-busy (planOf bs c) (plan-facts bs c acc) (ledgerOf c ws) x t there k z
 
-      pub visit-climb : {y : Scopes}
-          → Figures (planOf bs c) (ledgerOf c ws) y
-          × Climbed (planOf bs c) (keeping (planOf bs c) (x .opens) (ledgerOf c ws)) (keeping (planOf bs c) (y .opens) (ledgerOf c ws)) t
-          → Cleared (planOf bs c) (ledgerOf c ws) y (t + 1)
-      visit-climb d = cleared-more (planOf bs c) (plan-facts bs c acc) (ledgerOf c ws) x t there k (d .0) (d .1)
+      pub visit-due : not (getD (x .opens) t false) ≡ false → getD (x .busy) t 0 ≡ 0 → Due (planOf bs c) (ledgerOf c ws) x t
+      visit-due m i = record { low = there; figures = k .figures; marked = not-false (getD (x .opens) t false) m; idle = i }
+
+      pub visit-climb : {y : Scopes} → Climbed (planOf bs c) (ledgerOf c ws) x y t → Cleared (planOf bs c) (ledgerOf c ws) y (t + 1)
+      visit-climb d = cleared-more (planOf bs c) (plan-facts bs c acc) (ledgerOf c ws) x t there k d
 
 -- one track: asleep, a root, in a scope that is left open, in one that is not
 module _ (bs : List ℕ) (c : Counts) (acc : Accepts bs c) (ws : List ℕ) (o : Orderly c ws) (opens : List Bool) (t : ℕ) {r : Bool}
@@ -173,7 +141,7 @@ module _ (bs : List ℕ) (c : Counts) (acc : Accepts bs c) (ws : List ℕ) (o : 
 
 -- the pass
 module _ (bs : List ℕ) (c : Counts) (ws : List ℕ) (o : Orderly c ws) (opens : List Bool)
-    (k : keeping (planOf bs c) opens (ledgerOf c ws) ≡ abandoned (planOf bs c) (ledgerOf c ws)) where
+    (k : LeftOpen (planOf bs c) (ledgerOf c ws) opens) where
   abbrev left : ℕ → Configuration → Configuration
   left = keptBy (planOf bs c) opens
 

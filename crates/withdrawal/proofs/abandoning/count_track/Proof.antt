@@ -3,22 +3,22 @@ use native.Mathlib.Omega.{arith}
 use borrow.Author.Needs.{needs}
 use Rattle.rules.specs.Plan.{noState}
 use Rattle.lookup.proofs.Facts.{host-track-low}
-use Rattle.withdrawal.proofs.Counted.{added-idle, added-root, added-host}
+use Rattle.withdrawal.proofs.Counted.{count-mark, count-idle, count-root, count-most, count-host}
 use Rattle.withdrawal.proofs.abandoning.count_track.Statement.{statement}
 use Rattle.withdrawal.proofs.abandoning.count_track.Tie as tie
 
 is-busy-requires : tie.Need-is-busy-requires
-is-busy-requires c κs = search needs
+is-busy-requires c κs = (c .before .before .pre .1, c .before .before .pre .2, count-mark _ _ (c .before .before .pre .0) _ _ _ _ (c .before .before .pre .3) (c .before .before .pre .2))
 
 returns : tie.Need-returns
-returns c = added-idle _ _ (c .before .before .before .before .pre .0) _ (c .before .before .before .before .args .t5) (c .before .before .before .before .pre .3) _ (c .before .is-busy .ensures) (c .if1 .taken)
+returns c = count-idle _ _ (c .before .before .before .before .pre .0) _ _ _ _ (c .before .before .before .before .pre .3) (c .before .is-busy .ensures) (c .if1 .taken)
 
 host-track-requires : tie.Need-host-track-requires
 host-track-requires c κs = search needs
 
 returns-2 : tie.Need-returns-2
 unfolding noState
-returns-2 c = added-root _ _ (c .before .before .before .before .before .before .pre .0) _ (c .before .before .before .before .before .before .args .t5) (c .before .before .before .before .before .before .pre .3) _ (c .before .before .before .is-busy .ensures) (c .before .before .if1 .left) (c .before .host-track .ensures) (c .if2 .taken)
+returns-2 c = count-root _ _ (c .before .before .before .before .before .before .pre .0) _ _ _ _ (c .before .before .before .before .before .before .pre .3) (c .before .before .before .is-busy .ensures) (c .before .before .if1 .left) (c .before .host-track .ensures) (c .if2 .taken)
 
 cast-at : tie.Need-cast-at
 cast-at c = search needs
@@ -29,7 +29,7 @@ array-read-count c = let b = host-track-low _ _ _ _ (c .before .before .before .
 
 add-next : tie.Need-add-next
 unfolding noState
-add-next c = let n = c .before .before .before .before .before .before .pre .0 .holds .tracks in let b = c .before .before .before .before .before .before .pre .2 in let d = c .before .before .before .before .before .before .pre .5 _ (host-track-low _ _ _ _ (c .before .before .before .before .before .before .pre .0) (c .before .host-track .ensures) (c .if2 .left)) in omega arith
+add-next c = let n = c .before .before .before .before .before .before .pre .0 .holds .tracks in let b = c .before .before .before .before .before .before .pre .2 in let d = count-most _ _ (c .before .before .before .before .before .before .pre .0) _ _ _ _ (c .before .before .before .before .before .before .pre .3) (c .before .before .before .is-busy .ensures) (c .before .before .if1 .left) (c .before .host-track .ensures) (c .if2 .left) in omega arith
 
 array-write-next : tie.Need-array-write-next
 unfolding noState
@@ -37,7 +37,7 @@ array-write-next c = let b = host-track-low _ _ _ _ (c .before .before .before .
 
 returns-3 : tie.Need-returns-3
 unfolding noState
-returns-3 c = added-host _ _ (c .before .before .before .before .before .before .pre .0) _ (c .before .before .before .before .before .before .args .t5) (c .before .before .before .before .before .before .pre .3) _ (c .before .before .before .is-busy .ensures) (c .before .before .if1 .left) (c .before .host-track .ensures) (c .if2 .left)
+returns-3 c = count-host _ _ (c .before .before .before .before .before .before .pre .0) _ _ _ _ (c .before .before .before .before .before .before .pre .3) (c .before .before .before .is-busy .ensures) (c .before .before .if1 .left) (c .before .host-track .ensures) (c .if2 .left)
 
 pub count-track-spec : {M : Type 1} → statement M
 count-track-spec =
