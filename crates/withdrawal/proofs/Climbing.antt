@@ -3,17 +3,15 @@
 -- A climb is such steps, each to a lower track. Where nothing is due the ledger is the outcome of abandoning. Assumes nothing.
 use mathlib.Core.Path.{_≡_, refl, sym, ap, ap₂, _∙_, subst, fun-ext}
 use mathlib.Core.Logic.{_⊎_, inl, inr, ⊎-elim}
-use mathlib.Core.Bool.{Bool, true, false, cond, not, _&&_}
+use mathlib.Core.Bool.{Bool, true, false, not, _&&_}
 use mathlib.Core.List.{List}
-use mathlib.Core.Option.{Option, none, some}
-use Prim.Native.Nat.{ℕ, zero, suc, _+_, _-_, _<_, _≤_}
-use native.Mathlib.Nat.{not-suc-le-zero}
+use mathlib.Core.Option.{none, some}
+use Prim.Native.Nat.{ℕ, _+_, _-_, _<_, _≤_}
 use native.Mathlib.Omega.{arith}
 use lib.Dec.{eqb}
 use lib.ListN.{length, getD, set, length-set}
 use lib.Seq.{getD-set-same, getD-set-other}
-use borrow.Author.Tests.{eqb-true, eqb-false, not-true, not-false}
-use Rattle.rules.specs.Fold.{countBelow}
+use borrow.Author.Tests.{eqb-true, eqb-false, not-true}
 use Rattle.rules.specs.Plan.{Plan, trackCount, host, owner, isIn, isHostedBy, everyIn}
 use Rattle.rules.specs.Ledger.{Configuration, Ledger, isAwake, isUndoing, isEmpty, sleeping}
 use Rattle.rules.specs.Scope.{isOpen, hasOpenScope}
@@ -22,52 +20,11 @@ use Rattle.rules.proofs.Tests.{look, look-option, clash, none-some, refuted, an
 use Rattle.rules.proofs.Folds.{some-same, some-none, count-same}
 use Rattle.rules.proofs.Acceptance.{Accepted}
 use Rattle.rules.proofs.Scopes.{in-host, host-in, by-host, host-by, every-in-at, every-in-of, open-at, open-find, busy-at, busy-find, free-at}
-use Rattle.rules.proofs.Abandoning.{undoing-awake, bare-parts, abandonedOne, abandoned-one, abandoned-steady}
+use Rattle.rules.proofs.Abandoning.{bare-parts, abandonedOne, abandoned-one, abandoned-steady}
 use Rattle.plan.specs.Passes.{slots}
 use Rattle.withdrawal.specs.declared.abandoning.Scopes.{Scopes}
-use Rattle.withdrawal.specs.Scopes.{Nested, isBusy, busyTracks, Counted, keptBy, keeping, Standing, Climbed, Cleared}
-
--- Counts: none passes, and one that passes no longer.
-count-none : (n : ℕ) (f : ℕ → Bool) → ((k : ℕ) → k < n → f k ≡ false) → countBelow n f ≡ 0
-unfolding countBelow
-count-none zero f h = refl
-count-none (suc n) f h = rw (count-none n f (λ k b. h k (omega arith)), h n (omega arith))
-
-count-zero : (n : ℕ) (f : ℕ → Bool) → countBelow n f ≡ 0 → (k : ℕ) → k < n → f k ≡ false
-unfolding countBelow
-count-zero zero f h k b = absurd (not-suc-le-zero b)
-count-zero (suc n) f h k b =
-    elim (look (f n)) [
-      | inl e ↦ let q : countBelow n f + 1 ≡ 0 = rw e at h in absurd (omega arith)
-      | inr e ↦
-          let q : countBelow n f + 0 ≡ 0 = rw e at h in
-          elim (look (eqb k n)) [
-            | inl i ↦ ap f (eqb-true k n i) ∙ e
-            | inr i ↦ let d : k ≡ n → ⊥ = eqb-false k n i in count-zero n f (omega arith) k (omega arith)
-          ]
-    ]
-
-count-less : (n : ℕ) (f g : ℕ → Bool) (t : ℕ) → t < n → f t ≡ true → g t ≡ false → ((k : ℕ) → k < n → (k ≡ t → ⊥) → f k ≡ g k)
-    → countBelow n f ≡ countBelow n g + 1
-unfolding countBelow
-count-less zero f g t b x y h = absurd (not-suc-le-zero b)
-count-less (suc n) f g t b x y h =
-    elim (look (eqb t n)) [
-      | inl e ↦
-          let q = eqb-true t n e in
-          let i : f n ≡ true = ap f (sym q) ∙ x in
-          let j : g n ≡ false = ap g (sym q) ∙ y in
-          let s = count-same n f g (λ k c. h k (omega arith) (λ (z : k ≡ t). omega arith)) in
-          rw (i, j, s) (omega arith)
-      | inr e ↦
-          let q : t ≡ n → ⊥ = eqb-false t n e in
-          let i = count-less n f g t (omega arith) x y (λ k c. h k (omega arith)) in
-          let s = h n (omega arith) (λ z. q (sym z)) in
-          rw s (omega arith)
-    ]
-
-same-host : {o : Option ℕ} {a b : ℕ} → o ≡ some a → o ≡ some b → a ≡ b
-same-host d e = cc
+use Rattle.withdrawal.specs.Scopes.{Nested, isBusy, busyBelow, busyTracks, Counted, keptBy, keeping, Figures, Due, Climbed, Cleared}
+use Rattle.withdrawal.proofs.Counted.{count-none, count-zero, count-less, same-host, set-figure}
 
 module _ (p : Plan) (l : Ledger) where
   -- a track is busy, and is not
@@ -117,7 +74,7 @@ module _ (p : Plan) (l : Ledger) where
     due-open s d = let (t, b, e, a) = open-find p l s (due-parts s d .0) in busy-at p l t s b e a
 
     due-idle : (s : ℕ) → isAbandoning p l s ≡ true → busyTracks p l (owner p s) ≡ 0
-    unfolding busyTracks
+    unfolding busyBelow
     due-idle s d =
         let (t, b, e, a) = open-find p l s (due-parts s d .0) in
         count-none (trackCount p) (λ u. isHostedBy p (owner p s) u && isBusy p l u)
@@ -134,7 +91,7 @@ module _ (p : Plan) (l : Ledger) where
 
     -- an open scope without a busy track is due
     idle-due : (t : ℕ) → hasOpenScope p l t ≡ true → busyTracks p l t ≡ 0 → (s : ℕ) × (owner p s ≡ t) × (isAbandoning p l s ≡ true)
-    unfolding busyTracks
+    unfolding busyBelow
     idle-due t o n =
         let (u, h, b, e, r, a) = busy-find p l t o in
         let each : (v : ℕ) → v < trackCount p → isIn p h v ≡ true → isBare p l v ≡ true =
@@ -204,9 +161,27 @@ module _ (p : Plan) (opens : List Bool) (l : Ledger) where
               ]
         ])
 
--- The scope of a track is due, and goes to sleep.
-module _ (p : Plan) (ok : Accepted p) (few : trackCount p ≤ slots) (l : Ledger) (blank : (t : ℕ) → isAwake (l t .mode) ≡ false → l t ≡ sleeping)
-    (x : Scopes) (st : Standing p l x) (t : ℕ) (low : t < trackCount p) (marked : getD (x .opens) t false ≡ true) where
+-- The scope of a track is due.
+pub record Step (p : Plan) (l : Ledger) (x : Scopes) (t : ℕ) : Type 0 where
+  pub accepted : Accepted p
+  pub few : trackCount p ≤ slots
+  pub blank : (t : ℕ) → isAwake (l t .mode) ≡ false → l t ≡ sleeping
+  pub due : Due p l x t
+
+-- It goes to sleep: m is the ledger before, n the one after.
+module _ {p : Plan} {l : Ledger} {x : Scopes} {t : ℕ} (step : Step p l x t) where
+  ok : Accepted p
+  ok = step .accepted
+
+  low : t < trackCount p
+  low = step .due .low
+
+  idle : getD (x .busy) t 0 ≡ 0
+  idle = step .due .idle
+
+  st : Figures p l x
+  st = step .due .figures
+
   abbrev m : Ledger
   m = keeping p (x .opens) l
 
@@ -214,7 +189,7 @@ module _ (p : Plan) (ok : Accepted p) (few : trackCount p ≤ slots) (l : Ledger
   n = keeping p (set (x .opens) t false) l
 
   sized : t < length (x .opens)
-  sized = let q = st .counted .opens-size in omega arith
+  sized = let q = st .counted .opens-size in let f = step .few in let b = low in omega arith
 
   -- the tracks that it hosts are asleep, and no other changes
   asleep-now : (u : ℕ) → isHostedBy p t u ≡ true → n u ≡ sleeping
@@ -257,7 +232,7 @@ module _ (p : Plan) (ok : Accepted p) (few : trackCount p ≤ slots) (l : Ledger
       ]
 
   open-here : hasOpenScope p m t ≡ true
-  open-here = sym (st .counted .opens t low) ∙ marked
+  open-here = sym (st .counted .mark t low) ∙ step .due .marked
 
   -- it had an open scope, so it was awake, and busy
   awake-here : isAwake (m t .mode) ≡ true
@@ -302,268 +277,241 @@ module _ (p : Plan) (ok : Accepted p) (few : trackCount p ≤ slots) (l : Ledger
         | inr i ↦ rw i
       ]
 
-  module _ (idle : getD (x .busy) t 0 ≡ 0) where
-    none-busy : busyTracks p m t ≡ 0
-    none-busy = sym (st .counted .busy t low) ∙ idle
+  none-busy : busyTracks p m t ≡ 0
+  none-busy = sym (st .counted .count t low) ∙ idle
 
-    none-busy-now : busyTracks p n t ≡ 0
-    unfolding busyTracks
-    none-busy-now =
-        count-none (trackCount p) (λ u. isHostedBy p t u && isBusy p n u)
-        (λ u b.
-        and-not (isHostedBy p t u) (isBusy p n u)
-        (λ i k. elim (look (isAwake (n u .mode))) [ inl a ↦ clash i (awake-before u a .0) | inr a ↦ clash k (asleep-free p n u a) ]))
+  none-busy-now : busyTracks p n t ≡ 0
+  unfolding busyBelow
+  none-busy-now =
+      count-none (trackCount p) (λ u. isHostedBy p t u && isBusy p n u)
+      (λ u b.
+      and-not (isHostedBy p t u) (isBusy p n u)
+      (λ i k. elim (look (isAwake (n u .mode))) [ inl a ↦ clash i (awake-before u a .0) | inr a ↦ clash k (asleep-free p n u a) ]))
 
-    -- the scope that goes to sleep
-    due-here : (s : ℕ) × (owner p s ≡ t) × (isAbandoning p m s ≡ true)
-    due-here = idle-due p m ok (st .nested) t open-here none-busy
+  -- the scope that goes to sleep
+  due-here : (s : ℕ) × (owner p s ≡ t) × (isAbandoning p m s ≡ true)
+  due-here = idle-due p m ok (st .nested) t open-here none-busy
 
-    abbrev s : ℕ
-    s = due-here .0
+  abbrev s : ℕ
+  s = due-here .0
 
-    -- an awake track that it hosts is in that scope
-    in-due : (u : ℕ) → isHostedBy p t u ≡ true → isAwake (m u .mode) ≡ true → isIn p s u ≡ true
-    in-due u k a =
-        let (h, e, o) = by-host p t u k in
-        let (v, b, f, c) = open-find p m s (due-parts p m s (due-here .2) .0) in
-        host-in p s u (e ∙ ap some (one-scope p m ok (st .nested) u v h s e f (o ∙ sym (due-here .1)) a c))
+  -- an awake track that it hosts is in that scope
+  in-due : (u : ℕ) → isHostedBy p t u ≡ true → isAwake (m u .mode) ≡ true → isIn p s u ≡ true
+  in-due u k a =
+      let (h, e, o) = by-host p t u k in
+      let (v, b, f, c) = open-find p m s (due-parts p m s (due-here .2) .0) in
+      host-in p s u (e ∙ ap some (one-scope p m ok (st .nested) u v h s e f (o ∙ sym (due-here .1)) a c))
 
-    step-is : n ≡ abandonedOne p ok m s
-    unfolding abandonedOne
-    step-is =
-        fun-ext
-        (λ u.
-        elim (look (isIn p s u)) [
-          | inl i ↦ rw i (asleep-now u (subst (λ v. isHostedBy p v u ≡ true) (due-here .1) (host-by p u s (in-host p s u i))))
-          | inr i ↦
-              rw i
-              (elim (look (isHostedBy p t u)) [
-                | inr k ↦ as-before u k
-                | inl k ↦ asleep-now u k ∙ sym (keep-blank p (x .opens) l blank u (refuted (isAwake (m u .mode)) (λ a. clash (in-due u k a) i)))
-              ])
-        ])
+  step-is : n ≡ abandonedOne p ok m s
+  unfolding abandonedOne
+  step-is =
+      fun-ext
+      (λ u.
+      elim (look (isIn p s u)) [
+        | inl i ↦ rw i (asleep-now u (subst (λ v. isHostedBy p v u ≡ true) (due-here .1) (host-by p u s (in-host p s u i))))
+        | inr i ↦
+            rw i
+            (elim (look (isHostedBy p t u)) [
+              | inr k ↦ as-before u k
+              | inl k ↦ asleep-now u k ∙ sym (keep-blank p (x .opens) l (step .blank) u (refuted (isAwake (m u .mode)) (λ a. clash (in-due u k a) i)))
+            ])
+      ])
 
-    same-outcome : (u : ℕ) → abandoned p n u ≡ abandoned p m u
-    same-outcome u = ap (λ (k : Ledger). abandoned p k u) step-is ∙ abandoned-one p ok m s (due-here .2) u
+  same-outcome : (u : ℕ) → abandoned p n u ≡ abandoned p m u
+  same-outcome u = ap (λ (k : Ledger). abandoned p k u) step-is ∙ abandoned-one p ok m s (due-here .2) u
 
-    -- a track that was bare had no open scope, so what is open still has its host awake
-    nested-now : Nested p n
-    nested-now =
-        record {
-          whole = λ r u v e f a.
-              let (i, b) = awake-before u a in
-              let k : isHostedBy p t v ≡ false = refuted (isHostedBy p t v) (λ j. beside u v r e f i j) in
-              subst (λ (y : Configuration). isAwake (y .mode) ≡ true) (sym (as-before v k)) (st .nested .whole r u v e f b);
-          hosting = λ u h e a.
-              let (i, b) = awake-before u a in
-              let q = st .nested .hosting u h e b in
-              let k : isHostedBy p t (owner p h) ≡ false = refuted (isHostedBy p t (owner p h)) (λ j. bare-host u h e b (q .1) j) in
-              subst (λ (y : Configuration). (y .state ≡ h) × (isAwake (y .mode) ≡ true)) (sym (as-before (owner p h) k)) q;
-        }
-      where
-        beside : (u v r : ℕ) → host p u ≡ some r → host p v ≡ some r → isHostedBy p t u ≡ false → isHostedBy p t v ≡ true → ⊥
-        beside u v r e f i j =
-            let (h, g, o) = by-host p t v j in
-            clash (subst (λ w. isHostedBy p w u ≡ true) (ap (owner p) (same-host f g) ∙ o) (host-by p u r e)) i
+  -- a track that was bare had no open scope, so what is open still has its host awake
+  nested-now : Nested p n
+  nested-now =
+      record {
+        whole = λ r u v e f a.
+            let (i, b) = awake-before u a in
+            let k : isHostedBy p t v ≡ false = refuted (isHostedBy p t v) (λ j. beside u v r e f i j) in
+            subst (λ (y : Configuration). isAwake (y .mode) ≡ true) (sym (as-before v k)) (st .nested .whole r u v e f b);
+        hosting = λ u h e a.
+            let (i, b) = awake-before u a in
+            let q = st .nested .hosting u h e b in
+            let k : isHostedBy p t (owner p h) ≡ false = refuted (isHostedBy p t (owner p h)) (λ j. bare-host u h e b (q .1) j) in
+            subst (λ (y : Configuration). (y .state ≡ h) × (isAwake (y .mode) ≡ true)) (sym (as-before (owner p h) k)) q;
+      }
+    where
+      beside : (u v r : ℕ) → host p u ≡ some r → host p v ≡ some r → isHostedBy p t u ≡ false → isHostedBy p t v ≡ true → ⊥
+      beside u v r e f i j =
+          let (h, g, o) = by-host p t v j in
+          clash (subst (λ w. isHostedBy p w u ≡ true) (ap (owner p) (same-host f g) ∙ o) (host-by p u r e)) i
 
-        bare-host : (u h : ℕ) → host p u ≡ some h → isAwake (m u .mode) ≡ true → isAwake (m (owner p h) .mode) ≡ true
-            → isHostedBy p t (owner p h) ≡ true → ⊥
-        bare-host u h e b a j =
-            let c = ok .owned h (ok .host-state u h e) in
-            clash (busy-at p m u h (ok .hosted u h e) e b) (bare-parts p ok m (owner p h) (due-bare p m s (due-here .2) (owner p h) c (in-due (owner p h) j a)) .2)
+      bare-host : (u h : ℕ) → host p u ≡ some h → isAwake (m u .mode) ≡ true → isAwake (m (owner p h) .mode) ≡ true
+          → isHostedBy p t (owner p h) ≡ true → ⊥
+      bare-host u h e b a j =
+          let c = ok .owned h (ok .host-state u h e) in
+          clash (busy-at p m u h (ok .hosted u h e) e b) (bare-parts p ok m (owner p h) (due-bare p m s (due-here .2) (owner p h) c (in-due (owner p h) j a)) .2)
 
-    -- what is due afterwards was due before, but for the track's own scope
-    due-before : (r : ℕ) → isAbandoning p n r ≡ true → isIn p r t ≡ false → (isAbandoning p m r ≡ true) × (owner p r ≡ t → ⊥)
-    due-before r d i =
-        let (v, b, e, a) = open-find p n r (due-parts p n r d .0) in
-        let (k, w) = awake-before v a in
-        let far : owner p r ≡ t → ⊥ = λ z. clash (subst (λ y. isHostedBy p y v ≡ true) z (host-by p v r e)) k in (
-          due-of p m r (open-at p m r v b e w)
-              (λ u c j.
-              sym (same-bare u (λ z. clash (subst (λ y. isIn p r y ≡ true) z j) i) (other (owner p r) u far (host-by p u r (in-host p r u j))))
-              ∙ due-bare p n r d u c j),
-          far,
-        )
-
-    due-own : (r : ℕ) → isAbandoning p n r ≡ true → isIn p r t ≡ true → (isUndoing (m t .mode) && isEmpty (m t .held)) ≡ true
-    due-own r d i = sym bare-here ∙ due-bare p n r d t low i
-
-    -- the mark taken: who has an open scope now
-    open-marks : (u : ℕ) → u < trackCount p → getD (set (x .opens) t false) u false ≡ hasOpenScope p n u
-    open-marks u b =
-        elim (look (eqb u t)) [
-          | inl e ↦
-              let z = eqb-true u t e in
-              subst (λ v. getD (set (x .opens) t false) v false ≡ hasOpenScope p n v) (sym z) (getD-set-same (x .opens) t false false sized ∙ sym shut-here)
-          | inr e ↦
-              let d = eqb-false u t e in getD-set-other (x .opens) t u false false d ∙ st .counted .opens u b ∙ sym (same-open u d)
-        ]
-
-    opens-sized : length (set (x .opens) t false) ≡ slots
-    opens-sized = length-set (x .opens) t false ∙ st .counted .opens-size
-
-    abbrev taken-back : Bool
-    taken-back = isUndoing (l t .mode) && isEmpty (l t .held)
-
-    as-read : (isUndoing (m t .mode) && isEmpty (m t .held)) ≡ taken-back
-    as-read = ap (λ (y : Configuration). isUndoing (y .mode) && isEmpty (y .held)) (keep-awake p (x .opens) l t awake-here)
-
-    busy-now : isBusy p n t ≡ not taken-back
-    unfolding isBusy
-    busy-now =
-        ap₂ (λ (y : Configuration) z. isAwake (y .mode) && not z) same-here (bare-here ∙ as-read)
-        ∙ (rw awake-here)
-
-    -- The track is still busy, or is a root: the counts are as before.
-    module _ (stays : (u : ℕ) → (u ≡ t → ⊥) → isHostedBy p u t ≡ true → taken-back ≡ false) where
-      same-counts : (u : ℕ) → u < trackCount p → getD (x .busy) u 0 ≡ busyTracks p n u
-      unfolding busyTracks
-      same-counts u b =
-          elim (look (eqb u t)) [
-            | inl e ↦
-                let z = eqb-true u t e in
-                subst (λ v. getD (x .busy) v 0 ≡ busyTracks p n v) (sym z) (idle ∙ sym none-busy-now)
-            | inr e ↦
-                let d = eqb-false u t e in
-                st .counted .busy u b
-                ∙ count-same (trackCount p) (λ v. isHostedBy p u v && isBusy p m v) (λ v. isHostedBy p u v && isBusy p n v)
-                (λ v c.
-                elim (look (eqb v t)) [
-                  | inr i ↦ sym (hosted-busy u v d (eqb-false v t i))
-                  | inl i ↦
-                      subst (λ w. (isHostedBy p u w && isBusy p m w) ≡ (isHostedBy p u w && isBusy p n w)) (sym (eqb-true v t i))
-                      (elim (look (isHostedBy p u t)) [
-                        | inl k ↦ let q = busy-now ∙ ap not (stays u d k) in rw (busy-here, q)
-                        | inr k ↦ rw k
-                      ])
-                ])
-          ]
-
-      pub step-last : ((r : ℕ) → isIn p r t ≡ true → isAbandoning p n r ≡ true → ⊥)
-          → Standing p l (record { opens = set (x .opens) t false; busy = x .busy }) × Climbed p m n t
-      step-last none-due = (
-        record {
-          nested = nested-now;
-          counted = record { opens-size = opens-sized; busy-size = st .counted .busy-size; opens = open-marks; busy = same-counts };
-        },
-        record {
-          same = same-outcome;
-          due = λ r d. elim (look (isIn p r t)) [ inl i ↦ absurd (none-due r i d) | inr i ↦ due-before r d i ];
-        },
+  -- what is due afterwards was due before, but for the track's own scope
+  due-before : (r : ℕ) → isAbandoning p n r ≡ true → isIn p r t ≡ false → (isAbandoning p m r ≡ true) × (owner p r ≡ t → ⊥)
+  due-before r d i =
+      let (v, b, e, a) = open-find p n r (due-parts p n r d .0) in
+      let (k, w) = awake-before v a in
+      let far : owner p r ≡ t → ⊥ = λ z. clash (subst (λ y. isHostedBy p y v ≡ true) z (host-by p v r e)) k in (
+        due-of p m r (open-at p m r v b e w)
+            (λ u c j.
+            sym (same-bare u (λ z. clash (subst (λ y. isIn p r y ≡ true) z j) i) (other (owner p r) u far (host-by p u r (in-host p r u j))))
+            ∙ due-bare p n r d u c j),
+        far,
       )
 
-    -- still busy
-    pub step-busy : taken-back ≡ false → Standing p l (record { opens = set (x .opens) t false; busy = x .busy }) × Climbed p m n t
-    step-busy k = step-last (λ u d i. k) (λ r i d. clash (sym as-read ∙ due-own r d i) k)
+  due-own : (r : ℕ) → isAbandoning p n r ≡ true → isIn p r t ≡ true → (isUndoing (m t .mode) && isEmpty (m t .held)) ≡ true
+  due-own r d i = sym bare-here ∙ due-bare p n r d t low i
 
-    -- a root
-    pub step-root : host p t ≡ none → Standing p l (record { opens = set (x .opens) t false; busy = x .busy }) × Climbed p m n t
-    step-root e =
-        step-last (λ u d i. none-some e (by-host p u t i .1)) (λ r i d. none-some e (in-host p r t i))
+  -- the mark taken: who has an open scope now
+  open-marks : (u : ℕ) → u < trackCount p → getD (set (x .opens) t false) u false ≡ hasOpenScope p n u
+  open-marks u b =
+      set-figure (x .opens) t false false (hasOpenScope p n) sized (sym shut-here) u (λ d. st .counted .mark u b ∙ sym (same-open u d))
 
-    -- Busy no longer: its host's track has one busy track fewer.
-    module _ (h : ℕ) (e : host p t ≡ some h) (idle-now : taken-back ≡ true) where
-      abbrev up : ℕ
-      up = owner p h
+  opens-sized : length (set (x .opens) t false) ≡ slots
+  opens-sized = length-set (x .opens) t false ∙ st .counted .opens-size
 
-      up-low : up < trackCount p
-      up-low = ok .owned h (ok .host-state t h e)
+  abbrev taken-back : Bool
+  taken-back = isUndoing (l t .mode) && isEmpty (l t .held)
 
-      up-other : up ≡ t → ⊥
-      up-other z = let d = ok .lower t h e in omega arith
+  as-read : (isUndoing (m t .mode) && isEmpty (m t .held)) ≡ taken-back
+  as-read = ap (λ (y : Configuration). isUndoing (y .mode) && isEmpty (y .held)) (keep-awake p (x .opens) l t awake-here)
 
-      one-less : busyTracks p m up ≡ busyTracks p n up + 1
-      unfolding busyTracks
-      one-less =
-          count-less (trackCount p) (λ v. isHostedBy p up v && isBusy p m v) (λ v. isHostedBy p up v && isBusy p n v) t low
-          (and-both (isHostedBy p up t) (isBusy p m t) (host-by p t h e) busy-here)
-          (and-not (isHostedBy p up t) (isBusy p n t) (λ i k. clash k (busy-now ∙ ap not idle-now)))
-          (λ v c d. sym (hosted-busy up v up-other d))
+  busy-now : isBusy p n t ≡ not taken-back
+  unfolding isBusy
+  busy-now =
+      ap₂ (λ (y : Configuration) z. isAwake (y .mode) && not z) same-here (bare-here ∙ as-read)
+      ∙ (rw awake-here)
 
-      pub some-busy : 0 < getD (x .busy) up 0
-      some-busy = let q = st .counted .busy up up-low in omega (arith, one-less)
-
-      module _ {k : ℕ} (less : k ≡ getD (x .busy) up 0 - 1) where
-        abbrev next : Scopes
-        next = record { opens = set (x .opens) t false; busy = set (x .busy) up k }
-
-        here-now : k ≡ busyTracks p n up
-        here-now = let q = st .counted .busy up up-low in omega (arith, one-less)
-
-        fewer-counts : (u : ℕ) → u < trackCount p → getD (set (x .busy) up k) u 0 ≡ busyTracks p n u
-        unfolding busyTracks
-        fewer-counts u b =
-            elim (look (eqb u up)) [
+  -- a count changes only where the track itself is counted
+  same-count : (u : ℕ) → u < trackCount p → (isHostedBy p u t ≡ true → isBusy p n t ≡ true) → getD (x .busy) u 0 ≡ busyTracks p n u
+  unfolding busyBelow
+  same-count u b still =
+      elim (look (eqb u t)) [
+        | inl e ↦ subst (λ v. getD (x .busy) v 0 ≡ busyTracks p n v) (sym (eqb-true u t e)) (idle ∙ sym none-busy-now)
+        | inr e ↦
+            st .counted .count u b
+            ∙ count-same (trackCount p) (λ v. isHostedBy p u v && isBusy p m v) (λ v. isHostedBy p u v && isBusy p n v)
+            (λ v c.
+            elim (look (eqb v t)) [
+              | inr i ↦ sym (hosted-busy u v (eqb-false u t e) (eqb-false v t i))
               | inl i ↦
-                  let z = eqb-true u up i in
-                  let w : up < length (x .busy) = let q = st .counted .busy-size in let r = up-low in omega arith in
-                  subst (λ v. getD (set (x .busy) up k) v 0 ≡ busyTracks p n v) (sym z) (getD-set-same (x .busy) up k 0 w ∙ here-now)
-              | inr i ↦
-                  let z = eqb-false u up i in
-                  getD-set-other (x .busy) up u k 0 z
-                  ∙ elim (look (eqb u t)) [
-                    | inl j ↦ subst (λ v. getD (x .busy) v 0 ≡ busyTracks p n v) (sym (eqb-true u t j)) (idle ∙ sym none-busy-now)
-                    | inr j ↦
-                        let d = eqb-false u t j in
-                        st .counted .busy u b
-                        ∙ count-same (trackCount p) (λ v. isHostedBy p u v && isBusy p m v) (λ v. isHostedBy p u v && isBusy p n v)
-                        (λ v c.
-                        elim (look (eqb v t)) [
-                          | inr y ↦ sym (hosted-busy u v d (eqb-false v t y))
-                          | inl y ↦
-                              let q : isHostedBy p u t ≡ false = refuted (isHostedBy p u t) (λ g. let (r, f, o) = by-host p u t g in z (sym o ∙ ap (owner p) (same-host f e))) in
-                              subst (λ w. (isHostedBy p u w && isBusy p m w) ≡ (isHostedBy p u w && isBusy p n w)) (sym (eqb-true v t y)) (rw q)
-                        ])
-                  ]
-            ]
+                  subst (λ w. (isHostedBy p u w && isBusy p m w) ≡ (isHostedBy p u w && isBusy p n w)) (sym (eqb-true v t i))
+                  (elim (look (isHostedBy p u t)) [ inl k ↦ let q = still k in rw (busy-here, q) | inr k ↦ rw k ])
+            ])
+      ]
 
-        pub step-standing : Standing p l next
-        step-standing =
-            record {
-              nested = nested-now;
-              counted = record {
-                opens-size = opens-sized;
-                busy-size = length-set (x .busy) up k ∙ st .counted .busy-size;
-                opens = open-marks;
-                busy = fewer-counts;
-              };
-            }
+  -- the track is still busy, or is a root: the counts are as before
+  module _ (still : (u : ℕ) → isHostedBy p u t ≡ true → isBusy p n t ≡ true) where
+    step-last : ((r : ℕ) → isIn p r t ≡ true → isAbandoning p n r ≡ true → ⊥) → Climbed p l x (record { opens = set (x .opens) t false; busy = x .busy }) t
+    step-last none-due =
+        record {
+          figures = record {
+            nested = nested-now;
+            counted = record {
+              opens-size = opens-sized;
+              busy-size = st .counted .busy-size;
+              mark = open-marks;
+              count = λ u b. same-count u b (still u);
+            };
+          };
+          same = same-outcome;
+          due = λ r d. elim (look (isIn p r t)) [ inl i ↦ absurd (none-due r i d) | inr i ↦ due-before r d i ];
+        }
 
-        own-scope : (r : ℕ) → isIn p r t ≡ true → owner p r ≡ up
-        own-scope r i = ap (owner p) (same-host (in-host p r t i) e)
+  pub step-busy : taken-back ≡ false → Climbed p l x (record { opens = set (x .opens) t false; busy = x .busy }) t
+  step-busy k = step-last (λ u i. busy-now ∙ ap not k) (λ r i d. clash (sym as-read ∙ due-own r d i) k)
 
-        -- others keep the host's scope open
-        pub step-more : (k ≡ 0 → ⊥) → Climbed p m n t
-        step-more z =
-            record {
-              same = same-outcome;
-              due = λ r d.
-                  elim (look (isIn p r t)) [
-                    | inl i ↦ absurd (z (here-now ∙ ap (busyTracks p n) (sym (own-scope r i)) ∙ due-idle p n ok nested-now r d))
-                    | inr i ↦ due-before r d i
-                  ];
-            }
+  pub step-root : host p t ≡ none → Climbed p l x (record { opens = set (x .opens) t false; busy = x .busy }) t
+  step-root e = step-last (λ u i. none-some e (by-host p u t i .1)) (λ r i d. none-some e (in-host p r t i))
 
-        -- none does: it is due, and next
-        pub step-open : getD (set (x .opens) t false) up false ≡ true
-        step-open =
-            open-marks up up-low
-            ∙ busy-at p n t h low e (ap (λ (y : Configuration). isAwake (y .mode)) same-here ∙ awake-here)
+  -- Busy no longer: its host's track has one busy track fewer.
+  module _ (h : ℕ) (e : host p t ≡ some h) (idle-now : taken-back ≡ true) where
+    abbrev up : ℕ
+    up = owner p h
 
-        pub step-on : {w : Ledger} → Climbed p n w up → Climbed p m w t
-        step-on c =
-            record {
-              same = λ u. c .same u ∙ same-outcome u;
-              due = λ r d. let (q, o) = c .due r d in due-before r q (refuted (isIn p r t) (λ i. o (own-scope r i)));
-            }
+    up-low : up < trackCount p
+    up-low = ok .owned h (ok .host-state t h e)
+
+    up-other : up ≡ t → ⊥
+    up-other z = let d = ok .lower t h e in omega arith
+
+    one-less : busyTracks p m up ≡ busyTracks p n up + 1
+    unfolding busyBelow
+    one-less =
+        count-less (trackCount p) (λ v. isHostedBy p up v && isBusy p m v) (λ v. isHostedBy p up v && isBusy p n v) t low
+        (and-both (isHostedBy p up t) (isBusy p m t) (host-by p t h e) busy-here)
+        (and-not (isHostedBy p up t) (isBusy p n t) (λ i k. clash k (busy-now ∙ ap not idle-now)))
+        (λ v c d. sym (hosted-busy up v up-other d))
+
+    pub some-busy : 0 < getD (x .busy) up 0
+    some-busy = let q = st .counted .count up up-low in omega (arith, one-less)
+
+    module _ {k : ℕ} (less : k ≡ getD (x .busy) up 0 - 1) where
+      abbrev next : Scopes
+      next = record { opens = set (x .opens) t false; busy = set (x .busy) up k }
+
+      here-now : k ≡ busyTracks p n up
+      here-now = let q = st .counted .count up up-low in omega (arith, one-less)
+
+      fewer-counts : (u : ℕ) → u < trackCount p → getD (set (x .busy) up k) u 0 ≡ busyTracks p n u
+      fewer-counts u b =
+          set-figure (x .busy) up k 0 (busyTracks p n)
+          (let q = st .counted .busy-size in let f = step .few in let r = up-low in omega arith) here-now u
+          (λ z. same-count u b (λ g. let (r, f, o) = by-host p u t g in absurd (z (sym o ∙ ap (owner p) (same-host f e)))))
+
+      step-figures : Figures p l next
+      step-figures =
+          record {
+            nested = nested-now;
+            counted = record {
+              opens-size = opens-sized;
+              busy-size = length-set (x .busy) up k ∙ st .counted .busy-size;
+              mark = open-marks;
+              count = fewer-counts;
+            };
+          }
+
+      own-scope : (r : ℕ) → isIn p r t ≡ true → owner p r ≡ up
+      own-scope r i = ap (owner p) (same-host (in-host p r t i) e)
+
+      -- others keep the host's scope open
+      pub step-more : (k ≡ 0 → ⊥) → Climbed p l x next t
+      step-more z =
+          record {
+            figures = step-figures;
+            same = same-outcome;
+            due = λ r d.
+                elim (look (isIn p r t)) [
+                  | inl i ↦ absurd (z (here-now ∙ ap (busyTracks p n) (sym (own-scope r i)) ∙ due-idle p n ok nested-now r d))
+                  | inr i ↦ due-before r d i
+                ];
+          }
+
+      -- none does: it is due, and next
+      pub step-due : k ≡ 0 → Due p l next up
+      step-due z =
+          record {
+            low = up-low;
+            figures = step-figures;
+            marked = open-marks up up-low ∙ busy-at p n t h low e (ap (λ (y : Configuration). isAwake (y .mode)) same-here ∙ awake-here);
+            idle = fewer-counts up up-low ∙ sym here-now ∙ z;
+          }
+
+      pub step-on : {y : Scopes} → Climbed p l next y up → Climbed p l x y t
+      step-on c =
+          record {
+            figures = c .figures;
+            same = λ u. c .same u ∙ same-outcome u;
+            due = λ r d. let (q, o) = c .due r d in due-before r q (refuted (isIn p r t) (λ i. o (own-scope r i)));
+          }
 
 -- Track by track, each scope that is due at its track's visit.
 module _ (p : Plan) (ok : Accepted p) (l : Ledger) where
-  pub cleared-start : ((t : ℕ) → isAwake (l t .mode) ≡ false → l t ≡ sleeping) → Nested p l → (x : Scopes) → Counted p l x → Cleared p l x 0
+  pub cleared-start : ((t : ℕ) → isAwake (l t .mode) ≡ false → l t ≡ sleeping) → Nested p l → (x : Scopes) → Counted p l (x .opens) (x .busy) (trackCount p) → Cleared p l x 0
   cleared-start blank nest x k =
-      let e = keep-all p (x .opens) l blank ok (k .opens) in
+      let e = keep-all p (x .opens) l blank ok (k .mark) in
       record {
-        standing = record { nested = subst (Nested p) (sym e) nest; counted = subst (λ (m : Ledger). Counted p m x) (sym e) k };
+        figures = record { nested = subst (Nested p) (sym e) nest; counted = subst (λ (m : Ledger). Counted p m (x .opens) (x .busy) (trackCount p)) (sym e) k };
         same = λ u. ap (λ (m : Ledger). abandoned p m u) e;
         due = λ s d. omega arith;
       }
@@ -576,7 +524,7 @@ module _ (p : Plan) (ok : Accepted p) (l : Ledger) where
     passed-by : ((s : ℕ) → owner p s ≡ t → isAbandoning p at s ≡ true → ⊥) → Cleared p l x (t + 1)
     passed-by none-due =
         record {
-          standing = k .standing;
+          figures = k .figures;
           same = k .same;
           due = λ s d. let q : owner p s ≡ t → ⊥ = λ z. none-due s z d in let b = k .due s d in omega arith;
         }
@@ -585,17 +533,17 @@ module _ (p : Plan) (ok : Accepted p) (l : Ledger) where
     cleared-shut z =
         passed-by
         (λ s o d.
-        clash (subst (λ v. hasOpenScope p at v ≡ true) o (due-open p at ok (k .standing .nested) s d)) (sym (k .standing .counted .opens t low) ∙ z))
+        clash (subst (λ v. hasOpenScope p at v ≡ true) o (due-open p at ok (k .figures .nested) s d)) (sym (k .figures .counted .mark t low) ∙ z))
 
     pub cleared-busy : (getD (x .busy) t 0 ≡ 0 → ⊥) → Cleared p l x (t + 1)
     cleared-busy z =
         passed-by
-        (λ s o d. z (k .standing .counted .busy t low ∙ ap (busyTracks p at) (sym o) ∙ due-idle p at ok (k .standing .nested) s d))
+        (λ s o d. z (k .figures .counted .count t low ∙ ap (busyTracks p at) (sym o) ∙ due-idle p at ok (k .figures .nested) s d))
 
-    pub cleared-more : {y : Scopes} → Standing p l y → Climbed p at (keeping p (y .opens) l) t → Cleared p l y (t + 1)
-    cleared-more st c =
+    pub cleared-more : {y : Scopes} → Climbed p l x y t → Cleared p l y (t + 1)
+    cleared-more c =
         record {
-          standing = st;
+          figures = c .figures;
           same = λ u. c .same u ∙ k .same u;
           due = λ s d. let (q, o) = c .due s d in let f : owner p s ≡ t → ⊥ = o in let b = k .due s q in omega arith;
         }
@@ -603,7 +551,7 @@ module _ (p : Plan) (ok : Accepted p) (l : Ledger) where
   pub cleared-end : (x : Scopes) (n : ℕ) → trackCount p ≤ n → Cleared p l x n → keeping p (x .opens) l ≡ abandoned p l
   cleared-end x n h k =
       let m : Ledger = keeping p (x .opens) l in
-      sym (abandoned-steady p ok m (k .standing .nested .whole)
+      sym (abandoned-steady p ok m (k .figures .nested .whole)
       (λ s.
       refuted (isAbandoning p m s)
       (λ d.

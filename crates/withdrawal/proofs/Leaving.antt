@@ -4,11 +4,10 @@ use mathlib.Core.Path.{_≡_, sym, ap, _∙_, subst}
 use mathlib.Core.Logic.{inl, inr}
 use mathlib.Core.Bool.{Bool, true, false, not, _&&_}
 use mathlib.Core.List.{List}
-use mathlib.Core.Option.{none, some}
+use mathlib.Core.Option.{some}
 use Prim.Native.Nat.{ℕ, _+_, _-_, _<_, _≤_}
 use native.Mathlib.Omega.{arith}
 use lib.ListN.{length, getD, set}
-use lib.Seq.{getD-set-same}
 use borrow.Author.Tests.{not-true, not-false}
 use Rattle.rules.specs.declared.Counts.{Counts}
 use Rattle.rules.specs.Plan.{Plan, planOf, trackCount, noState, host, owner}
@@ -19,102 +18,77 @@ use Rattle.rules.proofs.Passes.{upTo}
 use Rattle.plan.proofs.FieldLaws.{track-count}
 use Rattle.ledger.specs.Words.{withAsleep}
 use Rattle.lookup.specs.Going.{Accepts, ledgerOf, hostTrack}
-use Rattle.lookup.proofs.Facts.{plan-facts, few-tracks, no-host-track, host-of-track, host-track-low}
+use Rattle.lookup.proofs.Facts.{plan-facts, few-tracks, no-host-track, host-of-track}
 use Rattle.withdrawal.specs.Orderly.{Orderly, withConfiguration}
 use Rattle.withdrawal.specs.declared.abandoning.Scopes.{Scopes}
-use Rattle.withdrawal.specs.Scopes.{Nested, Counted, keptBy, keeping, Standing, Climbed, Cleared}
+use Rattle.withdrawal.specs.Scopes.{Nested, Counted, keptBy, keeping, Due, Climbed, Cleared, LeftOpen}
 use Rattle.withdrawal.proofs.Standing.{holds, kept-track, put-asleep, Fitting, pass-start, pass-orderly, pass-length, pass-more, pass-end}
 use Rattle.withdrawal.proofs.Storing.{Stores, stores-sleeping, stores-at}
-use Rattle.withdrawal.proofs.Climbing.{keep-root, keep-open, keep-shut, keep-case, keep-sleeping, step-busy, step-root, some-busy, step-standing, step-more, step-open, step-on, cleared-start, cleared-shut, cleared-busy, cleared-more, cleared-end}
-
--- the host's track has a lower number
-pub host-lower : (bs : List ℕ) (c : Counts) → Accepts bs c → (t u : ℕ) → u ≡ hostTrack (planOf bs c) t → (u ≡ noState → ⊥) → u < t
-host-lower bs c acc t u g z =
-    let (h, q, o) = host-of-track (planOf bs c) t (λ y. z (g ∙ y)) in
-    let d = plan-facts bs c acc .lower t h q in
-    let e : u ≡ owner (planOf bs c) h = g ∙ sym o in
-    omega arith
+use Rattle.withdrawal.proofs.Climbing.{keep-root, keep-open, keep-shut, keep-case, keep-sleeping, Step, step-busy, step-root, some-busy, step-more, step-due, step-on, cleared-start, cleared-shut, cleared-busy, cleared-more, cleared-end}
 
 -- a climb: still busy, a root, others busy, and on to the host's track
-module _ (bs : List ℕ) (c : Counts) (acc : Accepts bs c) (ws : List ℕ) (o : Orderly c ws) (x : Scopes)
-    (st : Standing (planOf bs c) (ledgerOf c ws) x) (t : ℕ) (b : t < c .tracks) (marked : getD (x .opens) t false ≡ true)
-    (idle : getD (x .busy) t 0 ≡ 0) {r : Bool} (f : r ≡ (isUndoing (ledgerOf c ws t .mode) && isEmpty (ledgerOf c ws t .held))) where
+module _ (bs : List ℕ) (c : Counts) (acc : Accepts bs c) (ws : List ℕ) (o : Orderly c ws) (x : Scopes) (t : ℕ)
+    (due : Due (planOf bs c) (ledgerOf c ws) x t) where
+  abbrev p : Plan
+  p = planOf bs c
+
   abbrev l : Ledger
   l = ledgerOf c ws
 
-  abbrev pl : Plan
-  pl = planOf bs c
+  pub climb-low : t < c .tracks
+  climb-low = let b = due .low in omega (arith, track-count bs c)
 
-  abbrev shut : List Bool
-  shut = set (x .opens) t false
+  step : Step p l x t
+  step = record { accepted = plan-facts bs c acc; few = few-tracks bs c acc; blank = holds c ws o .blank; due = due }
 
-  low : t < trackCount pl
-  low = omega (arith, track-count bs c)
+  module _ {r : Bool} (f : r ≡ (isUndoing (l t .mode) && isEmpty (l t .held))) where
+    pub climb-busy : not r ≡ true → Climbed p l x (record { opens = set (x .opens) t false; busy = x .busy }) t
+    climb-busy n = step-busy step (sym f ∙ not-true r n)
 
-  abbrev Last : Scopes → Type 0
-  Last y = Standing pl l y × Climbed pl (keeping pl (x .opens) l) (keeping pl (y .opens) l) t
+    module _ (n : not r ≡ false) {u : ℕ} (g : u ≡ hostTrack p t) where
+      pub climb-root : u ≡ noState → Climbed p l x (record { opens = set (x .opens) t false; busy = x .busy }) t
+      climb-root z = step-root step (no-host-track bs c t acc (sym g ∙ z))
 
-  pub climb-busy : not r ≡ true → Last (record { opens = shut; busy = x .busy })
-  climb-busy n =
-      step-busy pl (plan-facts bs c acc) (few-tracks bs c acc) l (holds c ws o .blank) x st t low marked idle (sym f ∙ not-true r n)
+      module _ (z : u ≡ noState → ⊥) where
+        at : (h : ℕ) × (host p t ≡ some h) × (owner p h ≡ u)
+        at = let (h, e, q) = host-of-track p t (λ y. z (g ∙ y)) in (h, e, q ∙ sym g)
 
-  module _ (n : not r ≡ false) {u : ℕ} (g : u ≡ hostTrack pl t) where
-    pub climb-root : u ≡ noState → Last (record { opens = shut; busy = x .busy })
-    climb-root z =
-        step-root pl (plan-facts bs c acc) (few-tracks bs c acc) l (holds c ws o .blank) x st t low marked idle
-        (no-host-track bs c t acc (sym g ∙ z))
+        back : (isUndoing (l t .mode) && isEmpty (l t .held)) ≡ true
+        back = sym f ∙ not-false r n
 
-    module _ (z : u ≡ noState → ⊥) where
-      at : (h : ℕ) × (host pl t ≡ some h) × (owner pl h ≡ u)
-      at = let (h, e, q) = host-of-track pl t (λ y. z (g ∙ y)) in (h, e, q ∙ sym g)
+        pub climb-lower : u < t
+        climb-lower = subst (λ v. v < t) (at .2) (plan-facts bs c acc .lower t (at .0) (at .1))
 
-      pub climb-some : 0 < getD (x .busy) u 0
-      climb-some =
-          subst (λ v. 0 < getD (x .busy) v 0) (at .2)
-          (some-busy pl (plan-facts bs c acc) (few-tracks bs c acc) l (holds c ws o .blank) x st t low marked idle (at .0) (at .1) (sym f ∙ not-false r n))
+        pub climb-some : 0 < getD (x .busy) u 0
+        climb-some = subst (λ v. 0 < getD (x .busy) v 0) (at .2) (some-busy step (at .0) (at .1) back)
 
-      module _ {k : ℕ} (e : k ≡ getD (x .busy) u 0 - 1) where
-        less : k ≡ getD (x .busy) (owner pl (at .0)) 0 - 1
-        less = e ∙ ap (λ (v : ℕ). getD (x .busy) v 0 - 1) (sym (at .2))
+        module _ {k : ℕ} (e : k ≡ getD (x .busy) u 0 - 1) where
+          abbrev next : ℕ → Scopes
+          next v = record { opens = set (x .opens) t false; busy = set (x .busy) v k }
 
-        standing : Standing pl l (record { opens = shut; busy = set (x .busy) u k })
-        standing =
-            subst (λ (v : ℕ). Standing pl l (record { opens = shut; busy = set (x .busy) v k })) (at .2)
-            (step-standing pl (plan-facts bs c acc) (few-tracks bs c acc) l (holds c ws o .blank) x st t low marked idle (at .0) (at .1) (sym f ∙ not-false r n) less)
+          less : k ≡ getD (x .busy) (owner p (at .0)) 0 - 1
+          less = e ∙ ap (λ (v : ℕ). getD (x .busy) v 0 - 1) (sym (at .2))
 
-        pub climb-more : (k ≡ 0 → ⊥) → Last (record { opens = shut; busy = set (x .busy) u k })
-        climb-more y = (
-          standing,
-          step-more pl (plan-facts bs c acc) (few-tracks bs c acc) l (holds c ws o .blank) x st t low marked idle (at .0) (at .1) (sym f ∙ not-false r n) less y,
-        )
+          pub climb-more : (k ≡ 0 → ⊥) → Climbed p l x (next u) t
+          climb-more y = subst (λ v. Climbed p l x (next v) t) (at .2) (step-more step (at .0) (at .1) back less y)
 
-        pub climb-next : k ≡ 0 → Standing pl l (record { opens = shut; busy = set (x .busy) u k }) × (u < c .tracks) × (getD shut u false ≡ true) × (getD (set (x .busy) u k) u 0 ≡ 0)
-        climb-next y =
-            let up = host-track-low bs c t u acc g z in
-            let w : u < length (x .busy) = let q = st .counted .busy-size in let m = acc .holds .tracks in omega arith in (
-              standing,
-              up,
-              subst (λ v. getD shut v false ≡ true) (at .2)
-                  (step-open pl (plan-facts bs c acc) (few-tracks bs c acc) l (holds c ws o .blank) x st t low marked idle (at .0) (at .1) (sym f ∙ not-false r n) less),
-              getD-set-same (x .busy) u k 0 w ∙ y,
-            )
+          pub climb-due : k ≡ 0 → Due p l (next u) u
+          climb-due y = subst (λ v. Due p l (next v) v) (at .2) (step-due step (at .0) (at .1) back less y)
 
-        pub climb-on : {y : Scopes} → Standing pl l y × Climbed pl (keeping pl shut l) (keeping pl (y .opens) l) u → Last y
-        climb-on {y} d = (
-          d .0,
-          step-on pl (plan-facts bs c acc) (few-tracks bs c acc) l (holds c ws o .blank) x st t low marked idle (at .0) (at .1) (sym f ∙ not-false r n) less
-              (subst (λ v. Climbed pl (keeping pl shut l) (keeping pl (y .opens) l) v) (sym (at .2)) (d .1)),
-        )
+          pub climb-on : {y : Scopes} → Climbed p l (next u) y u → Climbed p l x y t
+          climb-on {y} d = step-on step (at .0) (at .1) back less (subst (λ v. Climbed p l (next v) y v) (sym (at .2)) d)
 
 -- the visits, in track order
 module _ (bs : List ℕ) (c : Counts) (acc : Accepts bs c) (ws : List ℕ) where
-  pub visit-start : Orderly c ws → Nested (planOf bs c) (ledgerOf c ws) → (x : Scopes) → Counted (planOf bs c) (ledgerOf c ws) x
-      → Cleared (planOf bs c) (ledgerOf c ws) x 0
-  visit-start o nest x k = cleared-start (planOf bs c) (plan-facts bs c acc) (ledgerOf c ws) (holds c ws o .blank) nest x k
+  pub visit-start : Orderly c ws → Nested (planOf bs c) (ledgerOf c ws) → (x : Scopes)
+      → Counted (planOf bs c) (ledgerOf c ws) (x .opens) (x .busy) (c .tracks) → Cleared (planOf bs c) (ledgerOf c ws) x 0
+  visit-start o nest x k =
+      cleared-start (planOf bs c) (plan-facts bs c acc) (ledgerOf c ws) (holds c ws o .blank) nest x
+      (subst (Counted (planOf bs c) (ledgerOf c ws) (x .opens) (x .busy)) (sym (track-count bs c)) k)
 
   module _ (x : Scopes) (t : ℕ) where
     pub visit-end : c .tracks ≤ t → Cleared (planOf bs c) (ledgerOf c ws) x t
-        → keeping (planOf bs c) (x .opens) (ledgerOf c ws) ≡ abandoned (planOf bs c) (ledgerOf c ws)
+        → LeftOpen (planOf bs c) (ledgerOf c ws) (x .opens)
     visit-end h k = cleared-end (planOf bs c) (plan-facts bs c acc) (ledgerOf c ws) x t (omega (arith, track-count bs c)) k
 
     module _ (b : t < c .tracks) (k : Cleared (planOf bs c) (ledgerOf c ws) x t) where
@@ -127,50 +101,47 @@ module _ (bs : List ℕ) (c : Counts) (acc : Accepts bs c) (ws : List ℕ) where
       pub visit-busy : (getD (x .busy) t 0 ≡ 0 → ⊥) → Cleared (planOf bs c) (ledgerOf c ws) x (t + 1)
       visit-busy z = cleared-busy (planOf bs c) (plan-facts bs c acc) (ledgerOf c ws) x t there k z
 
-      pub visit-climb : {y : Scopes}
-          → Standing (planOf bs c) (ledgerOf c ws) y
-          × Climbed (planOf bs c) (keeping (planOf bs c) (x .opens) (ledgerOf c ws)) (keeping (planOf bs c) (y .opens) (ledgerOf c ws)) t
-          → Cleared (planOf bs c) (ledgerOf c ws) y (t + 1)
-      visit-climb d = cleared-more (planOf bs c) (plan-facts bs c acc) (ledgerOf c ws) x t there k (d .0) (d .1)
+      pub visit-due : not (getD (x .opens) t false) ≡ false → getD (x .busy) t 0 ≡ 0 → Due (planOf bs c) (ledgerOf c ws) x t
+      visit-due m i = record { low = there; figures = k .figures; marked = not-false (getD (x .opens) t false) m; idle = i }
+
+      pub visit-climb : {y : Scopes} → Climbed (planOf bs c) (ledgerOf c ws) x y t → Cleared (planOf bs c) (ledgerOf c ws) y (t + 1)
+      visit-climb d = cleared-more (planOf bs c) (plan-facts bs c acc) (ledgerOf c ws) x t there k d
 
 -- one track: asleep, a root, in a scope that is left open, in one that is not
 module _ (bs : List ℕ) (c : Counts) (acc : Accepts bs c) (ws : List ℕ) (o : Orderly c ws) (opens : List Bool) (t : ℕ) {r : Bool}
     (f : r ≡ isAwake (ledgerOf c ws t .mode)) where
-  abbrev p : Plan
-  p = planOf bs c
-
   abbrev Left : List ℕ → Type 0
-  Left vs = vs ≡ withConfiguration c ws t (keptBy p opens t (ledgerOf c ws t))
+  Left vs = vs ≡ withConfiguration c ws t (keptBy (planOf bs c) opens t (ledgerOf c ws t))
 
-  as-it-is : keeping p opens (ledgerOf c ws) t ≡ ledgerOf c ws t → Left ws
+  as-it-is : keeping (planOf bs c) opens (ledgerOf c ws) t ≡ ledgerOf c ws t → Left ws
   unfolding keeping
-  as-it-is e = kept-track c ws o t (keptBy p opens t (ledgerOf c ws t)) e
+  as-it-is e = kept-track c ws o t (keptBy (planOf bs c) opens t (ledgerOf c ws t)) e
 
   pub leave-asleep : not r ≡ true → Left ws
   leave-asleep n =
       let z = holds c ws o .blank t (sym f ∙ not-true r n) in
-      as-it-is (keep-sleeping p opens (ledgerOf c ws) t z ∙ sym z)
+      as-it-is (keep-sleeping (planOf bs c) opens (ledgerOf c ws) t z ∙ sym z)
 
-  module _ {u : ℕ} (g : u ≡ hostTrack p t) where
+  module _ {u : ℕ} (g : u ≡ hostTrack (planOf bs c) t) where
     pub leave-root : u ≡ noState → Left ws
-    leave-root z = as-it-is (keep-root p opens (ledgerOf c ws) t (no-host-track bs c t acc (sym g ∙ z)))
+    leave-root z = as-it-is (keep-root (planOf bs c) opens (ledgerOf c ws) t (no-host-track bs c t acc (sym g ∙ z)))
 
     module _ (n : u ≡ noState → ⊥) where
       pub leave-not : getD opens u false ≡ true → Left ws
       leave-not m =
-          let (h, e, q) = host-of-track p t (λ y. n (g ∙ y)) in
-          as-it-is (keep-open p opens (ledgerOf c ws) t h e (subst (λ v. getD opens v false ≡ true) (g ∙ sym q) m))
+          let (h, e, q) = host-of-track (planOf bs c) t (λ y. n (g ∙ y)) in
+          as-it-is (keep-open (planOf bs c) opens (ledgerOf c ws) t h e (subst (λ v. getD opens v false ≡ true) (g ∙ sym q) m))
 
       pub leave-done : t < c .tracks → getD opens u false ≡ false → {vs : List ℕ} → vs ≡ withAsleep ws t → Left vs
       unfolding keeping
       leave-done b m d =
-          let (h, e, q) = host-of-track p t (λ y. n (g ∙ y)) in
+          let (h, e, q) = host-of-track (planOf bs c) t (λ y. n (g ∙ y)) in
           d ∙ put-asleep c ws o t b
-          ∙ ap (withConfiguration c ws t) (sym (keep-shut p opens (ledgerOf c ws) t h e (subst (λ v. getD opens v false ≡ false) (g ∙ sym q) m)))
+          ∙ ap (withConfiguration c ws t) (sym (keep-shut (planOf bs c) opens (ledgerOf c ws) t h e (subst (λ v. getD opens v false ≡ false) (g ∙ sym q) m)))
 
 -- the pass
 module _ (bs : List ℕ) (c : Counts) (ws : List ℕ) (o : Orderly c ws) (opens : List Bool)
-    (k : keeping (planOf bs c) opens (ledgerOf c ws) ≡ abandoned (planOf bs c) (ledgerOf c ws)) where
+    (k : LeftOpen (planOf bs c) (ledgerOf c ws) opens) where
   abbrev left : ℕ → Configuration → Configuration
   left = keptBy (planOf bs c) opens
 

@@ -1,6 +1,6 @@
 -- Laws of the backward steps.
-pub mod Climbing
 pub mod Counted
+pub mod Climbing
 pub mod Turning
 pub mod Firing
 pub mod Nesting

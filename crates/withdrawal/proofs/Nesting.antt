@@ -1,7 +1,7 @@
 -- Scopes are nested where abandoning starts: on a live ledger, after turning, and after a firing. What a firing opens it opens as a whole
 -- and below hosts that enter or wake; what was open before has its host as it was, since a track that may be fired has no open scope.
 -- Assumes nothing.
-use mathlib.Core.Path.{_≡_, refl, sym, ap, _∙_, subst}
+use mathlib.Core.Path.{_≡_, sym, ap, _∙_, subst}
 use mathlib.Core.Logic.{_⊎_, inl, inr, ⊎-elim}
 use mathlib.Core.Bool.{true, false}
 use mathlib.Core.Option.{Option, none, some}
@@ -13,7 +13,7 @@ use Rattle.rules.specs.Ledger.{Configuration, Ledger, isAwake}
 use Rattle.rules.specs.Opening.{fresh, wakes}
 use Rattle.rules.specs.Signal.{turned}
 use Rattle.rules.specs.Fire.{removed, deviatesTo, fired}
-use Rattle.rules.proofs.Tests.{look, look-option, clash, none-some, refuted, and-true}
+use Rattle.rules.proofs.Tests.{look, look-option, clash, refuted, and-true}
 use Rattle.rules.proofs.Acceptance.{Accepted}
 use Rattle.rules.proofs.Scopes.{host-by, free-at}
 use Rattle.rules.proofs.Opening.{wakes-together, wakes-entered, wakes-woken, enter-to, enter-woken, enter-kept}

@@ -24,16 +24,19 @@ module _ (p : Plan) where
     unfoldable pub isBusy : ℕ → Bool
     isBusy t = isAwake (l t .mode) && not (isBare p l t)
 
-    -- how many busy tracks a track hosts
-    unfoldable pub busyTracks : ℕ → ℕ
-    busyTracks u = countBelow (trackCount p) (λ t. isHostedBy p u t && isBusy t)
+    -- how many busy tracks a track hosts, of those below n and of all
+    unfoldable pub busyBelow : ℕ → ℕ → ℕ
+    busyBelow n u = countBelow n (λ t. isHostedBy p u t && isBusy t)
 
-    -- the figures of each track are as the ledger has them
-    pub record Counted (x : Scopes) : Type 0 where
-      pub opens-size : length (x .opens) ≡ slots
-      pub busy-size : length (x .busy) ≡ slots
-      pub opens : (u : ℕ) → u < trackCount p → getD (x .opens) u false ≡ hasOpenScope p l u
-      pub busy : (u : ℕ) → u < trackCount p → getD (x .busy) u 0 ≡ busyTracks u
+    abbrev pub busyTracks : ℕ → ℕ
+    busyTracks u = busyBelow (trackCount p) u
+
+    -- the figures are as the ledger has them: which tracks have an open scope, and how many busy tracks below n each hosts
+    pub record Counted (opens : List Bool) (busy : List ℕ) (n : ℕ) : Type 0 where
+      pub opens-size : length opens ≡ slots
+      pub busy-size : length busy ≡ slots
+      pub mark : (u : ℕ) → u < trackCount p → getD opens u false ≡ hasOpenScope p l u
+      pub count : (u : ℕ) → u < trackCount p → getD busy u 0 ≡ busyBelow n u
 
   -- a track as it is once the scopes of the tracks without a mark are asleep
   unfoldable pub keptBy : List Bool → ℕ → Configuration → Configuration
@@ -42,19 +45,33 @@ module _ (p : Plan) where
   unfoldable pub keeping : List Bool → Ledger → Ledger
   keeping opens l t = keptBy opens t (l t)
 
-  -- what holds of a ledger and the figures for it while scopes are abandoned
-  pub record Standing (l : Ledger) (x : Scopes) : Type 0 where
-    pub nested : Nested (keeping (x .opens) l)
-    pub counted : Counted (keeping (x .opens) l) x
+  module _ (l : Ledger) where
+    -- while scopes are abandoned: the figures are those of the ledger with the scopes asleep that have no mark, and these are nested
+    pub record Figures (x : Scopes) : Type 0 where
+      pub nested : Nested (keeping (x .opens) l)
+      pub counted : Counted (keeping (x .opens) l) (x .opens) (x .busy) (trackCount p)
 
-  -- from one ledger to another by abandoning the scope of a track, and then "from scope to host until nothing changes": the outcome is
-  -- the same, the track's scope is not due any more, and none is due that was not
-  pub record Climbed (l m : Ledger) (t : ℕ) : Type 0 where
-    pub same : (u : ℕ) → abandoned p m u ≡ abandoned p l u
-    pub due : (s : ℕ) → isAbandoning p m s ≡ true → (isAbandoning p l s ≡ true) × (owner p s ≡ t → ⊥)
+    -- abandoning is due to the scope of a track: it is open, and no track keeps it so
+    pub record Due (x : Scopes) (t : ℕ) : Type 0 where
+      pub low : t < trackCount p
+      pub figures : Figures x
+      pub marked : getD (x .opens) t false ≡ true
+      pub idle : getD (x .busy) t 0 ≡ 0
 
-  -- abandoning is due to no scope of a track below n any more, and its outcome is the same as at first
-  pub record Cleared (l : Ledger) (x : Scopes) (n : ℕ) : Type 0 where
-    pub standing : Standing l x
-    pub same : (u : ℕ) → abandoned p (keeping (x .opens) l) u ≡ abandoned p l u
-    pub due : (s : ℕ) → isAbandoning p (keeping (x .opens) l) s ≡ true → n ≤ owner p s
+    -- abandoning it, and then "from scope to host until nothing changes", leads from x to y: the outcome of abandoning is the same, the
+    -- track's scope is not due any more, and none is due that was not
+    pub record Climbed (x y : Scopes) (t : ℕ) : Type 0 where
+      pub figures : Figures y
+      pub same : (u : ℕ) → abandoned p (keeping (y .opens) l) u ≡ abandoned p (keeping (x .opens) l) u
+      pub due : (s : ℕ) → isAbandoning p (keeping (y .opens) l) s ≡ true
+          → (isAbandoning p (keeping (x .opens) l) s ≡ true) × (owner p s ≡ t → ⊥)
+
+    -- the outcome is the same as at first, and abandoning is due to no scope of a track below n any more
+    pub record Cleared (x : Scopes) (n : ℕ) : Type 0 where
+      pub figures : Figures x
+      pub same : (u : ℕ) → abandoned p (keeping (x .opens) l) u ≡ abandoned p l u
+      pub due : (s : ℕ) → isAbandoning p (keeping (x .opens) l) s ≡ true → n ≤ owner p s
+
+    -- the tracks whose scope abandoning leaves open
+    abbrev pub LeftOpen : List Bool → Type 0
+    LeftOpen opens = keeping opens l ≡ abandoned p l

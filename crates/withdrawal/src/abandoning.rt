@@ -7,18 +7,17 @@ use lookup::reading;
 use plan::fields::NO_STATE;
 use rules::Counts;
 ghost use mathlib.Core.Path.{_≡_};
-ghost use mathlib.Core.Bool.{true, false, cond, _&&_};
-ghost use Prim.Native.Nat.{ℕ, _+_, _<_, _≤_};
-ghost use lib.ListN.{length, getD};
+ghost use mathlib.Core.Bool.{false, _&&_};
+ghost use Prim.Native.Nat.{_+_, _<_};
+ghost use lib.ListN.{getD};
 ghost use Rattle.rules.specs.Layout.{entryLimit};
-ghost use Rattle.rules.specs.Plan.{planOf, isHostedBy};
+ghost use Rattle.rules.specs.Plan.{planOf};
 ghost use Rattle.rules.specs.Ledger.{isUndoing, isEmpty, written};
 ghost use Rattle.rules.specs.Scope.{hasOpenScope};
 ghost use Rattle.rules.specs.Signal.{abandoned};
-ghost use Rattle.plan.specs.Passes.{slots};
 ghost use Rattle.lookup.specs.Going.{Accepts, Roomy, ledgerOf};
 ghost use Rattle.withdrawal.specs.Orderly.{Orderly, withConfiguration};
-ghost use Rattle.withdrawal.specs.Scopes.{Nested, isBusy, Counted, keptBy, keeping, Standing, Climbed, Cleared};
+ghost use Rattle.withdrawal.specs.Scopes.{Nested, isBusy, Counted, keptBy, Due, Climbed, Cleared, LeftOpen};
 
 // For each track: whether it has an open scope, and how many busy tracks it hosts there.
 pub struct Scopes {
@@ -62,8 +61,8 @@ fn count_track(
     busy: [u8; 32],
     t: usize,
 ) -> [u8; 32]
-    requires { ⌜ Accepts (now plan) c × Roomy c (now ledger) × (t < c .tracks) × (length busy ≡ slots) × (getD opens t false ≡ hasOpenScope (planOf (now plan) c) (ledgerOf c (now ledger)) t) × ((u : ℕ) → u < c .tracks → getD busy u 0 ≤ t) ⌝ }
-    ensures { λ r. ⌜ (length r ≡ slots) × ((u : ℕ) → u < c .tracks → getD r u 0 ≡ getD busy u 0 + cond (isHostedBy (planOf (now (plan .entry)) c) u t && isBusy (planOf (now (plan .entry)) c) (ledgerOf c (now (ledger .entry))) t) 1 0) ⌝ }
+    requires { ⌜ Accepts (now plan) c × Roomy c (now ledger) × (t < c .tracks) × Counted (planOf (now plan) c) (ledgerOf c (now ledger)) opens busy t ⌝ }
+    ensures { λ r. ⌜ Counted (planOf (now (plan .entry)) c) (ledgerOf c (now (ledger .entry))) opens r (t + 1) ⌝ }
 {
     if !is_busy(plan, c, ledger, opens, t) {
         return busy;
@@ -82,7 +81,7 @@ fn count_track(
 // The open scopes, with the busy tracks of each counted.
 fn open_scopes(plan: &[u8], c: Counts, ledger: &[u16]) -> Scopes
     requires { ⌜ Accepts (now plan) c × Roomy c (now ledger) ⌝ }
-    ensures { λ r. ⌜ Counted (planOf (now (plan .entry)) c) (ledgerOf c (now (ledger .entry))) r ⌝ }
+    ensures { λ r. ⌜ Counted (planOf (now (plan .entry)) c) (ledgerOf c (now (ledger .entry))) (r .opens) (r .busy) (c .tracks) ⌝ }
 {
     let opens = opens::open_scopes(plan, c, ledger);
     let mut busy = [0; 32];
@@ -102,19 +101,19 @@ fn open_scopes(plan: &[u8], c: Counts, ledger: &[u16]) -> Scopes
 // The scope of a track, which is due, goes to sleep. If that leaves the track busy no longer, its host's track has one busy track fewer,
 // and where that was the last one the scope there is next.
 fn climb(plan: &[u8], c: Counts, ledger: &[u16], scopes: Scopes, t: usize) -> Scopes
-    requires { ⌜ Accepts (now plan) c × Orderly c (now ledger) × Standing (planOf (now plan) c) (ledgerOf c (now ledger)) scopes × (t < c .tracks) × (getD (scopes .opens) t false ≡ true) × (getD (scopes .busy) t 0 ≡ 0) ⌝ }
-    ensures { λ r. ⌜ Standing (planOf (now (plan .entry)) c) (ledgerOf c (now (ledger .entry))) r × Climbed (planOf (now (plan .entry)) c) (keeping (planOf (now (plan .entry)) c) (scopes .opens) (ledgerOf c (now (ledger .entry)))) (keeping (planOf (now (plan .entry)) c) (r .opens) (ledgerOf c (now (ledger .entry)))) t ⌝ }
+    requires { ⌜ Accepts (now plan) c × Orderly c (now ledger) × Due (planOf (now plan) c) (ledgerOf c (now ledger)) scopes t ⌝ }
+    ensures { λ r. ⌜ Climbed (planOf (now (plan .entry)) c) (ledgerOf c (now (ledger .entry))) scopes r t ⌝ }
 {
     let mut next = scopes;
     next.opens[t] = false;
     if !is_taken_back(c, ledger, t) {
         return next;
     }
-    let u = reading::host_track(plan, c, t);
-    if u == NO_STATE {
+    let up = reading::host_track(plan, c, t);
+    if up == NO_STATE {
         return next;
     }
-    let at = u as usize;
+    let at = up as usize;
     let count = next.busy[at] - 1;
     next.busy[at] = count;
     if count != 0 {
@@ -140,7 +139,7 @@ fn climb_if_due(plan: &[u8], c: Counts, ledger: &[u16], scopes: Scopes, t: usize
 // The tracks whose scope is open once nothing is due any more.
 fn left_open(plan: &[u8], c: Counts, ledger: &[u16]) -> [bool; 32]
     requires { ⌜ Accepts (now plan) c × Orderly c (now ledger) × Nested (planOf (now plan) c) (ledgerOf c (now ledger)) ⌝ }
-    ensures { λ r. ⌜ keeping (planOf (now (plan .entry)) c) r (ledgerOf c (now (ledger .entry))) ≡ abandoned (planOf (now (plan .entry)) c) (ledgerOf c (now (ledger .entry))) ⌝ }
+    ensures { λ r. ⌜ LeftOpen (planOf (now (plan .entry)) c) (ledgerOf c (now (ledger .entry))) r ⌝ }
 {
     let mut scopes = open_scopes(plan, c, ledger);
     let tracks = c.tracks;

@@ -1,16 +1,18 @@
+-- Still busy, a root, others busy there, or on to the host's track: the four cases of a climb. The measure is the track's number, and
+-- the host's track has a lower one. Assumes nothing.
 use mathlib.Core.Path.{refl}
+use Prim.Native.Nat.{ℕ, _<_}
 use native.Mathlib.Omega.{arith}
 use borrow.Author.Needs.{needs}
-use Rattle.rules.specs.Plan.{noState}
-use Rattle.lookup.proofs.Facts.{host-track-low}
-use Rattle.withdrawal.proofs.Leaving.{host-lower, climb-busy, climb-root, climb-some, climb-more, climb-next, climb-on}
-use Prim.Native.Nat.{ℕ, _<_}
 use borrow.Fn.Kinds.{In}
 use borrow.Fn.PlainCycle.{Measures, is, falls, and}
+use Rattle.rules.specs.Plan.{noState}
+use Rattle.lookup.proofs.Facts.{host-track-low}
+use Rattle.lookup.proofs.reading.host_track.Reads as host-track-reads
+use Rattle.withdrawal.proofs.Leaving.{climb-low, climb-busy, climb-root, climb-lower, climb-some, climb-more, climb-due, climb-on}
 use Rattle.withdrawal.proofs.abandoning.climb.Reads as climb
 use Rattle.withdrawal.proofs.abandoning.climb.Kinds as climb-kinds
 use Rattle.withdrawal.proofs.abandoning.+climb.Lts-climb as climb-lts
-use Rattle.lookup.proofs.reading.host_track.Reads as host-track-reads
 use Rattle.withdrawal.proofs.abandoning.is_taken_back.Reads as is-taken-back-reads
 use Rattle.withdrawal.proofs.abandoning.+climb.{statement}
 use Rattle.withdrawal.proofs.abandoning.+climb.Tie.{close}
@@ -24,7 +26,6 @@ climb-at t = and 2 climb-kinds.ps (is 2 climb-kinds.ps μ-climb t) climb.Pre
 abbrev climb-below : ℕ → In 2 climb-kinds.ps
 climb-below t = and 2 climb-kinds.ps (falls 2 climb-kinds.ps _<_ μ-climb t) climb.Pre
 
--- src/abandoning.rt:102:5
 climb-element-write-next : (t : ℕ) → climb-lts.Need-element-write-next (
   is-taken-back-reads.Asked,
   is-taken-back-reads.Learnt,
@@ -33,9 +34,8 @@ climb-element-write-next : (t : ℕ) → climb-lts.Need-element-write-next (
   climb-below t,
   climb.Post,
 ) (climb-at t) climb.Post
-climb-element-write-next t c = let b = c .before .before .pre .1 .3 in let n = c .before .before .pre .1 .0 .holds .tracks in omega arith
+climb-element-write-next t c = let b = climb-low _ _ (c .before .before .pre .1 .0) _ (c .before .before .pre .1 .1) _ _ (c .before .before .pre .1 .2) in let n = c .before .before .pre .1 .0 .holds .tracks in omega arith
 
--- src/abandoning.rt:103:9
 climb-is-taken-back-requires : (t : ℕ) → climb-lts.Need-is-taken-back-requires (
   is-taken-back-reads.Asked,
   is-taken-back-reads.Learnt,
@@ -44,9 +44,8 @@ climb-is-taken-back-requires : (t : ℕ) → climb-lts.Need-is-taken-back-requir
   climb-below t,
   climb.Post,
 ) (climb-at t) climb.Post
-climb-is-taken-back-requires t c κs = (c .before .before .pre .1 .1 .roomy, c .before .before .pre .1 .3)
+climb-is-taken-back-requires t c κs = (c .before .before .pre .1 .1 .roomy, climb-low _ _ (c .before .before .pre .1 .0) _ (c .before .before .pre .1 .1) _ _ (c .before .before .pre .1 .2))
 
--- src/abandoning.rt:104:9
 climb-returns : (t : ℕ) → climb-lts.Need-returns (
   is-taken-back-reads.Asked,
   is-taken-back-reads.Learnt,
@@ -55,9 +54,8 @@ climb-returns : (t : ℕ) → climb-lts.Need-returns (
   climb-below t,
   climb.Post,
 ) (climb-at t) climb.Post
-climb-returns t c = climb-busy _ _ (c .before .before .before .before .pre .1 .0) _ (c .before .before .before .before .pre .1 .1) _ (c .before .before .before .before .pre .1 .2) _ (c .before .before .before .before .pre .1 .3) (c .before .before .before .before .pre .1 .4) (c .before .before .before .before .pre .1 .5) (c .before .is-taken-back .ensures) (c .if1 .taken)
+climb-returns t c = climb-busy _ _ (c .before .before .before .before .pre .1 .0) _ (c .before .before .before .before .pre .1 .1) _ _ (c .before .before .before .before .pre .1 .2) (c .before .is-taken-back .ensures) (c .if1 .taken)
 
--- src/abandoning.rt:106:9
 climb-host-track-requires : (t : ℕ) → climb-lts.Need-host-track-requires (
   is-taken-back-reads.Asked,
   is-taken-back-reads.Learnt,
@@ -66,9 +64,8 @@ climb-host-track-requires : (t : ℕ) → climb-lts.Need-host-track-requires (
   climb-below t,
   climb.Post,
 ) (climb-at t) climb.Post
-climb-host-track-requires t c κs = (c .before .before .before .before .pre .1 .0, c .before .before .before .before .pre .1 .3)
+climb-host-track-requires t c κs = (c .before .before .before .before .pre .1 .0, climb-low _ _ (c .before .before .before .before .pre .1 .0) _ (c .before .before .before .before .pre .1 .1) _ _ (c .before .before .before .before .pre .1 .2))
 
--- src/abandoning.rt:108:9
 climb-returns-2 : (t : ℕ) → climb-lts.Need-returns-2 (
   is-taken-back-reads.Asked,
   is-taken-back-reads.Learnt,
@@ -78,9 +75,8 @@ climb-returns-2 : (t : ℕ) → climb-lts.Need-returns-2 (
   climb.Post,
 ) (climb-at t) climb.Post
 unfolding noState
-climb-returns-2 t c = climb-root _ _ (c .before .before .before .before .before .before .pre .1 .0) _ (c .before .before .before .before .before .before .pre .1 .1) _ (c .before .before .before .before .before .before .pre .1 .2) _ (c .before .before .before .before .before .before .pre .1 .3) (c .before .before .before .before .before .before .pre .1 .4) (c .before .before .before .before .before .before .pre .1 .5) (c .before .before .before .is-taken-back .ensures) (c .before .before .if1 .left) (c .before .host-track .ensures) (c .if2 .taken)
+climb-returns-2 t c = climb-root _ _ (c .before .before .before .before .before .before .pre .1 .0) _ (c .before .before .before .before .before .before .pre .1 .1) _ _ (c .before .before .before .before .before .before .pre .1 .2) (c .before .before .before .is-taken-back .ensures) (c .before .before .if1 .left) (c .before .host-track .ensures) (c .if2 .taken)
 
--- src/abandoning.rt:110:14
 climb-cast-at : (t : ℕ) → climb-lts.Need-cast-at (
   is-taken-back-reads.Asked,
   is-taken-back-reads.Learnt,
@@ -91,7 +87,6 @@ climb-cast-at : (t : ℕ) → climb-lts.Need-cast-at (
 ) (climb-at t) climb.Post
 climb-cast-at t c = search needs
 
--- src/abandoning.rt:111:17
 climb-element-copy-out-count : (t : ℕ) → climb-lts.Need-element-copy-out-count (
   is-taken-back-reads.Asked,
   is-taken-back-reads.Learnt,
@@ -103,7 +98,6 @@ climb-element-copy-out-count : (t : ℕ) → climb-lts.Need-element-copy-out-cou
 unfolding noState
 climb-element-copy-out-count t c = let b = host-track-low _ _ _ _ (c .before .before .before .before .before .before .pre .1 .0) (c .before .host-track .ensures) (c .if2 .left) in let n = c .before .before .before .before .before .before .pre .1 .0 .holds .tracks in omega arith
 
--- src/abandoning.rt:111:17
 climb-sub-count : (t : ℕ) → climb-lts.Need-sub-count (
   is-taken-back-reads.Asked,
   is-taken-back-reads.Learnt,
@@ -113,9 +107,8 @@ climb-sub-count : (t : ℕ) → climb-lts.Need-sub-count (
   climb.Post,
 ) (climb-at t) climb.Post
 unfolding noState
-climb-sub-count t c = let b = climb-some _ _ (c .before .before .before .before .before .before .before .pre .1 .0) _ (c .before .before .before .before .before .before .before .pre .1 .1) _ (c .before .before .before .before .before .before .before .pre .1 .2) _ (c .before .before .before .before .before .before .before .pre .1 .3) (c .before .before .before .before .before .before .before .pre .1 .4) (c .before .before .before .before .before .before .before .pre .1 .5) (c .before .before .before .before .is-taken-back .ensures) (c .before .before .before .if1 .left) (c .before .before .host-track .ensures) (c .before .if2 .left) in omega arith
+climb-sub-count t c = let b = climb-some _ _ (c .before .before .before .before .before .before .before .pre .1 .0) _ (c .before .before .before .before .before .before .before .pre .1 .1) _ _ (c .before .before .before .before .before .before .before .pre .1 .2) (c .before .before .before .before .is-taken-back .ensures) (c .before .before .before .if1 .left) (c .before .before .host-track .ensures) (c .before .if2 .left) in omega arith
 
--- src/abandoning.rt:112:5
 climb-element-write-next-2 : (t : ℕ) → climb-lts.Need-element-write-next-2 (
   is-taken-back-reads.Asked,
   is-taken-back-reads.Learnt,
@@ -127,7 +120,6 @@ climb-element-write-next-2 : (t : ℕ) → climb-lts.Need-element-write-next-2 (
 unfolding noState
 climb-element-write-next-2 t c = let b = host-track-low _ _ _ _ (c .before .before .before .before .before .before .before .pre .1 .0) (c .before .before .host-track .ensures) (c .before .if2 .left) in let n = c .before .before .before .before .before .before .before .pre .1 .0 .holds .tracks in omega arith
 
--- src/abandoning.rt:114:9
 climb-returns-3 : (t : ℕ) → climb-lts.Need-returns-3 (
   is-taken-back-reads.Asked,
   is-taken-back-reads.Learnt,
@@ -137,9 +129,8 @@ climb-returns-3 : (t : ℕ) → climb-lts.Need-returns-3 (
   climb.Post,
 ) (climb-at t) climb.Post
 unfolding noState
-climb-returns-3 t c = climb-more _ _ (c .before .before .before .before .before .before .before .before .pre .1 .0) _ (c .before .before .before .before .before .before .before .before .pre .1 .1) _ (c .before .before .before .before .before .before .before .before .pre .1 .2) _ (c .before .before .before .before .before .before .before .before .pre .1 .3) (c .before .before .before .before .before .before .before .before .pre .1 .4) (c .before .before .before .before .before .before .before .before .pre .1 .5) (c .before .before .before .before .before .is-taken-back .ensures) (c .before .before .before .before .if1 .left) (c .before .before .before .host-track .ensures) (c .before .before .if2 .left) refl (c .if3 .taken)
+climb-returns-3 t c = climb-more _ _ (c .before .before .before .before .before .before .before .before .pre .1 .0) _ (c .before .before .before .before .before .before .before .before .pre .1 .1) _ _ (c .before .before .before .before .before .before .before .before .pre .1 .2) (c .before .before .before .before .before .is-taken-back .ensures) (c .before .before .before .before .if1 .left) (c .before .before .before .host-track .ensures) (c .before .before .if2 .left) refl (c .if3 .taken)
 
--- src/abandoning.rt:116:5
 climb-climb-requires : (t : ℕ) → climb-lts.Need-climb-requires (
   is-taken-back-reads.Asked,
   is-taken-back-reads.Learnt,
@@ -149,9 +140,8 @@ climb-climb-requires : (t : ℕ) → climb-lts.Need-climb-requires (
   climb.Post,
 ) (climb-at t) climb.Post
 unfolding noState
-climb-climb-requires t c κs = let m = c .before .before .before .before .before .before .before .before .pre .0 in let d = host-lower _ _ (c .before .before .before .before .before .before .before .before .pre .1 .0) _ _ (c .before .before .before .host-track .ensures) (c .before .before .if2 .left) in let q = climb-next _ _ (c .before .before .before .before .before .before .before .before .pre .1 .0) _ (c .before .before .before .before .before .before .before .before .pre .1 .1) _ (c .before .before .before .before .before .before .before .before .pre .1 .2) _ (c .before .before .before .before .before .before .before .before .pre .1 .3) (c .before .before .before .before .before .before .before .before .pre .1 .4) (c .before .before .before .before .before .before .before .before .pre .1 .5) (c .before .before .before .before .before .is-taken-back .ensures) (c .before .before .before .before .if1 .left) (c .before .before .before .host-track .ensures) (c .before .before .if2 .left) refl (c .if3 .left) in (omega arith, (c .before .before .before .before .before .before .before .before .pre .1 .0, c .before .before .before .before .before .before .before .before .pre .1 .1, q .0, q .1, q .2, q .3))
+climb-climb-requires t c κs = let m = c .before .before .before .before .before .before .before .before .pre .0 in let d = climb-lower _ _ (c .before .before .before .before .before .before .before .before .pre .1 .0) _ (c .before .before .before .before .before .before .before .before .pre .1 .1) _ _ (c .before .before .before .before .before .before .before .before .pre .1 .2) (c .before .before .before .before .before .is-taken-back .ensures) (c .before .before .before .before .if1 .left) (c .before .before .before .host-track .ensures) (c .before .before .if2 .left) in (omega arith, (c .before .before .before .before .before .before .before .before .pre .1 .0, c .before .before .before .before .before .before .before .before .pre .1 .1, climb-due _ _ (c .before .before .before .before .before .before .before .before .pre .1 .0) _ (c .before .before .before .before .before .before .before .before .pre .1 .1) _ _ (c .before .before .before .before .before .before .before .before .pre .1 .2) (c .before .before .before .before .before .is-taken-back .ensures) (c .before .before .before .before .if1 .left) (c .before .before .before .host-track .ensures) (c .before .before .if2 .left) refl (c .if3 .left)))
 
--- src/abandoning.rt:97:1
 climb-returns-4 : (t : ℕ) → climb-lts.Need-returns-4 (
   is-taken-back-reads.Asked,
   is-taken-back-reads.Learnt,
@@ -161,7 +151,7 @@ climb-returns-4 : (t : ℕ) → climb-lts.Need-returns-4 (
   climb.Post,
 ) (climb-at t) climb.Post
 unfolding noState
-climb-returns-4 t c = climb-on _ _ (c .before .before .before .before .before .before .before .before .before .pre .1 .0) _ (c .before .before .before .before .before .before .before .before .before .pre .1 .1) _ (c .before .before .before .before .before .before .before .before .before .pre .1 .2) _ (c .before .before .before .before .before .before .before .before .before .pre .1 .3) (c .before .before .before .before .before .before .before .before .before .pre .1 .4) (c .before .before .before .before .before .before .before .before .before .pre .1 .5) (c .before .before .before .before .before .before .is-taken-back .ensures) (c .before .before .before .before .before .if1 .left) (c .before .before .before .before .host-track .ensures) (c .before .before .before .if2 .left) refl (c .climb .ensures)
+climb-returns-4 t c = climb-on _ _ (c .before .before .before .before .before .before .before .before .before .pre .1 .0) _ (c .before .before .before .before .before .before .before .before .before .pre .1 .1) _ _ (c .before .before .before .before .before .before .before .before .before .pre .1 .2) (c .before .before .before .before .before .before .is-taken-back .ensures) (c .before .before .before .before .before .if1 .left) (c .before .before .before .before .host-track .ensures) (c .before .before .before .if2 .left) refl (c .climb .ensures)
 
 pub +climb-spec : {M : Type 1} → statement M
 +climb-spec = close μ-climb λ t. climb-lts.spec (

@@ -1,7 +1,6 @@
 -- No open scope, one with a busy track, or one that is due: the three cases of a track's visit. Assumes nothing.
 use borrow.Author.Needs.{needs}
-use borrow.Author.Tests.{not-false}
-use Rattle.withdrawal.proofs.Leaving.{visit-shut, visit-busy, visit-climb}
+use Rattle.withdrawal.proofs.Leaving.{visit-shut, visit-busy, visit-due, visit-climb}
 use Rattle.withdrawal.proofs.abandoning.climb_if_due.Statement.{statement}
 use Rattle.withdrawal.proofs.abandoning.climb_if_due.Tie as tie
 
@@ -18,7 +17,7 @@ returns-2 : tie.Need-returns-2
 returns-2 c = visit-busy _ _ (c .before .before .before .before .before .before .pre .0) _ _ _ (c .before .before .before .before .before .before .pre .3) (c .before .before .before .before .before .before .pre .2) (c .if2 .taken)
 
 climb-requires : tie.Need-climb-requires
-climb-requires c κs = (c .before .before .before .before .before .before .pre .0, c .before .before .before .before .before .before .pre .1, c .before .before .before .before .before .before .pre .2 .standing, c .before .before .before .before .before .before .pre .3, not-false _ (c .before .before .if1 .left), c .if2 .left)
+climb-requires c κs = (c .before .before .before .before .before .before .pre .0, c .before .before .before .before .before .before .pre .1, visit-due _ _ (c .before .before .before .before .before .before .pre .0) _ _ _ (c .before .before .before .before .before .before .pre .3) (c .before .before .before .before .before .before .pre .2) (c .before .before .if1 .left) (c .if2 .left))
 
 returns-3 : tie.Need-returns-3
 returns-3 c = visit-climb _ _ (c .before .before .before .before .before .before .before .pre .0) _ _ _ (c .before .before .before .before .before .before .before .pre .3) (c .before .before .before .before .before .before .before .pre .2) (c .climb .ensures)

@@ -1,55 +1,43 @@
+-- Not busy, a root, or one more for the host's track. Assumes nothing.
 use native.Mathlib.Omega.{arith}
+use borrow.Author.Needs.{needs}
 use Rattle.rules.specs.Plan.{noState}
 use Rattle.lookup.proofs.Facts.{host-track-low}
-use Rattle.withdrawal.proofs.Counted.{added-idle, added-root, added-host}
-use borrow.Author.Needs.{needs}
+use Rattle.withdrawal.proofs.Counted.{count-mark, count-idle, count-root, count-most, count-host}
 use Rattle.withdrawal.proofs.abandoning.count_track.Statement.{statement}
 use Rattle.withdrawal.proofs.abandoning.count_track.Tie as tie
-use Rattle.withdrawal.proofs.abandoning.count_track.Reads as reads
-use Rattle.withdrawal.proofs.abandoning.count_track.Lts as lts
-use Rattle.lookup.proofs.reading.host_track.Reads as host-track-reads
-use Rattle.withdrawal.proofs.abandoning.is_busy.Reads as is-busy-reads
 
--- src/abandoning.rt:61:9
 is-busy-requires : tie.Need-is-busy-requires
-is-busy-requires c κs = search needs
+is-busy-requires c κs = (c .before .before .pre .1, c .before .before .pre .2, count-mark _ _ (c .before .before .pre .0) _ _ _ _ (c .before .before .pre .3) (c .before .before .pre .2))
 
--- src/abandoning.rt:62:9
 returns : tie.Need-returns
-returns c = added-idle _ _ (c .before .before .before .before .pre .0) _ (c .before .before .before .before .args .t5) (c .before .before .before .before .pre .3) _ (c .before .is-busy .ensures) (c .if1 .taken)
+returns c = count-idle _ _ (c .before .before .before .before .pre .0) _ _ _ _ (c .before .before .before .before .pre .3) (c .before .is-busy .ensures) (c .if1 .taken)
 
--- src/abandoning.rt:64:9
 host-track-requires : tie.Need-host-track-requires
 host-track-requires c κs = search needs
 
--- src/abandoning.rt:66:9
 returns-2 : tie.Need-returns-2
 unfolding noState
-returns-2 c = added-root _ _ (c .before .before .before .before .before .before .pre .0) _ (c .before .before .before .before .before .before .args .t5) (c .before .before .before .before .before .before .pre .3) _ (c .before .before .before .is-busy .ensures) (c .before .before .if1 .left) (c .before .host-track .ensures) (c .if2 .taken)
+returns-2 c = count-root _ _ (c .before .before .before .before .before .before .pre .0) _ _ _ _ (c .before .before .before .before .before .before .pre .3) (c .before .before .before .is-busy .ensures) (c .before .before .if1 .left) (c .before .host-track .ensures) (c .if2 .taken)
 
--- src/abandoning.rt:68:14
 cast-at : tie.Need-cast-at
 cast-at c = search needs
 
--- src/abandoning.rt:69:17
 array-read-count : tie.Need-array-read-count
 unfolding noState
 array-read-count c = let b = host-track-low _ _ _ _ (c .before .before .before .before .before .before .pre .0) (c .before .host-track .ensures) (c .if2 .left) in let n = c .before .before .before .before .before .before .pre .0 .holds .tracks in omega arith
 
--- src/abandoning.rt:71:16
 add-next : tie.Need-add-next
 unfolding noState
-add-next c = let n = c .before .before .before .before .before .before .pre .0 .holds .tracks in let b = c .before .before .before .before .before .before .pre .2 in let d = c .before .before .before .before .before .before .pre .5 _ (host-track-low _ _ _ _ (c .before .before .before .before .before .before .pre .0) (c .before .host-track .ensures) (c .if2 .left)) in omega arith
+add-next c = let n = c .before .before .before .before .before .before .pre .0 .holds .tracks in let b = c .before .before .before .before .before .before .pre .2 in let d = count-most _ _ (c .before .before .before .before .before .before .pre .0) _ _ _ _ (c .before .before .before .before .before .before .pre .3) (c .before .before .before .is-busy .ensures) (c .before .before .if1 .left) (c .before .host-track .ensures) (c .if2 .left) in omega arith
 
--- src/abandoning.rt:71:5
 array-write-next : tie.Need-array-write-next
 unfolding noState
 array-write-next c = let b = host-track-low _ _ _ _ (c .before .before .before .before .before .before .pre .0) (c .before .host-track .ensures) (c .if2 .left) in let n = c .before .before .before .before .before .before .pre .0 .holds .tracks in omega arith
 
--- src/abandoning.rt:57:1
 returns-3 : tie.Need-returns-3
 unfolding noState
-returns-3 c = added-host _ _ (c .before .before .before .before .before .before .pre .0) _ (c .before .before .before .before .before .before .args .t5) (c .before .before .before .before .before .before .pre .3) _ (c .before .before .before .is-busy .ensures) (c .before .before .if1 .left) (c .before .host-track .ensures) (c .if2 .left)
+returns-3 c = count-host _ _ (c .before .before .before .before .before .before .pre .0) _ _ _ _ (c .before .before .before .before .before .before .pre .3) (c .before .before .before .is-busy .ensures) (c .before .before .if1 .left) (c .before .host-track .ensures) (c .if2 .left)
 
 pub count-track-spec : {M : Type 1} → statement M
 count-track-spec =

@@ -1,27 +1,20 @@
+-- Not undoing, or undoing and then what it holds. Assumes nothing.
 use denote.Ref.{now}
+use borrow.Author.Needs.{needs}
 use Rattle.lookup.specs.Going.{ledgerOf}
 use Rattle.withdrawal.proofs.Counted.{back-not, back-empty}
-use borrow.Author.Needs.{needs}
 use Rattle.withdrawal.proofs.abandoning.is_taken_back.Statement.{statement}
 use Rattle.withdrawal.proofs.abandoning.is_taken_back.Tie as tie
-use Rattle.withdrawal.proofs.abandoning.is_taken_back.Reads as reads
-use Rattle.withdrawal.proofs.abandoning.is_taken_back.Lts as lts
-use Rattle.ledger.proofs.track.is_undoing.Reads as is-undoing-reads
-use Rattle.lookup.proofs.reading.track.Reads as track-reads
 
--- src/abandoning.rt:34:9
 track-requires : tie.Need-track-requires
 track-requires c κs = search needs
 
--- src/abandoning.rt:36:9
 is-undoing-requires : tie.Need-is-undoing-requires
 is-undoing-requires c κs = search needs
 
--- src/abandoning.rt:37:9
 returns : tie.Need-returns
 returns c = back-not (ledgerOf (c .before .before .before .before .args .c) (now (c .before .before .before .before .args .ledger))) (c .before .before .before .before .args .t) (c .before .before .track .ensures) (c .before .is-undoing .ensures) (c .if1 .taken)
 
--- src/abandoning.rt:30:1
 returns-2 : tie.Need-returns-2
 returns-2 c = back-empty (ledgerOf (c .before .before .before .before .before .args .c) (now (c .before .before .before .before .before .args .ledger))) (c .before .before .before .before .before .args .t) (c .before .before .before .track .ensures) (c .before .before .is-undoing .ensures) (c .before .if1 .left)
 

@@ -1,68 +1,51 @@
+-- Asleep, a root and in a scope that is left open: as it is; any other goes to sleep, all its words zero. Assumes nothing.
 use native.Mathlib.Omega.{arith}
+use borrow.Author.Needs.{needs}
 use Rattle.rules.specs.Plan.{noState}
 use Rattle.lookup.proofs.Facts.{host-track-low, in-room}
 use Rattle.withdrawal.proofs.Leaving.{leave-asleep, leave-root, leave-not, leave-done}
-use borrow.Author.Needs.{needs}
 use Rattle.withdrawal.proofs.abandoning.leave_track.Statement.{statement}
 use Rattle.withdrawal.proofs.abandoning.leave_track.Tie as tie
-use Rattle.withdrawal.proofs.abandoning.leave_track.Reads as reads
-use Rattle.withdrawal.proofs.abandoning.leave_track.Lts as lts
-use Rattle.ledger.proofs.track.put_to_sleep.Reads as put-to-sleep-reads
-use Rattle.lookup.proofs.reading.host_track.Reads as host-track-reads
-use Rattle.lookup.proofs.reading.is_awake.Reads as is-awake-reads
 
--- src/abandoning.rt:154:9
 is-awake-requires : tie.Need-is-awake-requires
 is-awake-requires c κs = search needs
 
--- src/abandoning.rt:155:9
 same-length : tie.Need-same-length
 same-length c = search needs
 
--- src/abandoning.rt:155:9
 returns : tie.Need-returns
 returns c = leave-asleep _ _ (c .before .before .before .before .before .pre .0) _ (c .before .before .before .before .before .pre .1) _ _ (c .before .is-awake .ensures) (c .if1 .taken)
 
--- src/abandoning.rt:157:9
 host-track-requires : tie.Need-host-track-requires
 host-track-requires c κs = search needs
 
--- src/abandoning.rt:159:9
 same-length-2 : tie.Need-same-length-2
 same-length-2 c = search needs
 
--- src/abandoning.rt:159:9
 returns-2 : tie.Need-returns-2
 unfolding noState
 returns-2 c = leave-root _ _ (c .before .before .before .before .before .before .before .pre .0) _ (c .before .before .before .before .before .before .before .pre .1) _ _ (c .before .before .before .is-awake .ensures) (c .before .host-track .ensures) (c .if2 .taken)
 
--- src/abandoning.rt:161:14
 cast-if3 : tie.Need-cast-if3
 cast-if3 c = search needs
 
--- src/abandoning.rt:161:8
 array-read-if3 : tie.Need-array-read-if3
 unfolding noState
 array-read-if3 c = let b = host-track-low _ _ _ _ (c .before .before .before .before .before .before .before .pre .0) (c .before .host-track .ensures) (c .if2 .left) in let n = c .before .before .before .before .before .before .before .pre .0 .holds .tracks in omega arith
 
--- src/abandoning.rt:162:9
 same-length-3 : tie.Need-same-length-3
 same-length-3 c = search needs
 
--- src/abandoning.rt:162:9
 returns-3 : tie.Need-returns-3
 unfolding noState
 returns-3 c = leave-not _ _ (c .before .before .before .before .before .before .before .before .pre .0) _ (c .before .before .before .before .before .before .before .before .pre .1) _ _ (c .before .before .before .before .is-awake .ensures) (c .before .before .host-track .ensures) (c .before .if2 .left) (c .if3 .taken)
 
--- src/abandoning.rt:164:5
 put-to-sleep-requires : tie.Need-put-to-sleep-requires
 put-to-sleep-requires c κs = in-room _ _ _ (c .before .before .before .before .before .before .before .before .before .pre .1 .roomy) (c .before .before .before .before .before .before .before .before .before .pre .2)
 
--- src/abandoning.rt:150:1
 same-length-4 : tie.Need-same-length-4
 same-length-4 c = search needs
 
--- src/abandoning.rt:150:1
 returns-4 : tie.Need-returns-4
 unfolding noState
 returns-4 c = leave-done _ _ (c .before .before .before .before .before .before .before .before .before .before .before .before .pre .0) _ (c .before .before .before .before .before .before .before .before .before .before .before .before .pre .1) _ _ (c .before .before .before .before .before .before .before .before .is-awake .ensures) (c .before .before .before .before .before .before .host-track .ensures) (c .before .before .before .before .before .if2 .left) (c .before .before .before .before .before .before .before .before .before .before .before .before .pre .2) (c .before .before .before .before .if3 .left) (c .before .before .put-to-sleep .ensures)

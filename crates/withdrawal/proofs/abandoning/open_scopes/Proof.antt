@@ -1,50 +1,41 @@
-use borrow.Author.Needs.{needs}
-use native.Mathlib.Omega.{arith}
+-- The invariant: each track's count is that of the busy tracks visited. Assumes nothing.
+use mathlib.Core.Path.{_≡_}
 use Prim.Native.Nat.{_≤_, _-_}
+use native.Mathlib.Omega.{arith}
+use borrow.Author.Needs.{needs}
 use Rattle.rules.specs.Plan.{planOf}
 use Rattle.lookup.specs.Going.{ledgerOf}
-use Rattle.lookup.proofs.Turns.{open-read}
-use Rattle.withdrawal.proofs.Counted.{Below, below-start, below-most, below-more, counted}
+use Rattle.withdrawal.specs.Scopes.{Counted}
+use Rattle.withdrawal.proofs.Counted.{count-start}
 use Rattle.withdrawal.proofs.abandoning.open_scopes.Statement.{statement}
 use Rattle.withdrawal.proofs.abandoning.open_scopes.Tie as tie
-use Rattle.withdrawal.proofs.abandoning.open_scopes.Reads as reads
-use Rattle.withdrawal.proofs.abandoning.open_scopes.Lts as lts
-use Rattle.lookup.proofs.opens.open_scopes.Reads as open-scopes-reads
-use Rattle.withdrawal.proofs.abandoning.count_track.Reads as count-track-reads
 
 abbrev Inv-loop : tie.InvT-loop
-Inv-loop plan c ledger opens busy₀ tracks t₀ busy t = (t ≤ c .tracks) × Below (planOf plan c) (ledgerOf c ledger) (c .tracks) t busy
+Inv-loop plan c ledger opens busy₀ tracks t₀ busy t = (t ≤ c .tracks) × Counted (planOf plan c) (ledgerOf c ledger) opens busy t
 
 abbrev μ-loop : tie.MeasureT-loop
 μ-loop plan c ledger opens busy₀ tracks t₀ busy t = c .tracks - t
 
--- src/abandoning.rt:80:9
 open-scopes-requires : tie.Need-open-scopes-requires Inv-loop μ-loop
 open-scopes-requires c κs = search needs
 
--- src/abandoning.rt:84:5
 loop-holds : tie.Need-loop-holds Inv-loop μ-loop
-loop-holds c = (omega arith, below-start _ _ _ (c .before .before .before .pre .0 .holds .tracks))
+loop-holds c = (omega arith, count-start _ _ (c .before .before .before .pre .0) _ _ (c .open-scopes .ensures))
 
--- src/abandoning.rt:85:13
 count-track-requires : tie.Need-count-track-requires Inv-loop μ-loop
-count-track-requires c κs = (c .before .before .before .before .before .pre .0, c .before .before .before .before .before .pre .1, search needs, c .before .loop .inv .1 .0, open-read _ _ (c .before .before .before .before .before .pre .0) _ _ _ (c .before .before .open-scopes .ensures) (search needs), below-most _ _ _ _ (c .before .loop .busy) (c .before .loop .inv .1))
+count-track-requires c κs = (c .before .before .before .before .before .pre .0, c .before .before .before .before .before .pre .1, search needs, c .before .loop .inv .1)
 
--- src/abandoning.rt:87:9
 add-t : tie.Need-add-t Inv-loop μ-loop
 add-t c = search needs
 
--- src/abandoning.rt:84:5
 loop-less : tie.Need-loop-less Inv-loop μ-loop
 loop-less c = search needs
 
--- src/abandoning.rt:84:5
 loop-again : tie.Need-loop-again Inv-loop μ-loop
-loop-again c = (omega arith, below-more _ _ _ _ (c .before .before .loop .busy) (c .before .before .loop .inv .1) (c .count-track .result) (c .count-track .ensures))
+loop-again c = (omega arith, c .count-track .ensures)
 
--- src/abandoning.rt:76:1
 returns : tie.Need-returns Inv-loop μ-loop
-returns c = counted _ _ (c .before .before .before .before .before .pre .0) _ (c .before .before .open-scopes .ensures) _ (c .before .loop .inv .0) (omega arith) (c .before .loop .inv .1)
+returns c = let e : c .before .loop .t ≡ c .before .before .before .before .before .args .c .tracks = omega arith in rw e at (c .before .loop .inv .1)
 
 pub open-scopes-spec : {M : Type 1} → statement M
 open-scopes-spec =
