@@ -16,7 +16,7 @@ ghost use Rattle.plan.specs.Chain.{sourceOf, cell, lastBelow, has, Chain
 // So many comparisons are quicker than marks.
 const MOST_COMPARISONS: usize = 512;
 
-// For each key the last number that has it, and from each number to the one before it with the same key.
+// For each state the last transition that leaves it, and from each transition the one before it with the same source.
 struct SourceChains {
     head: [u16; 128],
     next: [u16; 256],

@@ -1,7 +1,7 @@
 -- The outer invariant: no two transitions out of the states so far share their event. The inner one: the transitions met on the chain of s are
 -- marked. The measures are the states left, and the place in the chain: each link goes to a lower number. Assumes nothing.
-use mathlib.Core.Path.{_≡_, refl, sym, ap, _∙_}
-use Prim.Native.Nat.{_+_, _-_, _≤_}
+use mathlib.Core.Path.{refl, sym}
+use Prim.Native.Nat.{_-_, _≤_}
 use Rattle.rules.specs.Plan.{planOf}
 use Rattle.plan.proofs.Judging.{source-within}
 use Rattle.plan.proofs.MarkLaws.{Done, Marked, done-none, mark-start, mark-found, mark-on, mark-end, done-all}
