@@ -39,7 +39,7 @@ install-library: library
 
 release:
 	rm -rf $(RELEASE)
-	$(MAKE) install PREFIX= DESTDIR=$(RELEASE) PC_PREFIX='$${pcfiledir}/../..'
+	$(MAKE) install PREFIX= DESTDIR=$(RELEASE) PC_PREFIX='$$$${pcfiledir}/../..'
 	rt version >$(RELEASE)/KIT
 	cd $(RELEASE) && find * -type f | LC_ALL=C sort | xargs sha256sum >../SHA256SUMS && mv ../SHA256SUMS .
 	@echo "$(RELEASE): whoever has the kit named in KIT proves it again and gets the bytes of SHA256SUMS"

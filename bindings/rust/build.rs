@@ -1,5 +1,5 @@
-//! Links libretraction.a, from the first of these that has it: the folder that
-//! RETRACTION_LIB_DIR names, the one that pkg-config names, and the
+//! Links libretraction.a, from the folder that RETRACTION_LIB_DIR names; where
+//! that is not set, from the one that pkg-config names, or else from the
 //! repository's target/staticlib, which `bindings/build` fills.
 
 use std::env;
@@ -25,10 +25,12 @@ fn has_archive(folder: &Path) -> bool {
 fn main() {
     println!("cargo:rerun-if-env-changed=RETRACTION_LIB_DIR");
     println!("cargo:rerun-if-env-changed=PKG_CONFIG_PATH");
-    let named = env::var_os("RETRACTION_LIB_DIR").map(PathBuf::from);
     let built = Path::new(env!("CARGO_MANIFEST_DIR")).join("../../target/staticlib");
-    let folders = [named, installed(), Some(built)];
-    let folder = match folders.into_iter().flatten().find(|f| has_archive(f)) {
+    let folders = match env::var_os("RETRACTION_LIB_DIR") {
+        Some(named) => vec![PathBuf::from(named)],
+        None => installed().into_iter().chain([built]).collect(),
+    };
+    let folder = match folders.iter().find(|folder| has_archive(folder)) {
         Some(folder) => folder,
         None => {
             eprintln!("{MISSING}");

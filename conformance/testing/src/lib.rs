@@ -1,4 +1,4 @@
-//! Cases for holding the proved program and the second one to each other.
+//! Cases for comparing the proved program with the second one.
 //!
 //! - [`generate`], [`coverage`], [`vectors`]: random cases, what they cover,
 //!   and their lines of text.
