@@ -33,7 +33,7 @@ use Rattle.manager.proofs.fire as fire
 use Rattle.manager.proofs.fire.Kinds as fire-kinds
 use Rattle.manager.proofs.fire.Reads as fire-reads
 use Rattle.property3.proofs.Readings.{begin-meets, event-meets, signal-meets, fire-meets}
-use Rattle.property3.proofs.Property3.{property3, firings-of-history}
+use Rattle.property3.proofs.Property3.{Follows, follows, property3, firings-of-history}
 
 -- "Its first call gets the ledger as an accepted begin left it, each later one the ledger as the call before left it, and all get the same plan."
 -- Read `Calls bs ws cs rs end` as `History`: under the plan bytes bs, from the words ws, the calls cs were answered rs and left the words end.
@@ -73,6 +73,10 @@ made bs (by-signal κs a r s p e q h) =
 made bs (by-fire κs a r s p e q h) =
     let x : FireArguments = record { track = a .1 .1 .0 } in
     history.fire-made x r (same (paper.fire x) (fireTold r) (now (s .1 .0)) e q (fire-meets κs a r s p)) (made bs h)
+
+-- From whatever words: what they left and answered is what the reference run leaves and answers.
+pub calls-follow : (bs : List ℕ) {ws end : List ℕ} {cs : List Call} {rs : List Answer} → Calls bs ws cs rs end → Follows entryLimit bs ws cs rs end
+calls-follow bs h = follows entryLimit bs (made bs h)
 
 -- Property 3 of a begin that answered `Begun` and the calls after it.
 pub property3-of-calls : (κs : Lfts 2) (a : ArgsD begin.signature κs) (r : ResD begin.signature κs) (s : AtExit (endedOf 2 begin-kinds.ps begin-kinds.r) κs)

@@ -1,6 +1,6 @@
 -- Each call's contract, as the checker reads it off the source of `manager`, says what `callOutcome` says: its answer as the paper tells it, and
 -- every lent word. Weaken a contract there, and its line here is refused. Assumes nothing.
-use mathlib.Core.Path.{_≡_, sym, subst, _∙_}
+use mathlib.Core.Path.{sym, subst}
 use mathlib.Core.List.{List}
 use Prim.Native.Nat.{ℕ}
 use contract.Lifetimes.{Lfts}

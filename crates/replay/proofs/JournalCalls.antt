@@ -1,6 +1,6 @@
 -- A journal is a list of calls: the words after its records, and their lines, are those of the reference run of these calls. By induction on the
 -- visits of the records; a record has 4 bytes or more, so they never run out. Assumes nothing.
-use mathlib.Core.Path.{_≡_, refl, sym, ap, ap₂, _∙_}
+use mathlib.Core.Path.{_≡_, refl, sym, ap, _∙_}
 use mathlib.Core.Bool.{Bool, true, false, cond}
 use mathlib.Core.List.{List, [], _∷_, _++_, append-assoc}
 use Prim.Native.Nat.{ℕ, zero, suc, _+_, _<_, _≤_}
