@@ -80,20 +80,20 @@ module _ (ρ : FailReading) (limit : ℕ) (bs : List ℕ) (k : Counts) (read : r
                 }
           ]
 
-  -- an accepted call
-  pub record ExactlyWords (ws : List ℕ) (c : Call) (told : List ℕ) : Type 0 where
+  -- an accepted call that told these figures and left these words
+  pub record ExactlyWords (ws : List ℕ) (c : Call) (told left : List ℕ) : Type 0 where
     -- it is so of the ledger that the words hold, and the words afterwards hold the ledger afterwards
     pub before : Exactly p ρ limit (theLedger ws) c
-    pub afterwards : theLedger (callOutcome limit bs ws c .words) ≡ after limit p (theLedger ws) c
+    pub afterwards : theLedger left ≡ after limit p (theLedger ws) c
     -- the figures are those of its steps, and of each of its big steps
     pub figures : told ≡ countedSteps p ρ (theLedger ws) c
     pub tells : (d : Conf) (x : Big p ρ c (view p ρ (theLedger ws)) d) → told ≡ toldBy p ρ (theLedger ws) c (view p ρ (theLedger ws)) d x
     -- the view of the words afterwards is where the automaton's big steps end, and they end nowhere else
-    pub ends : (d : Conf) → Ends p ρ c (view p ρ (theLedger ws)) d ↔ (d ≡ view p ρ (theLedger (callOutcome limit bs ws c .words)))
+    pub ends : (d : Conf) → Ends p ρ c (view p ρ (theLedger ws)) d ↔ (d ≡ view p ρ (theLedger left))
     -- and no other sound ledger is shown so
-    pub only : (m : Ledger) → Kept limit p m → Ends p ρ c (view p ρ (theLedger ws)) (view p ρ m) → m ≡ theLedger (callOutcome limit bs ws c .words)
+    pub only : (m : Ledger) → Kept limit p m → Ends p ρ c (view p ρ (theLedger ws)) (view p ρ m) → m ≡ theLedger left
 
-  pub words-exactly : (ws : List ℕ) (c : Call) (told : List ℕ) → callOutcome limit bs ws c .answer ≡ done told → ExactlyWords ws c told
+  pub words-exactly : (ws : List ℕ) (c : Call) (told : List ℕ) → callOutcome limit bs ws c .answer ≡ done told → ExactlyWords ws c told (callOutcome limit bs ws c .words)
   words-exactly ws c told h =
       let m = made ws c told h in
       let x = exactly p ρ ok limit (theLedger ws) (m .sound) c (m .taken) in
