@@ -17,6 +17,7 @@ use Rattle.rules.specs.Layout.{entryLimit}
 use Rattle.rules.specs.Call.{Answer, EventArguments, FireArguments, Call, nothing, beginOutcome, callOutcome, eventOutcome, signalOutcome, fireOutcome, Meets}
 use Rattle.rules.specs.Call as paper
 use Rattle.rules.specs.Answers.{beginTold, eventTold, signalTold, fireTold}
+use Rattle.rules.specs.ReferenceRun.{wordsFrom, answersFrom}
 use Rattle.rules.specs.History as history
 use Rattle.rules.specs.History.{History, Property3}
 use Rattle.restoration.specs.Firings.{firingsIn, isEventDone, isWithout}
@@ -77,6 +78,13 @@ made bs (by-fire κs a r s p e q h) =
 -- From whatever words: what they left and answered is what the reference run leaves and answers.
 pub calls-follow : (bs : List ℕ) {ws end : List ℕ} {cs : List Call} {rs : List Answer} → Calls bs ws cs rs end → Follows entryLimit bs ws cs rs end
 calls-follow bs h = follows entryLimit bs (made bs h)
+
+-- and so of one call, whichever of the three it is
+pub call-meets : (bs : List ℕ) {ws end : List ℕ} {c : Call} {r : Answer} → Calls bs ws (c ∷ []) (r ∷ []) end → Meets (callOutcome entryLimit bs ws c) r end
+unfolding wordsFrom answersFrom
+call-meets bs {ws} {end} {c} {r} h =
+    let (w, a) = calls-follow bs h in
+    let e : r ≡ callOutcome entryLimit bs ws c .answer = cc in record { answered = e; left = w }
 
 -- Property 3 of a begin that answered `Begun` and the calls after it.
 pub property3-of-calls : (κs : Lfts 2) (a : ArgsD begin.signature κs) (r : ResD begin.signature κs) (s : AtExit (endedOf 2 begin-kinds.ps begin-kinds.r) κs)
