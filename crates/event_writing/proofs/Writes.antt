@@ -12,7 +12,7 @@ use Rattle.rules.specs.declared.Track.{Track}
 use Rattle.rules.specs.Plan.{Plan, planOf, noState, transition, firstState}
 use Rattle.rules.specs.Ledger.{isAwake}
 use Rattle.ledger.specs.Words.{trackAt, withTrack, withInstalled, withAsleep}
-use Rattle.lookup.specs.Going.{Accepts, hostTrack}
+use Rattle.lookup.specs.Checked.{Accepts, hostTrack}
 use Rattle.lookup.proofs.Facts.{no-host-track, host-of-track}
 use Rattle.event_writing.specs.Settled.{withGiven, withEntered, withTurn, destinationWord, deviationWord, entersFrom, entersAt, closedAt, sleepsAt}
 

@@ -22,11 +22,11 @@ use Rattle.rules.proofs.Stored.{Fits, length-written, written-read}
 use Rattle.rules.proofs.Replaced.{updated, updated-here, updated-other, updated-same, updated-fits}
 use Rattle.rules.proofs.Passes.{upTo, up-new, up-old, up-none, up-more, up-all}
 use Rattle.plan.proofs.FieldLaws.{track-count}
-use Rattle.ledger.specs.Words.{trackOf, trackAt}
+use Rattle.ledger.specs.Words.{trackOf, trackAt, Room}
 use Rattle.ledger.proofs.Words.{track-written, put-written, installed-written, asleep-written}
-use Rattle.lookup.specs.Going.{Roomy, Going, ledgerOf}
+use Rattle.lookup.specs.Checked.{Going, ledgerOf}
 use Rattle.lookup.specs.Marks.{wakeMarks}
-use Rattle.lookup.proofs.Facts.{storable}
+use Rattle.lookup.proofs.Facts.{tidy-words, storable}
 use Rattle.event_choice.specs.Marks.{table}
 use Rattle.event_writing.specs.Settled.{Spare, withGiven, withEntered, withTurn, enteredBy, turned, destinationWord, deviationWord, entersAt, sleepsAt, settledLedger}
 
@@ -55,16 +55,16 @@ unfolding installed install
 installed-some code deviation x h = rw h
 
 -- an entry given fits where there is room for it
-abbrev Room : ℕ → Configuration → Type 0
-Room code x = (code ≡ 0 → ⊥) → length (x .held) < entryLimit
+abbrev Given : ℕ → Configuration → Type 0
+Given code x = (code ≡ 0 → ⊥) → length (x .held) < entryLimit
 
-installed-fits : (code deviation : ℕ) (x : Configuration) → length (x .held) ≤ entryLimit → Room code x
+installed-fits : (code deviation : ℕ) (x : Configuration) → length (x .held) ≤ entryLimit → Given code x
     → length (installed code deviation x .held) ≤ entryLimit
 unfolding installed install
 installed-fits code deviation x f r =
     elim (look (eqb code 0)) [ inl z ↦ rw z f | inr z ↦ rw z (let b = r (eqb-false code 0 z) in omega arith) ]
 
-turned-fits : (a : Bool) (s code deviation : ℕ) (x : Configuration) → length (x .held) ≤ entryLimit → Room code x
+turned-fits : (a : Bool) (s code deviation : ℕ) (x : Configuration) → length (x .held) ≤ entryLimit → Given code x
     → length (turned a s code deviation x .held) ≤ entryLimit
 unfolding turned enteredBy sleeping
 turned-fits true s code deviation x f r = omega arith
@@ -74,7 +74,7 @@ turned-fits false s code deviation x f r =
 
 -- one turn
 module _ (n : ℕ) (ws : List ℕ) (t : ℕ) (h : t < n) (room : wordCount entryLimit n ≤ length ws) where
-  given-written : (l : Ledger) → Fits entryLimit l → (code deviation : ℕ) → Room code (l t)
+  given-written : (l : Ledger) → Fits entryLimit l → (code deviation : ℕ) → Given code (l t)
       → withGiven (written entryLimit n l ws) t code deviation ≡ written entryLimit n (updated l t (installed code deviation (l t))) ws
   unfolding withGiven
   given-written l f code deviation r =
@@ -103,7 +103,7 @@ module _ (n : ℕ) (ws : List ℕ) (t : ℕ) (h : t < n) (room : wordCount entry
             (count-written l f))
       ]
 
-  pub turn-written : (l : Ledger) → Fits entryLimit l → (a : Bool) (s code deviation : ℕ) → Room code (l t)
+  pub turn-written : (l : Ledger) → Fits entryLimit l → (a : Bool) (s code deviation : ℕ) → Given code (l t)
       → withTurn (written entryLimit n l ws) t a s code deviation ≡ written entryLimit n (updated l t (turned a s code deviation (l t))) ws
   unfolding withTurn turned
   turn-written l f true s code deviation r = asleep-written n l ws t f h room
@@ -183,7 +183,7 @@ pub settling-starts : (bs : List ℕ) (c : Counts) (ws : List ℕ) (new : Ledger
     → ws ≡ written entryLimit (c .tracks) (upTo new (ledgerOf c ws) 0) ws
 unfolding ledgerOf
 settling-starts bs c ws new g =
-    sym (ap (λ (m : Ledger). written entryLimit (c .tracks) m ws) (up-none new (ledgerOf c ws)) ∙ written-read entryLimit (c .tracks) ws (g .tidy) (g .roomy .room))
+    sym (ap (λ (m : Ledger). written entryLimit (c .tracks) m ws) (up-none new (ledgerOf c ws)) ∙ written-read entryLimit (c .tracks) ws (tidy-words bs c ws (g .checked) .tidy) (g .checked .lent .room .words))
 
 pub settling-ends : (n t : ℕ) (ws w : List ℕ) (new old : Ledger) → t ≡ n → w ≡ written entryLimit n (upTo new old t) ws → w ≡ written entryLimit n new ws
 settling-ends n t ws w new old e f = f ∙ ap (λ (i : ℕ). written entryLimit n (upTo new old i) ws) e ∙ up-all new old entryLimit n ws
@@ -196,18 +196,18 @@ module _ (bs : List ℕ) (c : Counts) (ws : List ℕ) (g : Going bs c ws) (finis
   pub length-on : t ≤ c .tracks → length w ≡ length ws
   length-on b =
       room-kept (planOf bs c) (c .tracks) (track-count bs c) (ledgerOf c ws) ws finishing ts ms codes to woken to-is woken-is
-      (storable bs c ws g .fits) (g .roomy .room) spare t w e b
+      (storable bs c ws g .fits) (g .checked .lent .room .words) spare t w e b
 
-  pub roomy-on : t ≤ c .tracks → Roomy c w
+  pub roomy-on : t ≤ c .tracks → Room w (c .tracks)
   roomy-on b =
       let q = length-on b in
-      let r = g .roomy .room in
-      record { few = g .roomy .few; room = omega arith }
+      let r = g .checked .lent .room .words in
+      record { few = g .checked .lent .room .few; words = omega arith }
 
   pub spare-on : t < c .tracks → (getD codes t 0 ≡ 0 → ⊥) → trackAt w t .count < entryLimit
   spare-on b =
       spare-kept (planOf bs c) (c .tracks) (track-count bs c) (ledgerOf c ws) ws finishing ts ms codes to woken to-is woken-is
-      (storable bs c ws g .fits) (g .roomy .room) spare t w e b
+      (storable bs c ws g .fits) (g .checked .lent .room .words) spare t w e b
 
   pub turn-on : t < c .tracks → (v : List ℕ)
       → v
@@ -217,4 +217,4 @@ module _ (bs : List ℕ) (c : Counts) (ws : List ℕ) (g : Going bs c ws) (finis
       ≡ written entryLimit (c .tracks) (upTo (settledLedger (planOf bs c) (ledgerOf c ws) finishing ts ms codes) (ledgerOf c ws) (t + 1)) ws
   turn-on b =
       turn-more (planOf bs c) (c .tracks) (track-count bs c) (ledgerOf c ws) ws finishing ts ms codes to woken to-is woken-is
-      (storable bs c ws g .fits) (g .roomy .room) spare t w e b
+      (storable bs c ws g .fits) (g .checked .lent .room .words) spare t w e b

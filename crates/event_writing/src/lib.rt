@@ -15,7 +15,7 @@ ghost use Rattle.rules.specs.Layout.{entryLimit};
 ghost use Rattle.rules.specs.Plan.{planOf, noState};
 ghost use Rattle.rules.specs.Ledger.{written};
 ghost use Rattle.ledger.specs.Words.{Within, trackAt};
-ghost use Rattle.lookup.specs.Going.{Accepts, Roomy, Going, ledgerOf};
+ghost use Rattle.lookup.specs.Checked.{Accepts, Going, ledgerOf, Lent};
 ghost use Rattle.plan.specs.Passes.{firstMarks};
 ghost use Rattle.event_choice.specs.Marks.{InRange, table};
 ghost use Rattle.event_writing.specs.Settled.{Spare, withGiven, withEntered, withTurn, destinationWord, deviationWord, entersFrom, entersAt, closedAt, sleepsAt, settledLedger};
@@ -155,7 +155,7 @@ fn settle_track(
     woken: [bool; 32],
     t: usize,
 )
-    requires { ⌜ Accepts (now plan) c × Roomy c (now ledger) × InRange c taken × (t < c .tracks) × ((getD codes t 0 ≡ 0 → ⊥) → trackAt (now ledger) t .count < entryLimit) × (firsts ≡ firstMarks (planOf (now plan) c) (c .states)) ⌝ }
+    requires { ⌜ Lent (now plan) c (now ledger) × InRange c taken × (t < c .tracks) × ((getD codes t 0 ≡ 0 → ⊥) → trackAt (now ledger) t .count < entryLimit) × (firsts ≡ firstMarks (planOf (now plan) c) (c .states)) ⌝ }
     ensures { λ _. ⌜ now (ledger .exit) ≡ withTurn (now (ledger .entry)) t (sleepsAt (planOf (now (plan .entry)) c) finishing closing (trackAt (now (ledger .entry)) t .mode) t) (entersAt (planOf (now (plan .entry)) c) to woken t) (getD codes t 0) (deviationWord (planOf (now (plan .entry)) c) taken t) ⌝ }
 {
     let k = track::track_at(&ledger[..], t);

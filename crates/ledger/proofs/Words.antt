@@ -41,12 +41,9 @@ track-words ws t m h =
     λ x. record { mode = h x; state = getD ws (trackPlace entryLimit t + 1) 0; count = sym n x }
 
 -- the tracks of a plan have room where all of them have
-pub within : (ws : List ℕ) (tracks t : ℕ) → tracks ≤ 32 → wordCount entryLimit tracks ≤ length ws → t < tracks → Within ws t
+pub in-room : (ws : List ℕ) (tracks t : ℕ) → Room ws tracks → t < tracks → Within ws t
 unfolding wordCount
-within ws tracks t a b h = record { number = omega arith; room = omega (arith, place-below entryLimit tracks t h) }
-
-pub room-within : (ws : List ℕ) (tracks t : ℕ) → Room ws tracks → t < tracks → Within ws t
-room-within ws tracks t r h = within ws tracks t (r .few) (r .words) h
+in-room ws tracks t r h = let a = r .few in let b = r .words in record { number = omega arith; room = omega (arith, place-below entryLimit tracks t h) }
 
 -- In words that hold a ledger: a track is read as the ledger has it, and a track's words written are those of the ledger with that track
 -- replaced.

@@ -14,7 +14,7 @@ use Rattle.rules.proofs.Acceptance.{passed-all, read-passed}
 use Rattle.plan.specs.Passes.{firstMarks}
 use Rattle.plan.proofs.FieldLaws.{state-count}
 use Rattle.plan.proofs.PassTurns.{first-read}
-use Rattle.lookup.specs.Going.{Accepts}
+use Rattle.lookup.specs.Checked.{Accepts}
 
 module _ (bs : List ℕ) (c : Counts) (acc : Accepts bs c) where
   pub states-passed : someBelow (c .states) (badState (planOf bs c)) ≡ false

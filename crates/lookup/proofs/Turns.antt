@@ -14,7 +14,7 @@ use Rattle.rules.specs.Ledger.{Ledger, isAwake}
 use Rattle.rules.specs.Scope.{hasOpenScope}
 use Rattle.rules.specs.Opening.{wakesIn}
 use Rattle.plan.proofs.FieldLaws.{track-count}
-use Rattle.lookup.specs.Going.{Accepts, hostTrack}
+use Rattle.lookup.specs.Checked.{Accepts, hostTrack}
 use Rattle.lookup.specs.Marks.{setAt, markTurn, marksFrom, hostOwner, scopeMark, scopeMarks, openMark, openMarks, wakesAt, wakeMarks}
 use Rattle.lookup.proofs.Facts.{plan-facts, few-tracks, no-host-track, host-of-track, host-is}
 use Rattle.lookup.proofs.Marks.{open-scopes}

@@ -1,3 +1,3 @@
 -- Where a step starts, and the figures that it keeps for each track.
-pub mod Going
+pub mod Checked
 pub mod Marks

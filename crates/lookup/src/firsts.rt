@@ -4,7 +4,7 @@ use rules::Counts;
 ghost use mathlib.Core.Path.{_≡_};
 ghost use Rattle.rules.specs.Plan.{planOf};
 ghost use Rattle.plan.specs.Passes.{firstMarks};
-ghost use Rattle.lookup.specs.Going.{Accepts};
+ghost use Rattle.lookup.specs.Checked.{Accepts};
 
 // The first state of each track.
 pub fn first_states(plan: &[u8], c: Counts) -> [u16; 32]

@@ -26,13 +26,13 @@ use Rattle.rules.proofs.TrackWords.{place-zero, place-more, words-sleeping}
 use Rattle.rules.proofs.Stored.{Fits, length-ledgerWords, words-same, written-same}
 use Rattle.rules.proofs.Replaced.{updated, updated-here, updated-other, updated-fits}
 use Rattle.plan.proofs.FieldLaws.{track-count, state-count}
-use Rattle.ledger.specs.Words.{Within, trackOf, withTrack, withAsleep}
-use Rattle.ledger.proofs.Words.{put-written}
-use Rattle.lookup.specs.Going.{Accepts, Roomy}
+use Rattle.ledger.specs.Words.{Within, trackOf, withTrack, withAsleep, Room}
+use Rattle.ledger.proofs.Words.{put-written, in-room}
+use Rattle.lookup.specs.Checked.{Accepts}
 use Rattle.plan.specs.Passes.{slots}
 use Rattle.lookup.specs.Marks.{wakeMarks}
 use Rattle.lookup.proofs.Marks.{wake-marks}
-use Rattle.lookup.proofs.Facts.{plan-facts, few-tracks, in-room}
+use Rattle.lookup.proofs.Facts.{plan-facts, few-tracks}
 use Rattle.manager.specs.Roots.{rootWord, rootWords}
 
 -- The words of the states that roots enter.
@@ -183,14 +183,14 @@ module _ (b : Ledger) (f : Fits entryLimit b) (ws : List ℕ) (t : ℕ) (room : 
 
 -- one turn of the loop
 pub begin-next : (bs : List ℕ) (c : Counts) (ws vs us : List ℕ) (ms : List Bool) (t : ℕ) → Accepts bs c
-    → ms ≡ wakeMarks (planOf bs c) (rootWords (planOf bs c) (c .tracks)) (c .tracks) → t < c .tracks → Roomy c ws
+    → ms ≡ wakeMarks (planOf bs c) (rootWords (planOf bs c) (c .tracks)) (c .tracks) → t < c .tracks → Room ws (c .tracks)
     → vs ≡ written entryLimit t (begun (planOf bs c)) ws
     → us ≡ cond (isRoot (planOf bs c) t || getD ms t false) (withTrack (withAsleep vs t) t (trackOf (fresh (planOf bs c) t))) (withAsleep vs t)
     → us ≡ written entryLimit (t + 1) (begun (planOf bs c)) ws
 unfolding trackOf fresh
 begin-next bs c ws vs us ms t a e h r i j =
     let p = planOf bs c in
-    let room = in-room c ws t r h .room in
+    let room = in-room ws (c .tracks) t r h .room in
     let q = begun-is bs c a ms t e h in
     elim (look (isRoot p t || getD ms t false)) [
       | inl w ↦
@@ -207,5 +207,5 @@ pub marks-read : (p : Plan) (to : List ℕ) (ms : List Bool) (n : ℕ) → to �
 marks-read p to ms n e f = f ∙ ap (λ (x : List ℕ). wakeMarks p x n) e
 
 -- writing keeps the room
-pub kept-within : (c : Counts) (ws vs : List ℕ) (t : ℕ) → length vs ≡ length ws → Roomy c ws → t < c .tracks → Within vs t
-kept-within c ws vs t e r h = in-room c vs t (record { few = r .few; room = omega (arith, r .room) }) h
+pub kept-within : (n : ℕ) (ws vs : List ℕ) (t : ℕ) → length vs ≡ length ws → Room ws n → t < n → Within vs t
+kept-within n ws vs t e r h = in-room vs n t (record { few = r .few; words = omega (arith, r .words) }) h

@@ -16,7 +16,7 @@ ghost use Rattle.rules.specs.Plan.{planOf, isRoot};
 ghost use Rattle.rules.specs.Ledger.{written};
 ghost use Rattle.rules.specs.Opening.{fresh, begun};
 ghost use Rattle.ledger.specs.Words.{Within, trackOf, withTrack, withAsleep};
-ghost use Rattle.lookup.specs.Going.{Accepts, Roomy};
+ghost use Rattle.lookup.specs.Checked.{Accepts, Lent};
 ghost use Rattle.plan.specs.Passes.{firstMarks};
 ghost use Rattle.manager.specs.Roots.{rootWord, rootWords};
 
@@ -84,7 +84,7 @@ fn begin_track(
 
 // Overwrites the ledger.
 pub fn begin_all(plan: &[u8], c: Counts, ledger: &mut [u16])
-    requires { ⌜ Accepts (now plan) c × Roomy c (now ledger) ⌝ }
+    requires { ⌜ Lent (now plan) c (now ledger) ⌝ }
     ensures { λ _. ⌜ now (ledger .exit) ≡ written entryLimit (c .tracks) (begun (planOf (now (plan .entry)) c)) (now (ledger .entry)) ⌝ }
 {
     let firsts = firsts::first_states(plan, c);

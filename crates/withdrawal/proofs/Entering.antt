@@ -21,19 +21,20 @@ use Rattle.rules.proofs.Opening.{wakes-same, enter-none}
 use Rattle.rules.proofs.Stored.{written-same, written-read}
 use Rattle.rules.proofs.Passes.{upTo}
 use Rattle.plan.proofs.FieldLaws.{track-count}
-use Rattle.lookup.specs.Going.{Accepts, ledgerOf}
+use Rattle.ledger.specs.Words.{Tidy}
+use Rattle.lookup.specs.Checked.{Accepts, ledgerOf}
 use Rattle.plan.specs.Passes.{slots, firstMarks}
 use Rattle.lookup.specs.Marks.{wakeMarks}
 use Rattle.lookup.proofs.Facts.{plan-facts, few-tracks}
 use Rattle.lookup.proofs.FirstStates.{first-at}
 use Rattle.lookup.proofs.Marks.{wake-marks}
-use Rattle.withdrawal.specs.Orderly.{Orderly, withConfiguration, withMode}
+use Rattle.withdrawal.specs.Orderly.{withConfiguration, withMode}
 use Rattle.withdrawal.specs.Entering.{deviating, enteredBy, Sleepers}
 use Rattle.withdrawal.proofs.Standing.{holds, kept-track, Fitting, pass-start, pass-orderly, pass-length, pass-old, pass-more, pass-end}
 use Rattle.withdrawal.proofs.Storing.{Stores, stores-at}
 
 -- one track, as the code takes it: it enters, is left, or wakes
-module _ (c : Counts) (ws : List ℕ) (o : Orderly c ws) (t : ℕ) (firsts to : List ℕ) (woken : List Bool) where
+module _ (c : Counts) (ws : List ℕ) (o : Tidy ws (c .tracks)) (t : ℕ) (firsts to : List ℕ) (woken : List Bool) where
   pub enter-state : (getD to t 0 ≡ noState → ⊥) → {vs : List ℕ} → vs ≡ withConfiguration c ws t (withMode Forward (getD to t 0) (ledgerOf c ws t))
       → vs ≡ withConfiguration c ws t (enteredBy firsts to woken t (ledgerOf c ws t))
   unfolding enteredBy withMode
@@ -75,7 +76,7 @@ turn-stores limit firsts to woken t x s =
           elim (look (getD woken t false)) [ inl w ↦ rw (z, w) (record { fits = omega arith; blank = λ a. clash refl a }) | inr w ↦ rw (z, w) s ]
     ]
 
-pub entering-fits : (c : Counts) (ws : List ℕ) (o : Orderly c ws) (firsts to : List ℕ) (woken : List Bool) → Fitting c ws o (enteredBy firsts to woken)
+pub entering-fits : (c : Counts) (ws : List ℕ) (o : Tidy ws (c .tracks)) (firsts to : List ℕ) (woken : List Bool) → Fitting c ws o (enteredBy firsts to woken)
 entering-fits c ws o firsts to woken =
     let s : (t : ℕ) → Stores entryLimit (enteredBy firsts to woken t (ledgerOf c ws t)) = λ t. turn-stores entryLimit firsts to woken t (ledgerOf c ws t) (stores-at entryLimit (c .tracks) (ledgerOf c ws) (holds c ws o) t) in
     record { fits = λ t b. s t .fits; blank = λ t b. s t .blank }
@@ -120,7 +121,7 @@ module _ (bs : List ℕ) (c : Counts) (acc : Accepts bs c) (t : ℕ) (b : t < c 
         ∙ ap₂ (entered p (ledgerOf c ws u) (fresh p u)) (alone u h) (woken-marks u h))
 
     -- the pass, with the marks that the code has
-    module _ (ws : List ℕ) (o : Orderly c ws) {woken : List Bool} (m : woken ≡ wakeMarks p to (c .tracks)) where
+    module _ (ws : List ℕ) (o : Tidy ws (c .tracks)) {woken : List Bool} (m : woken ≡ wakeMarks p to (c .tracks)) where
       abbrev turn : ℕ → Configuration → Configuration
       turn = enteredBy firsts to woken
 
@@ -131,7 +132,7 @@ module _ (bs : List ℕ) (c : Counts) (acc : Accepts bs c) (t : ℕ) (b : t < c 
       entering-start = pass-start c ws o turn
 
       module _ (i : ℕ) (h : i ≤ c .tracks) {vs : List ℕ} (e : vs ≡ written entryLimit (c .tracks) (through i) ws) where
-        pub entering-orderly : Orderly c vs
+        pub entering-orderly : Tidy vs (c .tracks)
         entering-orderly = pass-orderly c ws o turn (entering-fits c ws o firsts to woken) i h e
 
         pub entering-length : length vs ≡ length ws
@@ -153,7 +154,7 @@ module _ (bs : List ℕ) (c : Counts) (acc : Accepts bs c) (t : ℕ) (b : t < c 
             ∙ deviates ws
 
 -- a firing without a deviation enters nothing, and opens nothing
-pub deviates-not : (bs : List ℕ) (c : Counts) → Accepts bs c → (t s : ℕ) (ws : List ℕ) → Orderly c ws → s ≡ noState
+pub deviates-not : (bs : List ℕ) (c : Counts) → Accepts bs c → (t s : ℕ) (ws : List ℕ) → Tidy ws (c .tracks) → s ≡ noState
     → ws ≡ written entryLimit (c .tracks) (enter (planOf bs c) (deviating t s) (ledgerOf c ws)) ws
 deviates-not bs c acc t s ws o e =
     sym (ap (λ (m : Ledger). written entryLimit (c .tracks) m ws) (enter-none (planOf bs c) (plan-facts bs c acc) (deviating t s) (ledgerOf c ws) to-none)
@@ -163,4 +164,4 @@ deviates-not bs c acc t s ws o e =
     to-none u = unfold deviating optional in elim (look (eqb u t)) [ inl q ↦ rw (q, eq-eqb s noState e) | inr q ↦ rw q ]
 
     unchanged : written entryLimit (c .tracks) (ledgerOf c ws) ws ≡ ws
-    unchanged = unfold ledgerOf in written-read entryLimit (c .tracks) ws (o .tidy) (o .roomy .room)
+    unchanged = unfold ledgerOf in written-read entryLimit (c .tracks) ws (o .tidy) (o .room .words)

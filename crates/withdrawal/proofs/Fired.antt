@@ -28,11 +28,12 @@ use Rattle.rules.proofs.Soundness.{Live}
 use Rattle.rules.proofs.TrackWords.{length-heldAt}
 use Rattle.rules.proofs.Stored.{Storable, read-at, written-same}
 use Rattle.plan.proofs.FieldLaws.{track-count}
-use Rattle.ledger.specs.Words.{Within, trackOf, trackAt, entryPlace, withRemoved}
+use Rattle.ledger.specs.Words.{Within, trackOf, trackAt, entryPlace, withRemoved, Tidy}
 use Rattle.ledger.proofs.ReadTracks.{empty-count, mode-as, count-as, empty-as, held-as}
-use Rattle.lookup.specs.Going.{Checked, ledgerOf}
-use Rattle.lookup.proofs.Facts.{plan-facts, live-of-going, in-room, track-read}
-use Rattle.withdrawal.specs.Orderly.{Orderly, withConfiguration}
+use Rattle.lookup.specs.Checked.{Checked, ledgerOf}
+use Rattle.ledger.proofs.Words.{in-room}
+use Rattle.lookup.proofs.Facts.{plan-facts, live-of-going, track-read}
+use Rattle.withdrawal.specs.Orderly.{withConfiguration}
 use Rattle.withdrawal.specs.Entering.{deviating}
 use Rattle.withdrawal.proofs.Firing.{Fires, fire-parts, to-other, removed-other, woken-asleep}
 use Rattle.withdrawal.proofs.Standing.{holds, put-removed, read-back, orderly-after, then}
@@ -163,12 +164,12 @@ module _ {bs : List ℕ} {c : Counts} {ws : List ℕ} {t : ℕ} (a : Fireable bs
   live = live-of-going bs c ws (going bs c ws (a .checked) (a .not-over))
 
   ok : Accepted p
-  ok = plan-facts bs c (a .checked .accepts)
+  ok = plan-facts bs c (a .checked .lent .accepts)
 
   parts : Fires p l t
   parts = fire-parts p l t (a .may)
 
-  in-order : Orderly c ws
+  in-order : Tidy ws (c .tracks)
   in-order = orderly bs c ws (a .checked)
 
   pub low : t < c .tracks
@@ -204,7 +205,7 @@ module _ {bs : List ℕ} {c : Counts} {ws : List ℕ} {t : ℕ} (a : Fireable bs
       (omega arith, omega arith)
 
   pub within-words : Within ws t
-  within-words = in-room c ws t (a .checked .roomy) low
+  within-words = in-room ws (c .tracks) t (a .checked .lent .room) low
 
   pub removable : (0 < trackAt ws t .count) × (trackAt ws t .count ≤ entryLimit)
   removable = counted (track-read c ws t low)
@@ -225,7 +226,7 @@ module _ {bs : List ℕ} {c : Counts} {ws : List ℕ} {t : ℕ} (a : Fireable bs
     stored : Storable entryLimit (c .tracks) (removed p l t)
     stored = storable-removed p l t entryLimit (c .tracks) low (holds c ws in-order)
 
-    pub removed-orderly : Orderly c vs
+    pub removed-orderly : Tidy vs (c .tracks)
     removed-orderly = orderly-after c ws in-order (removed p l t) stored d
 
     same-to : deviating t dev ≡ deviatesTo p l t
@@ -248,7 +249,7 @@ module _ {bs : List ℕ} {c : Counts} {ws : List ℕ} {t : ℕ} (a : Fireable bs
       stored-fired : Storable entryLimit (c .tracks) (fired p l t)
       stored-fired = storable-fired p l t ok entryLimit (c .tracks) few low (holds c ws in-order)
 
-      pub fired-orderly : Orderly c us
+      pub fired-orderly : Tidy us (c .tracks)
       fired-orderly = orderly-after c ws in-order (fired p l t) stored-fired fired-words
 
       pub fire-done : {code : ℕ} → code ≡ newest (l t .held) .code → {xs : List ℕ} → xs ≡ written entryLimit (c .tracks) (abandoned p (ledgerOf c us)) us

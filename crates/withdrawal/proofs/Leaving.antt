@@ -20,13 +20,13 @@ use Rattle.rules.proofs.Tests.{look, look-option}
 use Rattle.rules.proofs.Stored.{written-same}
 use Rattle.rules.proofs.Passes.{upTo}
 use Rattle.plan.proofs.FieldLaws.{track-count, state-count}
-use Rattle.ledger.specs.Words.{trackOf, withAsleep}
+use Rattle.ledger.specs.Words.{trackOf, withAsleep, Tidy}
 use Rattle.ledger.proofs.ReadTracks.{mode-as, empty-as, held-as}
-use Rattle.lookup.specs.Going.{Accepts, ledgerOf, hostTrack}
+use Rattle.lookup.specs.Checked.{Accepts, ledgerOf, hostTrack}
 use Rattle.plan.specs.Passes.{stateSlots}
 use Rattle.lookup.specs.Marks.{scopeMarks}
 use Rattle.lookup.proofs.Facts.{plan-facts, few-tracks, no-host-track, host-of-track}
-use Rattle.withdrawal.specs.Orderly.{Orderly, withConfiguration}
+use Rattle.withdrawal.specs.Orderly.{withConfiguration}
 use Rattle.withdrawal.specs.Staying.{isTakenBack, stayFrom, stayBy, stayMarks, leftBy}
 use Rattle.withdrawal.proofs.Standing.{holds, kept-track, put-asleep, Fitting, pass-start, pass-orderly, pass-length, pass-more, pass-end}
 use Rattle.withdrawal.proofs.Storing.{Stores, stores-sleeping, stores-at}
@@ -84,7 +84,7 @@ unfolding stayMarks
 stay-more p l t e f = rw (add-one, ← e) f
 
 -- one track: a root, in a scope that stays, in one that does not
-module _ (c : Counts) (ws : List ℕ) (o : Orderly c ws) (p : Plan) (stays : List Bool) (t : ℕ) where
+module _ (c : Counts) (ws : List ℕ) (o : Tidy ws (c .tracks)) (p : Plan) (stays : List Bool) (t : ℕ) where
   pub leave-root : host p t ≡ none → ws ≡ withConfiguration c ws t (leftBy p stays t (ledgerOf c ws t))
   unfolding leftBy
   leave-root e = kept-track c ws o t (leftBy p stays t (ledgerOf c ws t)) (rw (e, leftBy))
@@ -108,7 +108,7 @@ left-stores limit p stays t x s =
     ]
 
 -- the pass
-module _ (bs : List ℕ) (c : Counts) (acc : Accepts bs c) (ws : List ℕ) (o : Orderly c ws) {kept stays : List Bool}
+module _ (bs : List ℕ) (c : Counts) (acc : Accepts bs c) (ws : List ℕ) (o : Tidy ws (c .tracks)) {kept stays : List Bool}
     (k : kept ≡ stayMarks (planOf bs c) (ledgerOf c ws) (c .tracks)) (s : stays ≡ scopeMarks (planOf bs c) kept (c .tracks)) where
   abbrev turn : ℕ → Configuration → Configuration
   turn = leftBy (planOf bs c) stays
@@ -134,7 +134,7 @@ module _ (bs : List ℕ) (c : Counts) (acc : Accepts bs c) (ws : List ℕ) (o : 
 
   module _ (i : ℕ) (b : i ≤ c .tracks) {vs : List ℕ}
       (e : vs ≡ written entryLimit (c .tracks) (upTo (λ t. turn t (ledgerOf c ws t)) (ledgerOf c ws) i) ws) where
-    pub leaving-orderly : Orderly c vs
+    pub leaving-orderly : Tidy vs (c .tracks)
     leaving-orderly = pass-orderly c ws o turn leaving-fits i b e
 
     pub leaving-length : length vs ≡ length ws

@@ -17,19 +17,19 @@ use Rattle.rules.proofs.Tests.{look}
 use Rattle.rules.proofs.Stored.{Storable, length-written, read-written, tidy-written, written-twice, written-read, storable-read}
 use Rattle.rules.proofs.Replaced.{updated, updated-same}
 use Rattle.rules.proofs.Passes.{upTo, up-new, up-old, up-none, up-more, up-all}
-use Rattle.ledger.specs.Words.{withTrack, withAsleep, withRemoved}
+use Rattle.ledger.specs.Words.{withTrack, withAsleep, withRemoved, Tidy}
 use Rattle.ledger.proofs.Words.{put-written, asleep-written, removed-written}
-use Rattle.lookup.specs.Going.{ledgerOf}
-use Rattle.withdrawal.specs.Orderly.{Orderly, withConfiguration}
+use Rattle.lookup.specs.Checked.{ledgerOf}
+use Rattle.withdrawal.specs.Orderly.{withConfiguration}
 
-module _ (c : Counts) (ws : List ℕ) (o : Orderly c ws) where
+module _ (c : Counts) (ws : List ℕ) (o : Tidy ws (c .tracks)) where
   pub holds : Storable entryLimit (c .tracks) (ledgerOf c ws)
   unfolding ledgerOf
   holds = storable-read entryLimit (c .tracks) ws (o .tidy)
 
   pub as-held : ws ≡ written entryLimit (c .tracks) (ledgerOf c ws) ws
   unfolding ledgerOf
-  as-held = sym (written-read entryLimit (c .tracks) ws (o .tidy) (o .roomy .room))
+  as-held = sym (written-read entryLimit (c .tracks) ws (o .tidy) (o .room .words))
 
   -- a track that is left as it is
   pub kept-track : (t : ℕ) (x : Configuration) → x ≡ ledgerOf c ws t → ws ≡ withConfiguration c ws t x
@@ -45,12 +45,12 @@ module _ (c : Counts) (ws : List ℕ) (o : Orderly c ws) where
     unfolding withConfiguration updated
     put-mode k e =
         ap (λ (v : List ℕ). withTrack v t k) as-held
-        ∙ put-written (c .tracks) (ledgerOf c ws) ws t (holds .fits) b (o .roomy .room) k e
+        ∙ put-written (c .tracks) (ledgerOf c ws) ws t (holds .fits) b (o .room .words) k e
 
     pub put-asleep : withAsleep ws t ≡ withConfiguration c ws t sleeping
     unfolding withConfiguration updated
     put-asleep =
-        ap (λ (v : List ℕ). withAsleep v t) as-held ∙ asleep-written (c .tracks) (ledgerOf c ws) ws t (holds .fits) b (o .roomy .room)
+        ap (λ (v : List ℕ). withAsleep v t) as-held ∙ asleep-written (c .tracks) (ledgerOf c ws) ws t (holds .fits) b (o .room .words)
 
     pub put-removed : (e : Entry) (es : List Entry) → ledgerOf c ws t .held ≡ e ∷ es
         → withRemoved ws t
@@ -58,10 +58,10 @@ module _ (c : Counts) (ws : List ℕ) (o : Orderly c ws) where
     unfolding withConfiguration updated
     put-removed e es q =
         ap (λ (v : List ℕ). withRemoved v t) as-held
-        ∙ removed-written (c .tracks) (ledgerOf c ws) ws t (holds .fits) b (o .roomy .room) e es q
+        ∙ removed-written (c .tracks) (ledgerOf c ws) ws t (holds .fits) b (o .room .words) e es q
 
 -- a ledger was written over the words
-module _ (c : Counts) (ws : List ℕ) (o : Orderly c ws) (m : Ledger) (s : Storable entryLimit (c .tracks) m) {vs : List ℕ}
+module _ (c : Counts) (ws : List ℕ) (o : Tidy ws (c .tracks)) (m : Ledger) (s : Storable entryLimit (c .tracks) m) {vs : List ℕ}
     (e : vs ≡ written entryLimit (c .tracks) m ws) where
   pub read-back : ledgerOf c vs ≡ m
   unfolding ledgerOf
@@ -69,14 +69,14 @@ module _ (c : Counts) (ws : List ℕ) (o : Orderly c ws) (m : Ledger) (s : Stora
       ap (λ (v : List ℕ). ledgerAt entryLimit v (c .tracks)) e ∙ read-written entryLimit (c .tracks) m ws (s .fits) (s .beyond)
 
   pub length-after : length vs ≡ length ws
-  length-after = ap length e ∙ length-written entryLimit (c .tracks) m ws (s .fits) (o .roomy .room)
+  length-after = ap length e ∙ length-written entryLimit (c .tracks) m ws (s .fits) (o .room .words)
 
-  pub orderly-after : Orderly c vs
+  pub orderly-after : Tidy vs (c .tracks)
   orderly-after =
       record {
-        roomy = record {
-          few = o .roomy .few;
-          room = let r = o .roomy .room in omega (arith, length-after);
+        room = record {
+          few = o .room .few;
+          words = let r = o .room .words in omega (arith, length-after);
         };
         tidy = rw e (tidy-written entryLimit (c .tracks) m ws s);
       }
@@ -90,7 +90,7 @@ module _ (c : Counts) (ws : List ℕ) (o : Orderly c ws) (m : Ledger) (s : Stora
   then f d = d ∙ ap (λ (k : Ledger). written entryLimit (c .tracks) (f k) vs) read-back ∙ twice (f m)
 
 -- A pass: each track in turn is replaced by what follows from it.
-module _ (c : Counts) (ws : List ℕ) (o : Orderly c ws) (g : ℕ → Configuration → Configuration) where
+module _ (c : Counts) (ws : List ℕ) (o : Tidy ws (c .tracks)) (g : ℕ → Configuration → Configuration) where
   abbrev pub passed : Ledger
   passed t = g t (ledgerOf c ws t)
 
@@ -129,7 +129,7 @@ module _ (c : Counts) (ws : List ℕ) (o : Orderly c ws) (g : ℕ → Configurat
         }
 
     module _ (i : ℕ) (b : i ≤ c .tracks) {vs : List ℕ} (e : vs ≡ written entryLimit (c .tracks) (through i) ws) where
-      pub pass-orderly : Orderly c vs
+      pub pass-orderly : Tidy vs (c .tracks)
       pass-orderly = orderly-after c ws o (through i) (through-storable i b) e
 
       pub pass-length : length vs ≡ length ws

@@ -9,12 +9,8 @@ use Rattle.rules.specs.declared.Mode.{Mode}
 use Rattle.rules.specs.Layout.{entryLimit}
 use Rattle.rules.specs.Ledger.{Configuration, written}
 use Rattle.rules.specs.Soundness.{areTidy}
-use Rattle.lookup.specs.Going.{Roomy, ledgerOf}
-
--- the words of all tracks are there, each as the paper describes it
-pub record Orderly (c : Counts) (ws : List ℕ) : Type 0 where
-  pub roomy : Roomy c ws
-  pub tidy : areTidy entryLimit ws (c .tracks) ≡ true
+use Rattle.ledger.specs.Words.{Room}
+use Rattle.lookup.specs.Checked.{ledgerOf}
 
 -- the words with one track's replaced
 unfoldable pub withConfiguration : Counts → List ℕ → ℕ → Configuration → List ℕ

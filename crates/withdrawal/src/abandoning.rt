@@ -13,13 +13,14 @@ ghost use Rattle.rules.specs.Layout.{entryLimit};
 ghost use Rattle.rules.specs.Plan.{planOf};
 ghost use Rattle.rules.specs.Ledger.{written};
 ghost use Rattle.rules.specs.Signal.{abandoned};
-ghost use Rattle.lookup.specs.Going.{Accepts, Roomy, ledgerOf};
-ghost use Rattle.withdrawal.specs.Orderly.{Orderly, withConfiguration};
+ghost use Rattle.ledger.specs.Words.{Tidy};
+ghost use Rattle.lookup.specs.Checked.{Accepts, ledgerOf, Lent};
+ghost use Rattle.withdrawal.specs.Orderly.{withConfiguration};
 ghost use Rattle.withdrawal.specs.Staying.{stayFrom, stayBy, stayMarks, leftBy};
 
 // A track stays, and if it is awake its host's track is next; where the mark stands already nothing changes.
 fn stay(plan: &[u8], c: Counts, ledger: &[u16], kept: [bool; 32], t: usize) -> [bool; 32]
-    requires { ⌜ Accepts (now plan) c × Roomy c (now ledger) × (t < c .tracks) ⌝ }
+    requires { ⌜ Lent (now plan) c (now ledger) × (t < c .tracks) ⌝ }
     ensures { λ r. ⌜ r ≡ stayFrom (planOf (now (plan .entry)) c) (ledgerOf c (now (ledger .entry))) kept t ⌝ }
 {
     if kept[t] {
@@ -39,7 +40,7 @@ fn stay(plan: &[u8], c: Counts, ledger: &[u16], kept: [bool; 32], t: usize) -> [
 
 // A track stays for its own sake unless it is undoing and holds nothing.
 fn stay_by(plan: &[u8], c: Counts, ledger: &[u16], kept: [bool; 32], t: usize) -> [bool; 32]
-    requires { ⌜ Accepts (now plan) c × Roomy c (now ledger) × (t < c .tracks) ⌝ }
+    requires { ⌜ Lent (now plan) c (now ledger) × (t < c .tracks) ⌝ }
     ensures { λ r. ⌜ r ≡ stayBy (planOf (now (plan .entry)) c) (ledgerOf c (now (ledger .entry))) t kept ⌝ }
 {
     let k = reading::track(c, ledger, t);
@@ -55,7 +56,7 @@ fn stay_by(plan: &[u8], c: Counts, ledger: &[u16], kept: [bool; 32], t: usize) -
 
 // The tracks that stay.
 fn staying(plan: &[u8], c: Counts, ledger: &[u16]) -> [bool; 32]
-    requires { ⌜ Accepts (now plan) c × Roomy c (now ledger) ⌝ }
+    requires { ⌜ Lent (now plan) c (now ledger) ⌝ }
     ensures { λ r. ⌜ r ≡ stayMarks (planOf (now (plan .entry)) c) (ledgerOf c (now (ledger .entry))) (c .tracks) ⌝ }
 {
     let mut kept = [false; 32];
@@ -71,7 +72,7 @@ fn staying(plan: &[u8], c: Counts, ledger: &[u16]) -> [bool; 32]
 
 // Puts a track to sleep if it is in a scope that is not marked.
 fn leave_track(plan: &[u8], c: Counts, ledger: &mut [u16], stays: [bool; 128], t: usize)
-    requires { ⌜ Accepts (now plan) c × Orderly c (now ledger) × (t < c .tracks) ⌝ }
+    requires { ⌜ Accepts (now plan) c × Tidy (now ledger) (c .tracks) × (t < c .tracks) ⌝ }
     ensures { λ _. ⌜ now (ledger .exit) ≡ withConfiguration c (now (ledger .entry)) t (leftBy (planOf (now (plan .entry)) c) stays t (ledgerOf c (now (ledger .entry)) t)) ⌝ }
 {
     let h = fields::host_word(plan, c, t);
@@ -86,7 +87,7 @@ fn leave_track(plan: &[u8], c: Counts, ledger: &mut [u16], stays: [bool; 128], t
 
 // Abandoning, with nothing installed.
 pub fn abandon(plan: &[u8], c: Counts, ledger: &mut [u16])
-    requires { ⌜ Accepts (now plan) c × Orderly c (now ledger) ⌝ }
+    requires { ⌜ Accepts (now plan) c × Tidy (now ledger) (c .tracks) ⌝ }
     ensures { λ _. ⌜ now (ledger .exit) ≡ written entryLimit (c .tracks) (abandoned (planOf (now (plan .entry)) c) (ledgerOf c (now (ledger .entry)))) (now (ledger .entry)) ⌝ }
 {
     let kept = staying(plan, c, &ledger[..]);

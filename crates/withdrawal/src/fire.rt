@@ -21,13 +21,14 @@ ghost use Rattle.rules.specs.Opening.{enter};
 ghost use Rattle.rules.specs.Fire.{mayFire};
 ghost use Rattle.rules.specs.Call.{fireOutcome, Meets};
 ghost use Rattle.rules.specs.Answers.{fireTold};
-ghost use Rattle.lookup.specs.Going.{Accepts, Roomy, Checked, ledgerOf};
-ghost use Rattle.withdrawal.specs.Orderly.{Orderly, withConfiguration};
+ghost use Rattle.ledger.specs.Words.{Tidy};
+ghost use Rattle.lookup.specs.Checked.{Accepts, Checked, ledgerOf, Lent};
+ghost use Rattle.withdrawal.specs.Orderly.{withConfiguration};
 ghost use Rattle.withdrawal.specs.Entering.{deviating, enteredBy, Sleepers};
 
 // Whether a track may be fired: it is undoing, holds an entry and has no open scope.
 fn may_fire(plan: &[u8], c: Counts, ledger: &[u16], t: usize) -> bool
-    requires { ⌜ Accepts (now plan) c × Roomy c (now ledger) ⌝ }
+    requires { ⌜ Lent (now plan) c (now ledger) ⌝ }
     ensures { λ r. ⌜ r ≡ mayFire (planOf (now (plan .entry)) c) (ledgerOf c (now (ledger .entry))) t ⌝ }
 {
     if c.tracks <= t {
@@ -53,7 +54,7 @@ fn enter_track(
     woken: [bool; 32],
     t: usize,
 )
-    requires { ⌜ Orderly c (now ledger) × (t < c .tracks) × (getD woken t false ≡ true → ledgerOf c (now ledger) t ≡ sleeping) ⌝ }
+    requires { ⌜ Tidy (now ledger) (c .tracks) × (t < c .tracks) × (getD woken t false ≡ true → ledgerOf c (now ledger) t ≡ sleeping) ⌝ }
     ensures { λ _. ⌜ now (ledger .exit) ≡ withConfiguration c (now (ledger .entry)) t (enteredBy firsts to woken t (ledgerOf c (now (ledger .entry)) t)) ⌝ }
 {
     let s = to[t];
@@ -69,7 +70,7 @@ fn enter_track(
 
 // A track goes forward in a state, 65535 for none, and the scopes that it enters open.
 fn deviate(plan: &[u8], c: Counts, ledger: &mut [u16], t: usize, s: u16)
-    requires { ⌜ Accepts (now plan) c × Orderly c (now ledger) × (t < c .tracks) × Sleepers (planOf (now plan) c) (deviating t s) (ledgerOf c (now ledger)) ⌝ }
+    requires { ⌜ Accepts (now plan) c × Tidy (now ledger) (c .tracks) × (t < c .tracks) × Sleepers (planOf (now plan) c) (deviating t s) (ledgerOf c (now ledger)) ⌝ }
     ensures { λ _. ⌜ now (ledger .exit) ≡ written entryLimit (c .tracks) (enter (planOf (now (plan .entry)) c) (deviating t s) (ledgerOf c (now (ledger .entry)))) (now (ledger .entry)) ⌝ }
 {
     if s == NO_STATE {

@@ -15,12 +15,13 @@ ghost use Rattle.rules.specs.Ledger.{isForward, written};
 ghost use Rattle.rules.specs.Signal.{turnedTrack, turned};
 ghost use Rattle.rules.specs.Call.{nothing, signalOutcome, Meets};
 ghost use Rattle.rules.specs.Answers.{signalTold};
-ghost use Rattle.lookup.specs.Going.{Checked, ledgerOf};
-ghost use Rattle.withdrawal.specs.Orderly.{Orderly, withConfiguration};
+ghost use Rattle.ledger.specs.Words.{Tidy};
+ghost use Rattle.lookup.specs.Checked.{Checked, ledgerOf};
+ghost use Rattle.withdrawal.specs.Orderly.{withConfiguration};
 
 // Turns a track if it is forward, and tells how many turned: 1 or 0.
 fn turn_track(c: Counts, ledger: &mut [u16], t: usize) -> u16
-    requires { ⌜ Orderly c (now ledger) × (t < c .tracks) ⌝ }
+    requires { ⌜ Tidy (now ledger) (c .tracks) × (t < c .tracks) ⌝ }
     ensures { λ r. ⌜ (r ≡ cond (isForward (ledgerOf c (now (ledger .entry)) t .mode)) 1 0) × (now (ledger .exit) ≡ withConfiguration c (now (ledger .entry)) t (turnedTrack (ledgerOf c (now (ledger .entry)) t))) ⌝ }
 {
     let k = reading::track(c, &ledger[..], t);
@@ -34,7 +35,7 @@ fn turn_track(c: Counts, ledger: &mut [u16], t: usize) -> u16
 
 // Turns every forward track, and tells how many turned.
 fn turn_all(c: Counts, ledger: &mut [u16]) -> u16
-    requires { ⌜ Orderly c (now ledger) ⌝ }
+    requires { ⌜ Tidy (now ledger) (c .tracks) ⌝ }
     ensures { λ r. ⌜ (r ≡ countBelow (c .tracks) (λ t. isForward (ledgerOf c (now (ledger .entry)) t .mode))) × (now (ledger .exit) ≡ written entryLimit (c .tracks) (turned (ledgerOf c (now (ledger .entry)))) (now (ledger .entry))) ⌝ }
 {
     let tracks = c.tracks;

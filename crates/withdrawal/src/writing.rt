@@ -6,12 +6,13 @@ use rules::Mode;
 use rules::Track;
 ghost use mathlib.Core.Path.{_≡_};
 ghost use Prim.Native.Nat.{_<_};
-ghost use Rattle.lookup.specs.Going.{ledgerOf};
-ghost use Rattle.withdrawal.specs.Orderly.{Orderly, withConfiguration, withMode};
+ghost use Rattle.ledger.specs.Words.{Tidy};
+ghost use Rattle.lookup.specs.Checked.{ledgerOf};
+ghost use Rattle.withdrawal.specs.Orderly.{withConfiguration, withMode};
 
 // A track's mode and state; it holds what it held.
 pub fn put_mode(c: Counts, ledger: &mut [u16], t: usize, m: Mode, s: u16)
-    requires { ⌜ Orderly c (now ledger) × (t < c .tracks) ⌝ }
+    requires { ⌜ Tidy (now ledger) (c .tracks) × (t < c .tracks) ⌝ }
     ensures { λ _. ⌜ now (ledger .exit) ≡ withConfiguration c (now (ledger .entry)) t (withMode m s (ledgerOf c (now (ledger .entry)) t)) ⌝ }
 {
     let k = reading::track(c, &ledger[..], t);

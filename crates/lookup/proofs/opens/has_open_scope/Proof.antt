@@ -11,7 +11,7 @@ array-read-result : tie.Need-array-read-result
 array-read-result c = search needs
 
 returns : tie.Need-returns
-returns c = open-read _ _ (c .before .before .before .pre .0) _ _ _ (c .open-scopes .ensures) (c .before .before .before .pre .2)
+returns c = open-read _ _ (c .before .before .before .pre .0 .accepts) _ _ _ (c .open-scopes .ensures) (c .before .before .before .pre .1)
 
 pub has-open-scope-spec : {M : Type 1} → statement M
 has-open-scope-spec = tie.close (tie.spec open-scopes-requires array-read-result returns)

@@ -32,7 +32,7 @@ loop-holds : tie.Need-loop-holds Inv-loop μ-loop
 loop-holds c = (omega arith, refl, begin-none _ _)
 
 begin-track-requires : tie.Need-begin-track-requires Inv-loop μ-loop
-begin-track-requires c κs = (c .before .before .before .before .before .before .before .before .pre .0, kept-within _ _ _ _ (c .before .before .loop .inv .1) (c .before .before .before .before .before .before .before .before .pre .1) (search needs), search needs, c .before .before .before .before .before .first-states .ensures)
+begin-track-requires c κs = (c .before .before .before .before .before .before .before .before .pre .accepts, kept-within _ _ _ _ (c .before .before .loop .inv .1) (c .before .before .before .before .before .before .before .before .pre .room) (search needs), search needs, c .before .before .before .before .before .first-states .ensures)
 
 add-t : tie.Need-add-t Inv-loop μ-loop
 add-t c = search needs
@@ -41,7 +41,7 @@ loop-less : tie.Need-loop-less Inv-loop μ-loop
 loop-less c = search needs
 
 loop-again : tie.Need-loop-again Inv-loop μ-loop
-loop-again c = (omega arith, search needs, begin-next _ _ _ _ _ _ _ (c .before .before .before .before .before .before .before .before .before .before .before .pre .0) (marks-read _ _ _ _ (c .before .before .before .before .before .before .before .root-words .ensures) (c .before .before .before .before .before .before .woken-by .ensures)) (search needs) (c .before .before .before .before .before .before .before .before .before .before .before .pre .1) (c .before .before .before .before .before .loop .inv .2) (c .before .before .begin-track .ensures))
+loop-again c = (omega arith, search needs, begin-next _ _ _ _ _ _ _ (c .before .before .before .before .before .before .before .before .before .before .before .pre .accepts) (marks-read _ _ _ _ (c .before .before .before .before .before .before .before .root-words .ensures) (c .before .before .before .before .before .before .woken-by .ensures)) (search needs) (c .before .before .before .before .before .before .before .before .before .before .before .pre .room) (c .before .before .before .before .before .loop .inv .2) (c .before .before .begin-track .ensures))
 
 same-length : tie.Need-same-length Inv-loop μ-loop
 same-length c = search needs

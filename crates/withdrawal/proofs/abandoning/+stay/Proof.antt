@@ -33,7 +33,7 @@ stay-array-read-if1 : (t : ℕ) → stay-lts.Need-array-read-if1 (
   stay-below t,
   stay.Post,
 ) (stay-at t) stay.Post
-stay-array-read-if1 t c = let n = c .before .before .pre .1 .0 .holds .tracks in omega arith
+stay-array-read-if1 t c = let n = c .before .before .pre .1 .0 .accepts .holds .tracks in omega arith
 
 stay-returns : (t : ℕ) → stay-lts.Need-returns (
   is-awake-reads.Asked,
@@ -43,7 +43,7 @@ stay-returns : (t : ℕ) → stay-lts.Need-returns (
   stay-below t,
   stay.Post,
 ) (stay-at t) stay.Post
-stay-returns t c = climb-again _ _ (c .before .before .before .pre .1 .0) _ _ _ (c .if1 .taken)
+stay-returns t c = climb-again _ _ (c .before .before .before .pre .1 .0 .accepts) _ _ _ (c .if1 .taken)
 
 stay-array-write-next : (t : ℕ) → stay-lts.Need-array-write-next (
   is-awake-reads.Asked,
@@ -53,7 +53,7 @@ stay-array-write-next : (t : ℕ) → stay-lts.Need-array-write-next (
   stay-below t,
   stay.Post,
 ) (stay-at t) stay.Post
-stay-array-write-next t c = let n = c .before .before .before .pre .1 .0 .holds .tracks in omega arith
+stay-array-write-next t c = let n = c .before .before .before .pre .1 .0 .accepts .holds .tracks in omega arith
 
 stay-is-awake-requires : (t : ℕ) → stay-lts.Need-is-awake-requires (
   is-awake-reads.Asked,
@@ -73,7 +73,7 @@ stay-returns-2 : (t : ℕ) → stay-lts.Need-returns-2 (
   stay-below t,
   stay.Post,
 ) (stay-at t) stay.Post
-stay-returns-2 t c = climb-asleep _ _ (c .before .before .before .before .before .pre .1 .0) _ _ _ (c .before .before .if1 .left) (c .before .is-awake .ensures) (c .if2 .taken)
+stay-returns-2 t c = climb-asleep _ _ (c .before .before .before .before .before .pre .1 .0 .accepts) _ _ _ (c .before .before .if1 .left) (c .before .is-awake .ensures) (c .if2 .taken)
 
 stay-host-track-requires : (t : ℕ) → stay-lts.Need-host-track-requires (
   is-awake-reads.Asked,
@@ -94,7 +94,7 @@ stay-returns-3 : (t : ℕ) → stay-lts.Need-returns-3 (
   stay.Post,
 ) (stay-at t) stay.Post
 unfolding noState
-stay-returns-3 t c = climb-root _ _ (c .before .before .before .before .before .before .before .pre .1 .0) _ _ (c .before .before .before .before .before .before .before .args .t) (c .before .before .before .before .if1 .left) (c .before .before .before .is-awake .ensures) (c .before .before .if2 .left) (c .before .host-track .ensures) (c .if3 .taken)
+stay-returns-3 t c = climb-root _ _ (c .before .before .before .before .before .before .before .pre .1 .0 .accepts) _ _ (c .before .before .before .before .before .before .before .args .t) (c .before .before .before .before .if1 .left) (c .before .before .before .is-awake .ensures) (c .before .before .if2 .left) (c .before .host-track .ensures) (c .if3 .taken)
 
 stay-cast-stay : (t : ℕ) → stay-lts.Need-cast-stay (
   is-awake-reads.Asked,
@@ -115,7 +115,7 @@ stay-stay-requires : (t : ℕ) → stay-lts.Need-stay-requires (
   stay.Post,
 ) (stay-at t) stay.Post
 unfolding noState
-stay-stay-requires t c κs = let a = c .before .before .before .before .before .before .before .pre .1 .0 in let m = c .before .before .before .before .before .before .before .pre .0 in let d = host-lower _ _ a _ _ (c .before .host-track .ensures) (c .if3 .left) in let e = host-track-low _ _ _ _ a (c .before .host-track .ensures) (c .if3 .left) in (omega arith, (a, c .before .before .before .before .before .before .before .pre .1 .1, omega arith))
+stay-stay-requires t c κs = let a = c .before .before .before .before .before .before .before .pre .1 .0 .accepts in let m = c .before .before .before .before .before .before .before .pre .0 in let d = host-lower _ _ a _ _ (c .before .host-track .ensures) (c .if3 .left) in let e = host-track-low _ _ _ _ a (c .before .host-track .ensures) (c .if3 .left) in (omega arith, (c .before .before .before .before .before .before .before .pre .1 .0, omega arith))
 
 stay-returns-4 : (t : ℕ) → stay-lts.Need-returns-4 (
   is-awake-reads.Asked,
@@ -126,7 +126,7 @@ stay-returns-4 : (t : ℕ) → stay-lts.Need-returns-4 (
   stay.Post,
 ) (stay-at t) stay.Post
 unfolding noState
-stay-returns-4 t c = climb-host _ _ (c .before .before .before .before .before .before .before .before .pre .1 .0) _ _ (c .before .before .before .before .before .before .before .before .args .t) (c .before .before .before .before .before .if1 .left) (c .before .before .before .before .is-awake .ensures) (c .before .before .before .if2 .left) (c .before .before .host-track .ensures) (c .before .if3 .left) (c .stay .ensures)
+stay-returns-4 t c = climb-host _ _ (c .before .before .before .before .before .before .before .before .pre .1 .0 .accepts) _ _ (c .before .before .before .before .before .before .before .before .args .t) (c .before .before .before .before .before .if1 .left) (c .before .before .before .before .is-awake .ensures) (c .before .before .before .if2 .left) (c .before .before .host-track .ensures) (c .before .if3 .left) (c .stay .ensures)
 
 pub +stay-spec : {M : Type 1} → statement M
 +stay-spec = close μ-stay λ t. stay-lts.spec (

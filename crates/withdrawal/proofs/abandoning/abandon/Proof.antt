@@ -7,7 +7,7 @@ use Rattle.rules.specs.Layout.{entryLimit}
 use Rattle.rules.specs.Plan.{planOf}
 use Rattle.rules.specs.Ledger.{written}
 use Rattle.rules.proofs.Passes.{upTo}
-use Rattle.lookup.specs.Going.{ledgerOf}
+use Rattle.lookup.specs.Checked.{ledgerOf}
 use Rattle.withdrawal.specs.Staying.{leftBy}
 use Rattle.withdrawal.proofs.Leaving.{leaving-start, leaving-orderly, leaving-length, leaving-more, leaving-end}
 use Rattle.withdrawal.proofs.abandoning.abandon.Statement.{statement}
@@ -20,7 +20,7 @@ abbrev μ-loop : tie.MeasureT-loop
 μ-loop plan c ledger₀ stays tracks t₀ ledger t = c .tracks - t
 
 staying-requires : tie.Need-staying-requires Inv-loop μ-loop
-staying-requires c κs = (c .before .before .before .pre .0, c .before .before .before .pre .1 .roomy)
+staying-requires c κs = record { accepts = c .before .before .before .pre .0; room = c .before .before .before .pre .1 .room }
 
 scopes-with-requires : tie.Need-scopes-with-requires Inv-loop μ-loop
 scopes-with-requires c κs = c .before .before .before .before .pre .0

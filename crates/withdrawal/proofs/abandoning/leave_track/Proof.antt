@@ -3,7 +3,8 @@ use mathlib.Core.Path.{sym, _∙_}
 use native.Mathlib.Omega.{arith}
 use Rattle.rules.specs.Plan.{noState}
 use Rattle.plan.proofs.Hosting.{host-none}
-use Rattle.lookup.proofs.Facts.{host-is, host-low, in-room}
+use Rattle.ledger.proofs.Words.{in-room}
+use Rattle.lookup.proofs.Facts.{host-is, host-low}
 use Rattle.withdrawal.proofs.Leaving.{leave-root, leave-not, leave-done}
 use borrow.Author.Needs.{needs}
 use Rattle.withdrawal.proofs.abandoning.leave_track.Statement.{statement}
@@ -28,7 +29,7 @@ unfolding noState
 returns-2 c = leave-not _ _ (c .before .before .before .before .before .pre .1) _ _ _ _ (host-is _ _ _ (c .before .before .host-word .ensures) (c .before .if1 .left)) (c .if2 .taken)
 
 put-to-sleep-requires : tie.Need-put-to-sleep-requires
-put-to-sleep-requires c κs = in-room _ _ _ (c .before .before .before .before .before .before .pre .1 .roomy) (c .before .before .before .before .before .before .pre .2)
+put-to-sleep-requires c κs = in-room _ _ _ (c .before .before .before .before .before .before .pre .1 .room) (c .before .before .before .before .before .before .pre .2)
 
 same-length : tie.Need-same-length
 same-length c = search needs

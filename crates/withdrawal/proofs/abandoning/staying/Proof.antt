@@ -4,7 +4,7 @@ use Prim.Native.Nat.{_≤_, _-_}
 use native.Mathlib.Omega.{arith}
 use borrow.Author.Needs.{needs}
 use Rattle.rules.specs.Plan.{planOf}
-use Rattle.lookup.specs.Going.{ledgerOf}
+use Rattle.lookup.specs.Checked.{ledgerOf}
 use Rattle.withdrawal.specs.Staying.{stayMarks}
 use Rattle.withdrawal.proofs.Leaving.{stay-more}
 use Rattle.withdrawal.proofs.abandoning.staying.Statement.{statement}

@@ -7,7 +7,7 @@ use Rattle.rules.specs.Layout.{entryLimit}
 use Rattle.rules.specs.Plan.{noState}
 use Rattle.rules.specs.Ledger.{written}
 use Rattle.rules.proofs.Passes.{upTo}
-use Rattle.lookup.specs.Going.{ledgerOf}
+use Rattle.lookup.specs.Checked.{ledgerOf}
 use Rattle.withdrawal.specs.Entering.{enteredBy}
 use Rattle.withdrawal.proofs.Entering.{entering-start, entering-orderly, entering-length, entering-asleep, entering-more, entering-end, deviates-not}
 use Rattle.withdrawal.proofs.fire.deviate.Statement.{statement}

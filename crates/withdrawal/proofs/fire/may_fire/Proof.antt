@@ -1,6 +1,6 @@
 -- The parts of the rule under Fire, one after the other. Assumes nothing.
 use native.Mathlib.Omega.{arith}
-use Rattle.lookup.specs.Going.{ledgerOf}
+use Rattle.lookup.specs.Checked.{ledgerOf}
 use Rattle.withdrawal.proofs.Fired.{may-beyond, may-ahead, may-empty, may-open}
 use borrow.Author.Needs.{needs}
 use Rattle.withdrawal.proofs.fire.may_fire.Statement.{statement}

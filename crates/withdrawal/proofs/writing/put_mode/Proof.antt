@@ -1,5 +1,5 @@
 -- The words written are those of the ledger with the track's mode and state replaced. Assumes nothing.
-use Rattle.lookup.proofs.Facts.{in-room}
+use Rattle.ledger.proofs.Words.{in-room}
 use Rattle.withdrawal.proofs.Tracks.{mode-put}
 use borrow.Author.Needs.{needs}
 use Rattle.withdrawal.proofs.writing.put_mode.Statement.{statement}
@@ -9,7 +9,7 @@ track-requires : tie.Need-track-requires
 track-requires c κs = search needs
 
 put-track-requires : tie.Need-put-track-requires
-put-track-requires c κs = in-room _ _ _ (c .before .before .before .before .pre .0 .roomy) (c .before .before .before .before .pre .1)
+put-track-requires c κs = in-room _ _ _ (c .before .before .before .before .pre .0 .room) (c .before .before .before .before .pre .1)
 
 same-length : tie.Need-same-length
 same-length c = search needs
