@@ -15,11 +15,9 @@ use Rattle.rules.specs.Layout.{entryLimit, wordCount}
 use Rattle.rules.specs.Plan.{Plan, planOf, trackCount, stateCount, transitionCount}
 use Rattle.rules.specs.Ledger.{Ledger, isAwake, ledgerAt, written}
 use Rattle.rules.specs.Scope.{isOver, hasOpenScope}
-use Rattle.rules.specs.Soundness.{areTidy, isLive, isSound}
 use Rattle.rules.specs.Event.{move, moves, moved, closings, isFull, afterEvent}
 use Rattle.rules.specs.Call.{Answer, done, Outcome, event, Meets, refusedOr, underPlan, tooShort, ledgerRefusals, callRefusals, figures, after, callOutcome, eventOutcome}
 use Rattle.rules.specs.Answers.{eventTold}
-use Rattle.rules.proofs.Tests.{clash, and-true, or-true}
 use Rattle.rules.proofs.Folds.{some-not}
 use Rattle.rules.proofs.Stored.{written-same, written-read}
 use Rattle.plan.proofs.FieldLaws.{track-count, state-count, transition-count}

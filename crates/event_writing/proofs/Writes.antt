@@ -11,9 +11,11 @@ use Rattle.rules.specs.declared.Mode.the-variants.{Forward}
 use Rattle.rules.specs.declared.Track.{Track}
 use Rattle.rules.specs.Plan.{Plan, planOf, noState, transition, firstState}
 use Rattle.rules.specs.Ledger.{isAwake}
+use Rattle.rules.specs.Opening.{wakes}
 use Rattle.ledger.specs.Words.{trackAt, withTrack, withInstalled, withAsleep}
 use Rattle.lookup.specs.Checked.{Accepts, hostTrack}
 use Rattle.lookup.proofs.Facts.{no-host-track, host-of-track}
+use Rattle.opening.specs.Entering.{statesOf}
 use Rattle.event_writing.specs.Settled.{withGiven, withEntered, withTurn, destinationWord, deviationWord, entersFrom, entersAt, closedAt, sleepsAt}
 
 -- the words
@@ -77,10 +79,10 @@ module _ (start : ℕ) (to : List ℕ) (woken : List Bool) (t : ℕ) where
   unfolding entersFrom
   enters-first z w = rw (eq-eqb (getD to t 0) noState z, w)
 
-pub enters-at : (p : Plan) (to : List ℕ) (woken : List Bool) (t : ℕ) {start s : ℕ} → start ≡ firstState p t → s ≡ entersFrom start to woken t
-    → s ≡ entersAt p to woken t
-unfolding entersAt
-enters-at p to woken t e d = d ∙ ap (λ (f : ℕ). entersFrom f to woken t) e
+pub enters-at : (p : Plan) (to : List ℕ) (woken : List Bool) (t : ℕ) {start s : ℕ} → start ≡ firstState p t → getD woken t false ≡ wakes p (statesOf to) t
+    → s ≡ entersFrom start to woken t → s ≡ entersAt p to t
+unfolding entersAt entersFrom
+enters-at p to woken t e w d = d ∙ rw (e, w)
 
 -- a closed scope
 module _ (bs : List ℕ) (c : Counts) (ms : List Bool) (m : Mode) (t u : ℕ) (g : u ≡ hostTrack (planOf bs c) t) where
@@ -108,8 +110,8 @@ unfolding sleepsAt
 sleeps-closed p f r ms m t z e = rw z e
 
 -- a turn, from its parts
-pub turn-is : (p : Plan) (ws : List ℕ) (t : ℕ) (finishing a : Bool) (ms woken : List Bool) (to ts : List ℕ) (k : Track) (s code d : ℕ) (v : List ℕ)
-    → k ≡ trackAt ws t → a ≡ sleepsAt p finishing ms (k .mode) t → s ≡ entersAt p to woken t → d ≡ deviationWord p ts t
+pub turn-is : (p : Plan) (ws : List ℕ) (t : ℕ) (finishing a : Bool) (ms : List Bool) (to ts : List ℕ) (k : Track) (s code d : ℕ) (v : List ℕ)
+    → k ≡ trackAt ws t → a ≡ sleepsAt p finishing ms (k .mode) t → s ≡ entersAt p to t → d ≡ deviationWord p ts t
     → v ≡ withTurn ws t a s code d
-    → v ≡ withTurn ws t (sleepsAt p finishing ms (trackAt ws t .mode) t) (entersAt p to woken t) code (deviationWord p ts t)
-turn-is p ws t finishing a ms woken to ts k s code d v e f g h q = rw (← h, ← g, ← e, ← f) q
+    → v ≡ withTurn ws t (sleepsAt p finishing ms (trackAt ws t .mode) t) (entersAt p to t) code (deviationWord p ts t)
+turn-is p ws t finishing a ms to ts k s code d v e f g h q = rw (← h, ← g, ← e, ← f) q

@@ -25,7 +25,6 @@ use Rattle.plan.proofs.FieldLaws.{track-count}
 use Rattle.ledger.specs.Words.{trackOf, trackAt, Room}
 use Rattle.ledger.proofs.Words.{track-written, put-written, installed-written, asleep-written}
 use Rattle.lookup.specs.Checked.{Going, ledgerOf}
-use Rattle.lookup.specs.Marks.{wakeMarks}
 use Rattle.lookup.proofs.Facts.{tidy-words, storable}
 use Rattle.event_choice.specs.Marks.{table}
 use Rattle.event_writing.specs.Settled.{Spare, withGiven, withEntered, withTurn, enteredBy, turned, destinationWord, deviationWord, entersAt, sleepsAt, settledLedger}
@@ -117,20 +116,20 @@ module _ (n : ℕ) (ws : List ℕ) (t : ℕ) (h : t < n) (room : wordCount entry
 
 -- the turns of all tracks
 module _ (p : Plan) (n : ℕ) (k : trackCount p ≡ n) (l : Ledger) (ws : List ℕ) (finishing : Bool) (ts : List ℕ) (ms : List Bool)
-    (codes to : List ℕ) (woken : List Bool) (to-is : to ≡ table noState (destinationWord p ts) n) (woken-is : woken ≡ wakeMarks p to n)
+    (codes to : List ℕ) (to-is : to ≡ table noState (destinationWord p ts) n)
     (fits : Fits entryLimit l) (room : wordCount entryLimit n ≤ length ws) (spare : Spare n l codes) where
   abbrev new : Ledger
   new = settledLedger p l finishing ts ms codes
 
   new-at : (t : ℕ)
-      → turned (sleepsAt p finishing ms (l t .mode) t) (entersAt p to woken t) (getD codes t 0) (deviationWord p ts t) (l t) ≡ new t
+      → turned (sleepsAt p finishing ms (l t .mode) t) (entersAt p to t) (getD codes t 0) (deviationWord p ts t) (l t) ≡ new t
   unfolding settledLedger
-  new-at t = rw (woken-is, to-is, ← k)
+  new-at t = rw (to-is, ← k)
 
   new-room : (t : ℕ) → t < n → length (new t .held) ≤ entryLimit
   new-room t b =
       subst (λ (x : Configuration). length (x .held) ≤ entryLimit) (new-at t)
-      (turned-fits (sleepsAt p finishing ms (l t .mode) t) (entersAt p to woken t) (getD codes t 0) (deviationWord p ts t) (l t) (fits t) (spare .room t b))
+      (turned-fits (sleepsAt p finishing ms (l t .mode) t) (entersAt p to t) (getD codes t 0) (deviationWord p ts t) (l t) (fits t) (spare .room t b))
 
   up-room : (i : ℕ) → i ≤ n → Fits entryLimit (upTo new l i)
   up-room i b t =
@@ -165,17 +164,17 @@ module _ (p : Plan) (n : ℕ) (k : trackCount p ≡ n) (l : Ledger) (ws : List �
 
       -- one turn more
       pub turn-more : (v : List ℕ)
-          → v ≡ withTurn w t (sleepsAt p finishing ms (trackAt w t .mode) t) (entersAt p to woken t) (getD codes t 0) (deviationWord p ts t)
+          → v ≡ withTurn w t (sleepsAt p finishing ms (trackAt w t .mode) t) (entersAt p to t) (getD codes t 0) (deviationWord p ts t)
           → v ≡ written entryLimit n (upTo new l (t + 1)) ws
       turn-more v g =
           g
-          ∙ ap (λ (m : Mode). withTurn w t (sleepsAt p finishing ms m t) (entersAt p to woken t) (getD codes t 0) (deviationWord p ts t)) mode-kept
-          ∙ ap (λ (u : List ℕ). withTurn u t (sleepsAt p finishing ms (l t .mode) t) (entersAt p to woken t) (getD codes t 0) (deviationWord p ts t)) e
-          ∙ turn-written n ws t b room (upTo new l t) (up-room t (omega arith)) (sleepsAt p finishing ms (l t .mode) t) (entersAt p to woken t) (getD codes t 0) (deviationWord p ts t)
+          ∙ ap (λ (m : Mode). withTurn w t (sleepsAt p finishing ms m t) (entersAt p to t) (getD codes t 0) (deviationWord p ts t)) mode-kept
+          ∙ ap (λ (u : List ℕ). withTurn u t (sleepsAt p finishing ms (l t .mode) t) (entersAt p to t) (getD codes t 0) (deviationWord p ts t)) e
+          ∙ turn-written n ws t b room (upTo new l t) (up-room t (omega arith)) (sleepsAt p finishing ms (l t .mode) t) (entersAt p to t) (getD codes t 0) (deviationWord p ts t)
           (λ z. subst (λ (x : Configuration). length (x .held) < entryLimit) (sym old-track) (spare .room t b z))
           ∙ ap (λ (m : Ledger). written entryLimit n m ws)
           (ap (updated (upTo new l t) t)
-          (ap (turned (sleepsAt p finishing ms (l t .mode) t) (entersAt p to woken t) (getD codes t 0) (deviationWord p ts t)) old-track ∙ new-at t)
+          (ap (turned (sleepsAt p finishing ms (l t .mode) t) (entersAt p to t) (getD codes t 0) (deviationWord p ts t)) old-track ∙ new-at t)
           ∙ up-more new l t)
 
 -- before the first turn, and after the last
@@ -190,12 +189,11 @@ settling-ends n t ws w new old e f = f ∙ ap (λ (i : ℕ). written entryLimit 
 
 -- the same of a ledger that is going, as the pass finds it
 module _ (bs : List ℕ) (c : Counts) (ws : List ℕ) (g : Going bs c ws) (finishing : Bool) (ts : List ℕ) (ms : List Bool) (codes to : List ℕ)
-    (woken : List Bool) (to-is : to ≡ table noState (destinationWord (planOf bs c) ts) (c .tracks))
-    (woken-is : woken ≡ wakeMarks (planOf bs c) to (c .tracks)) (spare : Spare (c .tracks) (ledgerOf c ws) codes) (t : ℕ) (w : List ℕ)
+    (to-is : to ≡ table noState (destinationWord (planOf bs c) ts) (c .tracks)) (spare : Spare (c .tracks) (ledgerOf c ws) codes) (t : ℕ) (w : List ℕ)
     (e : w ≡ written entryLimit (c .tracks) (upTo (settledLedger (planOf bs c) (ledgerOf c ws) finishing ts ms codes) (ledgerOf c ws) t) ws) where
   pub length-on : t ≤ c .tracks → length w ≡ length ws
   length-on b =
-      room-kept (planOf bs c) (c .tracks) (track-count bs c) (ledgerOf c ws) ws finishing ts ms codes to woken to-is woken-is
+      room-kept (planOf bs c) (c .tracks) (track-count bs c) (ledgerOf c ws) ws finishing ts ms codes to to-is
       (storable bs c ws g .fits) (g .checked .lent .room .words) spare t w e b
 
   pub roomy-on : t ≤ c .tracks → Room w (c .tracks)
@@ -206,15 +204,15 @@ module _ (bs : List ℕ) (c : Counts) (ws : List ℕ) (g : Going bs c ws) (finis
 
   pub spare-on : t < c .tracks → (getD codes t 0 ≡ 0 → ⊥) → trackAt w t .count < entryLimit
   spare-on b =
-      spare-kept (planOf bs c) (c .tracks) (track-count bs c) (ledgerOf c ws) ws finishing ts ms codes to woken to-is woken-is
+      spare-kept (planOf bs c) (c .tracks) (track-count bs c) (ledgerOf c ws) ws finishing ts ms codes to to-is
       (storable bs c ws g .fits) (g .checked .lent .room .words) spare t w e b
 
   pub turn-on : t < c .tracks → (v : List ℕ)
       → v
-      ≡ withTurn w t (sleepsAt (planOf bs c) finishing ms (trackAt w t .mode) t) (entersAt (planOf bs c) to woken t) (getD codes t 0)
+      ≡ withTurn w t (sleepsAt (planOf bs c) finishing ms (trackAt w t .mode) t) (entersAt (planOf bs c) to t) (getD codes t 0)
       (deviationWord (planOf bs c) ts t)
       → v
       ≡ written entryLimit (c .tracks) (upTo (settledLedger (planOf bs c) (ledgerOf c ws) finishing ts ms codes) (ledgerOf c ws) (t + 1)) ws
   turn-on b =
-      turn-more (planOf bs c) (c .tracks) (track-count bs c) (ledgerOf c ws) ws finishing ts ms codes to woken to-is woken-is
+      turn-more (planOf bs c) (c .tracks) (track-count bs c) (ledgerOf c ws) ws finishing ts ms codes to to-is
       (storable bs c ws g .fits) (g .checked .lent .room .words) spare t w e b

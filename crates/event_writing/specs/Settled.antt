@@ -11,9 +11,10 @@ use Rattle.rules.specs.declared.Mode.the-variants.{Forward}
 use Rattle.rules.specs.Layout.{entryLimit}
 use Rattle.rules.specs.Plan.{Plan, trackCount, noState, host, owner, transition, firstState}
 use Rattle.rules.specs.Ledger.{Configuration, Ledger, isAwake, sleeping}
+use Rattle.rules.specs.Opening.{wakes}
 use Rattle.rules.specs.Event.{installed}
 use Rattle.ledger.specs.Words.{trackAt, withTrack, withInstalled, withAsleep}
-use Rattle.lookup.specs.Marks.{wakeMarks}
+use Rattle.opening.specs.Entering.{statesOf}
 use Rattle.event_choice.specs.Marks.{table}
 
 -- the words with a code given to a track, and with a track forward in a state that it enters, 65535 for none
@@ -46,9 +47,9 @@ module _ (p : Plan) where
   unfoldable pub deviationWord : List ℕ → ℕ → ℕ
   deviationWord ts t = cond (eqb (getD ts t 0) noState) noState (transition p (getD ts t 0) .deviation)
 
-  -- the same in its first state
-  unfoldable pub entersAt : List ℕ → List Bool → ℕ → ℕ
-  entersAt to woken t = entersFrom (firstState p t) to woken t
+  -- the same in its first state, if the rules wake it
+  unfoldable pub entersAt : List ℕ → ℕ → ℕ
+  entersAt to t = cond (eqb (getD to t 0) noState) (cond (wakes p (statesOf to) t) (firstState p t) noState) (getD to t 0)
 
   -- an awake track in a scope that closes
   unfoldable pub closedAt : List Bool → Mode → ℕ → Bool
@@ -65,7 +66,7 @@ module _ (p : Plan) where
   unfoldable pub settledLedger : Ledger → Bool → List ℕ → List Bool → List ℕ → Ledger
   settledLedger l finishing ts ms codes t =
       turned (sleepsAt finishing ms (l t .mode) t)
-      (entersAt (destinationsOf ts) (wakeMarks p (destinationsOf ts) (trackCount p)) t) (getD codes t 0) (deviationWord ts t) (l t)
+      (entersAt (destinationsOf ts) t) (getD codes t 0) (deviationWord ts t) (l t)
 
 -- each track that is given a code has room for it
 pub record Spare (n : ℕ) (l : Ledger) (codes : List ℕ) : Type 0 where

@@ -5,7 +5,6 @@ use rules::Counts;
 ghost use mathlib.Core.Path.{_≡_};
 ghost use Prim.Native.Nat.{_<_};
 ghost use Rattle.rules.specs.Plan.{planOf};
-ghost use Rattle.rules.specs.Scope.{hasOpenScope};
 ghost use Rattle.lookup.specs.Checked.{ledgerOf, Lent};
 ghost use Rattle.lookup.specs.Marks.{openMark, openMarks};
 
@@ -40,13 +39,4 @@ pub fn open_scopes(plan: &[u8], c: Counts, ledger: &[u16]) -> [bool; 32]
         t += 1;
     }
     opens
-}
-
-// Whether a track has an open scope.
-pub fn has_open_scope(plan: &[u8], c: Counts, ledger: &[u16], t: usize) -> bool
-    requires { ⌜ Lent (now plan) c (now ledger) × (t < c .tracks) ⌝ }
-    ensures { λ r. ⌜ r ≡ hasOpenScope (planOf (now (plan .entry)) c) (ledgerOf c (now (ledger .entry))) t ⌝ }
-{
-    let opens = open_scopes(plan, c, ledger);
-    opens[t]
 }

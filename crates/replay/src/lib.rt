@@ -54,7 +54,7 @@ fn run_plan(plan: &[u8], c: Counts, journal: &[u8], ledger: &mut [u16], output: 
     ensures { λ r. ⌜ RanPlan (now (plan .entry)) (now (journal .entry)) c (now (ledger .entry)) (now (output .entry)) (now (ledger .exit)) (now (output .exit)) r ⌝ }
 {
     let start = plan_line(&mut output[..], 0, c);
-    manager::opening::begin_all(plan, c, &mut ledger[..]);
+    opening::begin::begin_all(plan, c, &mut ledger[..]);
     run_records(plan, c, journal, &mut ledger[..], &mut output[..], start)
 }
 

@@ -26,10 +26,10 @@ use Rattle.lookup.specs.Checked.{Accepts, ledgerOf, hostTrack}
 use Rattle.plan.specs.Passes.{stateSlots}
 use Rattle.lookup.specs.Marks.{scopeMarks}
 use Rattle.lookup.proofs.Facts.{plan-facts, few-tracks, no-host-track, host-of-track}
-use Rattle.withdrawal.specs.Orderly.{withConfiguration}
+use Rattle.lookup.specs.OneTrack.{withConfiguration}
 use Rattle.withdrawal.specs.Staying.{isTakenBack, stayFrom, stayBy, stayMarks, leftBy}
-use Rattle.withdrawal.proofs.Standing.{holds, kept-track, put-asleep, Fitting, pass-start, pass-orderly, pass-length, pass-more, pass-end}
-use Rattle.withdrawal.proofs.Storing.{Stores, stores-sleeping, stores-at}
+use Rattle.lookup.proofs.OneTrackLaws.{holds, kept-track, put-asleep, Fitting, pass-start, pass-orderly, pass-length, pass-more, pass-end}
+use Rattle.lookup.proofs.OneTrackLaws.{Stores, stores-sleeping, stores-at}
 use Rattle.withdrawal.proofs.Climbing.{asleep-top, root-top, stay-again, stay-last, stay-host}
 use Rattle.withdrawal.proofs.Staying.{left-marks}
 

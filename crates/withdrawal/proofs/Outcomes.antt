@@ -1,7 +1,6 @@
 -- What a call answers once checks 2 to 18 are passed: the first of its own refusals, or its figures and the ledger after it.
 -- Assumes nothing.
 use mathlib.Core.Path.{_≡_, sym, ap, _∙_}
-use mathlib.Core.Logic.{inl, inr}
 use mathlib.Core.Bool.{Bool, true, false, not, _||_}
 use mathlib.Core.List.{List, [], _∷_, _++_}
 use Prim.Native.Nat.{ℕ, suc}
@@ -14,14 +13,12 @@ use Rattle.rules.specs.Layout.{entryLimit, wordCount}
 use Rattle.rules.specs.Ledger.{Ledger, isAwake, isForward, ledgerAt, written}
 use Rattle.rules.specs.Scope.{isOver}
 use Rattle.rules.specs.Signal.{turned, turnings, abandoned, afterSignal}
-use Rattle.rules.specs.Soundness.{isSound, isLive, areTidy}
 use Rattle.rules.specs.Call.{refusal, done, Outcome, nothing, Call, signal, refusedOr, underPlan, tooShort, ledgerRefusals, callRefusals, callRefusal, figures, after, callOutcome, signalOutcome, Meets}
-use Rattle.rules.proofs.Tests.{clash, and-true, or-true}
 use Rattle.plan.proofs.FieldLaws.{track-count}
 use Rattle.ledger.specs.Words.{Tidy}
 use Rattle.lookup.specs.Checked.{Checked, Going, ledgerOf}
 use Rattle.lookup.proofs.Facts.{tidy-words}
-use Rattle.withdrawal.proofs.Standing.{holds, orderly-after, then}
+use Rattle.lookup.proofs.OneTrackLaws.{holds, orderly-after, then}
 use Rattle.withdrawal.proofs.Storing.{storable-turned}
 
 module _ (bs : List ℕ) (c : Counts) (ws : List ℕ) (g : Checked bs c ws) where

@@ -7,7 +7,6 @@ use native.Mathlib.Omega.{arith}
 use lib.ListN.{length}
 use borrow.Author.Tests.{not-true, not-false}
 use Rattle.rules.specs.declared.Counts.{Counts}
-use Rattle.rules.specs.declared.Mode.{Mode}
 use Rattle.rules.specs.declared.Mode.the-variants.{Undoing}
 use Rattle.rules.specs.declared.Track.{Track}
 use Rattle.rules.specs.Fold.{countBelow}
@@ -16,20 +15,14 @@ use Rattle.rules.specs.Ledger.{Configuration, isForward, written}
 use Rattle.rules.specs.Signal.{turnedTrack, turned}
 use Rattle.rules.proofs.Folds.{count-more}
 use Rattle.rules.proofs.Passes.{upTo}
-use Rattle.ledger.specs.Words.{trackOf, withTrack, Tidy}
+use Rattle.ledger.specs.Words.{trackOf, Tidy}
 use Rattle.lookup.specs.Checked.{ledgerOf}
-use Rattle.withdrawal.specs.Orderly.{withConfiguration, withMode}
-use Rattle.withdrawal.proofs.Standing.{holds, kept-track, put-mode, Fitting, pass-start, pass-orderly, pass-length, pass-old, pass-more, pass-end}
-use Rattle.withdrawal.proofs.Storing.{Stores, stores-at, stores-turned}
+use Rattle.lookup.specs.OneTrack.{withConfiguration, withMode}
+use Rattle.lookup.proofs.OneTrackLaws.{holds, kept-track, Fitting, pass-start, pass-orderly, pass-length, pass-old, pass-more, pass-end}
+use Rattle.lookup.proofs.OneTrackLaws.{Stores, stores-at}
+use Rattle.withdrawal.proofs.Storing.{stores-turned}
 
 module _ (c : Counts) (ws : List ℕ) (o : Tidy ws (c .tracks)) (t : ℕ) where
-  -- a mode and a state written
-  pub mode-put : (b : t < c .tracks) (m : Mode) (s : ℕ) (k : Track) → k ≡ trackOf (ledgerOf c ws t) → {vs : List ℕ}
-      → vs ≡ withTrack ws t (record { mode = m; state = s; count = k .count }) → vs ≡ withConfiguration c ws t (withMode m s (ledgerOf c ws t))
-  unfolding withMode trackOf
-  mode-put b m s k e d =
-      d ∙ put-mode c ws o t b (record { mode = m; state = s; count = k .count }) (ap (λ (x : Track). x .count) e)
-
   -- turning: not forward, forward
   module _ (k : Track) (e : k ≡ trackOf (ledgerOf c ws t)) {r : Bool} (f : r ≡ isForward (k .mode)) where
     ahead : isForward (ledgerOf c ws t .mode) ≡ r

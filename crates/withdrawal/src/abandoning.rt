@@ -15,7 +15,7 @@ ghost use Rattle.rules.specs.Ledger.{written};
 ghost use Rattle.rules.specs.Signal.{abandoned};
 ghost use Rattle.ledger.specs.Words.{Tidy};
 ghost use Rattle.lookup.specs.Checked.{Accepts, ledgerOf, Lent};
-ghost use Rattle.withdrawal.specs.Orderly.{withConfiguration};
+ghost use Rattle.lookup.specs.OneTrack.{withConfiguration};
 ghost use Rattle.withdrawal.specs.Staying.{stayFrom, stayBy, stayMarks, leftBy};
 
 // A track stays, and if it is awake its host's track is next; where the mark stands already nothing changes.

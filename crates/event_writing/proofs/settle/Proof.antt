@@ -33,7 +33,7 @@ loop-holds : tie.Need-loop-holds Inv-loop μ-loop
 loop-holds c = (omega arith, settling-starts _ _ _ _ (c .before .before .before .before .before .pre .0), refl)
 
 settle-track-requires : tie.Need-settle-track-requires Inv-loop μ-loop
-settle-track-requires c κs = (record { accepts = c .before .before .before .before .before .before .before .before .pre .0 .checked .lent .accepts; room = roomy-on _ _ _ (c .before .before .before .before .before .before .before .before .pre .0) _ _ _ _ _ _ (c .before .before .before .before .destinations .ensures) (c .before .before .before .woken-by .ensures) (c .before .before .before .before .before .before .before .before .pre .2) _ _ (c .before .before .loop .inv .1) (search needs) }, c .before .before .before .before .before .before .before .before .pre .1, search needs, spare-on _ _ _ (c .before .before .before .before .before .before .before .before .pre .0) _ _ _ _ _ _ (c .before .before .before .before .destinations .ensures) (c .before .before .before .woken-by .ensures) (c .before .before .before .before .before .before .before .before .pre .2) _ _ (c .before .before .loop .inv .1) (search needs), c .before .before .before .before .before .first-states .ensures)
+settle-track-requires c κs = (record { accepts = c .before .before .before .before .before .before .before .before .pre .0 .checked .lent .accepts; room = roomy-on _ _ _ (c .before .before .before .before .before .before .before .before .pre .0) _ _ _ _ _ (c .before .before .before .before .destinations .ensures) (c .before .before .before .before .before .before .before .before .pre .2) _ _ (c .before .before .loop .inv .1) (search needs) }, c .before .before .before .before .before .before .before .before .pre .1, search needs, spare-on _ _ _ (c .before .before .before .before .before .before .before .before .pre .0) _ _ _ _ _ (c .before .before .before .before .destinations .ensures) (c .before .before .before .before .before .before .before .before .pre .2) _ _ (c .before .before .loop .inv .1) (search needs), c .before .before .before .before .before .first-states .ensures, c .before .before .before .woken-by .ensures)
 
 add-t : tie.Need-add-t Inv-loop μ-loop
 add-t c = search needs
@@ -42,7 +42,7 @@ loop-less : tie.Need-loop-less Inv-loop μ-loop
 loop-less c = search needs
 
 loop-again : tie.Need-loop-again Inv-loop μ-loop
-loop-again c = let e = turn-on _ _ _ (c .before .before .before .before .before .before .before .before .before .before .before .pre .0) _ _ _ _ _ _ (c .before .before .before .before .before .before .before .destinations .ensures) (c .before .before .before .before .before .before .woken-by .ensures) (c .before .before .before .before .before .before .before .before .before .before .before .pre .2) _ _ (c .before .before .before .before .before .loop .inv .1) (search needs) _ (c .before .before .settle-track .ensures) in (omega arith, e, length-on _ _ _ (c .before .before .before .before .before .before .before .before .before .before .before .pre .0) _ _ _ _ _ _ (c .before .before .before .before .before .before .before .destinations .ensures) (c .before .before .before .before .before .before .woken-by .ensures) (c .before .before .before .before .before .before .before .before .before .before .before .pre .2) _ _ e (omega arith))
+loop-again c = let e = turn-on _ _ _ (c .before .before .before .before .before .before .before .before .before .before .before .pre .0) _ _ _ _ _ (c .before .before .before .before .before .before .before .destinations .ensures) (c .before .before .before .before .before .before .before .before .before .before .before .pre .2) _ _ (c .before .before .before .before .before .loop .inv .1) (search needs) _ (c .before .before .settle-track .ensures) in (omega arith, e, length-on _ _ _ (c .before .before .before .before .before .before .before .before .before .before .before .pre .0) _ _ _ _ _ (c .before .before .before .before .before .before .before .destinations .ensures) (c .before .before .before .before .before .before .before .before .before .before .before .pre .2) _ _ e (omega arith))
 
 same-length : tie.Need-same-length Inv-loop μ-loop
 same-length c = search needs

@@ -1,6 +1,5 @@
 -- The turn's parts are worked out on the words before it. Assumes nothing.
 use Rattle.ledger.proofs.Words.{in-room}
-use Rattle.lookup.proofs.FirstStates.{first-at}
 use Rattle.event_writing.proofs.Writes.{enters-at, turn-is}
 use borrow.Author.Needs.{needs}
 use Rattle.event_writing.proofs.settle_track.Statement.{statement}
@@ -31,7 +30,7 @@ same-length : tie.Need-same-length
 same-length c = search needs
 
 returns : tie.Need-returns
-returns c = turn-is _ _ _ _ _ _ _ _ _ _ _ _ _ _ (c .before .before .before .before .before .before .before .track-at .ensures) (c .before .before .before .before .before .before .sleeps .ensures) (enters-at _ _ _ _ (first-at _ _ (c .before .before .before .before .before .before .before .before .before .before .before .pre .0 .accepts) _ (c .before .before .before .before .before .before .before .before .before .before .before .pre .2) (c .before .before .before .before .before .before .before .before .before .before .before .pre .4)) (c .before .before .before .before .before .entered .ensures)) (c .before .before .before .before .deviation .ensures) (c .before .before .turn .ensures)
+returns c = turn-is _ _ _ _ _ _ _ _ _ _ _ _ _ (c .before .before .before .before .before .before .before .track-at .ensures) (c .before .before .before .before .before .before .sleeps .ensures) (enters-at _ _ _ _ (c .before .before .before .before .before .before .before .before .before .before .before .pre .4 .at _ (c .before .before .before .before .before .before .before .before .before .before .before .pre .2)) (c .before .before .before .before .before .before .before .before .before .before .before .pre .5 .at _ (c .before .before .before .before .before .before .before .before .before .before .before .pre .2)) (c .before .before .before .before .before .entered .ensures)) (c .before .before .before .before .deviation .ensures) (c .before .before .turn .ensures)
 
 pub settle-track-spec : {M : Type 1} → statement M
 settle-track-spec =
