@@ -29,7 +29,7 @@ use Rattle.lookup.specs.Marks.{Marks}
 use Rattle.event_step.specs.Next.{nextState, closesNext, closedNext, finishesNext, givenNext, nextBy, nextLedger}
 use Rattle.event_choice.specs.Marks.{wordOf, table, takes, codeGiven, endsAt, isFullAt, stateAfter}
 use Rattle.opening.specs.Entering.{statesOf}
-use Rattle.event_writing.specs.Settled.{enteredBy, turned, destinationWord, deviationWord, entersAt, closedAt, sleepsAt, settledLedger}
+use Rattle.event_writing.specs.Settled.{enteredBy, visited, destinationWord, deviationWord, entersAt, closedAt, sleepsAt, settledLedger}
 use Rattle.event_step.proofs.Moves.{forward-awake, mover-facts, woken-asleep}
 use Rattle.event_step.proofs.Settlings.{closes-parts, mover-open, full-before, after-before, closings-before}
 use Rattle.event_step.proofs.Passes.{move-word, state-after}
@@ -291,10 +291,10 @@ module _ (p : Plan) (ok : Accepted p) (few : trackCount p ≤ slots) (small : st
             c ∙ ap (λ (z : Bool). isAwake (l t .mode) && z) (closes (owner p (e .0)) (ok .owned (e .0) (ok .host-state t (e .0) (e .1)))) ∙ sym d
       ]
 
-  -- the ledger after all turns is the one after the event
+  -- the ledger after all visits is the one after the event
   pub settled-is : (finishing : Bool) (codes : List ℕ) → finishing ≡ finishesNext p l event → Marks 0 codes (trackCount p) (codeGiven p l ts ms)
       → (t : ℕ) → t < trackCount p → settledLedger p l finishing ts ms codes t ≡ afterEvent p l event t
-  unfolding settledLedger turned sleepsAt nextLedger
+  unfolding settledLedger visited sleepsAt nextLedger
   settled-is finishing codes f at t b =
       ap (λ (z : Bool). cond (z || closedAt p ms (l t .mode) t) sleeping (enteredBy (entering t) (installed (getD codes t 0) (deviationWord p ts t) (l t)))) f
       ∙ ap (λ (z : Bool). cond (finishesNext p l event || z) sleeping (enteredBy (entering t) (installed (getD codes t 0) (deviationWord p ts t) (l t)))) (closed-is t)

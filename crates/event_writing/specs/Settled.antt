@@ -1,4 +1,4 @@
--- The writing pass of an event, track by track: what each turn writes, and the ledger that the turns leave. Assumes nothing.
+-- The writing pass of an event, track by track: what each visit writes, and the ledger that the visits leave. Assumes nothing.
 use mathlib.Core.Path.{_≡_}
 use mathlib.Core.Bool.{Bool, false, cond, _&&_, _||_}
 use mathlib.Core.List.{List}
@@ -24,16 +24,16 @@ withGiven ws t code deviation = cond (eqb code 0) ws (withInstalled ws t code de
 unfoldable pub withEntered : List ℕ → ℕ → ℕ → List ℕ
 withEntered ws t s = cond (eqb s noState) ws (withTrack ws t (record { mode = Forward; state = s; count = trackAt ws t .count }))
 
--- the words after a track's turn
-unfoldable pub withTurn : List ℕ → ℕ → Bool → ℕ → ℕ → ℕ → List ℕ
-withTurn ws t asleep s code deviation = cond asleep (withAsleep ws t) (withEntered (withGiven ws t code deviation) t s)
+-- the words after a track's visit
+unfoldable pub withVisit : List ℕ → ℕ → Bool → ℕ → ℕ → ℕ → List ℕ
+withVisit ws t asleep s code deviation = cond asleep (withAsleep ws t) (withEntered (withGiven ws t code deviation) t s)
 
 -- and its configuration
 unfoldable pub enteredBy : ℕ → Configuration → Configuration
 enteredBy s x = cond (eqb s noState) x (record { mode = Forward; state = s; held = x .held })
 
-unfoldable pub turned : Bool → ℕ → ℕ → ℕ → Configuration → Configuration
-turned asleep s code deviation x = cond asleep sleeping (enteredBy s (installed code deviation x))
+unfoldable pub visited : Bool → ℕ → ℕ → ℕ → Configuration → Configuration
+visited asleep s code deviation x = cond asleep sleeping (enteredBy s (installed code deviation x))
 
 -- the state that a track enters, by its move or woken in its start
 unfoldable pub entersFrom : ℕ → List ℕ → List Bool → ℕ → ℕ
@@ -62,10 +62,10 @@ module _ (p : Plan) where
   abbrev pub destinationsOf : List ℕ → List ℕ
   destinationsOf ts = table noState (destinationWord ts) (trackCount p)
 
-  -- the ledger after all turns
+  -- the ledger after all visits
   unfoldable pub settledLedger : Ledger → Bool → List ℕ → List Bool → List ℕ → Ledger
   settledLedger l finishing ts ms codes t =
-      turned (sleepsAt finishing ms (l t .mode) t)
+      visited (sleepsAt finishing ms (l t .mode) t)
       (entersAt (destinationsOf ts) t) (getD codes t 0) (deviationWord ts t) (l t)
 
 -- each track that is given a code has room for it

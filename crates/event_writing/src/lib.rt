@@ -21,7 +21,7 @@ ghost use Rattle.lookup.specs.Checked.{Accepts, Going, ledgerOf, Lent};
 ghost use Rattle.lookup.specs.Figures.{Figures};
 ghost use Rattle.opening.specs.Entering.{statesOf};
 ghost use Rattle.event_choice.specs.Marks.{InRange, table};
-ghost use Rattle.event_writing.specs.Settled.{Spare, withGiven, withEntered, withTurn, destinationWord, deviationWord};
+ghost use Rattle.event_writing.specs.Settled.{Spare, withGiven, withEntered, withVisit, destinationWord, deviationWord};
 ghost use Rattle.event_writing.specs.Settled.{entersFrom, entersAt, closedAt, sleepsAt, settledLedger};
 
 // The destination of the transition that a track takes, 65535 for none.
@@ -121,10 +121,10 @@ fn enter(ledger: &mut [u16], t: usize, s: u16)
     track::put_track(&mut ledger[..], t, next);
 }
 
-// What a turn writes.
-fn turn(ledger: &mut [u16], t: usize, asleep: bool, s: u16, code: u16, deviation: u16)
+// What a visit writes.
+fn visit(ledger: &mut [u16], t: usize, asleep: bool, s: u16, code: u16, deviation: u16)
     requires { ⌜ Within (now ledger) t × ((code ≡ 0 → ⊥) → trackAt (now ledger) t .count < entryLimit) ⌝ }
-    ensures { λ _. ⌜ now (ledger .exit) ≡ withTurn (now (ledger .entry)) t asleep s code deviation ⌝ }
+    ensures { λ _. ⌜ now (ledger .exit) ≡ withVisit (now (ledger .entry)) t asleep s code deviation ⌝ }
 {
     if asleep {
         track::put_to_sleep(&mut ledger[..], t);
@@ -145,7 +145,7 @@ fn sleeps(plan: &[u8], c: Counts, finishing: bool, closing: [bool; 32], m: Mode,
     is_closed(plan, c, closing, m, t)
 }
 
-// A track's turn.
+// A track's visit.
 fn settle_track(
     plan: &[u8],
     c: Counts,
@@ -164,7 +164,7 @@ fn settle_track(
         × Figures 0 firsts (c .tracks) (firstState (planOf (now plan) c))
         × Figures false woken (c .tracks) (wakes (planOf (now plan) c) (statesOf to)) ⌝ }
     ensures { λ _. ⌜ now (ledger .exit)
-        ≡ withTurn (now (ledger .entry)) t
+        ≡ withVisit (now (ledger .entry)) t
         (sleepsAt (planOf (now (plan .entry)) c) finishing closing (trackAt (now (ledger .entry)) t .mode) t)
         (entersAt (planOf (now (plan .entry)) c) to t) (getD codes t 0) (deviationWord (planOf (now (plan .entry)) c) taken t) ⌝ }
 {
@@ -173,7 +173,7 @@ fn settle_track(
     let asleep = sleeps(plan, c, finishing, closing, m, t);
     let s = entered(firsts, to, woken, t);
     let d = deviation(plan, c, taken, t);
-    turn(&mut ledger[..], t, asleep, s, codes[t], d);
+    visit(&mut ledger[..], t, asleep, s, codes[t], d);
 }
 
 // Writes the ledger that the event leaves.

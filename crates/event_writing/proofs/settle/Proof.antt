@@ -10,7 +10,7 @@ use Rattle.rules.specs.Ledger.{written}
 use Rattle.rules.proofs.Passes.{upTo}
 use Rattle.lookup.specs.Checked.{ledgerOf}
 use Rattle.event_writing.specs.Settled.{settledLedger}
-use Rattle.event_writing.proofs.Writing.{length-on, roomy-on, spare-on, turn-on, settling-starts, settling-ends}
+use Rattle.event_writing.proofs.Writing.{length-on, roomy-on, spare-on, visit-on, settling-starts, settling-ends}
 use Rattle.event_writing.proofs.settle.Statement.{statement}
 use Rattle.event_writing.proofs.settle.Tie as tie
 
@@ -42,7 +42,7 @@ loop-less : tie.Need-loop-less Inv-loop μ-loop
 loop-less c = search needs
 
 loop-again : tie.Need-loop-again Inv-loop μ-loop
-loop-again c = let e = turn-on _ _ _ (c .before .before .before .before .before .before .before .before .before .before .before .pre .0) _ _ _ _ _ (c .before .before .before .before .before .before .before .destinations .ensures) (c .before .before .before .before .before .before .before .before .before .before .before .pre .2) _ _ (c .before .before .before .before .before .loop .inv .1) (search needs) _ (c .before .before .settle-track .ensures) in (omega arith, e, length-on _ _ _ (c .before .before .before .before .before .before .before .before .before .before .before .pre .0) _ _ _ _ _ (c .before .before .before .before .before .before .before .destinations .ensures) (c .before .before .before .before .before .before .before .before .before .before .before .pre .2) _ _ e (omega arith))
+loop-again c = let e = visit-on _ _ _ (c .before .before .before .before .before .before .before .before .before .before .before .pre .0) _ _ _ _ _ (c .before .before .before .before .before .before .before .destinations .ensures) (c .before .before .before .before .before .before .before .before .before .before .before .pre .2) _ _ (c .before .before .before .before .before .loop .inv .1) (search needs) _ (c .before .before .settle-track .ensures) in (omega arith, e, length-on _ _ _ (c .before .before .before .before .before .before .before .before .before .before .before .pre .0) _ _ _ _ _ (c .before .before .before .before .before .before .before .destinations .ensures) (c .before .before .before .before .before .before .before .before .before .before .before .pre .2) _ _ e (omega arith))
 
 same-length : tie.Need-same-length Inv-loop μ-loop
 same-length c = search needs
