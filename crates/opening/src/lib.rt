@@ -1,4 +1,4 @@
-// Entering states and opening scopes: one pass for begin, for an event's moves and for a deviation.
+// Entering states and opening scopes: one pass for begin and for a deviation, and who wakes, for every call.
 pub mod begin;
 pub mod entering;
 pub mod firsts;
