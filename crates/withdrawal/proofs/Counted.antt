@@ -25,7 +25,7 @@ use Rattle.plan.specs.Passes.{slots}
 use Rattle.plan.proofs.FieldLaws.{track-count}
 use Rattle.ledger.specs.Words.{trackOf}
 use Rattle.ledger.proofs.ReadTracks.{mode-as, empty-as, held-as}
-use Rattle.lookup.specs.Going.{Accepts, hostTrack}
+use Rattle.lookup.specs.Checked.{Accepts, hostTrack}
 use Rattle.lookup.specs.Marks.{openMarks}
 use Rattle.lookup.proofs.Facts.{plan-facts, few-tracks, no-host-track, host-of-track, host-track-low}
 use Rattle.lookup.proofs.Marks.{length-open}
