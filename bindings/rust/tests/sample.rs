@@ -108,15 +108,23 @@ fn a_refusal_has_its_number_and_its_words() {
     }
 }
 
-/// The header says the same of each refusal, and of the version.
+/// A file of the repository.
+fn file(name: &str) -> String {
+    let path = format!("{}/../../{name}", env!("CARGO_MANIFEST_DIR"));
+    std::fs::read_to_string(path).expect("a file of the repository")
+}
+
+/// The header says the same of each refusal, and of the version; so do the manual pages.
 #[test]
 fn the_header_agrees() {
-    let path = concat!(env!("CARGO_MANIFEST_DIR"), "/../../include/retraction.h");
-    let header = std::fs::read_to_string(path).expect("the header");
+    let header = file("include/retraction.h");
     for refusal in Refusal::ALL {
         assert!(header.contains(&format!("return \"{}\";", refusal.text())));
         assert!(header.contains(&format!(" = {}", refusal.number())));
     }
     let version = env!("CARGO_PKG_VERSION");
     assert!(header.contains(&format!("RETRACTION_VERSION_TEXT \"{version}\"")));
+    for page in ["unwind.1", "retraction.3", "plan.5"] {
+        assert!(file(&format!("man/{page}")).contains(&format!("\"retraction {version}\"")));
+    }
 }

@@ -44,7 +44,7 @@ unfolding hostTurns
 host-none basicAlone h = refl
 host-none nestedToo h = absurd (h refl)
 
-both-none : (a b : ℕ) → a ≡ 0 → b ≡ 0 → a + b ≡ 0
+pub both-none : (a b : ℕ) → a ≡ 0 → b ≡ 0 → a + b ≡ 0
 both-none a b e f = omega arith
 
 inner-less : (a b c : ℕ) → b ≡ suc c → a + b ≡ suc (a + c)

@@ -7,7 +7,7 @@ use mathlib.Core.List.{List}
 use mathlib.Core.Option.{Option, none, some}
 use Prim.Native.Nat.{ℕ, _<_}
 use lib.Dec.{eqb}
-use Rattle.rules.specs.Plan.{Plan, trackCount, transition, optional, host, isHostedBy, isAbove, transitionFor}
+use Rattle.rules.specs.Plan.{Plan, trackCount, transition, mover, optional, host, isHostedBy, isAbove, transitionFor}
 use Rattle.rules.specs.Ledger.{Entry, Configuration, Ledger, isAwake, isForward}
 use Rattle.rules.specs.Scope.{hasOpenScope}
 use Rattle.rules.specs.Opening.{enter}
@@ -85,12 +85,15 @@ module _ (p : Plan) (l : Ledger) (e : ℕ) where
     takes t h =
         let (x, q) = moves-some t h in
         let w = move-takes p l e t x q in
+        let own : mover p x ≡ t = mover-is p l e ok n t x q in
+        let from : transition p x .source ≡ l t .state = w .from in
+        let on : transition p x .event ≡ e = on-event t x q in
         let one : viewOf p ρ l t ≡ Basic t (l t .state) forward (stackOf (l t .held)) =
         view-law p ρ l ok t (n .below t (awake t h)) ∙ shown-free p ρ l t (viewOf p ρ l) (w .free)
         ∙ ap (λ z. Basic t (l t .state) (directionOf z) (stackOf (l t .held))) (w .forward) in
         subst (λ z. Step p ρ z (sucAt t e) (arrival t)) (sym one)
         (subst (λ z. Step p ρ (Basic t (l t .state) forward (stackOf (l t .held))) (sucAt t e) z) (sym (arrival-is t x q))
-        (SUC t (l t .state) e x (stackOf (l t .held)) (w .real) (mover-is p l e ok n t x q) (w .from) (on-event t x q)))
+        (SUC t (l t .state) e x (stackOf (l t .held)) (w .real) (cc) (cc) (cc)))
 
     root-awake : (t : ℕ) → host p t ≡ none → isAwake (m t .mode) ≡ isAwake (l t .mode)
     root-awake t h = ap (λ (k : Ledger). isAwake (k t .mode)) (moved-is p l e) ∙ go (fate p ok (recorded p l e) (goes p l e) t)

@@ -14,10 +14,8 @@ use Rattle.automaton.specs.Configuration.{Direction, forward, backward, 
 use Rattle.automaton.specs.Semantics.{FailReading, Act, devAt, nestsucAt, nestfailAt, nestcompAt, trace, SUC, FAIL, FAILNEST, COMP, DEV, NESTSUC, NESTFAIL, NESTCOMP, NEST, VStep, VECT}
 use Rattle.automaton.specs.StepTests.{numberOf, isMute, isSilent}
 use Rattle.automaton.specs.BigSteps.{Steps, stay, more, actsIn, Exhausted}
+use Rattle.automaton.proofs.FailNumber.{both-none}
 use Rattle.automaton.proofs.Confluence.{settleAll, terminated-still, compensated-still, finished-still, not-both, either, unterminated, uncompensated, start-still, silent-same, settled-still, Still, first-still, later-still}
-
-both-none : (a b : ℕ) → a ≡ 0 → b ≡ 0 → a + b ≡ 0
-both-none a b e f = omega arith
 
 none-first : (a b : ℕ) → a ≡ 0 → a + b ≡ b
 none-first a b e = omega arith

@@ -76,9 +76,10 @@ module _ (p : Plan) (ρ : FailReading) (ok : Accepted p) (l : Ledger) (n : Neste
       → Step p ρ c (failAt t) (Nest t (l t .state) backward (stackOf (l t .held)) d)
   unfolding nested
   fails-host t c d h b e =
+      let w : ρ ≡ nestedToo = going-host p l ρ t h b in
       subst (λ z. Step p ρ z (failAt t) (Nest t (l t .state) backward (stackOf (l t .held)) d))
       (sym (e ∙ ap (λ x. Nest t (l t .state) x (stackOf (l t .held)) d) (facing-forward ρ (l t .mode) (going-forward p l ρ t h))))
-      (FAILNEST t (l t .state) (stackOf (l t .held)) d (going-host p l ρ t h b))
+      (FAILNEST t (l t .state) (stackOf (l t .held)) d (cc))
 
   pub fails : (t : ℕ) → isGoing p ρ l t ≡ true → (c : NConf) × Step p ρ (viewOf p ρ l t) (failAt t) c
   fails t h =

@@ -19,7 +19,7 @@ use Rattle.rules.proofs.Tests.{look, and-true}
 use Rattle.rules.proofs.Folds.{count-more}
 use Rattle.plan.proofs.FieldLaws.{track-count, state-count, transition-count}
 use Rattle.ledger.specs.Words.{trackOf}
-use Rattle.lookup.specs.Going.{Accepts, Going, ledgerOf, hostTrack}
+use Rattle.lookup.specs.Checked.{Accepts, Going, ledgerOf, hostTrack}
 use Rattle.lookup.specs.Marks.{setHost}
 use Rattle.lookup.proofs.Facts.{plan-facts, live-of-going, storable, no-host-track, host-of-track}
 use Rattle.event_choice.specs.Marks.{InRange, table, isTaken, takeMark, takeMarks, stateAfter, codeGiven, endsAt, isFullAt, isForwardOpen, forwardMarks, closeMark, closeMarks}
@@ -61,7 +61,7 @@ state-low bs c ws t g b =
     elim (look (isAwake (ledgerOf c ws t .mode))) [
       | inl a ↦ let q = own-low p t (ledgerOf c ws t .state) (live-of-going bs c ws g .own t low a) in omega arith
       | inr a ↦
-          let q = own-low p t (firstState p t) (plan-facts bs c (g .accepts) .first-own t low) in
+          let q = own-low p t (firstState p t) (plan-facts bs c (g .checked .lent .accepts) .first-own t low) in
           let z : ledgerOf c ws t .state ≡ 0 = ap (λ (x : Configuration). x .state) (storable bs c ws g .blank t a) in
           omega arith
     ]
@@ -83,7 +83,7 @@ after-low bs c ws ts t s g r b e =
           let z : s ≡ transition (planOf bs c) (getD ts t 0) .destination = e ∙ (rw q) in
           let x = r .low t b (eqb-false (getD ts t 0) noState q) in
           let k = own-low (planOf bs c) (mover (planOf bs c) (getD ts t 0)) (transition (planOf bs c) (getD ts t 0) .destination)
-          (plan-facts bs c (g .accepts) .destination-own (getD ts t 0) (rw (transition-count bs c) x)) in
+          (plan-facts bs c (g .checked .lent .accepts) .destination-own (getD ts t 0) (rw (transition-count bs c) x)) in
           let n = state-count bs c in
           omega arith
     ]

@@ -7,7 +7,8 @@ use rules::Counts;
 ghost use mathlib.Core.Path.{_≡_};
 ghost use Prim.Native.Nat.{_<_};
 ghost use Rattle.rules.specs.Plan.{planOf, isFinal};
-ghost use Rattle.lookup.specs.Going.{Roomy, Going, ledgerOf};
+ghost use Rattle.ledger.specs.Words.{Room};
+ghost use Rattle.lookup.specs.Checked.{Going, ledgerOf};
 ghost use Rattle.event_choice.specs.Marks.{InRange, stateAfter, isForwardOpen, forwardMarks, closeMark, closeMarks};
 
 // The state that a track will be in.
@@ -34,7 +35,7 @@ pub fn ends(plan: &[u8], c: Counts, ledger: &[u16], taken: [u16; 32], t: usize) 
 
 // Whether a track has an open scope and is forward.
 fn has_forward_scope(c: Counts, ledger: &[u16], opens: [bool; 32], t: usize) -> bool
-    requires { ⌜ Roomy c (now ledger) × (t < c .tracks) ⌝ }
+    requires { ⌜ Room (now ledger) (c .tracks) × (t < c .tracks) ⌝ }
     ensures { λ r. ⌜ r ≡ isForwardOpen (ledgerOf c (now (ledger .entry))) opens t ⌝ }
 {
     let k = reading::track(c, ledger, t);
@@ -47,7 +48,7 @@ fn has_forward_scope(c: Counts, ledger: &[u16], opens: [bool; 32], t: usize) -> 
 
 // The open scopes that are forward.
 fn forward_scopes(c: Counts, ledger: &[u16], opens: [bool; 32]) -> [bool; 32]
-    requires { ⌜ Roomy c (now ledger) ⌝ }
+    requires { ⌜ Room (now ledger) (c .tracks) ⌝ }
     ensures { λ r. ⌜ r ≡ forwardMarks (ledgerOf c (now (ledger .entry))) opens (c .tracks) ⌝ }
 {
     let mut marks = opens;

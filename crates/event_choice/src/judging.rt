@@ -13,7 +13,8 @@ ghost use Prim.Native.Nat.{_<_, _≤_};
 ghost use lib.ListN.{getD};
 ghost use Rattle.rules.specs.Fold.{someBelow, everyBelow, countBelow};
 ghost use Rattle.rules.specs.Plan.{planOf};
-ghost use Rattle.lookup.specs.Going.{Roomy, Going, ledgerOf};
+ghost use Rattle.ledger.specs.Words.{Room};
+ghost use Rattle.lookup.specs.Checked.{Going, ledgerOf};
 ghost use Rattle.event_choice.specs.Marks.{InRange, table, takes, codeGiven, isFullAt, endsAt};
 
 // The code that a track is given: its transition's, or the replacement of its closing scope.
@@ -63,7 +64,7 @@ pub fn codes_given(
 
 // Whether a track that is given a code is full.
 fn is_full_at(c: Counts, ledger: &[u16], codes: [u16; 32], t: usize) -> bool
-    requires { ⌜ Roomy c (now ledger) × (t < c .tracks) ⌝ }
+    requires { ⌜ Room (now ledger) (c .tracks) × (t < c .tracks) ⌝ }
     ensures { λ r. ⌜ r ≡ isFullAt (ledgerOf c (now (ledger .entry))) codes t ⌝ }
 {
     if codes[t] == 0 {
@@ -75,7 +76,7 @@ fn is_full_at(c: Counts, ledger: &[u16], codes: [u16; 32], t: usize) -> bool
 
 // Whether some track that is given a code is full.
 pub fn is_full(c: Counts, ledger: &[u16], codes: [u16; 32]) -> bool
-    requires { ⌜ Roomy c (now ledger) ⌝ }
+    requires { ⌜ Room (now ledger) (c .tracks) ⌝ }
     ensures { λ r. ⌜ r ≡ someBelow (c .tracks) (isFullAt (ledgerOf c (now (ledger .entry))) codes) ⌝ }
 {
     let tracks = c.tracks;

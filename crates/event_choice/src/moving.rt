@@ -7,7 +7,7 @@ use rules::Counts;
 ghost use mathlib.Core.Path.{_≡_};
 ghost use Prim.Native.Nat.{_<_};
 ghost use Rattle.rules.specs.Plan.{planOf};
-ghost use Rattle.lookup.specs.Going.{Going, ledgerOf};
+ghost use Rattle.lookup.specs.Checked.{Going, ledgerOf};
 ghost use Rattle.event_choice.specs.Marks.{isTaken, takeMark, takeMarks};
 
 // Whether a transition for the event is taken by its track: it is forward in the source, has no open scope, and took none before.

@@ -15,18 +15,16 @@ use Rattle.rules.specs.Layout.{entryLimit, wordCount}
 use Rattle.rules.specs.Plan.{Plan, planOf, trackCount, stateCount, transitionCount}
 use Rattle.rules.specs.Ledger.{Ledger, isAwake, ledgerAt, written}
 use Rattle.rules.specs.Scope.{isOver, hasOpenScope}
-use Rattle.rules.specs.Soundness.{areTidy, isLive, isSound}
 use Rattle.rules.specs.Event.{move, moves, moved, closings, isFull, afterEvent}
 use Rattle.rules.specs.Call.{Answer, done, Outcome, event, Meets, refusedOr, underPlan, tooShort, ledgerRefusals, callRefusals, figures, after, callOutcome, eventOutcome}
 use Rattle.rules.specs.Answers.{eventTold}
-use Rattle.rules.proofs.Tests.{clash, and-true, or-true}
 use Rattle.rules.proofs.Folds.{some-not}
 use Rattle.rules.proofs.Stored.{written-same, written-read}
 use Rattle.plan.proofs.FieldLaws.{track-count, state-count, transition-count}
-use Rattle.lookup.specs.Going.{Checked, Going, ledgerOf}
+use Rattle.lookup.specs.Checked.{Checked, Going, ledgerOf}
 use Rattle.lookup.specs.Marks.{Marks, openMarks}
 use Rattle.lookup.proofs.Marks.{length-open, open-scopes}
-use Rattle.lookup.proofs.Facts.{plan-facts, few-tracks, live-of-going, storable, beyond}
+use Rattle.lookup.proofs.Facts.{tidy-words, plan-facts, few-tracks, live-of-going, storable, beyond}
 use Rattle.event_step.specs.Next.{closesNext, finishesNext}
 use Rattle.event_choice.specs.Marks.{wordOf, InRange, table, takes, codeGiven, endsAt, isFullAt, takeMarks, forwardMarks, closeMarks}
 use Rattle.event_writing.specs.Settled.{Spare, settledLedger}
@@ -49,64 +47,64 @@ module _ (bs : List ℕ) (c : Counts) (ws : List ℕ) (g : Going bs c ws) (e : �
   l = ledgerOf c ws
 
   many : transitionCount p ≤ 256
-  many = let h = g .accepts .holds .transitions in omega (arith, transition-count bs c)
+  many = let h = g .checked .lent .accepts .holds .transitions in omega (arith, transition-count bs c)
 
   small : stateCount p ≤ 128
-  small = let h = g .accepts .holds .states in omega (arith, state-count bs c)
+  small = let h = g .checked .lent .accepts .holds .states in omega (arith, state-count bs c)
 
   opens-are : opens ≡ openMarks p l (trackCount p)
   opens-are = o ∙ ap (openMarks p l) (sym (track-count bs c))
 
   marked : Marks false opens (trackCount p) (hasOpenScope p l)
   marked t b =
-      ap (λ (x : List Bool). getD x t false) opens-are ∙ open-scopes p (plan-facts bs c (g .accepts)) (few-tracks bs c (g .accepts)) l t b
+      ap (λ (x : List Bool). getD x t false) opens-are ∙ open-scopes p (plan-facts bs c (g .checked .lent .accepts)) (few-tracks bs c (g .checked .lent .accepts)) l t b
 
   took : Marks 0 taken (trackCount p) (λ t. wordOf (move p l e t))
   took t b =
       ap (λ (x : List ℕ). getD x t 0) (m ∙ ap (takeMarks p l e opens) (sym (transition-count bs c)))
-      ∙ take-moves p (plan-facts bs c (g .accepts)) (few-tracks bs c (g .accepts)) l (live-of-going bs c ws g) e opens marked many t b
+      ∙ take-moves p (plan-facts bs c (g .checked .lent .accepts)) (few-tracks bs c (g .checked .lent .accepts)) l (live-of-going bs c ws g) e opens marked many t b
 
   module _ (closing : List Bool) (k : closing ≡ closeMarks p l taken (forwardMarks l opens (c .tracks)) (c .tracks)) where
     closes : Marks false closing (trackCount p) (closesNext p l e)
     closes t b =
         ap (λ (x : List Bool). getD x t false) (k ∙ ap (λ (n : ℕ). closeMarks p l taken (forwardMarks l opens n) n) (sym (track-count bs c)))
-        ∙ close-scopes p (plan-facts bs c (g .accepts)) (few-tracks bs c (g .accepts)) l e many taken took opens
-        (ap length opens-are ∙ length-open p (plan-facts bs c (g .accepts)) (few-tracks bs c (g .accepts)) l (trackCount p)) marked t b
+        ∙ close-scopes p (plan-facts bs c (g .checked .lent .accepts)) (few-tracks bs c (g .checked .lent .accepts)) l e many taken took opens
+        (ap length opens-are ∙ length-open p (plan-facts bs c (g .checked .lent .accepts)) (few-tracks bs c (g .checked .lent .accepts)) l (trackCount p)) marked t b
 
     module _ (codes : List ℕ) (d : codes ≡ table 0 (codeGiven p l taken closing) (c .tracks)) where
       codes-at : Marks 0 codes (trackCount p) (codeGiven p l taken closing)
       codes-at t b =
           ap (λ (x : List ℕ). getD x t 0) (d ∙ ap (table 0 (codeGiven p l taken closing)) (sym (track-count bs c)))
-          ∙ table-at 0 (codeGiven p l taken closing) (trackCount p) (few-tracks bs c (g .accepts)) t b
+          ∙ table-at 0 (codeGiven p l taken closing) (trackCount p) (few-tracks bs c (g .checked .lent .accepts)) t b
 
       full : someBelow (c .tracks) (isFullAt l codes) ≡ isFull p entryLimit l e
       full =
           ap (λ (n : ℕ). someBelow n (isFullAt l codes)) (sym (track-count bs c))
-          ∙ full-is p (plan-facts bs c (g .accepts)) (few-tracks bs c (g .accepts)) small many l (live-of-going bs c ws g) (beyond bs c ws)
+          ∙ full-is p (plan-facts bs c (g .checked .lent .accepts)) (few-tracks bs c (g .checked .lent .accepts)) small many l (live-of-going bs c ws g) (beyond bs c ws)
           (storable bs c ws g .blank) e taken closing took closes codes codes-at
 
       finish : everyBelow (c .tracks) (endsAt p l taken) ≡ finishesNext p l e
       finish =
           ap (λ (n : ℕ). everyBelow n (endsAt p l taken)) (sym (track-count bs c))
-          ∙ finish-is p (plan-facts bs c (g .accepts)) (few-tracks bs c (g .accepts)) small many l (live-of-going bs c ws g) (beyond bs c ws)
+          ∙ finish-is p (plan-facts bs c (g .checked .lent .accepts)) (few-tracks bs c (g .checked .lent .accepts)) small many l (live-of-going bs c ws g) (beyond bs c ws)
           (storable bs c ws g .blank) e taken closing took closes
 
       moves-count : countBelow (c .tracks) (takes taken) ≡ countBelow (trackCount p) (moves p l e)
       moves-count =
           ap (λ (n : ℕ). countBelow n (takes taken)) (sym (track-count bs c))
-          ∙ moves-are p (plan-facts bs c (g .accepts)) (few-tracks bs c (g .accepts)) small many l (live-of-going bs c ws g) (beyond bs c ws)
+          ∙ moves-are p (plan-facts bs c (g .checked .lent .accepts)) (few-tracks bs c (g .checked .lent .accepts)) small many l (live-of-going bs c ws g) (beyond bs c ws)
           (storable bs c ws g .blank) e taken closing took closes
 
       closings-count : countBelow (c .tracks) (λ t. getD closing t false) ≡ closings p (moved p l e)
       closings-count =
           ap (λ (n : ℕ). countBelow n (λ t. getD closing t false)) (sym (track-count bs c))
-          ∙ closings-are p (plan-facts bs c (g .accepts)) (few-tracks bs c (g .accepts)) small many l (live-of-going bs c ws g) (beyond bs c ws)
+          ∙ closings-are p (plan-facts bs c (g .checked .lent .accepts)) (few-tracks bs c (g .checked .lent .accepts)) small many l (live-of-going bs c ws g) (beyond bs c ws)
           (storable bs c ws g .blank) e taken closing took closes
 
       settled : (finishing : Bool) → finishing ≡ everyBelow (c .tracks) (endsAt p l taken) → (t : ℕ) → t < c .tracks
           → settledLedger p l finishing taken closing codes t ≡ afterEvent p l e t
       settled finishing f t b =
-          settled-is p (plan-facts bs c (g .accepts)) (few-tracks bs c (g .accepts)) small many l (live-of-going bs c ws g) (beyond bs c ws)
+          settled-is p (plan-facts bs c (g .checked .lent .accepts)) (few-tracks bs c (g .checked .lent .accepts)) small many l (live-of-going bs c ws g) (beyond bs c ws)
           (storable bs c ws g .blank) e taken closing took closes finishing codes (f ∙ finish) codes-at t (rw (track-count bs c) b)
 
       -- what the writing pass asks
@@ -165,7 +163,7 @@ module _ (bs : List ℕ) (c : Counts) (ws : List ℕ) (g : Going bs c ws) (e : �
       let codes : List ℕ = table 0 (codeGiven p l taken closing) (c .tracks) in
       let i : countBelow (trackCount p) (moves p l e) ≡ 0 = sym (x ∙ moves-count closing refl codes refl) ∙ z in
       let still = no-moves p l e (beyond bs c ws) i in
-      let ok = plan-facts bs c (g .accepts) in
+      let ok = plan-facts bs c (g .checked .lent .accepts) in
       let live = live-of-going bs c ws g in
       let j : closings p (moved p l e) ≡ 0 = closings-none p l e ok live still in
       let left : written entryLimit (trackCount p) (afterEvent p l e) ws ≡ ws =
@@ -173,7 +171,7 @@ module _ (bs : List ℕ) (c : Counts) (ws : List ℕ) (g : Going bs c ws) (e : �
       met (as-read closing refl codes refl ∙ (rw (full-not p l e ok live still entryLimit) (λ k. record { answer = done (i k ∷ j k ∷ []); words = left k })))
     where
       unchanged : written entryLimit (c .tracks) l ws ≡ ws
-      unchanged = unfold ledgerOf in written-read entryLimit (c .tracks) ws (g .tidy) (g .roomy .room)
+      unchanged = unfold ledgerOf in written-read entryLimit (c .tracks) ws (tidy-words bs c ws (g .checked) .tidy) (g .checked .lent .room .words)
 
   -- what the closing pass asks
   pub in-range : InRange c taken
@@ -181,7 +179,7 @@ module _ (bs : List ℕ) (c : Counts) (ws : List ℕ) (g : Going bs c ws) (e : �
       record {
         low = λ t b n.
             rw (transition-count bs c) at
-            (word-low p (plan-facts bs c (g .accepts)) (few-tracks bs c (g .accepts)) small many l (live-of-going bs c ws g) (beyond bs c ws)
+            (word-low p (plan-facts bs c (g .checked .lent .accepts)) (few-tracks bs c (g .checked .lent .accepts)) small many l (live-of-going bs c ws g) (beyond bs c ws)
             (storable bs c ws g .blank) e taken (closeMarks p l taken (forwardMarks l opens (c .tracks)) (c .tracks)) took
             (closes (closeMarks p l taken (forwardMarks l opens (c .tracks)) (c .tracks)) refl) t (rw (track-count bs c) b) n);
       }
@@ -193,7 +191,7 @@ module _ (bs : List ℕ) (c : Counts) (ws : List ℕ) (h : Checked bs c ws) (e :
   over-is = ap (λ (n : ℕ). everyBelow n (λ t. not (isAwake (ledgerAt entryLimit ws n t .mode)))) (sym (track-count bs c))
 
   long : ltb (length ws) (wordCount entryLimit (trackCount (planOf bs c))) ≡ false
-  long = le-ltb (length ws) (wordCount entryLimit (trackCount (planOf bs c))) (rw (track-count bs c) (h .roomy .room))
+  long = le-ltb (length ws) (wordCount entryLimit (trackCount (planOf bs c))) (rw (track-count bs c) (h .lent .room .words))
 
   checked : eventOutcome entryLimit bs ws (record { event = e })
       ≡ refusedOr ws
@@ -205,7 +203,7 @@ module _ (bs : List ℕ) (c : Counts) (ws : List ℕ) (h : Checked bs c ws) (e :
       (cond (isOver (planOf bs c) (ledgerAt entryLimit ws (trackCount (planOf bs c)))) 20
       (firstRefusal ((21, isFull (planOf bs c) entryLimit (ledgerAt entryLimit ws (trackCount (planOf bs c))) e) ∷ []))))
   unfolding eventOutcome callOutcome underPlan ledgerRefusals callRefusals tooShort firstRefusal after
-  checked = rw (h .accepts .read, underPlan, long, h .sound)
+  checked = rw (h .lent .accepts .read, underPlan, long, h .sound)
 
   pub event-zero : e ≡ 0 → Meets (eventOutcome entryLimit bs ws (record { event = e })) (eventTold (Refused 19)) ws
   unfolding refusedOr eventTold
@@ -218,18 +216,11 @@ module _ (bs : List ℕ) (c : Counts) (ws : List ℕ) (h : Checked bs c ws) (e :
 
     module _ (z : r ≡ false) where
       pub going-of : Going bs c ws
-      unfolding ledgerOf isSound
+      unfolding ledgerOf
       going-of =
-          let p = planOf bs c in
-          let (a, b) = and-true (areTidy entryLimit ws (trackCount (planOf bs c)))
-          (isOver (planOf bs c) (ledgerAt entryLimit ws (trackCount (planOf bs c))) || isLive (planOf bs c) (ledgerAt entryLimit ws (trackCount (planOf bs c)))) (h .sound) in
           record {
-            accepts = h .accepts;
-            roomy = h .roomy;
-            tidy = rw (track-count bs c) at a;
-            live = ⊎-elim (λ y. clash y (sym over-is ∙ sym q ∙ z))
-                (λ y. ap (λ (i : ℕ). isLive (planOf bs c) (ledgerAt entryLimit ws i)) (sym (track-count bs c)) ∙ y)
-                (or-true (isOver (planOf bs c) (ledgerAt entryLimit ws (trackCount (planOf bs c)))) (isLive (planOf bs c) (ledgerAt entryLimit ws (trackCount (planOf bs c)))) b);
+            checked = h;
+            goes-on = ap (λ (n : ℕ). isOver (planOf bs c) (ledgerAt entryLimit ws n)) (sym (track-count bs c)) ∙ sym over-is ∙ sym q ∙ z;
           }
 
       pub event-going : (a : Answer) (v : List ℕ) → Meets (goingOutcome (planOf bs c) ws e) a v

@@ -25,11 +25,11 @@ use Rattle.rules.proofs.Acceptance.{Accepted, transition-for}
 use Rattle.rules.proofs.Opening.{wakes-same}
 use Rattle.rules.proofs.Soundness.{Live}
 use Rattle.plan.specs.Passes.{slots}
-use Rattle.lookup.specs.Marks.{Marks, wakeMarks}
-use Rattle.lookup.proofs.Marks.{wake-marks}
+use Rattle.lookup.specs.Marks.{Marks}
 use Rattle.event_step.specs.Next.{nextState, closesNext, closedNext, finishesNext, givenNext, nextBy, nextLedger}
 use Rattle.event_choice.specs.Marks.{wordOf, table, takes, codeGiven, endsAt, isFullAt, stateAfter}
-use Rattle.event_writing.specs.Settled.{enteredBy, turned, destinationWord, deviationWord, entersFrom, entersAt, closedAt, sleepsAt, settledLedger}
+use Rattle.opening.specs.Entering.{statesOf}
+use Rattle.event_writing.specs.Settled.{enteredBy, visited, destinationWord, deviationWord, entersAt, closedAt, sleepsAt, settledLedger}
 use Rattle.event_step.proofs.Moves.{forward-awake, mover-facts, woken-asleep}
 use Rattle.event_step.proofs.Settlings.{closes-parts, mover-open, full-before, after-before, closings-before}
 use Rattle.event_step.proofs.Passes.{move-word, state-after}
@@ -199,26 +199,25 @@ module _ (p : Plan) (ok : Accepted p) (few : trackCount p ≤ slots) (small : st
   abbrev waking : ℕ → Bool
   waking t = wakes p (λ u. destinationOf p (move p l event u)) t
 
-  woken-at : (t : ℕ) → t < trackCount p → getD (wakeMarks p to (trackCount p)) t false ≡ waking t
-  woken-at t b =
-      wake-marks p ok few to (trackCount p) (omega arith) t b
-      ∙ wakes-same p ok (λ u. optional (getD to u 0)) (λ u. destinationOf p (move p l event u)) enters-as t
+  woken-at : (t : ℕ) → wakes p (statesOf to) t ≡ waking t
+  unfolding statesOf
+  woken-at t = wakes-same p ok (λ u. optional (getD to u 0)) (λ u. destinationOf p (move p l event u)) enters-as t
 
   abbrev entering : ℕ → ℕ
-  entering t = entersAt p to (wakeMarks p to (trackCount p)) t
+  entering t = entersAt p to t
 
   entering-some : (t x : ℕ) → t < trackCount p → move p l event t ≡ some x → entering t ≡ transition p x .destination
-  unfolding entersAt entersFrom
+  unfolding entersAt
   entering-some t x b e =
-      ap (λ (z : ℕ). cond (eqb z noState) (cond (getD (wakeMarks p to (trackCount p)) t false) (firstState p t) noState) z) (to-some t x b e)
+      ap (λ (z : ℕ). cond (eqb z noState) (cond (wakes p (statesOf to) t) (firstState p t) noState) z) (to-some t x b e)
       ∙ (rw (destination-real t x e))
 
   entering-none : (t : ℕ) → t < trackCount p → move p l event t ≡ none → entering t ≡ cond (waking t) (firstState p t) noState
-  unfolding entersAt entersFrom
+  unfolding entersAt
   entering-none t b e =
-      ap (λ (z : ℕ). cond (eqb z noState) (cond (getD (wakeMarks p to (trackCount p)) t false) (firstState p t) noState) z) (to-none t b e)
-      ∙ ap (λ (z : Bool). cond z (cond (getD (wakeMarks p to (trackCount p)) t false) (firstState p t) noState) noState) (eq-eqb noState noState refl)
-      ∙ ap (λ (z : Bool). cond z (firstState p t) noState) (woken-at t b)
+      ap (λ (z : ℕ). cond (eqb z noState) (cond (wakes p (statesOf to) t) (firstState p t) noState) z) (to-none t b e)
+      ∙ ap (λ (z : Bool). cond z (cond (wakes p (statesOf to) t) (firstState p t) noState) noState) (eq-eqb noState noState refl)
+      ∙ ap (λ (z : Bool). cond z (firstState p t) noState) (woken-at t)
 
   deviation-none : (t : ℕ) → t < trackCount p → move p l event t ≡ none → deviationWord p ts t ≡ noState
   unfolding deviationWord
@@ -292,10 +291,10 @@ module _ (p : Plan) (ok : Accepted p) (few : trackCount p ≤ slots) (small : st
             c ∙ ap (λ (z : Bool). isAwake (l t .mode) && z) (closes (owner p (e .0)) (ok .owned (e .0) (ok .host-state t (e .0) (e .1)))) ∙ sym d
       ]
 
-  -- the ledger after all turns is the one after the event
+  -- the ledger after all visits is the one after the event
   pub settled-is : (finishing : Bool) (codes : List ℕ) → finishing ≡ finishesNext p l event → Marks 0 codes (trackCount p) (codeGiven p l ts ms)
       → (t : ℕ) → t < trackCount p → settledLedger p l finishing ts ms codes t ≡ afterEvent p l event t
-  unfolding settledLedger turned sleepsAt nextLedger
+  unfolding settledLedger visited sleepsAt nextLedger
   settled-is finishing codes f at t b =
       ap (λ (z : Bool). cond (z || closedAt p ms (l t .mode) t) sleeping (enteredBy (entering t) (installed (getD codes t 0) (deviationWord p ts t) (l t)))) f
       ∙ ap (λ (z : Bool). cond (finishesNext p l event || z) sleeping (enteredBy (entering t) (installed (getD codes t 0) (deviationWord p ts t) (l t)))) (closed-is t)

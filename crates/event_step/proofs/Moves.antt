@@ -42,13 +42,6 @@ module _ (p : Plan) (ok : Accepted p) (l : Ledger) (live : Live p l) (low : (t :
   abbrev m : Ledger
   m = moved p l event
 
-  awake-low : (t : ℕ) → isAwake (l t .mode) ≡ true → t < trackCount p
-  unfolding sleeping isAwake
-  awake-low t a =
-      ⊎-elim (λ b. ltb-true t (trackCount p) b)
-      (λ b. let z : isAwake (sleeping .mode) ≡ true = subst (λ (c : Configuration). isAwake (c .mode) ≡ true) (low t (ltb-false t (trackCount p) b)) a in clash z refl)
-      (look (ltb t (trackCount p)))
-
   -- a mover is forward and without an open scope
   pub record Moves (t x : ℕ) : Type 0 where
     pub ahead : isForward (l t .mode) ≡ true

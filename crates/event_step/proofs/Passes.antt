@@ -1,4 +1,4 @@
--- What an event's passes work out. Each figure after n turns is a search or a conjunction over the numbers below n: a turn sets one
+-- What an event's passes work out. Each figure after n visits is a search or a conjunction over the numbers below n: a visit sets one
 -- track's figure, and of the others its number says nothing. Assumes nothing.
 use mathlib.Core.Path.{_≡_, refl, sym, ap, _∙_, subst}
 use mathlib.Core.Logic.{_⊎_, inl, inr}
@@ -62,10 +62,10 @@ module _ (p : Plan) (ok : Accepted p) (few : trackCount p ≤ slots) (l : Ledger
         elim (look (isTaken p l event opens n (takeMarks p l event opens n)))
         [ inl e ↦ rw e (length-set (takeMarks p l event opens n) (mover p n) n ∙ length-take n) | inr e ↦ rw e (length-take n) ]
 
-    -- another track's turn
-    other-turn : (n t : ℕ) → (t ≡ mover p n → ⊥) → getD (takeMarks p l event opens (suc n)) t 0 ≡ getD (takeMarks p l event opens n) t 0
+    -- another track's visit
+    other-visit : (n t : ℕ) → (t ≡ mover p n → ⊥) → getD (takeMarks p l event opens (suc n)) t 0 ≡ getD (takeMarks p l event opens n) t 0
     unfolding takeMarks takeMark
-    other-turn n t d =
+    other-visit n t d =
         elim (look (isTaken p l event opens n (takeMarks p l event opens n)))
         [ inl e ↦ rw e (getD-set-other (takeMarks p l event opens n) (mover p n) t n 0 d) | inr e ↦ rw e ]
 
@@ -82,7 +82,7 @@ module _ (p : Plan) (ok : Accepted p) (few : trackCount p ≤ slots) (l : Ledger
     unfolding noState
     below-256 n t i b e = let c = first-found n (answers t) i e .0 in ne-eqb i 65535 (λ z. absurd (omega arith))
 
-    -- the test of a turn, at the track that it concerns
+    -- the test of a visit, at the track that it concerns
     taken-test : (n : ℕ) (ts : List ℕ) → mover p n < trackCount p
         → isTaken p l event opens n ts ≡ (may (mover p n) && answers (mover p n) n && eqb (getD ts (mover p n) 0) noState)
     unfolding isTaken
@@ -103,15 +103,15 @@ module _ (p : Plan) (ok : Accepted p) (few : trackCount p ≤ slots) (l : Ledger
         shuffle false true false d e = refl
         shuffle false false c d e = refl
 
-    turn-yes : (n : ℕ) → isTaken p l event opens n (takeMarks p l event opens n) ≡ true → mover p n < trackCount p
+    visit-yes : (n : ℕ) → isTaken p l event opens n (takeMarks p l event opens n) ≡ true → mover p n < trackCount p
         → getD (takeMarks p l event opens (suc n)) (mover p n) 0 ≡ n
     unfolding takeMarks takeMark
-    turn-yes n e b = rw e (getD-set-same (takeMarks p l event opens n) (mover p n) n 0 (omega (arith, length-take n)))
+    visit-yes n e b = rw e (getD-set-same (takeMarks p l event opens n) (mover p n) n 0 (omega (arith, length-take n)))
 
-    turn-no : (n t : ℕ) → isTaken p l event opens n (takeMarks p l event opens n) ≡ false
+    visit-no : (n t : ℕ) → isTaken p l event opens n (takeMarks p l event opens n) ≡ false
         → getD (takeMarks p l event opens (suc n)) t 0 ≡ getD (takeMarks p l event opens n) t 0
     unfolding takeMarks takeMark
-    turn-no n t e = rw e
+    visit-no n t e = rw e
 
     take-marks : (n : ℕ) → n ≤ transitionCount p → Marks 0 (takeMarks p l event opens n) (trackCount p) (λ t. wordOf (found n t))
     unfolding wordOf
@@ -147,28 +147,28 @@ module _ (p : Plan) (ok : Accepted p) (few : trackCount p ≤ slots) (l : Ledger
             go : (a : Bool) → answers t n ≡ a → (o : Option ℕ) → firstBelow n (answers t) ≡ o
                 → getD (takeMarks p l event opens (suc n)) t 0 ≡ wordOf (firstBelow (suc n) (answers t))
             go false a o q =
-                turn-no n t (test ∙ (rw (m, a))) ∙ ih ∙ ap wordOf (sym (first-skip n (answers t) a))
+                visit-no n t (test ∙ (rw (m, a))) ∙ ih ∙ ap wordOf (sym (first-skip n (answers t) a))
             go true a none q =
                 let w : getD (takeMarks p l event opens n) t 0 ≡ noState = ih ∙ ap wordOf q in
                 let y : isTaken p l event opens n (takeMarks p l event opens n) ≡ true = test ∙ (rw (m, a) (eq-eqb _ noState w)) in
-                ap (λ z. getD (takeMarks p l event opens (suc n)) z 0) e ∙ turn-yes n y low ∙ ap wordOf (sym (first-here n (answers t) q a))
+                ap (λ z. getD (takeMarks p l event opens (suc n)) z 0) e ∙ visit-yes n y low ∙ ap wordOf (sym (first-here n (answers t) q a))
             go true a (some i) q =
                 let w : getD (takeMarks p l event opens n) t 0 ≡ i = ih ∙ ap wordOf q in
                 let y : isTaken p l event opens n (takeMarks p l event opens n) ≡ false = test ∙ (rw (m, a) (ap (λ z. eqb z noState) w ∙ below-256 n t i (omega arith) q)) in
-                turn-no n t y ∙ w ∙ ap wordOf (sym (first-keeps n (answers t) i q))
+                visit-no n t y ∙ w ∙ ap wordOf (sym (first-keeps n (answers t) i q))
 
         step : getD (takeMarks p l event opens n) t 0 ≡ wordOf (found n t) → (eqb t (mover p n) ≡ true) ⊎ (eqb t (mover p n) ≡ false)
             → (may t ≡ true) ⊎ (may t ≡ false) → getD (takeMarks p l event opens (suc n)) t 0 ≡ wordOf (found (suc n) t)
         step ih (inr d) (inl m) =
             let q = eqb-false t (mover p n) d in
-            rw m (other-turn n t q ∙ (rw m at ih) ∙ ap wordOf (sym (first-skip n (answers t) (elsewhere q m))))
-        step ih (inr d) (inr m) = rw m (other-turn n t (eqb-false t (mover p n) d) ∙ (rw m at ih))
+            rw m (other-visit n t q ∙ (rw m at ih) ∙ ap wordOf (sym (first-skip n (answers t) (elsewhere q m))))
+        step ih (inr d) (inr m) = rw m (other-visit n t (eqb-false t (mover p n) d) ∙ (rw m at ih))
         step ih (inl d) (inl m) = rw m (here (eqb-true t (mover p n) d) m (rw m at ih))
         step ih (inl d) (inr m) =
             let e = eqb-true t (mover p n) d in
             let y : isTaken p l event opens n (takeMarks p l event opens n) ≡ false =
             taken-test n (takeMarks p l event opens n) low ∙ ap (λ z. z && answers (mover p n) n && eqb (getD (takeMarks p l event opens n) (mover p n) 0) noState) (ap may (sym e) ∙ m) in
-            rw m (turn-no n t y ∙ (rw m at ih))
+            rw m (visit-no n t y ∙ (rw m at ih))
 
     -- each track's transition is its move
     pub take-moves : Marks 0 (takeMarks p l event opens (transitionCount p)) (trackCount p) (λ t. wordOf (move p l event t))

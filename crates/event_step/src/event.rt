@@ -10,7 +10,7 @@ ghost use Rattle.rules.specs.Layout.{entryLimit};
 ghost use Rattle.rules.specs.Plan.{planOf};
 ghost use Rattle.rules.specs.Call.{Meets, eventOutcome};
 ghost use Rattle.rules.specs.Answers.{eventTold};
-ghost use Rattle.lookup.specs.Going.{Checked, Going};
+ghost use Rattle.lookup.specs.Checked.{Checked, Going};
 ghost use Rattle.event_step.specs.Outcome.{goingOutcome};
 
 // An event other than 0 on a ledger that is not over. Where no track moves nothing changes.

@@ -1,4 +1,4 @@
--- One turn of the writing pass, as the code takes it: each branch is a case of the turn's definition. Assumes nothing.
+-- One visit of the writing pass, as the code takes it: each branch is a case of the visit's definition. Assumes nothing.
 use mathlib.Core.Path.{_≡_, sym, ap, _∙_}
 use mathlib.Core.Bool.{Bool, true, false, not}
 use mathlib.Core.List.{List}
@@ -11,10 +11,12 @@ use Rattle.rules.specs.declared.Mode.the-variants.{Forward}
 use Rattle.rules.specs.declared.Track.{Track}
 use Rattle.rules.specs.Plan.{Plan, planOf, noState, transition, firstState}
 use Rattle.rules.specs.Ledger.{isAwake}
+use Rattle.rules.specs.Opening.{wakes}
 use Rattle.ledger.specs.Words.{trackAt, withTrack, withInstalled, withAsleep}
-use Rattle.lookup.specs.Going.{Accepts, hostTrack}
+use Rattle.lookup.specs.Checked.{Accepts, hostTrack}
 use Rattle.lookup.proofs.Facts.{no-host-track, host-of-track}
-use Rattle.event_writing.specs.Settled.{withGiven, withEntered, withTurn, destinationWord, deviationWord, entersFrom, entersAt, closedAt, sleepsAt}
+use Rattle.opening.specs.Entering.{statesOf}
+use Rattle.event_writing.specs.Settled.{withGiven, withEntered, withVisit, destinationWord, deviationWord, entersFrom, entersAt, closedAt, sleepsAt}
 
 -- the words
 module _ (ws : List ℕ) (t : ℕ) where
@@ -36,14 +38,14 @@ module _ (ws : List ℕ) (t : ℕ) where
   enter-some s k v z e f =
       rw (ne-eqb s noState z) (f ∙ ap (λ (y : Track). withTrack ws t (record { mode = Forward; state = s; count = y .count })) e)
 
-  pub turn-asleep : (a : Bool) (s code deviation : ℕ) (v : List ℕ) → a ≡ true → v ≡ withAsleep ws t → v ≡ withTurn ws t a s code deviation
-  unfolding withTurn
-  turn-asleep a s code deviation v z e = rw z e
+  pub visit-asleep : (a : Bool) (s code deviation : ℕ) (v : List ℕ) → a ≡ true → v ≡ withAsleep ws t → v ≡ withVisit ws t a s code deviation
+  unfolding withVisit
+  visit-asleep a s code deviation v z e = rw z e
 
-  pub turn-awake : (a : Bool) (s code deviation : ℕ) (u v : List ℕ) → a ≡ false → u ≡ withGiven ws t code deviation → v ≡ withEntered u t s
-      → v ≡ withTurn ws t a s code deviation
-  unfolding withTurn
-  turn-awake a s code deviation u v z e f = rw z (f ∙ ap (λ (w : List ℕ). withEntered w t s) e)
+  pub visit-awake : (a : Bool) (s code deviation : ℕ) (u v : List ℕ) → a ≡ false → u ≡ withGiven ws t code deviation → v ≡ withEntered u t s
+      → v ≡ withVisit ws t a s code deviation
+  unfolding withVisit
+  visit-awake a s code deviation u v z e f = rw z (f ∙ ap (λ (w : List ℕ). withEntered w t s) e)
 
 -- a transition's destination and deviation
 module _ (p : Plan) (ts : List ℕ) (t : ℕ) where
@@ -77,10 +79,10 @@ module _ (start : ℕ) (to : List ℕ) (woken : List Bool) (t : ℕ) where
   unfolding entersFrom
   enters-first z w = rw (eq-eqb (getD to t 0) noState z, w)
 
-pub enters-at : (p : Plan) (to : List ℕ) (woken : List Bool) (t : ℕ) {start s : ℕ} → start ≡ firstState p t → s ≡ entersFrom start to woken t
-    → s ≡ entersAt p to woken t
-unfolding entersAt
-enters-at p to woken t e d = d ∙ ap (λ (f : ℕ). entersFrom f to woken t) e
+pub enters-at : (p : Plan) (to : List ℕ) (woken : List Bool) (t : ℕ) {start s : ℕ} → start ≡ firstState p t → getD woken t false ≡ wakes p (statesOf to) t
+    → s ≡ entersFrom start to woken t → s ≡ entersAt p to t
+unfolding entersAt entersFrom
+enters-at p to woken t e w d = d ∙ rw (e, w)
 
 -- a closed scope
 module _ (bs : List ℕ) (c : Counts) (ms : List Bool) (m : Mode) (t u : ℕ) (g : u ≡ hostTrack (planOf bs c) t) where
@@ -107,9 +109,9 @@ pub sleeps-closed : (p : Plan) (f r : Bool) (ms : List Bool) (m : Mode) (t : ℕ
 unfolding sleepsAt
 sleeps-closed p f r ms m t z e = rw z e
 
--- a turn, from its parts
-pub turn-is : (p : Plan) (ws : List ℕ) (t : ℕ) (finishing a : Bool) (ms woken : List Bool) (to ts : List ℕ) (k : Track) (s code d : ℕ) (v : List ℕ)
-    → k ≡ trackAt ws t → a ≡ sleepsAt p finishing ms (k .mode) t → s ≡ entersAt p to woken t → d ≡ deviationWord p ts t
-    → v ≡ withTurn ws t a s code d
-    → v ≡ withTurn ws t (sleepsAt p finishing ms (trackAt ws t .mode) t) (entersAt p to woken t) code (deviationWord p ts t)
-turn-is p ws t finishing a ms woken to ts k s code d v e f g h q = rw (← h, ← g, ← e, ← f) q
+-- a visit, from its parts
+pub visit-is : (p : Plan) (ws : List ℕ) (t : ℕ) (finishing a : Bool) (ms : List Bool) (to ts : List ℕ) (k : Track) (s code d : ℕ) (v : List ℕ)
+    → k ≡ trackAt ws t → a ≡ sleepsAt p finishing ms (k .mode) t → s ≡ entersAt p to t → d ≡ deviationWord p ts t
+    → v ≡ withVisit ws t a s code d
+    → v ≡ withVisit ws t (sleepsAt p finishing ms (trackAt ws t .mode) t) (entersAt p to t) code (deviationWord p ts t)
+visit-is p ws t finishing a ms to ts k s code d v e f g h q = rw (← h, ← g, ← e, ← f) q

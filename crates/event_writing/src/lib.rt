@@ -1,24 +1,28 @@
 // The writing pass of an event, track by track in rising order: a track goes to sleep, or is given its code and enters its state.
 use ledger::track;
-use lookup::firsts;
 use lookup::reading;
-use lookup::waking;
+use opening::firsts;
+use opening::waking;
 use plan::fields;
 use plan::fields::NO_STATE;
 use rules::Counts;
 use rules::Mode;
 use rules::Track;
 ghost use mathlib.Core.Path.{_≡_};
+ghost use mathlib.Core.Bool.{false};
 ghost use Prim.Native.Nat.{_<_};
 ghost use lib.ListN.{getD};
 ghost use Rattle.rules.specs.Layout.{entryLimit};
-ghost use Rattle.rules.specs.Plan.{planOf, noState};
+ghost use Rattle.rules.specs.Plan.{planOf, noState, firstState};
+ghost use Rattle.rules.specs.Opening.{wakes};
 ghost use Rattle.rules.specs.Ledger.{written};
 ghost use Rattle.ledger.specs.Words.{Within, trackAt};
-ghost use Rattle.lookup.specs.Going.{Accepts, Roomy, Going, ledgerOf};
-ghost use Rattle.plan.specs.Passes.{firstMarks};
+ghost use Rattle.lookup.specs.Checked.{Accepts, Going, ledgerOf, Lent};
+ghost use Rattle.lookup.specs.Figures.{Figures};
+ghost use Rattle.opening.specs.Entering.{statesOf};
 ghost use Rattle.event_choice.specs.Marks.{InRange, table};
-ghost use Rattle.event_writing.specs.Settled.{Spare, withGiven, withEntered, withTurn, destinationWord, deviationWord, entersFrom, entersAt, closedAt, sleepsAt, settledLedger};
+ghost use Rattle.event_writing.specs.Settled.{Spare, withGiven, withEntered, withVisit, destinationWord, deviationWord};
+ghost use Rattle.event_writing.specs.Settled.{entersFrom, entersAt, closedAt, sleepsAt, settledLedger};
 
 // The destination of the transition that a track takes, 65535 for none.
 fn destination(plan: &[u8], c: Counts, taken: [u16; 32], t: usize) -> u16
@@ -117,10 +121,10 @@ fn enter(ledger: &mut [u16], t: usize, s: u16)
     track::put_track(&mut ledger[..], t, next);
 }
 
-// What a turn writes.
-fn turn(ledger: &mut [u16], t: usize, asleep: bool, s: u16, code: u16, deviation: u16)
+// What a visit writes.
+fn visit(ledger: &mut [u16], t: usize, asleep: bool, s: u16, code: u16, deviation: u16)
     requires { ⌜ Within (now ledger) t × ((code ≡ 0 → ⊥) → trackAt (now ledger) t .count < entryLimit) ⌝ }
-    ensures { λ _. ⌜ now (ledger .exit) ≡ withTurn (now (ledger .entry)) t asleep s code deviation ⌝ }
+    ensures { λ _. ⌜ now (ledger .exit) ≡ withVisit (now (ledger .entry)) t asleep s code deviation ⌝ }
 {
     if asleep {
         track::put_to_sleep(&mut ledger[..], t);
@@ -141,7 +145,7 @@ fn sleeps(plan: &[u8], c: Counts, finishing: bool, closing: [bool; 32], m: Mode,
     is_closed(plan, c, closing, m, t)
 }
 
-// A track's turn.
+// A track's visit.
 fn settle_track(
     plan: &[u8],
     c: Counts,
@@ -155,15 +159,21 @@ fn settle_track(
     woken: [bool; 32],
     t: usize,
 )
-    requires { ⌜ Accepts (now plan) c × Roomy c (now ledger) × InRange c taken × (t < c .tracks) × ((getD codes t 0 ≡ 0 → ⊥) → trackAt (now ledger) t .count < entryLimit) × (firsts ≡ firstMarks (planOf (now plan) c) (c .states)) ⌝ }
-    ensures { λ _. ⌜ now (ledger .exit) ≡ withTurn (now (ledger .entry)) t (sleepsAt (planOf (now (plan .entry)) c) finishing closing (trackAt (now (ledger .entry)) t .mode) t) (entersAt (planOf (now (plan .entry)) c) to woken t) (getD codes t 0) (deviationWord (planOf (now (plan .entry)) c) taken t) ⌝ }
+    requires { ⌜ Lent (now plan) c (now ledger) × InRange c taken × (t < c .tracks)
+        × ((getD codes t 0 ≡ 0 → ⊥) → trackAt (now ledger) t .count < entryLimit)
+        × Figures 0 firsts (c .tracks) (firstState (planOf (now plan) c))
+        × Figures false woken (c .tracks) (wakes (planOf (now plan) c) (statesOf to)) ⌝ }
+    ensures { λ _. ⌜ now (ledger .exit)
+        ≡ withVisit (now (ledger .entry)) t
+        (sleepsAt (planOf (now (plan .entry)) c) finishing closing (trackAt (now (ledger .entry)) t .mode) t)
+        (entersAt (planOf (now (plan .entry)) c) to t) (getD codes t 0) (deviationWord (planOf (now (plan .entry)) c) taken t) ⌝ }
 {
     let k = track::track_at(&ledger[..], t);
     let m = k.mode;
     let asleep = sleeps(plan, c, finishing, closing, m, t);
     let s = entered(firsts, to, woken, t);
     let d = deviation(plan, c, taken, t);
-    turn(&mut ledger[..], t, asleep, s, codes[t], d);
+    visit(&mut ledger[..], t, asleep, s, codes[t], d);
 }
 
 // Writes the ledger that the event leaves.
@@ -177,7 +187,9 @@ pub fn settle(
     codes: [u16; 32],
 )
     requires { ⌜ Going (now plan) c (now ledger) × InRange c taken × Spare (c .tracks) (ledgerOf c (now ledger)) codes ⌝ }
-    ensures { λ _. ⌜ now (ledger .exit) ≡ written entryLimit (c .tracks) (settledLedger (planOf (now (plan .entry)) c) (ledgerOf c (now (ledger .entry))) finishing taken closing codes) (now (ledger .entry)) ⌝ }
+    ensures { λ _. ⌜ now (ledger .exit)
+        ≡ written entryLimit (c .tracks)
+        (settledLedger (planOf (now (plan .entry)) c) (ledgerOf c (now (ledger .entry))) finishing taken closing codes) (now (ledger .entry)) ⌝ }
 {
     let firsts = firsts::first_states(plan, c);
     let to = destinations(plan, c, taken);

@@ -9,11 +9,12 @@ ghost use Rattle.rules.specs.Fold.{sumBelow};
 ghost use Rattle.rules.specs.Plan.{planOf};
 ghost use Rattle.rules.specs.Journal.{fireLowestCall};
 ghost use Rattle.rules.specs.Call.{fire};
-ghost use Rattle.lookup.specs.Going.{Accepts, Roomy, ledgerOf};
+ghost use Rattle.ledger.specs.Words.{Room};
+ghost use Rattle.lookup.specs.Checked.{ledgerOf, Lent};
 
 // The entries that all tracks hold.
 pub fn held_total(c: Counts, ledger: &[u16]) -> u32
-    requires { ⌜ Roomy c (now ledger) ⌝ }
+    requires { ⌜ Room (now ledger) (c .tracks) ⌝ }
     ensures { λ r. ⌜ r ≡ sumBelow (c .tracks) (λ t. length (ledgerOf c (now (ledger .entry)) t .held)) ⌝ }
 {
     let tracks = c.tracks;
@@ -29,7 +30,7 @@ pub fn held_total(c: Counts, ledger: &[u16]) -> u32
 
 // The lowest track that may be fired, or a number that no track has.
 pub fn lowest_ready(plan: &[u8], c: Counts, ledger: &[u16]) -> u16
-    requires { ⌜ Accepts (now plan) c × Roomy c (now ledger) ⌝ }
+    requires { ⌜ Lent (now plan) c (now ledger) ⌝ }
     ensures { λ r. ⌜ fire (record { track = r }) ≡ fireLowestCall (planOf (now (plan .entry)) c) (ledgerOf c (now (ledger .entry))) ⌝ }
 {
     let opens = opens::open_scopes(plan, c, ledger);

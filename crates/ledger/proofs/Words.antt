@@ -6,13 +6,13 @@ use native.Mathlib.Omega.{arith}
 use native.Mathlib.Nat.{add-sub-cancel-left}
 use native.Mathlib.Numerals.{add-one, sub-one}
 use lib.Seq.{drop-length, length-take-le}
-use lib.ListN.{length, getD, set, take, drop, replicate, length-drop}
+use lib.ListN.{length, getD, set, take, drop, replicate, length-drop, replicate-append-replicate}
 use Rattle.rules.specs.declared.Mode.{Mode}
 use Rattle.rules.specs.declared.Mode.the-variants.{Asleep, Forward, Undoing}
 use Rattle.rules.specs.declared.Track.{Track}
 use Rattle.rules.specs.Layout.{entryLimit, headWords, entryWidth, trackWidth, trackPlace, wordCount}
-use Rattle.rules.specs.Ledger.{Entry, Ledger, sleeping, modeOf, modeWord, configurationAt, configurationWords, written}
-use Rattle.rules.proofs.TrackWords.{length-heldAt, place-below}
+use Rattle.rules.specs.Ledger.{Entry, Ledger, sleeping, modeOf, modeWord, configurationAt, configurationWords, ledgerWords, written}
+use Rattle.rules.proofs.TrackWords.{length-heldAt, place-zero, place-more, place-below, words-sleeping}
 use Rattle.rules.proofs.Stored.{Fits, read-track}
 use Rattle.rules.proofs.Replaced.{updated, inTrack, set-three, install-entry, remove-entry, sleep-track}
 use Rattle.ledger.specs.Words.{Within, Room, trackOf, trackAt, withTrack, entryPlace, withEntry, withInstalled, withRemoved, withAsleep}
@@ -41,12 +41,9 @@ track-words ws t m h =
     λ x. record { mode = h x; state = getD ws (trackPlace entryLimit t + 1) 0; count = sym n x }
 
 -- the tracks of a plan have room where all of them have
-pub within : (ws : List ℕ) (tracks t : ℕ) → tracks ≤ 32 → wordCount entryLimit tracks ≤ length ws → t < tracks → Within ws t
+pub in-room : (ws : List ℕ) (tracks t : ℕ) → Room ws tracks → t < tracks → Within ws t
 unfolding wordCount
-within ws tracks t a b h = record { number = omega arith; room = omega (arith, place-below entryLimit tracks t h) }
-
-pub room-within : (ws : List ℕ) (tracks t : ℕ) → Room ws tracks → t < tracks → Within ws t
-room-within ws tracks t r h = within ws tracks t (r .few) (r .words) h
+in-room ws tracks t r h = let a = r .few in let b = r .words in record { number = omega arith; room = omega (arith, place-below entryLimit tracks t h) }
 
 -- In words that hold a ledger: a track is read as the ledger has it, and a track's words written are those of the ledger with that track
 -- replaced.
@@ -118,3 +115,17 @@ sleep-steps ws ys t at e room f =
     length-take-le (trackWidth entryLimit) (drop at ws) (omega arith) in
     let g : ys ≡ replicate (length (take (trackWidth entryLimit) (drop at ws))) 0 = rw add-sub-cancel-left at f in
     rw (add-sub-cancel-left, g, n, e)
+
+-- the words of so many sleeping tracks are zeros
+zeros : (n : ℕ) → ledgerWords entryLimit n (λ t. sleeping) ≡ replicate (wordCount entryLimit n) 0
+unfolding ledgerWords wordCount
+zeros zero = rw (place-zero entryLimit)
+zeros (suc n) =
+    rw (zeros n, words-sleeping entryLimit, place-more entryLimit n) (replicate-append-replicate (trackPlace entryLimit n) (trackWidth entryLimit) 0)
+
+pub sleep-all : (ws ys : List ℕ) (n at : ℕ) → at ≡ trackPlace entryLimit n → wordCount entryLimit n ≤ length ws
+    → ys ≡ replicate (length (take at ws)) 0 → ys ++ drop at ws ≡ written entryLimit n (λ t. sleeping) ws
+unfolding written wordCount
+sleep-all ws ys n at e room f =
+    let k : length (take at ws) ≡ at = length-take-le at ws (omega arith) in
+    rw (zeros n, f, k, e)

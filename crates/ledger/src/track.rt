@@ -9,9 +9,9 @@ ghost use mathlib.Core.Path.{_≡_};
 ghost use Prim.Native.Nat.{_+_, _≤_, _<_};
 ghost use lib.ListN.{length, set, replicate};
 ghost use Rattle.rules.specs.Layout.{entryLimit, trackPlace};
-ghost use Rattle.rules.specs.Ledger.{modeOf, modeWord, entryAt, isAwake, isForward, isUndoing};
+ghost use Rattle.rules.specs.Ledger.{modeOf, modeWord, entryAt, isAwake, isForward, isUndoing, sleeping, written};
 ghost use Rattle.rules.specs.Soundness.{sameMode};
-ghost use Rattle.ledger.specs.Words.{Within, trackAt, withTrack, entryPlace, withEntry, withInstalled, withRemoved, withAsleep};
+ghost use Rattle.ledger.specs.Words.{Within, Room, trackAt, withTrack, entryPlace, withEntry, withInstalled, withRemoved, withAsleep};
 
 fn mode_of(w: u16) -> Mode
     ensures { λ r. ⌜ r ≡ modeOf w ⌝ }
@@ -180,4 +180,13 @@ pub fn put_to_sleep(ledger: &mut [u16], t: usize)
     let at = layout::track_place(t);
     let end = at + TRACK_WIDTH;
     clear(&mut ledger[at..end]);
+}
+
+// Puts so many tracks to sleep.
+pub fn put_all_to_sleep(ledger: &mut [u16], tracks: usize)
+    requires { ⌜ Room (now ledger) tracks ⌝ }
+    ensures { λ _. ⌜ now (ledger .exit) ≡ written entryLimit tracks (λ t. sleeping) (now (ledger .entry)) ⌝ }
+{
+    let end = layout::track_place(tracks);
+    clear(&mut ledger[..end]);
 }

@@ -1,5 +1,7 @@
 -- Where a step starts, in facts: the accepted plan's, the live ledger's, and what a track's words and host say. Assumes nothing.
 use mathlib.Core.Path.{_≡_, refl, sym, ap, _∙_}
+use mathlib.Core.Logic.{inl, inr}
+use mathlib.Core.Bool.{true, _||_}
 use mathlib.Core.List.{List}
 use mathlib.Core.Option.{Option, none, some}
 use Prim.Native.Nat.{ℕ, _<_, _≤_}
@@ -7,15 +9,17 @@ use native.Mathlib.Omega.{arith}
 use Rattle.rules.specs.declared.Counts.{Counts}
 use Rattle.rules.specs.Plan.{Plan, planOf, trackCount, noState, hostWord, host, owner}
 use Rattle.rules.specs.Layout.{entryLimit}
-use Rattle.rules.specs.Ledger.{sleeping}
+use Rattle.rules.specs.Ledger.{Ledger, sleeping, ledgerAt}
+use Rattle.rules.specs.Scope.{isOver}
+use Rattle.rules.specs.Soundness.{areTidy, isLive, isSound}
+use Rattle.rules.proofs.Tests.{clash, and-true, or-true}
 use Rattle.rules.proofs.Acceptance.{Accepted, accepts}
 use Rattle.rules.proofs.Soundness.{Live, live-facts}
 use Rattle.rules.proofs.Stored.{Storable, read-at, read-beyond, storable-read}
 use Rattle.plan.proofs.FieldLaws.{track-count, state-count}
 use Rattle.plan.proofs.Hosting.{host-none, host-some}
-use Rattle.ledger.specs.Words.{Within, trackOf, trackAt}
-use Rattle.ledger.proofs.Words.{within}
-use Rattle.lookup.specs.Going.{Accepts, Roomy, Going, ledgerOf, hostTrack}
+use Rattle.ledger.specs.Words.{Tidy, trackOf, trackAt}
+use Rattle.lookup.specs.Checked.{Accepts, Checked, Going, ledgerOf, hostTrack}
 
 -- the plan's facts
 pub plan-facts : (bs : List ℕ) (c : Counts) → Accepts bs c → Accepted (planOf bs c)
@@ -25,21 +29,32 @@ pub few-tracks : (bs : List ℕ) (c : Counts) → Accepts bs c → trackCount (p
 few-tracks bs c a = let h = a .holds .tracks in omega (arith, track-count bs c)
 
 -- the ledger's facts
+pub tidy-words : (bs : List ℕ) (c : Counts) (ws : List ℕ) → Checked bs c ws → Tidy ws (c .tracks)
+unfolding isSound
+tidy-words bs c ws k =
+    let n = trackCount (planOf bs c) in
+    let q = and-true (areTidy entryLimit ws n) (isOver (planOf bs c) (ledgerAt entryLimit ws n) || isLive (planOf bs c) (ledgerAt entryLimit ws n)) (k .sound) .0 in
+    record { room = k .lent .room; tidy = ap (areTidy entryLimit ws) (sym (track-count bs c)) ∙ q }
+
 pub live-of-going : (bs : List ℕ) (c : Counts) (ws : List ℕ) → Going bs c ws → Live (planOf bs c) (ledgerOf c ws)
-live-of-going bs c ws g = live-facts (planOf bs c) (plan-facts bs c (g .accepts)) (ledgerOf c ws) (g .live)
+unfolding isSound ledgerOf
+live-of-going bs c ws g =
+    let p = planOf bs c in
+    let l : ℕ → Ledger = ledgerAt entryLimit ws in
+    let q = and-true (areTidy entryLimit ws (trackCount (planOf bs c))) (isOver p (l (trackCount p)) || isLive p (l (trackCount p))) (g .checked .sound) .1 in
+    let r : (isOver p (l (c .tracks)) || isLive p (l (c .tracks))) ≡ true = ap (λ (m : ℕ). isOver p (l m) || isLive p (l m)) (sym (track-count bs c)) ∙ q in
+    live-facts p (plan-facts bs c (g .checked .lent .accepts)) (ledgerOf c ws)
+    (elim (or-true (isOver p (l (c .tracks))) (isLive p (l (c .tracks))) r) [ inl o ↦ clash o (g .goes-on) | inr v ↦ v ])
 
 pub storable : (bs : List ℕ) (c : Counts) (ws : List ℕ) → Going bs c ws → Storable entryLimit (c .tracks) (ledgerOf c ws)
 unfolding ledgerOf
-storable bs c ws g = storable-read entryLimit (c .tracks) ws (g .tidy)
+storable bs c ws g = storable-read entryLimit (c .tracks) ws (tidy-words bs c ws (g .checked) .tidy)
 
 pub beyond : (bs : List ℕ) (c : Counts) (ws : List ℕ) (t : ℕ) → trackCount (planOf bs c) ≤ t → ledgerOf c ws t ≡ sleeping
 unfolding ledgerOf
 beyond bs c ws t h = read-beyond entryLimit (c .tracks) ws t (rw (track-count bs c) at h)
 
 -- a track's words
-pub in-room : (c : Counts) (ws : List ℕ) (t : ℕ) → Roomy c ws → t < c .tracks → Within ws t
-in-room c ws t r b = within ws (c .tracks) t (r .few) (r .room) b
-
 pub track-read : (c : Counts) (ws : List ℕ) (t : ℕ) → t < c .tracks → trackAt ws t ≡ trackOf (ledgerOf c ws t)
 unfolding trackAt ledgerOf
 track-read c ws t b = ap trackOf (sym (read-at entryLimit (c .tracks) ws t b))

@@ -1,7 +1,8 @@
--- Laws of the steps' figures.
+-- Laws of where a step starts, of its figures and of one track replaced.
 pub mod Marks
 pub mod Setting
 pub mod Facts
-pub mod FirstStates
+pub mod FiguresLaws
+pub mod OneTrackLaws
 pub mod Turns
 pub mod Readiness

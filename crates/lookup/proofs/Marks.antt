@@ -1,27 +1,23 @@
--- Who wakes: the figure of a track is worked out at its own turn, when its host's track has its figure, and stays. Who has an open
--- scope: an awake track marks its host's. Assumes nothing.
+-- Who has an open scope: an awake track marks its host's. Assumes nothing.
 use mathlib.Core.Path.{_≡_, refl, sym, ap, _∙_, subst}
 use mathlib.Core.Logic.{inl, inr}
 use mathlib.Core.Bool.{Bool, false, cond, _&&_}
 use mathlib.Core.List.{List}
 use mathlib.Core.Option.{Option, none, some}
-use Prim.Native.Nat.{ℕ, zero, suc, _<_, _≤_}
-use native.Mathlib.Nat.{not-suc-le-zero}
+use Prim.Native.Nat.{ℕ, _<_, _≤_}
 use native.Mathlib.Omega.{arith}
 use lib.Dec.{eqb}
 use lib.ListN.{length, getD, set, replicate, length-set, length-replicate}
 use lib.Seq.{getD-set-same, getD-set-other}
 use borrow.Author.Tests.{eqb-true, eqb-false}
-use Rattle.rules.specs.Plan.{Plan, trackCount, optional, host, owner, isHostedBy, firstState}
+use Rattle.rules.specs.Plan.{Plan, trackCount, host, owner, isHostedBy}
 use Rattle.rules.specs.Ledger.{Ledger, isAwake}
 use Rattle.rules.specs.Scope.{hasOpenScope}
-use Rattle.rules.specs.Opening.{wakes, wakesIn}
 use Rattle.rules.proofs.Tests.{look, look-option, none-some}
 use Rattle.rules.proofs.Folds.{some-same}
 use Rattle.rules.proofs.Acceptance.{Accepted}
-use Rattle.rules.proofs.Opening.{wakes-root, wakes-host}
 use Rattle.plan.specs.Passes.{slots}
-use Rattle.lookup.specs.Marks.{Marks, setHost, wakesAt, wakeMarks, hostOwner, openMarks}
+use Rattle.lookup.specs.Marks.{Marks, setHost, hostOwner, openMarks}
 use Rattle.lookup.proofs.Setting.{isPlace, length-marks, marks-fresh}
 
 module _ (p : Plan) (ok : Accepted p) (few : trackCount p ≤ slots) where
@@ -50,38 +46,6 @@ module _ (p : Plan) (ok : Accepted p) (few : trackCount p ≤ slots) where
   pub by-none : (u t : ℕ) → host p t ≡ none → isHostedBy p u t ≡ false
   unfolding isHostedBy
   by-none u t e = rw (e, isHostedBy)
-
-  -- Who wakes.
-  module _ (to : List ℕ) where
-    abbrev enters : ℕ → Option ℕ
-    enters u = optional (getD to u 0)
-
-    pub length-wake : (n : ℕ) → length (wakeMarks p to n) ≡ slots
-    unfolding wakeMarks
-    length-wake zero = length-replicate slots false
-    length-wake (suc n) = length-set (wakeMarks p to n) n _ ∙ length-wake n
-
-    pub wake-marks : (n : ℕ) → n ≤ trackCount p → Marks false (wakeMarks p to n) n (wakes p enters)
-    unfolding wakeMarks wakesAt
-    wake-marks zero b t l = absurd (not-suc-le-zero l)
-    wake-marks (suc n) b t l =
-        elim (look (eqb t n)) [
-          | inr e ↦
-              let q = eqb-false t n e in
-              getD-set-other (wakeMarks p to n) n t _ false q ∙ wake-marks n (omega arith) t (let r : t ≡ n → ⊥ = q in omega arith)
-          | inl e ↦
-              let q = eqb-true t n e in
-              rw q
-              (getD-set-same (wakeMarks p to n) n _ false (omega (arith, length-wake n))
-              ∙ elim (look-option (host p n)) [
-                | inl z ↦ rw (z, wakesAt) (sym (wakes-root p ok enters n z))
-                | inr z ↦
-                    let d = ok .lower n (z .0) (z .1) in
-                    rw (z .1, wakesAt)
-                    (ap (wakesIn p (firstState p (owner p (z .0))) (enters (owner p (z .0))) (z .0)) (wake-marks n (omega arith) (owner p (z .0)) d)
-                    ∙ sym (wakes-host p ok enters n (z .0) (z .1)))
-              ])
-        ]
 
   module _ (l : Ledger) where
     -- Who has an open scope.

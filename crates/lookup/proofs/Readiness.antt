@@ -12,7 +12,7 @@ use Rattle.rules.specs.Ledger.{Ledger, isUndoing, isEmpty}
 use Rattle.rules.specs.Scope.{hasOpenScope}
 use Rattle.rules.specs.Fire.{mayFire}
 use Rattle.plan.proofs.FieldLaws.{track-count}
-use Rattle.lookup.specs.Going.{Accepts, ledgerOf}
+use Rattle.lookup.specs.Checked.{Accepts, ledgerOf}
 use Rattle.lookup.specs.Marks.{openMarks}
 use Rattle.lookup.proofs.Facts.{plan-facts, few-tracks}
 use Rattle.lookup.proofs.Marks.{open-scopes}

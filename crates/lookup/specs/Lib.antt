@@ -1,3 +1,5 @@
--- Where a step starts, and the figures that it keeps for each track.
-pub mod Going
+-- Where a step starts, the figures that it keeps for each track, and one track replaced.
+pub mod Checked
+pub mod Figures
 pub mod Marks
+pub mod OneTrack

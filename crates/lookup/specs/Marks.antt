@@ -1,14 +1,13 @@
--- Figures kept for each track or state while a step is worked out, each by one pass up the tracks: who wakes, who has an open scope,
--- and which scopes have a marked track. Assumes nothing.
+-- Figures kept for each track or state while a step is worked out, each by one pass up the tracks: who has an open scope, and
+-- which scopes have a marked track. Assumes nothing.
 use mathlib.Core.Path.{_≡_}
 use mathlib.Core.Bool.{Bool, true, false, cond}
 use mathlib.Core.List.{List}
 use mathlib.Core.Option.{Option, none, some}
 use Prim.Native.Nat.{ℕ, zero, suc, _<_}
 use lib.ListN.{getD, set, replicate}
-use Rattle.rules.specs.Plan.{Plan, optional, host, owner, firstState}
+use Rattle.rules.specs.Plan.{Plan, host, owner}
 use Rattle.rules.specs.Ledger.{Ledger, isAwake}
-use Rattle.rules.specs.Opening.{wakesIn}
 use Rattle.plan.specs.Passes.{slots, stateSlots}
 
 -- figures below n are as f says
@@ -46,15 +45,6 @@ module _ (p : Plan) where
   unfoldable pub setHost : Option ℕ → Bool → List Bool → List Bool
   setHost none b ms = ms
   setHost (some h) b ms = set ms (owner p h) b
-
-  -- who wakes where tracks enter the states `to`, 65535 for none
-  unfoldable pub wakesAt : List ℕ → List Bool → Option ℕ → Bool
-  wakesAt to ms none = false
-  wakesAt to ms (some h) = wakesIn p (firstState p (owner p h)) (optional (getD to (owner p h) 0)) h (getD ms (owner p h) false)
-
-  unfoldable pub wakeMarks : List ℕ → ℕ → List Bool
-  wakeMarks to zero = replicate slots false
-  wakeMarks to (suc t) = set (wakeMarks to t) t (wakesAt to (wakeMarks to t) (host p t))
 
   -- an awake track is the open scope of its host's track
   module _ (l : Ledger) where

@@ -1,8 +1,5 @@
-// What the steps of accepted calls share: reading a track, each track's first state, who has an open scope, which scopes have a marked
-// track, and who wakes.
-pub mod firsts;
+// What the steps of accepted calls read: a track, who has an open scope, who may be fired, and which scopes have a marked track.
 pub mod opens;
 pub mod reading;
 pub mod ready;
 pub mod scopes;
-pub mod waking;

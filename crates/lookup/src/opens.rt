@@ -5,13 +5,12 @@ use rules::Counts;
 ghost use mathlib.Core.Path.{_≡_};
 ghost use Prim.Native.Nat.{_<_};
 ghost use Rattle.rules.specs.Plan.{planOf};
-ghost use Rattle.rules.specs.Scope.{hasOpenScope};
-ghost use Rattle.lookup.specs.Going.{Accepts, Roomy, ledgerOf};
+ghost use Rattle.lookup.specs.Checked.{ledgerOf, Lent};
 ghost use Rattle.lookup.specs.Marks.{openMark, openMarks};
 
 // An awake track is the open scope of its host's track.
 fn mark_open(plan: &[u8], c: Counts, ledger: &[u16], opens: [bool; 32], t: usize) -> [bool; 32]
-    requires { ⌜ Accepts (now plan) c × Roomy c (now ledger) × (t < c .tracks) ⌝ }
+    requires { ⌜ Lent (now plan) c (now ledger) × (t < c .tracks) ⌝ }
     ensures { λ r. ⌜ r ≡ openMark (planOf (now (plan .entry)) c) (ledgerOf c (now (ledger .entry))) t opens ⌝ }
 {
     if !reading::is_awake(c, ledger, t) {
@@ -28,7 +27,7 @@ fn mark_open(plan: &[u8], c: Counts, ledger: &[u16], opens: [bool; 32], t: usize
 
 // The tracks that have an open scope.
 pub fn open_scopes(plan: &[u8], c: Counts, ledger: &[u16]) -> [bool; 32]
-    requires { ⌜ Accepts (now plan) c × Roomy c (now ledger) ⌝ }
+    requires { ⌜ Lent (now plan) c (now ledger) ⌝ }
     ensures { λ r. ⌜ r ≡ openMarks (planOf (now (plan .entry)) c) (ledgerOf c (now (ledger .entry))) (c .tracks) ⌝ }
 {
     let mut opens = [false; 32];
@@ -40,13 +39,4 @@ pub fn open_scopes(plan: &[u8], c: Counts, ledger: &[u16]) -> [bool; 32]
         t += 1;
     }
     opens
-}
-
-// Whether a track has an open scope.
-pub fn has_open_scope(plan: &[u8], c: Counts, ledger: &[u16], t: usize) -> bool
-    requires { ⌜ Accepts (now plan) c × Roomy c (now ledger) × (t < c .tracks) ⌝ }
-    ensures { λ r. ⌜ r ≡ hasOpenScope (planOf (now (plan .entry)) c) (ledgerOf c (now (ledger .entry))) t ⌝ }
-{
-    let opens = open_scopes(plan, c, ledger);
-    opens[t]
 }

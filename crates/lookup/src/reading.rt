@@ -10,12 +10,12 @@ ghost use Prim.Native.Nat.{_<_};
 ghost use Rattle.rules.specs.Fold.{everyBelow};
 ghost use Rattle.rules.specs.Plan.{planOf};
 ghost use Rattle.rules.specs.Ledger.{isAwake};
-ghost use Rattle.ledger.specs.Words.{trackOf};
-ghost use Rattle.lookup.specs.Going.{Accepts, Roomy, ledgerOf, hostTrack};
+ghost use Rattle.ledger.specs.Words.{trackOf, Room};
+ghost use Rattle.lookup.specs.Checked.{Accepts, ledgerOf, hostTrack};
 
 // A track of the ledger.
 pub fn track(c: Counts, ledger: &[u16], t: usize) -> Track
-    requires { ⌜ Roomy c (now ledger) × (t < c .tracks) ⌝ }
+    requires { ⌜ Room (now ledger) (c .tracks) × (t < c .tracks) ⌝ }
     ensures { λ r. ⌜ r ≡ trackOf (ledgerOf c (now (ledger .entry)) t) ⌝ }
 {
     track::track_at(ledger, t)
@@ -23,7 +23,7 @@ pub fn track(c: Counts, ledger: &[u16], t: usize) -> Track
 
 // Whether a track is awake.
 pub fn is_awake(c: Counts, ledger: &[u16], t: usize) -> bool
-    requires { ⌜ Roomy c (now ledger) × (t < c .tracks) ⌝ }
+    requires { ⌜ Room (now ledger) (c .tracks) × (t < c .tracks) ⌝ }
     ensures { λ r. ⌜ r ≡ isAwake (ledgerOf c (now (ledger .entry)) t .mode) ⌝ }
 {
     let k = track(c, ledger, t);
@@ -33,7 +33,7 @@ pub fn is_awake(c: Counts, ledger: &[u16], t: usize) -> bool
 
 // "all asleep ("over")"
 pub fn is_over(c: Counts, ledger: &[u16]) -> bool
-    requires { ⌜ Roomy c (now ledger) ⌝ }
+    requires { ⌜ Room (now ledger) (c .tracks) ⌝ }
     ensures { λ r. ⌜ r ≡ everyBelow (c .tracks) (λ t. not (isAwake (ledgerOf c (now (ledger .entry)) t .mode))) ⌝ }
 {
     let tracks = c.tracks;

@@ -7,11 +7,12 @@ ghost use mathlib.Core.Bool.{false, not, _&&_};
 ghost use Prim.Native.Nat.{_<_};
 ghost use lib.ListN.{getD};
 ghost use Rattle.rules.specs.Ledger.{isUndoing, isEmpty};
-ghost use Rattle.lookup.specs.Going.{Roomy, ledgerOf};
+ghost use Rattle.ledger.specs.Words.{Room};
+ghost use Rattle.lookup.specs.Checked.{ledgerOf};
 
 // "it must be undoing, hold an entry and have no open scope"
 pub fn is_ready(c: Counts, ledger: &[u16], opens: [bool; 32], t: usize) -> bool
-    requires { ⌜ Roomy c (now ledger) × (t < c .tracks) ⌝ }
+    requires { ⌜ Room (now ledger) (c .tracks) × (t < c .tracks) ⌝ }
     ensures { λ r. ⌜ r ≡ (isUndoing (ledgerOf c (now (ledger .entry)) t .mode) && not (isEmpty (ledgerOf c (now (ledger .entry)) t .held)) && not (getD opens t false)) ⌝ }
 {
     let k = reading::track(c, ledger, t);

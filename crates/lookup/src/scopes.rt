@@ -5,7 +5,7 @@ use rules::Counts;
 ghost use mathlib.Core.Path.{_≡_};
 ghost use Prim.Native.Nat.{_<_};
 ghost use Rattle.rules.specs.Plan.{planOf};
-ghost use Rattle.lookup.specs.Going.{Accepts};
+ghost use Rattle.lookup.specs.Checked.{Accepts};
 ghost use Rattle.lookup.specs.Marks.{scopeMark, scopeMarks};
 
 // A marked track's turn: the state that hosts it is marked.

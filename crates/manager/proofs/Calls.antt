@@ -9,9 +9,9 @@ use Rattle.rules.specs.Acceptance.{turnedBack, accepted}
 use Rattle.rules.specs.Layout.{entryLimit}
 use Rattle.rules.specs.Ledger.{ledgerAt, written}
 use Rattle.rules.specs.Call.{refusal, done, Call, ledgerRefusals, callRefusals, figures, after, callOutcome}
-use Rattle.lookup.specs.Going.{Checked}
+use Rattle.lookup.specs.Checked.{Checked}
 use Rattle.manager.specs.Checked.{checked}
-use Rattle.manager.proofs.Checks.{checked-facts, lent-accepts, lent-roomy, refused-outcome}
+use Rattle.manager.proofs.Checks.{checked-facts, lent-holds, refused-outcome}
 
 module _ (bs ws : List ℕ) where
   pub call-refused : (d : Call) (r : ℕ) → turnedBack r ≡ checked bs ws → record { answer = refusal r; words = ws } ≡ callOutcome entryLimit bs ws d
@@ -28,4 +28,4 @@ module _ (bs ws : List ℕ) where
   pub call-checked : (c : Counts) → accepted c ≡ checked bs ws → Checked bs c ws
   call-checked c e =
       let (g, s) = checked-facts bs ws c e in
-      record { accepts = lent-accepts bs ws c g; roomy = lent-roomy bs ws c g; sound = s }
+      record { lent = lent-holds bs ws c g; sound = s }

@@ -22,10 +22,10 @@ use Rattle.rules.specs.Call.{Answer, refusal, done, Outcome, refusedOr, underPl
 use Rattle.plan.proofs.FieldLaws.{track-count}
 use Rattle.plan.proofs.Reader.{accepted-holds}
 use Rattle.rules.proofs.Tests.{look, and-true}
-use Rattle.ledger.proofs.Words.{room-within}
+use Rattle.ledger.proofs.Words.{in-room}
 use Rattle.ledger.proofs.ReadTracks.{count-within}
 use Rattle.ledger.specs.Words.{Room}
-use Rattle.lookup.specs.Going.{Accepts, Roomy, ledgerOf}
+use Rattle.lookup.specs.Checked.{Accepts, Lent, ledgerOf}
 use Rattle.manager.specs.Checked.{lent, checked, Span}
 
 -- the entries of a track end within its words
@@ -112,8 +112,8 @@ module _ (bs ws : List ℕ) where
     pub lent-accepts : Accepts bs c
     lent-accepts = record { read = lent-facts c e .0; holds = accepted-holds bs c (lent-facts c e .0) }
 
-    pub lent-roomy : Roomy c ws
-    lent-roomy = record { few = lent-room .few; room = lent-room .words }
+    pub lent-holds : Lent bs c ws
+    lent-holds = record { accepts = lent-accepts; room = lent-room }
 
   -- The outcome of a call that checks 17 and 18 first, by what was found.
   module _ (f o : Plan → Outcome) (rest : Plan → List (ℕ × Bool))
@@ -246,7 +246,7 @@ module _ (bs ws : List ℕ) where
   span-held t from k c e h i j =
       let (a, b) = unrefused c e in
       let l : ltb t (trackCount (planOf bs c)) ≡ true = lt-ltb t (trackCount (planOf bs c)) (rw track-count h) in
-      let r = room-within ws (c .tracks) t (lent-room c (checked-facts c e .0)) h in
+      let r = in-room ws (c .tracks) t (lent-room c (checked-facts c e .0)) h in
       let m : k ≤ entryLimit = count-within entryLimit (c .tracks) ws t k (tidy-found c e) j in
       let z : from ≡ entriesPlace entryLimit t = omega arith in
       let n : length (ledgerAt entryLimit ws (trackCount (planOf bs c)) t .held) ≡ k = rw track-count (sym j) in

@@ -1,5 +1,4 @@
 -- Laws of the calls.
 pub mod Checks
 pub mod BitLaws
-pub mod Begins
 pub mod Calls

@@ -1,3 +1,2 @@
 -- What the manager's contracts speak of beside the rules.
 pub mod Checked
-pub mod Roots

@@ -5,11 +5,11 @@ use rules::Counts;
 ghost use mathlib.Core.Path.{_≡_};
 ghost use Rattle.rules.specs.Plan.{planOf};
 ghost use Rattle.rules.specs.Fire.{ready};
-ghost use Rattle.lookup.specs.Going.{Accepts, Roomy, ledgerOf};
+ghost use Rattle.lookup.specs.Checked.{ledgerOf, Lent};
 
 // The number with bit n set exactly if track n may be fired.
 pub fn ready_bits(plan: &[u8], c: Counts, ledger: &[u16]) -> u32
-    requires { ⌜ Accepts (now plan) c × Roomy c (now ledger) ⌝ }
+    requires { ⌜ Lent (now plan) c (now ledger) ⌝ }
     ensures { λ r. ⌜ r ≡ ready (planOf (now (plan .entry)) c) (ledgerOf c (now (ledger .entry))) ⌝ }
 {
     let open = opens::open_scopes(plan, c, ledger);

@@ -1,7 +1,6 @@
 // The manager's calls. Each is given the plan's bytes and the lent ledger; none has a `requires`. An answer is the result with its figures
 // or a refusal with its number, and a refused call changes no word.
 mod bits;
-pub mod opening;
 mod verify;
 
 use ledger::layout;
@@ -29,7 +28,7 @@ pub fn begin(plan: &[u8], ledger: &mut [u16]) -> BeginAnswer
     match answer {
         PlanAnswer::Refused(n) => BeginAnswer::Refused(n),
         PlanAnswer::Accepted(c) => {
-            opening::begin_all(plan, c, &mut ledger[..]);
+            opening::begin::begin_all(plan, c, &mut ledger[..]);
             BeginAnswer::Begun
         }
     }

@@ -17,7 +17,7 @@ use Rattle.rules.specs.Plan.{Plan, transition}
 use Rattle.rules.specs.Acceptance.{repeatsEvent}
 use Rattle.rules.proofs.Tests.{look}
 use Rattle.rules.proofs.Folds.{some-none}
-use Rattle.plan.specs.Chain.{lastBelow, has, Chained, Heads, cell}
+use Rattle.plan.specs.Chain.{lastBelow, has, Chained, ChainOf, Heads, cell}
 
 pub last-most : (n : ℕ) (f : ℕ → Bool) → lastBelow n f ≤ n
 unfolding lastBelow
@@ -77,16 +77,20 @@ module _ (p : Plan) where
   unfolding cell
   cell-at x s e h k = rw (h, k)
 
-  other-cell : (x y : ℕ) → has (cell p) (cell p x) y ≡ false → shares x y ≡ false
-  unfolding shares has cell
-  other-cell x y h =
+  -- a key that source and event give
+  pub other-key : (key : ℕ → ℕ)
+      → ((x y : ℕ) → transition p y .source ≡ transition p x .source → transition p y .event ≡ transition p x .event → key y ≡ key x)
+      → (x y : ℕ) → (key y ≡ key x → ⊥) → shares x y ≡ false
+  other-key key f x y h =
       ⊎-elim
       (λ (a : eqb (transition p y .source) (transition p x .source) ≡ true).
-      other-event x y
-      (λ (e : transition p y .event ≡ transition p x .event).
-      eqb-false (cell p y) (cell p x) h (rw (eqb-true (transition p y .source) (transition p x .source) a, e))))
+      other-event x y (λ (e : transition p y .event ≡ transition p x .event). h (f x y (eqb-true _ _ a) e)))
       (λ (a : eqb (transition p y .source) (transition p x .source) ≡ false). other-source x y (eqb-false _ _ a))
       (look (eqb (transition p y .source) (transition p x .source)))
+
+  other-cell : (x y : ℕ) → has (cell p) (cell p x) y ≡ false → shares x y ≡ false
+  unfolding has cell
+  other-cell x y h = other-key (cell p) (λ a b s e. rw (s, e)) x y (eqb-false (cell p y) (cell p x) h)
 
   -- a walk along the chain of x: what it left behind, from y on, does not share source and event with x
   pub record Walk (x y : ℕ) : Type 0 where
@@ -104,8 +108,8 @@ module _ (p : Plan) where
         same = λ z e. unfold has in eqb-true _ _ (last-passes m (has (cell p) (cell p x)) z e);
       }
 
-  pub walk-start : (x y : ℕ) → y ≡ lastBelow x (has (cell p) (cell p x)) → Walk x y
-  walk-start x y e = rw e (walk-at x x (omega arith) (λ z a b. absurd (omega arith)))
+  pub walk-start : (x y : ℕ) (next : List ℕ) → ChainOf (cell p) x y next → Walk x y
+  walk-start x y next c = rw (c .start) (walk-at x x (omega arith) (λ z a b. absurd (omega arith)))
 
   pub walk-end : (x y : ℕ) → y ≡ 0 → Walk x y → repeatsEvent p x ≡ false
   walk-end x y e w = repeats-some x ∙ some-none x (shares x) (λ k lt. w .behind k (omega arith) lt)
@@ -137,8 +141,9 @@ module _ (p : Plan) where
 
 -- the chains grow by one number
 module _ (key : ℕ → ℕ) (n : ℕ) where
-  pub head-from : (x k : ℕ) (head next : List ℕ) → Heads key n x head next → k < n → k ≡ key x → getD head k 0 ≡ lastBelow x (has key (key x))
-  head-from x k head next h l e = h .last k l ∙ ap (λ (s : ℕ). lastBelow x (has key s)) e
+  pub head-from : (x k : ℕ) (head next : List ℕ) → Heads key n x head next → k < n → k ≡ key x → ChainOf key x (getD head k 0) next
+  head-from x k head next h l e =
+      record { start = h .last k l ∙ ap (λ (s : ℕ). lastBelow x (has key s)) e; chained = h .chained }
 
   pub head-most : (x k : ℕ) (head next : List ℕ) → Heads key n x head next → k < n → getD head k 0 ≤ x
   head-most x k head next h l = rw (h .last k l) (last-most x (has key k))
@@ -150,6 +155,7 @@ module _ (key : ℕ → ℕ) (n : ℕ) where
       (record {
         heads = length-replicate {A = ℕ} n 0;
         nexts = length-replicate {A = ℕ} 256 0;
+        keys = λ y l. absurd (not-suc-le-zero l);
         last = λ s l. getD-replicate n s 0 0 l;
         chained = λ y l. absurd (not-suc-le-zero l);
       })
@@ -164,6 +170,8 @@ module _ (key : ℕ → ℕ) (n : ℕ) where
       record {
         heads = length-set head k (x + 1) ∙ h .heads;
         nexts = length-set next x (getD head k 0) ∙ h .nexts;
+        keys = λ y l.
+            ⊎-elim (λ (w : y ≡ x). rw (w, ← e) lk) (λ (v : y < x). h .keys y v) (eq-or-lt-of-le (let m : y ≤ x = omega arith in m));
         last = λ s l. rw (add-one x) (lasts s l (eqb (key x) s) refl);
         chained = chain;
       }

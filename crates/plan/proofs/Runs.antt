@@ -22,9 +22,9 @@ one-more : (c : Counts) (kind : ℕ) → oneMore c kind ≡ moreOf c kind 1
 unfolding oneMore moreOf
 one-more c kind = refl
 
-some-more : (c : Counts) (kind n : ℕ) → oneMore (moreOf c kind n) kind ≡ moreOf c kind (n + 1)
+more-by-one : (c : Counts) (kind n : ℕ) → oneMore (moreOf c kind n) kind ≡ moreOf c kind (n + 1)
 unfolding oneMore moreOf
-some-more c kind n = rw (add (c .tracks) (eqb kind 1), add (c .states) (eqb kind 2), add (c .transitions) (eqb kind 3))
+more-by-one c kind n = rw (add (c .tracks) (eqb kind 1), add (c .states) (eqb kind 2), add (c .transitions) (eqb kind 3))
   where
     add : (a : ℕ) (b : Bool) → a + cond b n 0 + cond b 1 0 ≡ a + cond b (n + 1) 0
     add a true = omega arith
@@ -39,9 +39,9 @@ count-more c n kind r =
 pub run-place : (size at n here : ℕ) → here ≡ at + size * (n + 1) → here + size ≡ at + size * (n + 1 + 1)
 run-place size at n here e = let q = mul-suc size (n + 1) in omega arith
 
-pub most-least : (kind : ℕ) → (lengthOf kind ≡ 0 → ⊥) → mostOf kind ≤ 256
+pub most-bound : (kind : ℕ) → (lengthOf kind ≡ 0 → ⊥) → mostOf kind ≤ 256
 unfolding mostOf
-most-least = by-kind (λ k. mostOf k ≤ 256) (omega arith) (omega arith) (omega arith) (omega arith)
+most-bound = by-kind (λ k. mostOf k ≤ 256) (omega arith) (omega arith) (omega arith) (omega arith)
 
 module _ (bs : List ℕ) where
   -- the loop that counts a run
@@ -76,7 +76,7 @@ module _ (bs : List ℕ) where
       let j = like-passes (at + size * (n + 1)) size kind (moreOf c kind (n + 1)) w es l e (omega arith) in
       let x =
       next bs (at + size * (n + 1)) kind (moreOf c kind (n + 1)) kind size (moreOf c kind (n + 1 + 1)) j (ih .stands) (sym (w .sort)) e es
-      (sym (some-more c kind (n + 1))) in
+      (sym (more-by-one c kind (n + 1))) in
       let p : at + size * (n + 1) + size ≡ at + size * (n + 1 + 1) = run-place size at n (at + size * (n + 1)) refl in
       let f = ih .further in
       record { stands = rw p at (x .stands); rest = ih .rest ∙ (rw p at (x .rest)); further = omega arith }
@@ -100,7 +100,7 @@ module _ (bs : List ℕ) where
   module _ (at last : ℕ) (c : Counts) (kind most count : ℕ) (h : judgeRecord bs at last c ≡ 0) (ek : kind ≡ kindAt bs at)
       (em : most ≡ mostOf kind) (ec : count ≡ countOf c kind) where
     pub record Room : Type 0 where
-      pub some : count < most
+      pub free : count < most
       pub few : most ≤ 256
 
     pub room : Room
@@ -108,14 +108,14 @@ module _ (bs : List ℕ) where
         let q = sane bs at last c h in
         let g : kindAt bs at ≡ kind = sym ek in
         let m : countOf c kind < mostOf kind = rw g at (q .most) in
-        let f = most-least kind (rw g at (q .real)) in
-        record { some = omega arith; few = omega arith }
+        let f = most-bound kind (rw g at (q .real)) in
+        record { free = omega arith; few = omega arith }
 
     pub visit : (len n : ℕ) (more : Counts) → Stands bs at c → (kind ≡ endKind → ⊥) → Run bs (sizeAt bs at) (kindAt bs at) at n
         → n ≤ most - count - 1 → len ≡ lengthOf kind → more ≡ moreOf c kind (n + 1) → Next bs at last c kind (len * (n + 1)) more
     visit len n more s e r l el ee =
         let g : kindAt bs at ≡ kind = sym ek in
         let z : sizeAt bs at ≡ len = sane bs at last c h .size ∙ ap lengthOf g ∙ sym el in
-        let o = room .some in
+        let o = room .free in
         rw ee
         (run-next n at last c kind len h s ek e el (run-as (sizeAt bs at) (kindAt bs at) len kind at n z g r) (omega arith))

@@ -2,7 +2,7 @@
 use mathlib.Core.Path.{_≡_}
 use mathlib.Core.Bool.{Bool, cond}
 use mathlib.Core.List.{List}
-use Prim.Native.Nat.{ℕ, zero, suc, _+_, _*_, _%_, _<_}
+use Prim.Native.Nat.{ℕ, zero, suc, _+_, _*_, _/_, _%_, _<_}
 use lib.ListN.{length, getD}
 use lib.Dec.{eqb}
 use Rattle.rules.specs.Plan.{Plan, transition}
@@ -19,16 +19,22 @@ has key k x = eqb (key x) k
 unfoldable pub Chained : (ℕ → ℕ) → ℕ → List ℕ → Type 0
 Chained key x next = (y : ℕ) → y < x → getD next y 0 ≡ lastBelow y (has key (key y))
 
--- and from each key below n to the last number below x that has it
+-- the chain of x: it starts at the last number before x with the key of x
+pub record ChainOf (key : ℕ → ℕ) (x from : ℕ) (next : List ℕ) : Type 0 where
+  pub start : from ≡ lastBelow x (has key (key x))
+  pub chained : Chained key x next
+
+-- each number below x is chained, and from each key below n to the last number below x that has it
 pub record Heads (key : ℕ → ℕ) (n x : ℕ) (head next : List ℕ) : Type 0 where
   pub heads : length head ≡ n
   pub nexts : length next ≡ 256
+  pub keys : (y : ℕ) → y < x → key y < n
   pub last : (k : ℕ) → k < n → getD head k 0 ≡ lastBelow x (has key k)
   pub chained : Chained key x next
 
--- the keys of transitions: their source, and a number below 256 that source and event give
-unfoldable pub sourceOf : Plan → ℕ → ℕ
-sourceOf p x = transition p x .source
-
+-- the keys of transitions, given by source and event: a number below 256, and one below 2048 where there are 128 sources
 unfoldable pub cell : Plan → ℕ → ℕ
 cell p x = (2 * transition p x .source + transition p x .event) % 256
+
+unfoldable pub group : Plan → ℕ → ℕ
+group p x = 16 * transition p x .source + transition p x .event / 4096

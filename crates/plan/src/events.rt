@@ -1,5 +1,5 @@
 // Refusal 15: two transitions share source and event. Transitions are chained by a cell that source and event give, and each is compared with
-// the earlier ones of its cell. Where that takes too many comparisons, or two compare equal, the plan is judged by marks for the events.
+// the earlier ones of its cell. Where that takes too many comparisons, or two compare equal, the plan is judged by marks, in groups of a source and 4096 events.
 // In a chain a transition is told by one more than its number, and 0 is the end.
 use crate::fields::event_of;
 use crate::fields::source_of;
@@ -8,17 +8,17 @@ ghost use mathlib.Core.Path.{_≡_};
 ghost use mathlib.Core.Bool.{false};
 ghost use Prim.Native.Nat.{_<_};
 ghost use Rattle.rules.specs.Fold.{someBelow};
-ghost use Rattle.rules.specs.Plan.{planOf};
+ghost use Rattle.rules.specs.Plan.{planOf, transition};
 ghost use Rattle.rules.specs.Acceptance.{badTransition, repeatsEvent};
 ghost use Rattle.plan.specs.Holds.{Holds};
-ghost use Rattle.plan.specs.Chain.{sourceOf, cell, lastBelow, has, Chained, Heads};
+ghost use Rattle.plan.specs.Chain.{cell, group, ChainOf, Heads};
 
 // So many comparisons are quicker than marks.
 const MOST_COMPARISONS: usize = 512;
 
-// For each state the last transition that leaves it, and from each transition the one before it with the same source.
-struct SourceChains {
-    head: [u16; 128],
+// For each group the last transition of it, and from each transition the one before it of the same group.
+struct Groups {
+    head: [u16; 2048],
     next: [u16; 256],
 }
 
@@ -41,7 +41,7 @@ fn comparisons_left(
     next: &[u16; 256],
     allowed: usize,
 ) -> usize
-    requires { ⌜ Holds (now plan) c × (x < c .transitions) × (from ≡ lastBelow x (has (cell (planOf (now plan) c)) (cell (planOf (now plan) c) x))) × Chained (cell (planOf (now plan) c)) x (now next) ⌝ }
+    requires { ⌜ Holds (now plan) c × (x < c .transitions) × ChainOf (cell (planOf (now plan) c)) x from (now next) ⌝ }
     ensures { λ r. ⌜ ((r ≡ 0 → ⊥) → repeatsEvent (planOf (now (plan .entry)) c) x ≡ false) ⌝ }
 {
     let event = event_of(plan, c, x);
@@ -60,50 +60,59 @@ fn comparisons_left(
     left
 }
 
-// The transitions chained by their source. Every source is a state, as 13 has it.
-fn source_chains(plan: &[u8], c: Counts) -> SourceChains
+fn group_of(plan: &[u8], c: Counts, x: usize) -> usize
+    requires { ⌜ Holds (now plan) c × (x < c .transitions) × (transition (planOf (now plan) c) x .source < c .states) ⌝ }
+    ensures { λ r. ⌜ (r ≡ group (planOf (now (plan .entry)) c) x) × (r < 2048) ⌝ }
+{
+    let source = source_of(plan, c, x) as usize;
+    let event = event_of(plan, c, x) as usize;
+    16 * source + event / 4096
+}
+
+// The transitions chained by their group. Every source is a state, as 13 has it.
+fn in_groups(plan: &[u8], c: Counts) -> Groups
     requires { ⌜ Holds (now plan) c × (someBelow (c .transitions) (badTransition (planOf (now plan) c)) ≡ false) ⌝ }
-    ensures { λ r. ⌜ Heads (sourceOf (planOf (now (plan .entry)) c)) 128 (c .transitions) (r .head) (r .next) ⌝ }
+    ensures { λ r. ⌜ Heads (group (planOf (now (plan .entry)) c)) 2048 (c .transitions) (r .head) (r .next) ⌝ }
 {
     let transitions = c.transitions;
-    let mut head: [u16; 128] = [0; 128];
+    let mut head: [u16; 2048] = [0; 2048];
     let mut next: [u16; 256] = [0; 256];
     let mut x: usize = 0;
     while x < transitions {
-        let source = source_of(plan, c, x) as usize;
-        next[x] = head[source];
-        head[source] = (x + 1) as u16;
+        let g = group_of(plan, c, x);
+        next[x] = head[g];
+        head[g] = (x + 1) as u16;
         x += 1;
     }
-    SourceChains {
+    Groups {
         head: head,
         next: next,
     }
 }
 
-// Source by source, an event is marked with one more than the source's number.
+// Group by group, an event's place in its group is marked with one more than the group's number.
 fn some_marked_event(plan: &[u8], c: Counts) -> bool
     requires { ⌜ Holds (now plan) c × (someBelow (c .transitions) (badTransition (planOf (now plan) c)) ≡ false) ⌝ }
     ensures { λ r. ⌜ r ≡ someBelow (c .transitions) (repeatsEvent (planOf (now (plan .entry)) c)) ⌝ }
 {
-    let chains = source_chains(plan, c);
-    let head = chains.head;
-    let next = chains.next;
-    let states = c.states;
-    let mut marks: [u8; 65536] = [0; 65536];
-    let mut s: usize = 0;
-    while s < states {
-        let mark = (s + 1) as u8;
-        let mut y = head[s] as usize;
+    let groups = in_groups(plan, c);
+    let head = groups.head;
+    let next = groups.next;
+    let mut marks: [u16; 4096] = [0; 4096];
+    let mut g: usize = 0;
+    while g < 2048 {
+        let mark = (g + 1) as u16;
+        let mut y = head[g] as usize;
         while y != 0 {
             let event = event_of(plan, c, y - 1) as usize;
-            if marks[event] == mark {
+            let place = event % 4096;
+            if marks[place] == mark {
                 return true;
             }
-            marks[event] = mark;
+            marks[place] = mark;
             y = next[y - 1] as usize;
         }
-        s += 1;
+        g += 1;
     }
     false
 }

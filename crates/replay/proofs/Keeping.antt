@@ -12,30 +12,31 @@ use Rattle.rules.specs.Ledger.{Ledger, ledgerAt, written}
 use Rattle.rules.specs.Opening.{begun}
 use Rattle.rules.specs.Call.{done, Outcome, Call, tooShort, next, callOutcome, beginOutcome}
 use Rattle.plan.proofs.FieldLaws.{track-count}
-use Rattle.lookup.specs.Going.{Accepts, Roomy, Checked}
+use Rattle.ledger.specs.Words.{Room}
+use Rattle.lookup.specs.Checked.{Accepts, Checked}
 use Rattle.restoration.proofs.SoundWords.{Holds, sound-holds, call-holds, begin-accepted, begin-holds}
 
 module _ (bs : List ℕ) (c : Counts) where
-  long-enough : (ws : List ℕ) → Roomy c ws → tooShort entryLimit (planOf bs c) ws ≡ false
+  long-enough : (ws : List ℕ) → Room ws (c .tracks) → tooShort entryLimit (planOf bs c) ws ≡ false
   unfolding tooShort
-  long-enough ws r = rw track-count (le-ltb (length ws) (wordCount entryLimit (c .tracks)) (r .room))
+  long-enough ws r = rw track-count (le-ltb (length ws) (wordCount entryLimit (c .tracks)) (r .words))
 
   -- checked words hold the ledger that they read as
-  pub checked-holds : (ws : List ℕ) (k : Checked bs c ws) → Holds entryLimit bs c (k .accepts .read) ws (ledgerAt entryLimit ws (trackCount (planOf bs c)))
-  checked-holds ws k = sound-holds entryLimit bs c (k .accepts .read) ws (long-enough ws (k .roomy)) (k .sound)
+  pub checked-holds : (ws : List ℕ) (k : Checked bs c ws) → Holds entryLimit bs c (k .lent .accepts .read) ws (ledgerAt entryLimit ws (trackCount (planOf bs c)))
+  checked-holds ws k = sound-holds entryLimit bs c (k .lent .accepts .read) ws (long-enough ws (k .lent .room)) (k .sound)
 
   holds-checked : (a : Accepts bs c) (ws : List ℕ) (l : Ledger) → Holds entryLimit bs c (a .read) ws l → Checked bs c ws
   holds-checked a ws l h =
       let n : wordCount entryLimit (trackCount (planOf bs c)) ≤ length ws = h .long in
-      record { accepts = a; roomy = record { few = a .holds .tracks; room = rw track-count at n }; sound = h .sound }
+      record { lent = record { accepts = a; room = record { few = a .holds .tracks; words = rw track-count at n } }; sound = h .sound }
 
   pub call-keeps : (ws : List ℕ) → Checked bs c ws → (d : Call) → Checked bs c (callOutcome entryLimit bs ws d .words)
   call-keeps ws k d =
       let l : Ledger = ledgerAt entryLimit ws (trackCount (planOf bs c)) in
-      holds-checked (k .accepts) (callOutcome entryLimit bs ws d .words) (next entryLimit (planOf bs c) l d)
-      (call-holds entryLimit bs c (k .accepts .read) ws l (checked-holds ws k) d)
+      holds-checked (k .lent .accepts) (callOutcome entryLimit bs ws d .words) (next entryLimit (planOf bs c) l d)
+      (call-holds entryLimit bs c (k .lent .accepts .read) ws l (checked-holds ws k) d)
 
-  module _ (a : Accepts bs c) (ws : List ℕ) (r : Roomy c ws) where
+  module _ (a : Accepts bs c) (ws : List ℕ) (r : Room ws (c .tracks)) where
     pub begun-outcome : beginOutcome entryLimit bs ws ≡ record { answer = done []; words = written entryLimit (trackCount (planOf bs c)) (begun (planOf bs c)) ws }
     begun-outcome = begin-accepted entryLimit bs c (a .read) ws (long-enough ws r)
 
@@ -49,5 +50,5 @@ module _ (bs : List ℕ) (c : Counts) where
     begin-keeps = holds-checked a (beginOutcome entryLimit bs ws .words) (begun (planOf bs c)) begin-holding
 
   -- the same of words that are begin's
-  pub begun-checked : (a : Accepts bs c) (ws ws′ : List ℕ) → Roomy c ws → ws′ ≡ written entryLimit (c .tracks) (begun (planOf bs c)) ws → Checked bs c ws′
+  pub begun-checked : (a : Accepts bs c) (ws ws′ : List ℕ) → Room ws (c .tracks) → ws′ ≡ written entryLimit (c .tracks) (begun (planOf bs c)) ws → Checked bs c ws′
   begun-checked a ws ws′ r e = subst (Checked bs c) (sym (e ∙ begin-words a ws r)) (begin-keeps a ws r)

@@ -13,7 +13,7 @@ use Rattle.rules.specs.Call.{Answer, refusal, done, Call, event, signal, fire, 
 use Rattle.rules.specs.Journal.{Entered}
 use Rattle.rules.specs.Transcript.{refusalLine, callLine, firingsOf, heldTotal, tallyLine}
 use Rattle.plan.proofs.FieldLaws.{track-count}
-use Rattle.lookup.specs.Going.{ledgerOf}
+use Rattle.lookup.specs.Checked.{ledgerOf}
 use Rattle.journal.specs.declared.tally.Tally.{Tally}
 use Rattle.journal.specs.declared.record.Record.{Record}
 use Rattle.journal.specs.declared.record.Record.the-variants.{Ended, Broken}

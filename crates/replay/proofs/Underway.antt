@@ -16,7 +16,7 @@ use Rattle.rules.specs.Journal.{Entered, ended, broken, fireLowest, called, ent
 use Rattle.rules.specs.Transcript.{refusalLine, tallyLine, heldTotal, firingsOf, lastLine, replay, mostBytes}
 use Rattle.rules.specs.Transcript as text
 use Rattle.plan.proofs.FieldLaws.{track-count}
-use Rattle.lookup.specs.Going.{Checked, ledgerOf}
+use Rattle.lookup.specs.Checked.{Checked, ledgerOf}
 use Rattle.journal.specs.Entered.{sizeOf}
 use Rattle.journal.specs.Replayed.{replayed, callOf}
 use Rattle.journal.specs.Writing.{lineRoom}

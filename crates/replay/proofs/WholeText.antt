@@ -19,7 +19,8 @@ use Rattle.rules.specs.Call.{beginOutcome}
 use Rattle.rules.specs.Transcript.{refusalLine, planLine, replay, mostBytes, ownWords, transcript}
 use Rattle.rules.proofs.Tests.{or-right}
 use Rattle.plan.proofs.Reader.{accepted-holds}
-use Rattle.lookup.specs.Going.{Accepts, Roomy}
+use Rattle.ledger.specs.Words.{Room}
+use Rattle.lookup.specs.Checked.{Accepts}
 use Rattle.journal.specs.Writing.{Lined, lineRoom, writtenAt}
 use Rattle.journal.proofs.Written.{wrote-then}
 use Rattle.replay.specs.declared.RunAnswer.the-variants.{Written, TooSmall, ShortLedger}
@@ -36,11 +37,11 @@ fewer-words n h = omega arith
 pub accepts : (bs : List ℕ) (c : Counts) → readPlan bs ≡ accepted c → Accepts bs c
 accepts bs c e = record { read = e; holds = accepted-holds bs c e }
 
-pub roomy : (bs : List ℕ) (c : Counts) → readPlan bs ≡ accepted c → (ws : List ℕ) → wordCount entryLimit (mostOf 1) ≤ length ws → Roomy c ws
+pub roomy : (bs : List ℕ) (c : Counts) → readPlan bs ≡ accepted c → (ws : List ℕ) → wordCount entryLimit (mostOf 1) ≤ length ws → Room ws (c .tracks)
 roomy bs c e ws h =
     let n = accepted-holds bs c e .tracks in
     let m = fewer-words (c .tracks) n in
-    record { few = n; room = omega arith }
+    record { few = n; words = omega arith }
 
 own-long : wordCount entryLimit (mostOf 1) ≤ length ownWords
 unfolding ownWords
@@ -75,7 +76,7 @@ pub ran-refused : (out out′ : List ℕ) (end n : ℕ) (ws : List ℕ) → line
 ran-refused out out′ end n ws h l = let s = l .short in record { wrote = l .wrote; left = refl; short = omega arith }
 
 -- begin's words under either name
-pub ran-begun : (bs js : List ℕ) (c : Counts) (a : Accepts bs c) (ws ws′ : List ℕ) → Roomy c ws → ws′ ≡ written entryLimit (c .tracks) (begun (planOf bs c)) ws
+pub ran-begun : (bs js : List ℕ) (c : Counts) (a : Accepts bs c) (ws ws′ : List ℕ) → Room ws (c .tracks) → ws′ ≡ written entryLimit (c .tracks) (begun (planOf bs c)) ws
     → (mid : List ℕ) (start : ℕ) (vs out′ : List ℕ) (end : ℕ)
     → RanRecords bs js c ws′ mid start vs out′ end → RanRecords bs js c (beginOutcome entryLimit bs ws .words) mid start vs out′ end
 ran-begun bs js c a ws ws′ r e mid start vs out′ end g =

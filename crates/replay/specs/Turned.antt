@@ -10,7 +10,7 @@ use Rattle.rules.specs.Layout.{entryLimit}
 use Rattle.rules.specs.Call.{Call, callOutcome}
 use Rattle.rules.specs.Journal.{Entered, ended, broken, fireLowest, called}
 use Rattle.rules.specs.Transcript.{refusalLine, callLine, firingsOf, heldTotal, tallyLine}
-use Rattle.lookup.specs.Going.{Checked, ledgerOf}
+use Rattle.lookup.specs.Checked.{Checked, ledgerOf}
 use Rattle.journal.specs.Writing.{Wrote, Lined, lineRoom}
 use Rattle.replay.specs.declared.turns.Progress.{Progress}
 

@@ -12,7 +12,7 @@ ghost use mathlib.Core.Path.{_≡_};
 ghost use Prim.Native.Nat.{_+_, _*_, _≤_};
 ghost use lib.ListN.{length};
 ghost use Rattle.rules.specs.Transcript.{mostBytes};
-ghost use Rattle.lookup.specs.Going.{Accepts, Roomy};
+ghost use Rattle.lookup.specs.Checked.{Lent};
 ghost use Rattle.replay.specs.Runs.{textRoom, runOutcome, Ran, RanPlan};
 
 // The most bytes of a plan or a journal.
@@ -50,11 +50,11 @@ pub fn text_room(journal: &[u8]) -> usize
 
 // Begins, and writes the lines of an accepted plan. Answers how many bytes were written.
 fn run_plan(plan: &[u8], c: Counts, journal: &[u8], ledger: &mut [u16], output: &mut [u8]) -> usize
-    requires { ⌜ Accepts (now plan) c × Roomy c (now ledger) × (length (now journal) ≤ mostBytes) × (6 * length (now journal) + 72 ≤ length (now output)) ⌝ }
+    requires { ⌜ Lent (now plan) c (now ledger) × (length (now journal) ≤ mostBytes) × (6 * length (now journal) + 72 ≤ length (now output)) ⌝ }
     ensures { λ r. ⌜ RanPlan (now (plan .entry)) (now (journal .entry)) c (now (ledger .entry)) (now (output .entry)) (now (ledger .exit)) (now (output .exit)) r ⌝ }
 {
     let start = plan_line(&mut output[..], 0, c);
-    manager::opening::begin_all(plan, c, &mut ledger[..]);
+    opening::begin::begin_all(plan, c, &mut ledger[..]);
     run_records(plan, c, journal, &mut ledger[..], &mut output[..], start)
 }
 

@@ -13,7 +13,7 @@ ghost use mathlib.Core.Path.{_≡_};
 ghost use Prim.Native.Nat.{_+_, _*_, _≤_};
 ghost use lib.ListN.{length};
 ghost use Rattle.rules.specs.Transcript.{mostBytes};
-ghost use Rattle.lookup.specs.Going.{Checked};
+ghost use Rattle.lookup.specs.Checked.{Checked};
 ghost use Rattle.journal.specs.Entered.{entered};
 ghost use Rattle.journal.specs.Writing.{lineRoom};
 ghost use Rattle.replay.specs.Runs.{RanRecords};

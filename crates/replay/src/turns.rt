@@ -9,7 +9,7 @@ ghost use Prim.Native.Nat.{_<_};
 ghost use Rattle.rules.specs.Plan.{planOf};
 ghost use Rattle.rules.specs.Call.{event, signal, fire, nothing};
 ghost use Rattle.rules.specs.Journal.{fireLowestCall};
-ghost use Rattle.lookup.specs.Going.{ledgerOf};
+ghost use Rattle.lookup.specs.Checked.{ledgerOf};
 ghost use Rattle.journal.specs.Entered.{entered, sizeOf};
 ghost use Rattle.journal.specs.Replayed.{callOf};
 ghost use Rattle.replay.specs.Turned.{Ready, Turned};

@@ -23,7 +23,7 @@ use Rattle.plan.proofs.Hosting.{host-none}
 use Rattle.ledger.specs.Words.{trackOf}
 use Rattle.ledger.proofs.Branches.{and-stops, and-goes}
 use Rattle.ledger.proofs.ReadTracks.{mode-as, state-as, count-within}
-use Rattle.lookup.specs.Going.{Accepts, Roomy, ledgerOf}
+use Rattle.lookup.specs.Checked.{Lent, ledgerOf}
 use Rattle.lookup.proofs.Facts.{host-is}
 use Rattle.soundness.specs.declared.tracks.Test.{Test}
 use Rattle.soundness.specs.Asked.{ofEntries, Askable}
@@ -124,9 +124,9 @@ pub tracks-asked : (bs : List ℕ) (c : Counts) (f : ℕ → Bool) → everyBelo
 tracks-asked bs c f = ap (λ (n : ℕ). everyBelow n f) (sym (track-count bs c))
 
 -- a test of no entries needs no tidy words
-pub no-entries : (bs : List ℕ) (c : Counts) (ws : List ℕ) (test : Test) → Accepts bs c → Roomy c ws → ofEntries test ≡ false → Askable bs c ws test
-no-entries bs c ws test a r e = record { accepts = a; roomy = r; tidy = λ h. clash h e }
+pub no-entries : (bs : List ℕ) (c : Counts) (ws : List ℕ) (test : Test) → Lent bs c ws → ofEntries test ≡ false → Askable bs c ws test
+no-entries bs c ws test n e = record { lent = n; tidy = λ h. clash h e }
 
-pub with-entries : (bs : List ℕ) (c : Counts) (ws : List ℕ) (test : Test) → Accepts bs c → Roomy c ws → areTidy entryLimit ws (c .tracks) ≡ true
+pub with-entries : (bs : List ℕ) (c : Counts) (ws : List ℕ) (test : Test) → Lent bs c ws → areTidy entryLimit ws (c .tracks) ≡ true
     → Askable bs c ws test
-with-entries bs c ws test a r e = record { accepts = a; roomy = r; tidy = λ h. e }
+with-entries bs c ws test n e = record { lent = n; tidy = λ h. e }

@@ -13,11 +13,9 @@ use Rattle.rules.specs.Scope.{isOver}
 use Rattle.rules.specs.Soundness.{areTidy, isLive, isSound}
 use Rattle.plan.proofs.FieldLaws.{track-count}
 use Rattle.ledger.specs.Words.{Room}
-use Rattle.lookup.specs.Going.{Roomy, ledgerOf}
+use Rattle.lookup.specs.Checked.{ledgerOf}
 
 -- room for all tracks, as the layout's test asks for it
-pub in-all : (c : Counts) (ws : List ℕ) → Roomy c ws → Room ws (c .tracks)
-in-all c ws r = record { few = r .few; words = r .room }
 
 module _ (bs : List ℕ) (c : Counts) (ws : List ℕ) where
   abbrev said : ℕ → Bool

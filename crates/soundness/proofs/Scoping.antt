@@ -25,7 +25,7 @@ use Rattle.rules.proofs.Acceptance.{Accepted}
 use Rattle.rules.proofs.Scopes.{every-in-at, every-in-of, some-in-at, some-in-find, open-at, open-find}
 use Rattle.plan.proofs.FieldLaws.{track-count, state-count}
 use Rattle.plan.proofs.Hosting.{host-none}
-use Rattle.lookup.specs.Going.{Accepts}
+use Rattle.lookup.specs.Checked.{Accepts}
 use Rattle.plan.specs.Passes.{slots, stateSlots}
 use Rattle.lookup.specs.Marks.{Marks, setAt, markTurn, marksFrom, openMarks, scopeMarks}
 use Rattle.lookup.proofs.Facts.{plan-facts, few-tracks, host-is}

@@ -11,7 +11,7 @@ use Rattle.rules.specs.Layout.{entryLimit}
 use Rattle.rules.specs.Plan.{Plan, host, isRoot, isStateOf, isFinal}
 use Rattle.rules.specs.Ledger.{Ledger, isAwake, isForward, isUndoing, isEmpty}
 use Rattle.rules.specs.Soundness.{areTidy, everyHeld, goodDeviation, isHostedWell}
-use Rattle.lookup.specs.Going.{Accepts, Roomy}
+use Rattle.lookup.specs.Checked.{Lent}
 use Rattle.lookup.specs.Marks.{markTurn, marksFrom}
 use Rattle.soundness.specs.declared.tracks.Test.{Test}
 use Rattle.soundness.specs.declared.tracks.Test.the-variants.{RootAwake, StateOwn, CodesReal, DeviationsGood, HostedWell, RootDone, Awake, Done, Emptied}
@@ -30,8 +30,7 @@ ofEntries Emptied = false
 
 -- What a test needs: a plan that is accepted and a ledger that has room; to look at entries, counts within the limit too.
 pub record Askable (bs : List ℕ) (c : Counts) (ws : List ℕ) (test : Test) : Type 0 where
-  pub accepts : Accepts bs c
-  pub roomy : Roomy c ws
+  pub lent : Lent bs c ws
   pub tidy : ofEntries test ≡ true → areTidy entryLimit ws (c .tracks) ≡ true
 
 module _ (p : Plan) (l : Ledger) where

@@ -14,8 +14,8 @@ ghost use Rattle.rules.specs.Plan.{planOf, isFinal};
 ghost use Rattle.rules.specs.Ledger.{heldAt};
 ghost use Rattle.rules.specs.Soundness.{areTidy, everyHeld, goodDeviation};
 ghost use Rattle.plan.specs.Holds.{Holds};
-ghost use Rattle.ledger.specs.Words.{Within};
-ghost use Rattle.lookup.specs.Going.{Accepts, Roomy, ledgerOf};
+ghost use Rattle.ledger.specs.Words.{Within, Room};
+ghost use Rattle.lookup.specs.Checked.{Accepts, ledgerOf, Lent};
 
 // Whether a number is a final state, whatever the number.
 pub fn is_final(plan: &[u8], c: Counts, s: usize) -> bool
@@ -45,7 +45,7 @@ fn real_codes(ledger: &[u16], t: usize, count: usize) -> bool
 
 // Whether the codes that a track holds are not 0.
 pub fn codes_real_of(c: Counts, ledger: &[u16], t: usize) -> bool
-    requires { ⌜ Roomy c (now ledger) × (t < c .tracks) × (areTidy entryLimit (now ledger) (c .tracks) ≡ true) ⌝ }
+    requires { ⌜ Room (now ledger) (c .tracks) × (t < c .tracks) × (areTidy entryLimit (now ledger) (c .tracks) ≡ true) ⌝ }
     ensures { λ r. ⌜ r ≡ everyHeld (λ e. not (eqb (e .code) 0)) (ledgerOf c (now (ledger .entry)) t .held) ⌝ }
 {
     let k = reading::track(c, ledger, t);
@@ -71,7 +71,7 @@ fn good_deviation(plan: &[u8], c: Counts, ledger: &[u16], t: usize, deviation: u
 
 // Whether the deviations of a track's first entries, so many of them, are good.
 fn good_deviations(plan: &[u8], c: Counts, ledger: &[u16], t: usize, count: usize) -> bool
-    requires { ⌜ Accepts (now plan) c × Roomy c (now ledger) × (t < c .tracks) × (count ≤ entryLimit) ⌝ }
+    requires { ⌜ Lent (now plan) c (now ledger) × (t < c .tracks) × (count ≤ entryLimit) ⌝ }
     ensures { λ r. ⌜ r ≡ everyHeld (λ e. goodDeviation (planOf (now (plan .entry)) c) (ledgerOf c (now (ledger .entry))) t (e .deviation)) (heldAt (now (ledger .entry)) (entriesPlace entryLimit t) count) ⌝ }
 {
     let mut k: usize = 0;
@@ -86,7 +86,7 @@ fn good_deviations(plan: &[u8], c: Counts, ledger: &[u16], t: usize, count: usiz
 
 // Whether the deviations that a track holds are good.
 pub fn deviations_good_of(plan: &[u8], c: Counts, ledger: &[u16], t: usize) -> bool
-    requires { ⌜ Accepts (now plan) c × Roomy c (now ledger) × (t < c .tracks) × (areTidy entryLimit (now ledger) (c .tracks) ≡ true) ⌝ }
+    requires { ⌜ Lent (now plan) c (now ledger) × (t < c .tracks) × (areTidy entryLimit (now ledger) (c .tracks) ≡ true) ⌝ }
     ensures { λ r. ⌜ r ≡ everyHeld (λ e. goodDeviation (planOf (now (plan .entry)) c) (ledgerOf c (now (ledger .entry))) t (e .deviation)) (ledgerOf c (now (ledger .entry)) t .held) ⌝ }
 {
     let k = reading::track(c, ledger, t);

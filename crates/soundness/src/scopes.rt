@@ -7,7 +7,7 @@ ghost use mathlib.Core.Path.{_≡_};
 ghost use Prim.Native.Nat.{_<_};
 ghost use Rattle.rules.specs.Fold.{everyBelow};
 ghost use Rattle.rules.specs.Plan.{planOf};
-ghost use Rattle.lookup.specs.Going.{Accepts, Roomy, ledgerOf};
+ghost use Rattle.lookup.specs.Checked.{ledgerOf, Lent};
 ghost use Rattle.soundness.specs.Asked.{scopeIs};
 
 // Whether the scope that a track is in, if the track is hosted and awake, is marked, or is not, as wanted.
@@ -19,7 +19,7 @@ fn scope_is(
     wanted: bool,
     t: usize,
 ) -> bool
-    requires { ⌜ Accepts (now plan) c × Roomy c (now ledger) × (t < c .tracks) ⌝ }
+    requires { ⌜ Lent (now plan) c (now ledger) × (t < c .tracks) ⌝ }
     ensures { λ r. ⌜ r ≡ scopeIs (planOf (now (plan .entry)) c) (ledgerOf c (now (ledger .entry))) scopes wanted t ⌝ }
 {
     if !reading::is_awake(c, ledger, t) {
@@ -38,7 +38,7 @@ fn scope_is(
 
 // Whether every open scope is marked, or none is, as wanted.
 pub fn every_open(plan: &[u8], c: Counts, ledger: &[u16], scopes: [bool; 128], wanted: bool) -> bool
-    requires { ⌜ Accepts (now plan) c × Roomy c (now ledger) ⌝ }
+    requires { ⌜ Lent (now plan) c (now ledger) ⌝ }
     ensures { λ r. ⌜ r ≡ everyBelow (c .tracks) (scopeIs (planOf (now (plan .entry)) c) (ledgerOf c (now (ledger .entry))) scopes wanted) ⌝ }
 {
     let tracks = c.tracks;

@@ -8,11 +8,11 @@ ghost use mathlib.Core.Bool.{true};
 ghost use Rattle.rules.specs.Layout.{entryLimit};
 ghost use Rattle.rules.specs.Plan.{planOf};
 ghost use Rattle.rules.specs.Soundness.{areTidy, isLive, isSound};
-ghost use Rattle.lookup.specs.Going.{Accepts, Roomy, ledgerOf};
+ghost use Rattle.lookup.specs.Checked.{ledgerOf, Lent};
 
 // Whether all clauses of a ledger that is not over hold.
 fn is_live(plan: &[u8], c: Counts, ledger: &[u16]) -> bool
-    requires { ⌜ Accepts (now plan) c × Roomy c (now ledger) × (areTidy entryLimit (now ledger) (c .tracks) ≡ true) ⌝ }
+    requires { ⌜ Lent (now plan) c (now ledger) × (areTidy entryLimit (now ledger) (c .tracks) ≡ true) ⌝ }
     ensures { λ r. ⌜ r ≡ isLive (planOf (now (plan .entry)) c) (ledgerOf c (now (ledger .entry))) ⌝ }
 {
     if !clauses::roots_awake(plan, c, ledger) {
@@ -44,7 +44,7 @@ fn is_live(plan: &[u8], c: Counts, ledger: &[u16]) -> bool
 
 // Whether a ledger that has room is sound.
 pub fn is_sound(plan: &[u8], c: Counts, ledger: &[u16]) -> bool
-    requires { ⌜ Accepts (now plan) c × Roomy c (now ledger) ⌝ }
+    requires { ⌜ Lent (now plan) c (now ledger) ⌝ }
     ensures { λ r. ⌜ r ≡ isSound entryLimit (planOf (now (plan .entry)) c) (now (ledger .entry)) ⌝ }
 {
     if !tidy::are_tidy(ledger, c.tracks) {

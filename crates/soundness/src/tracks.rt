@@ -15,7 +15,8 @@ ghost use Rattle.rules.specs.Fold.{everyBelow};
 ghost use Rattle.rules.specs.Plan.{planOf, owner};
 ghost use Rattle.rules.specs.Ledger.{isUndoing, isEmpty};
 ghost use Rattle.rules.specs.Soundness.{sameMode};
-ghost use Rattle.lookup.specs.Going.{Accepts, Roomy, ledgerOf};
+ghost use Rattle.ledger.specs.Words.{Room};
+ghost use Rattle.lookup.specs.Checked.{ledgerOf, Lent};
 ghost use Rattle.soundness.specs.Asked.{Askable, passes, failMark, failMarks};
 
 // The tests; `passes` says which function answers each.
@@ -33,7 +34,7 @@ pub enum Test {
 
 // Whether a track, if it is a root, is awake.
 fn root_awake(plan: &[u8], c: Counts, ledger: &[u16], t: usize) -> bool
-    requires { ⌜ Accepts (now plan) c × Roomy c (now ledger) × (t < c .tracks) ⌝ }
+    requires { ⌜ Lent (now plan) c (now ledger) × (t < c .tracks) ⌝ }
     ensures { λ r. ⌜ r ≡ passes (planOf (now (plan .entry)) c) (ledgerOf c (now (ledger .entry))) Test.RootAwake t ⌝ }
 {
     if !fields::is_root(plan, c, t) {
@@ -44,7 +45,7 @@ fn root_awake(plan: &[u8], c: Counts, ledger: &[u16], t: usize) -> bool
 
 // Whether a track, if it is awake, is in a state of its own.
 fn state_own(plan: &[u8], c: Counts, ledger: &[u16], t: usize) -> bool
-    requires { ⌜ Accepts (now plan) c × Roomy c (now ledger) × (t < c .tracks) ⌝ }
+    requires { ⌜ Lent (now plan) c (now ledger) × (t < c .tracks) ⌝ }
     ensures { λ r. ⌜ r ≡ passes (planOf (now (plan .entry)) c) (ledgerOf c (now (ledger .entry))) Test.StateOwn t ⌝ }
 {
     let k = reading::track(c, ledger, t);
@@ -57,7 +58,7 @@ fn state_own(plan: &[u8], c: Counts, ledger: &[u16], t: usize) -> bool
 
 // Whether the track of the state `h` is in it, and in the given mode.
 fn host_is(plan: &[u8], c: Counts, ledger: &[u16], h: usize, m: Mode) -> bool
-    requires { ⌜ Accepts (now plan) c × Roomy c (now ledger) × (h < c .states) ⌝ }
+    requires { ⌜ Lent (now plan) c (now ledger) × (h < c .states) ⌝ }
     ensures { λ r. ⌜ r ≡ (eqb (ledgerOf c (now (ledger .entry)) (owner (planOf (now (plan .entry)) c) h) .state) h && sameMode (ledgerOf c (now (ledger .entry)) (owner (planOf (now (plan .entry)) c) h) .mode) m) ⌝ }
 {
     let o = layout::wide(fields::track_of(plan, c, h));
@@ -71,7 +72,7 @@ fn host_is(plan: &[u8], c: Counts, ledger: &[u16], h: usize, m: Mode) -> bool
 
 // Whether a track, if it is hosted and awake, has its host awake in the hosting state and in the same mode.
 fn hosted_well(plan: &[u8], c: Counts, ledger: &[u16], t: usize) -> bool
-    requires { ⌜ Accepts (now plan) c × Roomy c (now ledger) × (t < c .tracks) ⌝ }
+    requires { ⌜ Lent (now plan) c (now ledger) × (t < c .tracks) ⌝ }
     ensures { λ r. ⌜ r ≡ passes (planOf (now (plan .entry)) c) (ledgerOf c (now (ledger .entry))) Test.HostedWell t ⌝ }
 {
     let h = fields::host_word(plan, c, t);
@@ -88,7 +89,7 @@ fn hosted_well(plan: &[u8], c: Counts, ledger: &[u16], t: usize) -> bool
 
 // Whether a track is forward in a final state.
 fn is_done(plan: &[u8], c: Counts, ledger: &[u16], t: usize) -> bool
-    requires { ⌜ Accepts (now plan) c × Roomy c (now ledger) × (t < c .tracks) ⌝ }
+    requires { ⌜ Lent (now plan) c (now ledger) × (t < c .tracks) ⌝ }
     ensures { λ r. ⌜ r ≡ passes (planOf (now (plan .entry)) c) (ledgerOf c (now (ledger .entry))) Test.Done t ⌝ }
 {
     let k = reading::track(c, ledger, t);
@@ -101,7 +102,7 @@ fn is_done(plan: &[u8], c: Counts, ledger: &[u16], t: usize) -> bool
 
 // Whether a track, if it is a root, is forward in a final state.
 fn root_done(plan: &[u8], c: Counts, ledger: &[u16], t: usize) -> bool
-    requires { ⌜ Accepts (now plan) c × Roomy c (now ledger) × (t < c .tracks) ⌝ }
+    requires { ⌜ Lent (now plan) c (now ledger) × (t < c .tracks) ⌝ }
     ensures { λ r. ⌜ r ≡ passes (planOf (now (plan .entry)) c) (ledgerOf c (now (ledger .entry))) Test.RootDone t ⌝ }
 {
     if !fields::is_root(plan, c, t) {
@@ -112,7 +113,7 @@ fn root_done(plan: &[u8], c: Counts, ledger: &[u16], t: usize) -> bool
 
 // Whether a track is undoing and holds nothing.
 fn is_emptied(c: Counts, ledger: &[u16], t: usize) -> bool
-    requires { ⌜ Roomy c (now ledger) × (t < c .tracks) ⌝ }
+    requires { ⌜ Room (now ledger) (c .tracks) × (t < c .tracks) ⌝ }
     ensures { λ r. ⌜ r ≡ (isUndoing (ledgerOf c (now (ledger .entry)) t .mode) && isEmpty (ledgerOf c (now (ledger .entry)) t .held)) ⌝ }
 {
     let k = reading::track(c, ledger, t);

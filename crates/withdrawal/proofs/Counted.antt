@@ -25,11 +25,10 @@ use Rattle.plan.specs.Passes.{slots}
 use Rattle.plan.proofs.FieldLaws.{track-count}
 use Rattle.ledger.specs.Words.{trackOf}
 use Rattle.ledger.proofs.ReadTracks.{mode-as, empty-as, held-as}
-use Rattle.lookup.specs.Going.{Accepts, hostTrack}
+use Rattle.lookup.specs.Checked.{Accepts, hostTrack}
 use Rattle.lookup.specs.Marks.{openMarks}
 use Rattle.lookup.proofs.Facts.{plan-facts, few-tracks, no-host-track, host-of-track, host-track-low}
-use Rattle.lookup.proofs.Marks.{length-open}
-use Rattle.lookup.proofs.Turns.{open-read}
+use Rattle.lookup.proofs.Marks.{length-open, open-scopes}
 use Rattle.withdrawal.specs.Scopes.{isBusy, busyBelow, Counted}
 
 -- Counts: none passes, and one that passes no longer.
@@ -134,7 +133,9 @@ module _ (bs : List ℕ) (c : Counts) (acc : Accepts bs c) (l : Ledger) (opens :
       record {
         opens-size = ap length e ∙ length-open p (plan-facts bs c acc) (few-tracks bs c acc) l (c .tracks);
         busy-size = length-replicate {A = ℕ} slots 0;
-        mark = λ u d. open-read bs c acc l opens u e (omega arith);
+        mark = λ u d.
+            ap (λ (z : List Bool). getD z u false) (e ∙ ap (openMarks p l) (sym q))
+            ∙ open-scopes p (plan-facts bs c acc) (few-tracks bs c acc) l u (omega arith);
         count = λ u d. getD-replicate slots u 0 0 (omega arith);
       }
 

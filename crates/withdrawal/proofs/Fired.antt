@@ -8,14 +8,14 @@ use Prim.Native.Nat.{ℕ, suc, _+_, _*_, _-_, _<_, _≤_}
 use native.Mathlib.Omega.{arith}
 use lib.Dec.{eqb, ltb}
 use lib.ListN.{length, getD}
-use borrow.Author.Tests.{eqb-true, eqb-false, eq-eqb, lt-ltb, le-ltb, not-true, not-false}
+use borrow.Author.Tests.{eqb-true, eqb-false, eq-eqb, le-ltb, not-true, not-false}
 use Rattle.rules.specs.declared.Counts.{Counts}
 use Rattle.rules.specs.declared.Track.{Track}
 use Rattle.rules.specs.Fold.{everyBelow, firstRefusal}
 use Rattle.rules.specs.Layout.{entryLimit, headWords, entryWidth, trackPlace, entriesPlace}
 use Rattle.rules.specs.Plan.{Plan, planOf, trackCount, host}
-use Rattle.rules.specs.Ledger.{Entry, Configuration, Ledger, isAwake, isUndoing, sleeping, entryAt, heldAt, configurationAt, ledgerAt, written}
-use Rattle.rules.specs.Scope.{isOver, hasOpenScope}
+use Rattle.rules.specs.Ledger.{Entry, Configuration, Ledger, isAwake, sleeping, entryAt, heldAt, configurationAt, ledgerAt, written}
+use Rattle.rules.specs.Scope.{isOver}
 use Rattle.rules.specs.Opening.{wakes, enter}
 use Rattle.rules.specs.Signal.{abandoned}
 use Rattle.rules.specs.Fire.{newest, older, mayFire, removed, deviatesTo, fired, afterFire}
@@ -28,18 +28,18 @@ use Rattle.rules.proofs.Soundness.{Live}
 use Rattle.rules.proofs.TrackWords.{length-heldAt}
 use Rattle.rules.proofs.Stored.{Storable, read-at, written-same}
 use Rattle.plan.proofs.FieldLaws.{track-count}
-use Rattle.ledger.specs.Words.{Within, trackOf, trackAt, entryPlace, withRemoved}
-use Rattle.ledger.proofs.ReadTracks.{empty-count, mode-as, count-as, empty-as, held-as}
-use Rattle.lookup.specs.Going.{Checked, ledgerOf}
-use Rattle.lookup.proofs.Facts.{plan-facts, live-of-going, in-room, track-read}
-use Rattle.withdrawal.specs.Orderly.{Orderly, withConfiguration}
-use Rattle.withdrawal.specs.Entering.{deviating}
+use Rattle.ledger.specs.Words.{Within, trackOf, trackAt, entryPlace, withRemoved, Tidy}
+use Rattle.ledger.proofs.ReadTracks.{empty-count, count-as}
+use Rattle.ledger.proofs.Words.{in-room}
+use Rattle.lookup.specs.Checked.{Checked, ledgerOf}
+use Rattle.lookup.specs.OneTrack.{withConfiguration}
+use Rattle.lookup.proofs.Facts.{plan-facts, live-of-going, track-read}
+use Rattle.lookup.proofs.OneTrackLaws.{Stores, stores-at, storable-of, holds, put-removed, read-back, orderly-after, then}
+use Rattle.opening.proofs.EnteringLaws.{entered-stores}
+use Rattle.withdrawal.specs.Deviating.{deviating}
 use Rattle.withdrawal.specs.Scopes.{Nested}
 use Rattle.withdrawal.proofs.Firing.{Fires, fire-parts, to-other, removed-other, woken-asleep}
 use Rattle.withdrawal.proofs.Nesting.{nested-fired}
-use Rattle.withdrawal.proofs.Standing.{holds, put-removed, read-back, orderly-after, then}
-use Rattle.withdrawal.proofs.Storing.{Stores, stores-at, storable-of}
-use Rattle.withdrawal.proofs.Entering.{entered-stores}
 use Rattle.withdrawal.proofs.Outcomes.{orderly, over-as, refused-call, done-call, going}
 
 -- the newest entry stands last in the track's words
@@ -59,26 +59,6 @@ module _ (bs : List ℕ) (c : Counts) (ws : List ℕ) (t : ℕ) where
   unfolding mayFire
   may-beyond h =
       let q : ltb t (trackCount (planOf bs c)) ≡ false = rw (track-count bs c) (le-ltb t (c .tracks) h) in rw q
-
-  module _ (b : t < c .tracks) {k : Track} (e : k ≡ trackOf (ledgerOf c ws t)) {r : Bool} (f : r ≡ isUndoing (k .mode)) where
-    there : ltb t (trackCount (planOf bs c)) ≡ true
-    there = rw (track-count bs c) (lt-ltb t (c .tracks) b)
-
-    as-read : isUndoing (ledgerOf c ws t .mode) ≡ r
-    as-read = ap isUndoing (sym (mode-as (ledgerOf c ws t) e)) ∙ sym f
-
-    pub may-ahead : not r ≡ true → false ≡ mayFire (planOf bs c) (ledgerOf c ws) t
-    unfolding mayFire
-    may-ahead n = let q = as-read ∙ not-true r n in rw (there, q)
-
-    module _ (n : not r ≡ false) where
-      pub may-empty : k .count ≡ 0 → false ≡ mayFire (planOf bs c) (ledgerOf c ws) t
-      unfolding mayFire
-      may-empty z = let q = as-read ∙ not-false r n in rw (there, q, empty-as (ledgerOf c ws t) e z)
-
-      pub may-open : (k .count ≡ 0 → ⊥) → {q : Bool} → q ≡ hasOpenScope (planOf bs c) (ledgerOf c ws) t → not q ≡ mayFire (planOf bs c) (ledgerOf c ws) t
-      unfolding mayFire
-      may-open z o = let q = as-read ∙ not-false r n in rw (there, q, held-as (ledgerOf c ws t) e z, o)
 
 -- one entry less
 lessOne : Configuration → Configuration
@@ -165,12 +145,12 @@ module _ {bs : List ℕ} {c : Counts} {ws : List ℕ} {t : ℕ} (a : Fireable bs
   live = live-of-going bs c ws (going bs c ws (a .checked) (a .not-over))
 
   ok : Accepted p
-  ok = plan-facts bs c (a .checked .accepts)
+  ok = plan-facts bs c (a .checked .lent .accepts)
 
   parts : Fires p l t
   parts = fire-parts p l t (a .may)
 
-  in-order : Orderly c ws
+  in-order : Tidy ws (c .tracks)
   in-order = orderly bs c ws (a .checked)
 
   pub low : t < c .tracks
@@ -206,7 +186,7 @@ module _ {bs : List ℕ} {c : Counts} {ws : List ℕ} {t : ℕ} (a : Fireable bs
       (omega arith, omega arith)
 
   pub within-words : Within ws t
-  within-words = in-room c ws t (a .checked .roomy) low
+  within-words = in-room ws (c .tracks) t (a .checked .lent .room) low
 
   pub removable : (0 < trackAt ws t .count) × (trackAt ws t .count ≤ entryLimit)
   removable = counted (track-read c ws t low)
@@ -227,7 +207,7 @@ module _ {bs : List ℕ} {c : Counts} {ws : List ℕ} {t : ℕ} (a : Fireable bs
     stored : Storable entryLimit (c .tracks) (removed p l t)
     stored = storable-removed p l t entryLimit (c .tracks) low (holds c ws in-order)
 
-    pub removed-orderly : Orderly c vs
+    pub removed-orderly : Tidy vs (c .tracks)
     removed-orderly = orderly-after c ws in-order (removed p l t) stored d
 
     same-to : deviating t dev ≡ deviatesTo p l t
@@ -250,7 +230,7 @@ module _ {bs : List ℕ} {c : Counts} {ws : List ℕ} {t : ℕ} (a : Fireable bs
       stored-fired : Storable entryLimit (c .tracks) (fired p l t)
       stored-fired = storable-fired p l t ok entryLimit (c .tracks) few low (holds c ws in-order)
 
-      pub fired-orderly : Orderly c us
+      pub fired-orderly : Tidy us (c .tracks)
       fired-orderly = orderly-after c ws in-order (fired p l t) stored-fired fired-words
 
       pub fired-nested : Nested p (ledgerOf c us)

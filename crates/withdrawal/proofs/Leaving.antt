@@ -17,17 +17,18 @@ use Rattle.rules.specs.Signal.{abandoned}
 use Rattle.rules.proofs.Passes.{upTo}
 use Rattle.plan.proofs.FieldLaws.{track-count}
 use Rattle.ledger.specs.Words.{withAsleep}
-use Rattle.lookup.specs.Going.{Accepts, ledgerOf, hostTrack}
+use Rattle.lookup.specs.Checked.{Accepts, ledgerOf, hostTrack}
 use Rattle.lookup.proofs.Facts.{plan-facts, few-tracks, no-host-track, host-of-track}
-use Rattle.withdrawal.specs.Orderly.{Orderly, withConfiguration}
+use Rattle.ledger.specs.Words.{Tidy}
+use Rattle.lookup.specs.OneTrack.{withConfiguration}
 use Rattle.withdrawal.specs.declared.abandoning.Scopes.{Scopes}
 use Rattle.withdrawal.specs.Scopes.{Nested, Counted, keptBy, keeping, Due, Climbed, Cleared, LeftOpen}
-use Rattle.withdrawal.proofs.Standing.{holds, kept-track, put-asleep, Fitting, pass-start, pass-orderly, pass-length, pass-more, pass-end}
-use Rattle.withdrawal.proofs.Storing.{Stores, stores-sleeping, stores-at}
+use Rattle.lookup.proofs.OneTrackLaws.{holds, kept-track, put-asleep, Fitting, pass-start, pass-orderly, pass-length, pass-more, pass-end}
+use Rattle.lookup.proofs.OneTrackLaws.{Stores, stores-sleeping, stores-at}
 use Rattle.withdrawal.proofs.Climbing.{keep-root, keep-open, keep-shut, keep-case, keep-sleeping, Step, step-busy, step-root, some-busy, step-more, step-due, step-on, cleared-start, cleared-shut, cleared-busy, cleared-more, cleared-end}
 
 -- a climb: still busy, a root, others busy, and on to the host's track
-module _ (bs : List ℕ) (c : Counts) (acc : Accepts bs c) (ws : List ℕ) (o : Orderly c ws) (x : Scopes) (t : ℕ)
+module _ (bs : List ℕ) (c : Counts) (acc : Accepts bs c) (ws : List ℕ) (o : Tidy ws (c .tracks)) (x : Scopes) (t : ℕ)
     (due : Due (planOf bs c) (ledgerOf c ws) x t) where
   abbrev p : Plan
   p = planOf bs c
@@ -80,7 +81,7 @@ module _ (bs : List ℕ) (c : Counts) (acc : Accepts bs c) (ws : List ℕ) (o : 
 
 -- the visits, in track order
 module _ (bs : List ℕ) (c : Counts) (acc : Accepts bs c) (ws : List ℕ) where
-  pub visit-start : Orderly c ws → Nested (planOf bs c) (ledgerOf c ws) → (x : Scopes)
+  pub visit-start : Tidy ws (c .tracks) → Nested (planOf bs c) (ledgerOf c ws) → (x : Scopes)
       → Counted (planOf bs c) (ledgerOf c ws) (x .opens) (x .busy) (c .tracks) → Cleared (planOf bs c) (ledgerOf c ws) x 0
   visit-start o nest x k =
       cleared-start (planOf bs c) (plan-facts bs c acc) (ledgerOf c ws) (holds c ws o .blank) nest x
@@ -108,7 +109,7 @@ module _ (bs : List ℕ) (c : Counts) (acc : Accepts bs c) (ws : List ℕ) where
       visit-climb d = cleared-more (planOf bs c) (plan-facts bs c acc) (ledgerOf c ws) x t there k d
 
 -- one track: asleep, a root, in a scope that is left open, in one that is not
-module _ (bs : List ℕ) (c : Counts) (acc : Accepts bs c) (ws : List ℕ) (o : Orderly c ws) (opens : List Bool) (t : ℕ) {r : Bool}
+module _ (bs : List ℕ) (c : Counts) (acc : Accepts bs c) (ws : List ℕ) (o : Tidy ws (c .tracks)) (opens : List Bool) (t : ℕ) {r : Bool}
     (f : r ≡ isAwake (ledgerOf c ws t .mode)) where
   abbrev Left : List ℕ → Type 0
   Left vs = vs ≡ withConfiguration c ws t (keptBy (planOf bs c) opens t (ledgerOf c ws t))
@@ -140,7 +141,7 @@ module _ (bs : List ℕ) (c : Counts) (acc : Accepts bs c) (ws : List ℕ) (o : 
           ∙ ap (withConfiguration c ws t) (sym (keep-shut (planOf bs c) opens (ledgerOf c ws) t h e (subst (λ v. getD opens v false ≡ false) (g ∙ sym q) m)))
 
 -- the pass
-module _ (bs : List ℕ) (c : Counts) (ws : List ℕ) (o : Orderly c ws) (opens : List Bool)
+module _ (bs : List ℕ) (c : Counts) (ws : List ℕ) (o : Tidy ws (c .tracks)) (opens : List Bool)
     (k : LeftOpen (planOf bs c) (ledgerOf c ws) opens) where
   abbrev left : ℕ → Configuration → Configuration
   left = keptBy (planOf bs c) opens
@@ -161,7 +162,7 @@ module _ (bs : List ℕ) (c : Counts) (ws : List ℕ) (o : Orderly c ws) (opens 
 
   module _ (i : ℕ) (b : i ≤ c .tracks) {vs : List ℕ}
       (e : vs ≡ written entryLimit (c .tracks) (upTo (λ t. left t (ledgerOf c ws t)) (ledgerOf c ws) i) ws) where
-    pub leaving-orderly : Orderly c vs
+    pub leaving-orderly : Tidy vs (c .tracks)
     leaving-orderly = pass-orderly c ws o left leaving-fits i b e
 
     pub leaving-length : length vs ≡ length ws

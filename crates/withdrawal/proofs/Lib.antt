@@ -4,10 +4,9 @@ pub mod Climbing
 pub mod Turning
 pub mod Firing
 pub mod Nesting
-pub mod Standing
 pub mod Storing
 pub mod Tracks
 pub mod Leaving
 pub mod Outcomes
-pub mod Entering
+pub mod DeviatingLaws
 pub mod Fired

@@ -14,15 +14,13 @@ use Rattle.rules.specs.Layout.{entryLimit, wordCount}
 use Rattle.rules.specs.Ledger.{Ledger, isAwake, isForward, ledgerAt, written}
 use Rattle.rules.specs.Scope.{isOver}
 use Rattle.rules.specs.Signal.{turned, turnings, abandoned, afterSignal}
-use Rattle.rules.specs.Soundness.{isSound, isLive, areTidy}
 use Rattle.rules.specs.Call.{refusal, done, Outcome, nothing, Call, signal, refusedOr, underPlan, tooShort, ledgerRefusals, callRefusals, callRefusal, figures, after, callOutcome, signalOutcome, Meets}
-use Rattle.rules.proofs.Tests.{clash, and-true, or-true}
 use Rattle.plan.proofs.FieldLaws.{track-count}
-use Rattle.lookup.specs.Going.{Checked, Going, ledgerOf}
-use Rattle.lookup.proofs.Facts.{live-of-going}
-use Rattle.withdrawal.specs.Orderly.{Orderly}
+use Rattle.ledger.specs.Words.{Tidy}
+use Rattle.lookup.specs.Checked.{Checked, Going, ledgerOf}
+use Rattle.lookup.proofs.Facts.{tidy-words, live-of-going}
+use Rattle.lookup.proofs.OneTrackLaws.{holds, read-back, orderly-after, then}
 use Rattle.withdrawal.specs.Scopes.{Nested}
-use Rattle.withdrawal.proofs.Standing.{holds, read-back, orderly-after, then}
 use Rattle.withdrawal.proofs.Nesting.{nested-turned}
 use Rattle.withdrawal.proofs.Storing.{storable-turned}
 
@@ -42,7 +40,7 @@ module _ (bs : List ℕ) (c : Counts) (ws : List ℕ) (g : Checked bs c ws) wher
 
   long : tooShort entryLimit p ws ≡ false
   unfolding tooShort
-  long = let r = g .roomy .room in rw (track-count bs c) (le-ltb (length ws) (wordCount entryLimit (c .tracks)) r)
+  long = let r = g .lent .room .words in rw (track-count bs c) (le-ltb (length ws) (wordCount entryLimit (c .tracks)) r)
 
   passed : (rs : List (ℕ × Bool)) → firstRefusal (ledgerRefusals entryLimit p ws ++ rs) ≡ firstRefusal rs
   unfolding ledgerRefusals firstRefusal
@@ -51,7 +49,7 @@ module _ (bs : List ℕ) (c : Counts) (ws : List ℕ) (g : Checked bs c ws) wher
   read : (k : Call) → callOutcome entryLimit bs ws k
       ≡ answered k (trackCount p) (firstRefusal (ledgerRefusals entryLimit p ws ++ callRefusals entryLimit p (ledgerAt entryLimit ws (trackCount p)) k))
   unfolding callOutcome underPlan
-  read k = rw (g .accepts .read, underPlan)
+  read k = rw (g .lent .accepts .read, underPlan)
 
   pub outcome : (k : Call) → callOutcome entryLimit bs ws k ≡ answered k (c .tracks) (callRefusal entryLimit p (ledgerAt entryLimit ws (c .tracks)) k)
   unfolding callRefusal
@@ -60,33 +58,15 @@ module _ (bs : List ℕ) (c : Counts) (ws : List ℕ) (g : Checked bs c ws) wher
       ∙ ap (answered k (trackCount p)) (passed (callRefusals entryLimit p (ledgerAt entryLimit ws (trackCount p)) k))
       ∙ ap (λ (n : ℕ). answered k n (firstRefusal (callRefusals entryLimit p (ledgerAt entryLimit ws n) k))) (track-count bs c)
 
-  -- words in order, and a ledger that is over or live
-  pub orderly : Orderly c ws
-  unfolding isSound
-  orderly =
-      record {
-        roomy = g .roomy;
-        tidy =
-            let q = and-true (areTidy entryLimit ws (trackCount p)) (isOver p (ledgerAt entryLimit ws (trackCount p)) || isLive p (ledgerAt entryLimit ws (trackCount p))) (g .sound) .0 in
-            ap (areTidy entryLimit ws) (sym (track-count bs c)) ∙ q;
-      }
+  pub orderly : Tidy ws (c .tracks)
+  orderly = tidy-words bs c ws g
 
   pub over-as : {r : Bool} → r ≡ everyBelow (c .tracks) (λ t. not (isAwake (ledgerOf c ws t .mode))) → r ≡ isOver p (ledgerOf c ws)
   unfolding isOver
   over-as e = e ∙ ap (λ (n : ℕ). everyBelow n (λ t. not (isAwake (ledgerOf c ws t .mode)))) (sym (track-count bs c))
 
   pub going : isOver p (ledgerOf c ws) ≡ false → Going bs c ws
-  unfolding isSound ledgerOf
-  going n =
-      let l : ℕ → Ledger = ledgerAt entryLimit ws in
-      let q = and-true (areTidy entryLimit ws (trackCount p)) (isOver p (l (trackCount p)) || isLive p (l (trackCount p))) (g .sound) .1 in
-      let q′ : (isOver p (l (c .tracks)) || isLive p (l (c .tracks))) ≡ true = ap (λ (m : ℕ). isOver p (l m) || isLive p (l m)) (sym (track-count bs c)) ∙ q in
-      record {
-        accepts = g .accepts;
-        roomy = g .roomy;
-        tidy = orderly .tidy;
-        live = elim (or-true (isOver p (l (c .tracks))) (isLive p (l (c .tracks))) q′) [ inl o ↦ clash o n | inr v ↦ v ];
-      }
+  going n = record { checked = g; goes-on = n }
 
   -- refused by a number of its own, and accepted
   pub refused-call : (k : Call) (r : ℕ) → callRefusal entryLimit p (ledgerOf c ws) k ≡ suc r → Meets (callOutcome entryLimit bs ws k) (refusal (suc r)) ws
@@ -107,7 +87,7 @@ module _ (bs : List ℕ) (c : Counts) (ws : List ℕ) (g : Checked bs c ws) wher
   unfolding signalOutcome callRefusal callRefusals firstRefusal
   signal-over o = refused-call (signal nothing) 19 (rw o)
 
-  pub turned-orderly : {vs : List ℕ} → vs ≡ written entryLimit (c .tracks) (turned (ledgerOf c ws)) ws → Orderly c vs
+  pub turned-orderly : {vs : List ℕ} → vs ≡ written entryLimit (c .tracks) (turned (ledgerOf c ws)) ws → Tidy vs (c .tracks)
   turned-orderly d =
       orderly-after c ws orderly (turned (ledgerOf c ws)) (storable-turned entryLimit (c .tracks) (ledgerOf c ws) (holds c ws orderly)) d
 

@@ -7,7 +7,6 @@ use native.Mathlib.Omega.{arith}
 use lib.ListN.{length}
 use borrow.Author.Tests.{not-true, not-false}
 use Rattle.rules.specs.declared.Counts.{Counts}
-use Rattle.rules.specs.declared.Mode.{Mode}
 use Rattle.rules.specs.declared.Mode.the-variants.{Undoing}
 use Rattle.rules.specs.declared.Track.{Track}
 use Rattle.rules.specs.Fold.{countBelow}
@@ -16,20 +15,14 @@ use Rattle.rules.specs.Ledger.{Configuration, isForward, written}
 use Rattle.rules.specs.Signal.{turnedTrack, turned}
 use Rattle.rules.proofs.Folds.{count-more}
 use Rattle.rules.proofs.Passes.{upTo}
-use Rattle.ledger.specs.Words.{trackOf, withTrack}
-use Rattle.lookup.specs.Going.{ledgerOf}
-use Rattle.withdrawal.specs.Orderly.{Orderly, withConfiguration, withMode}
-use Rattle.withdrawal.proofs.Standing.{holds, kept-track, put-mode, Fitting, pass-start, pass-orderly, pass-length, pass-old, pass-more, pass-end}
-use Rattle.withdrawal.proofs.Storing.{Stores, stores-at, stores-turned}
+use Rattle.ledger.specs.Words.{trackOf, Tidy}
+use Rattle.lookup.specs.Checked.{ledgerOf}
+use Rattle.lookup.specs.OneTrack.{withConfiguration, withMode}
+use Rattle.lookup.proofs.OneTrackLaws.{holds, kept-track, Fitting, pass-start, pass-orderly, pass-length, pass-old, pass-more, pass-end}
+use Rattle.lookup.proofs.OneTrackLaws.{Stores, stores-at}
+use Rattle.withdrawal.proofs.Storing.{stores-turned}
 
-module _ (c : Counts) (ws : List ℕ) (o : Orderly c ws) (t : ℕ) where
-  -- a mode and a state written
-  pub mode-put : (b : t < c .tracks) (m : Mode) (s : ℕ) (k : Track) → k ≡ trackOf (ledgerOf c ws t) → {vs : List ℕ}
-      → vs ≡ withTrack ws t (record { mode = m; state = s; count = k .count }) → vs ≡ withConfiguration c ws t (withMode m s (ledgerOf c ws t))
-  unfolding withMode trackOf
-  mode-put b m s k e d =
-      d ∙ put-mode c ws o t b (record { mode = m; state = s; count = k .count }) (ap (λ (x : Track). x .count) e)
-
+module _ (c : Counts) (ws : List ℕ) (o : Tidy ws (c .tracks)) (t : ℕ) where
   -- turning: not forward, forward
   module _ (k : Track) (e : k ≡ trackOf (ledgerOf c ws t)) {r : Bool} (f : r ≡ isForward (k .mode)) where
     ahead : isForward (ledgerOf c ws t .mode) ≡ r
@@ -57,7 +50,7 @@ one-most true = omega arith
 one-most false = omega arith
 
 -- the passes write what the words can hold
-module _ (c : Counts) (ws : List ℕ) (o : Orderly c ws) where
+module _ (c : Counts) (ws : List ℕ) (o : Tidy ws (c .tracks)) where
   pub turning-fits : Fitting c ws o (λ t x. turnedTrack x)
   turning-fits =
       let s : (t : ℕ) → Stores entryLimit (turnedTrack (ledgerOf c ws t)) = λ t. stores-turned entryLimit (c .tracks) (ledgerOf c ws t) (stores-at entryLimit (c .tracks) (ledgerOf c ws) (holds c ws o) t) in
@@ -68,7 +61,7 @@ module _ (c : Counts) (ws : List ℕ) (o : Orderly c ws) where
   turning-start = pass-start c ws o (λ t x. turnedTrack x)
 
   module _ (i : ℕ) (b : i ≤ c .tracks) {vs : List ℕ} (e : vs ≡ written entryLimit (c .tracks) (upTo (turned (ledgerOf c ws)) (ledgerOf c ws) i) ws) where
-    pub turning-orderly : Orderly c vs
+    pub turning-orderly : Tidy vs (c .tracks)
     unfolding turned
     turning-orderly = pass-orderly c ws o (λ t x. turnedTrack x) turning-fits i b e
 

@@ -1,4 +1,3 @@
 -- What the backward steps' contracts speak of beside the rules.
-pub mod Orderly
 pub mod Scopes
-pub mod Entering
+pub mod Deviating

@@ -15,8 +15,9 @@ ghost use Rattle.rules.specs.Plan.{planOf};
 ghost use Rattle.rules.specs.Ledger.{isUndoing, isEmpty, written};
 ghost use Rattle.rules.specs.Scope.{hasOpenScope};
 ghost use Rattle.rules.specs.Signal.{abandoned};
-ghost use Rattle.lookup.specs.Going.{Accepts, Roomy, ledgerOf};
-ghost use Rattle.withdrawal.specs.Orderly.{Orderly, withConfiguration};
+ghost use Rattle.ledger.specs.Words.{Room, Tidy};
+ghost use Rattle.lookup.specs.Checked.{Accepts, Lent, ledgerOf};
+ghost use Rattle.lookup.specs.OneTrack.{withConfiguration};
 ghost use Rattle.withdrawal.specs.Scopes.{Nested, isBusy, Counted, keptBy, Due, Climbed, Cleared, LeftOpen};
 
 // For each track: whether it has an open scope, and how many busy tracks it hosts there.
@@ -27,7 +28,7 @@ pub struct Scopes {
 
 // Whether a track is undoing and holds nothing.
 fn is_taken_back(c: Counts, ledger: &[u16], t: usize) -> bool
-    requires { ⌜ Roomy c (now ledger) × (t < c .tracks) ⌝ }
+    requires { ⌜ Room (now ledger) (c .tracks) × (t < c .tracks) ⌝ }
     ensures { λ r. ⌜ r ≡ (isUndoing (ledgerOf c (now (ledger .entry)) t .mode) && isEmpty (ledgerOf c (now (ledger .entry)) t .held)) ⌝ }
 {
     let k = reading::track(c, ledger, t);
@@ -40,7 +41,7 @@ fn is_taken_back(c: Counts, ledger: &[u16], t: usize) -> bool
 
 // Whether a track is busy, given the tracks that have an open scope.
 fn is_busy(plan: &[u8], c: Counts, ledger: &[u16], opens: [bool; 32], t: usize) -> bool
-    requires { ⌜ Roomy c (now ledger) × (t < c .tracks) × (getD opens t false ≡ hasOpenScope (planOf (now plan) c) (ledgerOf c (now ledger)) t) ⌝ }
+    requires { ⌜ Room (now ledger) (c .tracks) × (t < c .tracks) × (getD opens t false ≡ hasOpenScope (planOf (now plan) c) (ledgerOf c (now ledger)) t) ⌝ }
     ensures { λ r. ⌜ r ≡ isBusy (planOf (now (plan .entry)) c) (ledgerOf c (now (ledger .entry))) t ⌝ }
 {
     if !reading::is_awake(c, ledger, t) {
@@ -61,7 +62,7 @@ fn count_track(
     busy: [u8; 32],
     t: usize,
 ) -> [u8; 32]
-    requires { ⌜ Accepts (now plan) c × Roomy c (now ledger) × (t < c .tracks) × Counted (planOf (now plan) c) (ledgerOf c (now ledger)) opens busy t ⌝ }
+    requires { ⌜ Lent (now plan) c (now ledger) × (t < c .tracks) × Counted (planOf (now plan) c) (ledgerOf c (now ledger)) opens busy t ⌝ }
     ensures { λ r. ⌜ Counted (planOf (now (plan .entry)) c) (ledgerOf c (now (ledger .entry))) opens r (t + 1) ⌝ }
 {
     if !is_busy(plan, c, ledger, opens, t) {
@@ -80,7 +81,7 @@ fn count_track(
 
 // The open scopes, with the busy tracks of each counted.
 fn open_scopes(plan: &[u8], c: Counts, ledger: &[u16]) -> Scopes
-    requires { ⌜ Accepts (now plan) c × Roomy c (now ledger) ⌝ }
+    requires { ⌜ Lent (now plan) c (now ledger) ⌝ }
     ensures { λ r. ⌜ Counted (planOf (now (plan .entry)) c) (ledgerOf c (now (ledger .entry))) (r .opens) (r .busy) (c .tracks) ⌝ }
 {
     let opens = opens::open_scopes(plan, c, ledger);
@@ -101,7 +102,7 @@ fn open_scopes(plan: &[u8], c: Counts, ledger: &[u16]) -> Scopes
 // The scope of a track, which is due, goes to sleep. If that leaves the track busy no longer, its host's track has one busy track fewer,
 // and where that was the last one the scope there is next.
 fn climb(plan: &[u8], c: Counts, ledger: &[u16], scopes: Scopes, t: usize) -> Scopes
-    requires { ⌜ Accepts (now plan) c × Orderly c (now ledger) × Due (planOf (now plan) c) (ledgerOf c (now ledger)) scopes t ⌝ }
+    requires { ⌜ Accepts (now plan) c × Tidy (now ledger) (c .tracks) × Due (planOf (now plan) c) (ledgerOf c (now ledger)) scopes t ⌝ }
     ensures { λ r. ⌜ Climbed (planOf (now (plan .entry)) c) (ledgerOf c (now (ledger .entry))) scopes r t ⌝ }
 {
     let mut next = scopes;
@@ -124,7 +125,7 @@ fn climb(plan: &[u8], c: Counts, ledger: &[u16], scopes: Scopes, t: usize) -> Sc
 
 // Abandoning from the scope of a track, if it is due.
 fn climb_if_due(plan: &[u8], c: Counts, ledger: &[u16], scopes: Scopes, t: usize) -> Scopes
-    requires { ⌜ Accepts (now plan) c × Orderly c (now ledger) × Cleared (planOf (now plan) c) (ledgerOf c (now ledger)) scopes t × (t < c .tracks) ⌝ }
+    requires { ⌜ Accepts (now plan) c × Tidy (now ledger) (c .tracks) × Cleared (planOf (now plan) c) (ledgerOf c (now ledger)) scopes t × (t < c .tracks) ⌝ }
     ensures { λ r. ⌜ Cleared (planOf (now (plan .entry)) c) (ledgerOf c (now (ledger .entry))) r (t + 1) ⌝ }
 {
     if !scopes.opens[t] {
@@ -138,7 +139,7 @@ fn climb_if_due(plan: &[u8], c: Counts, ledger: &[u16], scopes: Scopes, t: usize
 
 // The tracks whose scope is open once nothing is due any more.
 fn left_open(plan: &[u8], c: Counts, ledger: &[u16]) -> [bool; 32]
-    requires { ⌜ Accepts (now plan) c × Orderly c (now ledger) × Nested (planOf (now plan) c) (ledgerOf c (now ledger)) ⌝ }
+    requires { ⌜ Accepts (now plan) c × Tidy (now ledger) (c .tracks) × Nested (planOf (now plan) c) (ledgerOf c (now ledger)) ⌝ }
     ensures { λ r. ⌜ LeftOpen (planOf (now (plan .entry)) c) (ledgerOf c (now (ledger .entry))) r ⌝ }
 {
     let mut scopes = open_scopes(plan, c, ledger);
@@ -154,7 +155,7 @@ fn left_open(plan: &[u8], c: Counts, ledger: &[u16]) -> [bool; 32]
 
 // Puts a track to sleep if the scope that it is in is not left open.
 fn leave_track(plan: &[u8], c: Counts, ledger: &mut [u16], opens: [bool; 32], t: usize)
-    requires { ⌜ Accepts (now plan) c × Orderly c (now ledger) × (t < c .tracks) ⌝ }
+    requires { ⌜ Accepts (now plan) c × Tidy (now ledger) (c .tracks) × (t < c .tracks) ⌝ }
     ensures { λ _. ⌜ now (ledger .exit) ≡ withConfiguration c (now (ledger .entry)) t (keptBy (planOf (now (plan .entry)) c) opens t (ledgerOf c (now (ledger .entry)) t)) ⌝ }
 {
     if !reading::is_awake(c, &ledger[..], t) {
@@ -172,7 +173,7 @@ fn leave_track(plan: &[u8], c: Counts, ledger: &mut [u16], opens: [bool; 32], t:
 
 // Abandoning, with nothing installed.
 pub fn abandon(plan: &[u8], c: Counts, ledger: &mut [u16])
-    requires { ⌜ Accepts (now plan) c × Orderly c (now ledger) × Nested (planOf (now plan) c) (ledgerOf c (now ledger)) ⌝ }
+    requires { ⌜ Accepts (now plan) c × Tidy (now ledger) (c .tracks) × Nested (planOf (now plan) c) (ledgerOf c (now ledger)) ⌝ }
     ensures { λ _. ⌜ now (ledger .exit) ≡ written entryLimit (c .tracks) (abandoned (planOf (now (plan .entry)) c) (ledgerOf c (now (ledger .entry)))) (now (ledger .entry)) ⌝ }
 {
     let opens = left_open(plan, c, &ledger[..]);

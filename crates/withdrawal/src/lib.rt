@@ -2,4 +2,3 @@
 pub mod abandoning;
 pub mod fire;
 pub mod signal;
-mod writing;

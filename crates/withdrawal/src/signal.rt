@@ -1,8 +1,8 @@
 // A signal: every forward track turns to undoing, and then abandoning.
 use crate::abandoning;
-use crate::writing;
 use ledger::track;
 use lookup::reading;
+use opening::writing;
 use rules::Counts;
 use rules::Mode;
 use rules::SignalAnswer;
@@ -15,13 +15,15 @@ ghost use Rattle.rules.specs.Ledger.{isForward, written};
 ghost use Rattle.rules.specs.Signal.{turnedTrack, turned};
 ghost use Rattle.rules.specs.Call.{nothing, signalOutcome, Meets};
 ghost use Rattle.rules.specs.Answers.{signalTold};
-ghost use Rattle.lookup.specs.Going.{Checked, ledgerOf};
-ghost use Rattle.withdrawal.specs.Orderly.{Orderly, withConfiguration};
+ghost use Rattle.ledger.specs.Words.{Tidy};
+ghost use Rattle.lookup.specs.Checked.{Checked, ledgerOf};
+ghost use Rattle.lookup.specs.OneTrack.{withConfiguration};
 
 // Turns a track if it is forward, and tells how many turned: 1 or 0.
 fn turn_track(c: Counts, ledger: &mut [u16], t: usize) -> u16
-    requires { ⌜ Orderly c (now ledger) × (t < c .tracks) ⌝ }
-    ensures { λ r. ⌜ (r ≡ cond (isForward (ledgerOf c (now (ledger .entry)) t .mode)) 1 0) × (now (ledger .exit) ≡ withConfiguration c (now (ledger .entry)) t (turnedTrack (ledgerOf c (now (ledger .entry)) t))) ⌝ }
+    requires { ⌜ Tidy (now ledger) (c .tracks) × (t < c .tracks) ⌝ }
+    ensures { λ r. ⌜ (r ≡ cond (isForward (ledgerOf c (now (ledger .entry)) t .mode)) 1 0)
+        × (now (ledger .exit) ≡ withConfiguration c (now (ledger .entry)) t (turnedTrack (ledgerOf c (now (ledger .entry)) t))) ⌝ }
 {
     let k = reading::track(c, &ledger[..], t);
     let m = k.mode;
@@ -34,8 +36,9 @@ fn turn_track(c: Counts, ledger: &mut [u16], t: usize) -> u16
 
 // Turns every forward track, and tells how many turned.
 fn turn_all(c: Counts, ledger: &mut [u16]) -> u16
-    requires { ⌜ Orderly c (now ledger) ⌝ }
-    ensures { λ r. ⌜ (r ≡ countBelow (c .tracks) (λ t. isForward (ledgerOf c (now (ledger .entry)) t .mode))) × (now (ledger .exit) ≡ written entryLimit (c .tracks) (turned (ledgerOf c (now (ledger .entry)))) (now (ledger .entry))) ⌝ }
+    requires { ⌜ Tidy (now ledger) (c .tracks) ⌝ }
+    ensures { λ r. ⌜ (r ≡ countBelow (c .tracks) (λ t. isForward (ledgerOf c (now (ledger .entry)) t .mode)))
+        × (now (ledger .exit) ≡ written entryLimit (c .tracks) (turned (ledgerOf c (now (ledger .entry)))) (now (ledger .entry))) ⌝ }
 {
     let tracks = c.tracks;
     let mut count: u16 = 0;

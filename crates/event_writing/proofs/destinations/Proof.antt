@@ -1,4 +1,4 @@
--- The destinations after t turns are the table's at t. Assumes nothing.
+-- The destinations after t visits are the table's at t. Assumes nothing.
 use Prim.Native.Nat.{_≤_, _-_}
 use borrow.Author.Needs.{needs}
 use native.Mathlib.Omega.{arith}

@@ -1,7 +1,7 @@
 -- The outcome by what the checks found, and the ledger as it was overwritten. Assumes nothing.
 use mathlib.Core.Path.{sym, ap, _∙_, refl}
 use Rattle.rules.specs.Answers.{planTold, beginTold}
-use Rattle.manager.proofs.Checks.{meets, lent-accepts, lent-roomy, begin-refused, begin-done}
+use Rattle.manager.proofs.Checks.{meets, lent-holds, begin-refused, begin-done}
 use borrow.Author.Needs.{needs}
 use Rattle.manager.proofs.begin.Statement.{statement}
 use Rattle.manager.proofs.begin.Tie as tie
@@ -17,7 +17,7 @@ enum-known-answer-2 c = search needs
 
 begin-all-requires : tie.Need-begin-all-requires
 unfolding planTold
-begin-all-requires c κs = (lent-accepts _ _ _ (sym (ap planTold (c .before .before .answer2 .given .1)) ∙ c .before .before .before .before .read-lent .ensures), lent-roomy _ _ _ (sym (ap planTold (c .before .before .answer2 .given .1)) ∙ c .before .before .before .before .read-lent .ensures))
+begin-all-requires c κs = lent-holds _ _ _ (sym (ap planTold (c .before .before .answer2 .given .1)) ∙ c .before .before .before .before .read-lent .ensures)
 
 same-length : tie.Need-same-length
 same-length c = search needs

@@ -3,7 +3,7 @@ use mathlib.Core.Path.{sym, ap, _∙_}
 use native.Mathlib.Omega.{arith}
 use Rattle.rules.specs.Layout.{entryLimit, entryWidth, headWords, trackWidth, leadingWords, trackPlace, entriesPlace}
 use Rattle.rules.specs.Answers.{planTold}
-use Rattle.ledger.proofs.Words.{room-within}
+use Rattle.ledger.proofs.Words.{in-room}
 use Rattle.ledger.proofs.ReadTracks.{count-as}
 use Rattle.lookup.proofs.Facts.{track-read}
 use Rattle.manager.proofs.Checks.{lent-room, checked-facts, span-at, span-refused, span-absent, span-held}
@@ -29,7 +29,7 @@ returns c = span-at _ _ _ _ _ _ (c .before .before .wide .ensures .0) (span-abse
 
 track-at-requires : tie.Need-track-at-requires
 unfolding planTold
-track-at-requires c κs = room-within _ _ _ (lent-room _ _ _ (checked-facts _ _ _ (sym (ap planTold (c .before .before .before .before .answer .given .1)) ∙ c .before .before .before .before .before .before .verify .ensures) .0)) (c .if1 .left)
+track-at-requires c κs = in-room _ _ _ (lent-room _ _ _ (checked-facts _ _ _ (sym (ap planTold (c .before .before .before .before .answer .given .1)) ∙ c .before .before .before .before .before .before .verify .ensures) .0)) (c .if1 .left)
 
 entry-place-requires : tie.Need-entry-place-requires
 unfolding planTold entryLimit

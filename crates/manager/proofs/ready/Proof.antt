@@ -1,7 +1,7 @@
 -- The outcome by what the checks found; no word is written. Assumes nothing.
 use mathlib.Core.Path.{sym, ap, _∙_, refl}
 use Rattle.rules.specs.Answers.{planTold, readyTold}
-use Rattle.manager.proofs.Checks.{meets, checked-facts, lent-accepts, lent-roomy, ready-refused, ready-done}
+use Rattle.manager.proofs.Checks.{meets, checked-facts, lent-holds, ready-refused, ready-done}
 use borrow.Author.Needs.{needs}
 use Rattle.manager.proofs.ready.Statement.{statement}
 use Rattle.manager.proofs.ready.Tie as tie
@@ -17,7 +17,7 @@ enum-known-answer-2 c = search needs
 
 ready-bits-requires : tie.Need-ready-bits-requires
 unfolding planTold
-ready-bits-requires c κs = (lent-accepts _ _ _ (checked-facts _ _ _ (sym (ap planTold (c .before .before .answer2 .given .1)) ∙ c .before .before .before .before .verify .ensures) .0), lent-roomy _ _ _ (checked-facts _ _ _ (sym (ap planTold (c .before .before .answer2 .given .1)) ∙ c .before .before .before .before .verify .ensures) .0))
+ready-bits-requires c κs = lent-holds _ _ _ (checked-facts _ _ _ (sym (ap planTold (c .before .before .answer2 .given .1)) ∙ c .before .before .before .before .verify .ensures) .0)
 
 same-length : tie.Need-same-length
 same-length c = search needs

@@ -59,7 +59,7 @@ enum-known-answer-2 c = search needs
 
 run-plan-requires : tie.Need-run-plan-requires
 unfolding planTold
-run-plan-requires c κs = (accepts _ _ (sym (c .before .before .before .before .before .read-plan .ensures) ∙ ap planTold (c .before .before .before .answer2 .given .1)), roomy _ _ (sym (c .before .before .before .before .before .read-plan .ensures) ∙ ap planTold (c .before .before .before .answer2 .given .1)) _ (long-ledger _ _ (c .before .before .before .before .before .before .before .before .before .has-room .ensures) (c .before .before .before .before .before .before .before .before .if2 .left)), c .before .before .before .before .before .before .if4 .left, text-fits _ _ _ (c .before .before .before .before .before .before .before .before .before .before .before .before .text-room .ensures) (c .before .before .before .before .before .before .before .before .before .before .before .if1 .left) (c .before .before .before .before .before .before .if4 .left))
+run-plan-requires c κs = (record { accepts = accepts _ _ (sym (c .before .before .before .before .before .read-plan .ensures) ∙ ap planTold (c .before .before .before .answer2 .given .1)); room = roomy _ _ (sym (c .before .before .before .before .before .read-plan .ensures) ∙ ap planTold (c .before .before .before .answer2 .given .1)) _ (long-ledger _ _ (c .before .before .before .before .before .before .before .before .before .has-room .ensures) (c .before .before .before .before .before .before .before .before .if2 .left)) }, c .before .before .before .before .before .before .if4 .left, text-fits _ _ _ (c .before .before .before .before .before .before .before .before .before .before .before .before .text-room .ensures) (c .before .before .before .before .before .before .before .before .before .before .before .if1 .left) (c .before .before .before .before .before .before .if4 .left))
 
 same-length-6 : tie.Need-same-length-6
 same-length-6 c = search needs

@@ -13,7 +13,7 @@ begin-all-requires : tie.Need-begin-all-requires
 begin-all-requires c κs = search needs
 
 run-records-requires : tie.Need-run-records-requires
-run-records-requires c κs = (begun-checked _ _ (c .before .before .before .before .before .before .before .before .before .before .before .before .before .before .pre .0) _ _ (c .before .before .before .before .before .before .before .before .before .before .before .before .before .before .pre .1) (c .before .before .before .before .begin-all .ensures), c .before .before .before .before .before .before .before .before .before .before .before .before .before .before .pre .2, omega (arith, c .before .before .before .before .before .before .before .before .plan-line .ensures .short, c .before .before .before .before .before .before .before .before .plan-line .kept .0, c .before .before .before .before .before .before .before .before .before .before .before .before .before .before .pre .3))
+run-records-requires c κs = (begun-checked _ _ (c .before .before .before .before .before .before .before .before .before .before .before .before .before .before .pre .0 .accepts) _ _ (c .before .before .before .before .before .before .before .before .before .before .before .before .before .before .pre .0 .room) (c .before .before .before .before .begin-all .ensures), c .before .before .before .before .before .before .before .before .before .before .before .before .before .before .pre .1, omega (arith, c .before .before .before .before .before .before .before .before .plan-line .ensures .short, c .before .before .before .before .before .before .before .before .plan-line .kept .0, c .before .before .before .before .before .before .before .before .before .before .before .before .before .before .pre .2))
 
 same-length : tie.Need-same-length
 same-length c = search needs
@@ -22,7 +22,7 @@ same-length-2 : tie.Need-same-length-2
 same-length-2 c = search needs
 
 returns : tie.Need-returns
-returns c = ran-after _ _ _ _ _ _ _ _ _ (c .before .before .before .before .before .before .before .before .before .before .before .before .before .plan-line .ensures) (search needs) (ran-begun _ _ _ (c .before .before .before .before .before .before .before .before .before .before .before .before .before .before .before .before .before .before .before .pre .0) _ _ (c .before .before .before .before .before .before .before .before .before .before .before .before .before .before .before .before .before .before .before .pre .1) (c .before .before .before .before .before .before .before .before .before .begin-all .ensures) _ _ _ _ _ (c .before .before .before .before .run-records .ensures))
+returns c = ran-after _ _ _ _ _ _ _ _ _ (c .before .before .before .before .before .before .before .before .before .before .before .before .before .plan-line .ensures) (search needs) (ran-begun _ _ _ (c .before .before .before .before .before .before .before .before .before .before .before .before .before .before .before .before .before .before .before .pre .0 .accepts) _ _ (c .before .before .before .before .before .before .before .before .before .before .before .before .before .before .before .before .before .before .before .pre .0 .room) (c .before .before .before .before .before .before .before .before .before .begin-all .ensures) _ _ _ _ _ (c .before .before .before .before .run-records .ensures))
 
 pub run-plan-spec : {M : Type 1} → statement M
 run-plan-spec =

@@ -3,7 +3,7 @@ use Prim.Native.Nat.{_≤_, _-_}
 use borrow.Author.Needs.{needs}
 use native.Mathlib.Omega.{arith}
 use Rattle.rules.specs.Plan.{planOf}
-use Rattle.lookup.specs.Going.{ledgerOf}
+use Rattle.lookup.specs.Checked.{ledgerOf}
 use Rattle.event_choice.specs.Marks.{closeMarks}
 use Rattle.event_choice.proofs.Turns.{close-more, close-all}
 use mathlib.Core.Path.{_≡_, refl}

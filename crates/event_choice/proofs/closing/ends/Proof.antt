@@ -13,7 +13,7 @@ cast-is-final : tie.Need-cast-is-final
 cast-is-final c = search needs
 
 is-final-requires : tie.Need-is-final-requires
-is-final-requires c κs = (c .before .before .before .pre .0 .accepts .holds, after-low _ _ _ _ _ _ (c .before .before .before .pre .0) (c .before .before .before .pre .1) (c .before .before .before .pre .2) (c .state-after .ensures))
+is-final-requires c κs = (c .before .before .before .pre .0 .checked .lent .accepts .holds, after-low _ _ _ _ _ _ (c .before .before .before .pre .0) (c .before .before .before .pre .1) (c .before .before .before .pre .2) (c .state-after .ensures))
 
 returns : tie.Need-returns
 returns c = c .is-final .ensures ∙ ap (isFinal _) (c .before .state-after .ensures)

@@ -2,7 +2,7 @@
 use Prim.Native.Nat.{_≤_, _-_}
 use borrow.Author.Needs.{needs}
 use native.Mathlib.Omega.{arith}
-use Rattle.lookup.specs.Going.{ledgerOf}
+use Rattle.lookup.specs.Checked.{ledgerOf}
 use Rattle.event_choice.specs.Marks.{forwardMarks}
 use Rattle.event_choice.proofs.Turns.{forward-more}
 use mathlib.Core.Path.{_≡_, refl}

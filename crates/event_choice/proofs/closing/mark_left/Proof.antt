@@ -27,18 +27,18 @@ host-track-requires c κs = search needs
 
 returns-3 : tie.Need-returns-3
 unfolding noState
-returns-3 c = left-root _ _ _ _ _ _ _ _ _ (c .before .before .before .before .before .before .track .ensures) (c .before .before .before .before .before .is-awake .ensures) (c .before .before .before .before .if1 .left) (c .before .before .before .ends .ensures) (c .before .before .before .before .before .before .before .before .before .pre .0 .accepts) _ (c .before .before .if2 .left) (c .before .host-track .ensures) (c .if3 .taken)
+returns-3 c = left-root _ _ _ _ _ _ _ _ _ (c .before .before .before .before .before .before .track .ensures) (c .before .before .before .before .before .is-awake .ensures) (c .before .before .before .before .if1 .left) (c .before .before .before .ends .ensures) (c .before .before .before .before .before .before .before .before .before .pre .0 .checked .lent .accepts) _ (c .before .before .if2 .left) (c .before .host-track .ensures) (c .if3 .taken)
 
 cast-next : tie.Need-cast-next
 cast-next c = search needs
 
 array-write-next : tie.Need-array-write-next
 unfolding noState
-array-write-next c = let k = host-track-low _ _ _ _ (c .before .before .before .before .before .before .before .before .before .pre .0 .accepts) (c .before .host-track .ensures) (c .if3 .left) in let n = c .before .before .before .before .before .before .before .before .before .pre .0 .accepts .holds .tracks in omega arith
+array-write-next c = let k = host-track-low _ _ _ _ (c .before .before .before .before .before .before .before .before .before .pre .0 .checked .lent .accepts) (c .before .host-track .ensures) (c .if3 .left) in let n = c .before .before .before .before .before .before .before .before .before .pre .0 .checked .lent .accepts .holds .tracks in omega arith
 
 returns-4 : tie.Need-returns-4
 unfolding noState
-returns-4 c = left-host _ _ _ _ _ _ _ _ _ (c .before .before .before .before .before .before .track .ensures) (c .before .before .before .before .before .is-awake .ensures) (c .before .before .before .before .if1 .left) (c .before .before .before .ends .ensures) (c .before .before .before .before .before .before .before .before .before .pre .0 .accepts) _ (c .before .before .if2 .left) (c .before .host-track .ensures) (c .if3 .left)
+returns-4 c = left-host _ _ _ _ _ _ _ _ _ (c .before .before .before .before .before .before .track .ensures) (c .before .before .before .before .before .is-awake .ensures) (c .before .before .before .before .if1 .left) (c .before .before .before .ends .ensures) (c .before .before .before .before .before .before .before .before .before .pre .0 .checked .lent .accepts) _ (c .before .before .if2 .left) (c .before .host-track .ensures) (c .if3 .left)
 
 pub mark-left-spec : {M : Type 1} → statement M
 mark-left-spec =

@@ -23,7 +23,7 @@ cast-destination-of c = search needs
 
 destination-of-requires : tie.Need-destination-of-requires
 unfolding noState
-destination-of-requires c κs = (c .before .before .before .pre .0 .accepts .holds, c .before .before .before .pre .1 .low _ (c .before .before .before .pre .2) (c .if1 .left))
+destination-of-requires c κs = (c .before .before .before .pre .0 .checked .lent .accepts .holds, c .before .before .before .pre .1 .low _ (c .before .before .before .pre .2) (c .if1 .left))
 
 returns-2 : tie.Need-returns-2
 unfolding noState

@@ -17,7 +17,7 @@ cast-code-of c = search needs
 
 code-of-requires : tie.Need-code-of-requires
 unfolding noState
-code-of-requires c κs = (c .before .before .before .pre .0 .accepts .holds, c .before .before .before .pre .1 .low _ (c .before .before .before .pre .2) (c .if1 .taken))
+code-of-requires c κs = (c .before .before .before .pre .0 .checked .lent .accepts .holds, c .before .before .before .pre .1 .low _ (c .before .before .before .pre .2) (c .if1 .taken))
 
 returns : tie.Need-returns
 unfolding noState
@@ -37,7 +37,7 @@ cast-replacement-of : tie.Need-cast-replacement-of
 cast-replacement-of c = search needs
 
 replacement-of-requires : tie.Need-replacement-of-requires
-replacement-of-requires c κs = (c .before .before .before .before .before .pre .0 .accepts .holds, read-low _ _ _ _ _ (c .before .before .before .before .before .pre .0) (c .before .before .before .before .before .pre .2) (c .track .ensures))
+replacement-of-requires c κs = (c .before .before .before .before .before .pre .0 .checked .lent .accepts .holds, read-low _ _ _ _ _ (c .before .before .before .before .before .pre .0) (c .before .before .before .before .before .pre .2) (c .track .ensures))
 
 returns-3 : tie.Need-returns-3
 unfolding noState

@@ -3,7 +3,7 @@ use Prim.Native.Nat.{_≤_, _-_}
 use borrow.Author.Needs.{needs}
 use native.Mathlib.Omega.{arith}
 use Rattle.rules.specs.Plan.{planOf}
-use Rattle.lookup.specs.Going.{ledgerOf}
+use Rattle.lookup.specs.Checked.{ledgerOf}
 use Rattle.event_choice.specs.Marks.{table, codeGiven}
 use Rattle.event_choice.proofs.Turns.{table-more}
 use mathlib.Core.Path.{_≡_, refl}
@@ -27,7 +27,7 @@ mul-codes : tie.Need-mul-codes Inv-loop μ-loop
 mul-codes c = search needs
 
 array-write-codes : tie.Need-array-write-codes Inv-loop μ-loop
-array-write-codes c = let n = c .before .before .before .before .before .pre .0 .roomy .few in omega arith
+array-write-codes c = let n = c .before .before .before .before .before .pre .0 .checked .lent .room .few in omega arith
 
 add-t : tie.Need-add-t Inv-loop μ-loop
 add-t c = search needs

@@ -5,7 +5,7 @@ use Prim.Native.Nat.{_≤_, _-_}
 use borrow.Author.Tests.{not-true, not-false}
 use Rattle.rules.specs.Fold.{everyBelow}
 use Rattle.rules.specs.Plan.{planOf}
-use Rattle.lookup.specs.Going.{ledgerOf}
+use Rattle.lookup.specs.Checked.{ledgerOf}
 use Rattle.ledger.proofs.Loops.{every-next, every-stops, every-ends}
 use Rattle.event_choice.specs.Marks.{endsAt}
 use borrow.Author.Needs.{needs}

@@ -5,7 +5,7 @@ use Prim.Native.Nat.{_≤_, _-_}
 use Rattle.rules.specs.Fold.{someBelow}
 use Rattle.rules.proofs.Folds.{some-at}
 use Rattle.plan.proofs.Searches.{none-more, none-all}
-use Rattle.lookup.specs.Going.{ledgerOf}
+use Rattle.lookup.specs.Checked.{ledgerOf}
 use Rattle.event_choice.specs.Marks.{isFullAt}
 use borrow.Author.Needs.{needs}
 use Rattle.event_choice.proofs.judging.is_full.Statement.{statement}

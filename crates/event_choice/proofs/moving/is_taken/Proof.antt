@@ -20,13 +20,13 @@ cast-track-of : tie.Need-cast-track-of
 cast-track-of c = search needs
 
 track-of-requires : tie.Need-track-of-requires
-track-of-requires c κs = (c .before .before .before .before .before .pre .0 .accepts .holds, source-low _ _ _ _ (c .before .before .before .before .before .pre .0 .accepts) (c .before .before .before .before .before .pre .1) (c .source-of .ensures))
+track-of-requires c κs = (c .before .before .before .before .before .pre .0 .checked .lent .accepts .holds, source-low _ _ _ _ (c .before .before .before .before .before .pre .0 .checked .lent .accepts) (c .before .before .before .before .before .pre .1) (c .source-of .ensures))
 
 cast-t : tie.Need-cast-t
 cast-t c = search needs
 
 track-requires : tie.Need-track-requires
-track-requires c κs = (c .before .before .before .before .before .before .pre .0 .roomy, let k = owner-low _ _ _ (c .before .before .before .before .before .before .pre .0 .accepts) (source-low _ _ _ _ (c .before .before .before .before .before .before .pre .0 .accepts) (c .before .before .before .before .before .before .pre .1) (c .before .source-of .ensures)) in let e = c .track-of .ensures in let n = c .before .before .before .before .before .before .pre .0 .accepts .holds .tracks in omega arith)
+track-requires c κs = (c .before .before .before .before .before .before .pre .0 .checked .lent .room, let k = owner-low _ _ _ (c .before .before .before .before .before .before .pre .0 .checked .lent .accepts) (source-low _ _ _ _ (c .before .before .before .before .before .before .pre .0 .checked .lent .accepts) (c .before .before .before .before .before .before .pre .1) (c .before .source-of .ensures)) in let e = c .track-of .ensures in let n = c .before .before .before .before .before .before .pre .0 .checked .lent .accepts .holds .tracks in omega arith)
 
 is-forward-requires : tie.Need-is-forward-requires
 is-forward-requires c κs = search needs
@@ -35,7 +35,7 @@ returns-2 : tie.Need-returns-2
 returns-2 c = not-forward _ _ _ _ _ _ _ _ _ _ _ (c .before .before .before .before .before .before .event-of .ensures) (c .before .before .before .before .before .if1 .left) (c .before .before .before .before .source-of .ensures) (c .before .before .before .track-of .ensures) (c .before .before .track .ensures) (c .before .is-forward .ensures) (c .if2 .taken)
 
 array-read-if3 : tie.Need-array-read-if3
-array-read-if3 c = let k = owner-low _ _ _ (c .before .before .before .before .before .before .before .before .before .pre .0 .accepts) (source-low _ _ _ _ (c .before .before .before .before .before .before .before .before .before .pre .0 .accepts) (c .before .before .before .before .before .before .before .before .before .pre .1) (c .before .before .before .before .source-of .ensures)) in let e = c .before .before .before .track-of .ensures in let n = c .before .before .before .before .before .before .before .before .before .pre .0 .accepts .holds .tracks in omega arith
+array-read-if3 c = let k = owner-low _ _ _ (c .before .before .before .before .before .before .before .before .before .pre .0 .checked .lent .accepts) (source-low _ _ _ _ (c .before .before .before .before .before .before .before .before .before .pre .0 .checked .lent .accepts) (c .before .before .before .before .before .before .before .before .before .pre .1) (c .before .before .before .before .source-of .ensures)) in let e = c .before .before .before .track-of .ensures in let n = c .before .before .before .before .before .before .before .before .before .pre .0 .checked .lent .accepts .holds .tracks in omega arith
 
 returns-3 : tie.Need-returns-3
 returns-3 c = has-open _ _ _ _ _ _ _ _ _ _ _ (c .before .before .before .before .before .before .before .event-of .ensures) (c .before .before .before .before .before .before .if1 .left) (c .before .before .before .before .before .source-of .ensures) (c .before .before .before .before .track-of .ensures) (c .before .before .before .track .ensures) (c .before .before .is-forward .ensures) (c .before .if2 .left) (c .if3 .taken)
@@ -47,7 +47,7 @@ mul-result : tie.Need-mul-result
 mul-result c = search needs
 
 array-read-result : tie.Need-array-read-result
-array-read-result c = let k = owner-low _ _ _ (c .before .before .before .before .before .before .before .before .before .before .before .before .pre .0 .accepts) (source-low _ _ _ _ (c .before .before .before .before .before .before .before .before .before .before .before .before .pre .0 .accepts) (c .before .before .before .before .before .before .before .before .before .before .before .before .pre .1) (c .before .before .before .before .before .before .before .source-of .ensures)) in let e = c .before .before .before .before .before .before .track-of .ensures in let n = c .before .before .before .before .before .before .before .before .before .before .before .before .pre .0 .accepts .holds .tracks in omega arith
+array-read-result c = let k = owner-low _ _ _ (c .before .before .before .before .before .before .before .before .before .before .before .before .pre .0 .checked .lent .accepts) (source-low _ _ _ _ (c .before .before .before .before .before .before .before .before .before .before .before .before .pre .0 .checked .lent .accepts) (c .before .before .before .before .before .before .before .before .before .before .before .before .pre .1) (c .before .before .before .before .before .before .before .source-of .ensures)) in let e = c .before .before .before .before .before .before .track-of .ensures in let n = c .before .before .before .before .before .before .before .before .before .before .before .before .pre .0 .checked .lent .accepts .holds .tracks in omega arith
 
 returns-5 : tie.Need-returns-5
 unfolding noState

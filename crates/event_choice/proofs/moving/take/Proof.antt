@@ -19,7 +19,7 @@ cast-track-of : tie.Need-cast-track-of
 cast-track-of c = search needs
 
 track-of-requires : tie.Need-track-of-requires
-track-of-requires c κs = (c .before .before .before .before .before .pre .0 .accepts .holds, source-low _ _ _ _ (c .before .before .before .before .before .pre .0 .accepts) (c .before .before .before .before .before .pre .1) (c .source-of .ensures))
+track-of-requires c κs = (c .before .before .before .before .before .pre .0 .checked .lent .accepts .holds, source-low _ _ _ _ (c .before .before .before .before .before .pre .0 .checked .lent .accepts) (c .before .before .before .before .before .pre .1) (c .source-of .ensures))
 
 cast-t : tie.Need-cast-t
 cast-t c = search needs
@@ -31,7 +31,7 @@ mul-next : tie.Need-mul-next
 mul-next c = search needs
 
 array-write-next : tie.Need-array-write-next
-array-write-next c = let k = owner-low _ _ _ (c .before .before .before .before .before .before .pre .0 .accepts) (source-low _ _ _ _ (c .before .before .before .before .before .before .pre .0 .accepts) (c .before .before .before .before .before .before .pre .1) (c .before .source-of .ensures)) in let e = c .track-of .ensures in let n = c .before .before .before .before .before .before .pre .0 .accepts .holds .tracks in omega arith
+array-write-next c = let k = owner-low _ _ _ (c .before .before .before .before .before .before .pre .0 .checked .lent .accepts) (source-low _ _ _ _ (c .before .before .before .before .before .before .pre .0 .checked .lent .accepts) (c .before .before .before .before .before .before .pre .1) (c .before .source-of .ensures)) in let e = c .track-of .ensures in let n = c .before .before .before .before .before .before .pre .0 .checked .lent .accepts .holds .tracks in omega arith
 
 returns-2 : tie.Need-returns-2
 returns-2 c = take-yes _ _ _ _ _ _ _ _ _ (c .before .before .before .is-taken .ensures) (c .before .before .if1 .left) (c .before .source-of .ensures) (c .track-of .ensures)

@@ -38,7 +38,7 @@ finishes-requires : tie.Need-finishes-requires
 finishes-requires c κs = (c .before .before .before .before .before .before .before .before .before .before .before .before .before .before .before .before .pre, in-range _ _ _ (c .before .before .before .before .before .before .before .before .before .before .before .before .before .before .before .before .pre) _ _ _ (c .before .before .before .before .before .before .before .before .before .before .before .before .open-scopes .ensures) (c .before .before .before .before .before .before .before .before .before .before .choose .ensures))
 
 closings-requires : tie.Need-closings-requires
-closings-requires c κs = search needs
+closings-requires c κs = c .before .before .before .before .before .before .before .before .before .before .before .before .before .before .before .before .before .pre .checked .lent .room .few
 
 settle-requires : tie.Need-settle-requires
 settle-requires c κs = (c .before .before .before .before .before .before .before .before .before .before .before .before .before .before .before .before .before .before .before .pre, in-range _ _ _ (c .before .before .before .before .before .before .before .before .before .before .before .before .before .before .before .before .before .before .before .pre) _ _ _ (c .before .before .before .before .before .before .before .before .before .before .before .before .before .before .before .open-scopes .ensures) (c .before .before .before .before .before .before .before .before .before .before .before .before .before .choose .ensures), spare _ _ _ (c .before .before .before .before .before .before .before .before .before .before .before .before .before .before .before .before .before .before .before .pre) _ _ _ (c .before .before .before .before .before .before .before .before .before .before .before .before .before .before .before .open-scopes .ensures) (c .before .before .before .before .before .before .before .before .before .before .before .before .before .choose .ensures) _ (c .before .before .before .before .before .before .before .before .before .closing-scopes .ensures) _ (c .before .before .before .before .before .before .before .codes-given .ensures) _ (c .before .before .before .before .before .is-full .ensures) (c .before .before .before .before .if2 .left))

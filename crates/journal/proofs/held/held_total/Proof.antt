@@ -7,7 +7,7 @@ use Prim.Native.Nat.{_≤_, _-_, _*_}
 use native.Mathlib.Omega.{arith}
 use lib.ListN.{length}
 use Rattle.rules.specs.Fold.{sumBelow}
-use Rattle.lookup.specs.Going.{ledgerOf}
+use Rattle.lookup.specs.Checked.{ledgerOf}
 use Rattle.journal.proofs.held.held_total.Statement.{statement}
 use Rattle.journal.proofs.held.held_total.Tie as tie
 

@@ -7,7 +7,7 @@ use Prim.Native.Nat.{_-_, _≤_}
 use Rattle.rules.specs.Fold.{everyBelow}
 use Rattle.rules.specs.Layout.{entryLimit, trackPlace}
 use Rattle.rules.specs.Soundness.{isTidy, areTidy}
-use Rattle.ledger.proofs.Words.{room-within}
+use Rattle.ledger.proofs.Words.{in-room}
 use Rattle.ledger.proofs.Loops.{every-next, every-stops, every-ends}
 use Rattle.ledger.proofs.tidy.are_tidy.Statement.{statement}
 use Rattle.ledger.proofs.tidy.are_tidy.Tie as tie
@@ -26,7 +26,7 @@ track-place-requires : tie.Need-track-place-requires Inv-loop μ-loop
 track-place-requires c κs = search needs
 
 is-tidy-requires : tie.Need-is-tidy-requires Inv-loop μ-loop
-is-tidy-requires c κs = rw (c .track-place .ensures) (room-within _ _ (c .before .before .loop .t) (c .before .before .before .before .pre) (search needs) .room)
+is-tidy-requires c κs = rw (c .track-place .ensures) (in-room _ _ (c .before .before .loop .t) (c .before .before .before .before .pre) (search needs) .room)
 
 returns : tie.Need-returns Inv-loop μ-loop
 unfolding areTidy

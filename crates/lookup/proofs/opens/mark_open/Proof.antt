@@ -18,18 +18,18 @@ host-track-requires c κs = search needs
 
 returns-2 : tie.Need-returns-2
 unfolding noState
-returns-2 c = mark-root _ _ (c .before .before .before .before .before .before .pre .0) _ _ _ _ _ (c .before .before .before .is-awake .ensures) (c .before .before .if1 .left) (c .before .host-track .ensures) (c .if2 .taken)
+returns-2 c = mark-root _ _ (c .before .before .before .before .before .before .pre .0 .accepts) _ _ _ _ _ (c .before .before .before .is-awake .ensures) (c .before .before .if1 .left) (c .before .host-track .ensures) (c .if2 .taken)
 
 cast-next : tie.Need-cast-next
 cast-next c = search needs
 
 array-write-next : tie.Need-array-write-next
 unfolding noState
-array-write-next c = let b = host-track-low _ _ _ _ (c .before .before .before .before .before .before .pre .0) (c .before .host-track .ensures) (c .if2 .left) in let n = c .before .before .before .before .before .before .pre .0 .holds .tracks in omega arith
+array-write-next c = let b = host-track-low _ _ _ _ (c .before .before .before .before .before .before .pre .0 .accepts) (c .before .host-track .ensures) (c .if2 .left) in let n = c .before .before .before .before .before .before .pre .0 .accepts .holds .tracks in omega arith
 
 returns-3 : tie.Need-returns-3
 unfolding noState
-returns-3 c = mark-host _ _ (c .before .before .before .before .before .before .pre .0) _ _ _ _ _ (c .before .before .before .is-awake .ensures) (c .before .before .if1 .left) (c .before .host-track .ensures) (c .if2 .left)
+returns-3 c = mark-host _ _ (c .before .before .before .before .before .before .pre .0 .accepts) _ _ _ _ _ (c .before .before .before .is-awake .ensures) (c .before .before .if1 .left) (c .before .host-track .ensures) (c .if2 .left)
 
 pub mark-open-spec : {M : Type 1} → statement M
 mark-open-spec =

@@ -1,6 +1,7 @@
 -- A track's words are those of the ledger that the words hold. Assumes nothing.
 use mathlib.Core.Path.{_∙_}
-use Rattle.lookup.proofs.Facts.{in-room, track-read}
+use Rattle.ledger.proofs.Words.{in-room}
+use Rattle.lookup.proofs.Facts.{track-read}
 use Rattle.lookup.proofs.reading.track.Statement.{statement}
 use Rattle.lookup.proofs.reading.track.Tie as tie
 

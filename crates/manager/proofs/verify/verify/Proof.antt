@@ -1,7 +1,7 @@
 -- The checks 2 to 17, and 18 where they pass. Assumes nothing.
 use mathlib.Core.Path.{sym, ap, _∙_}
 use Rattle.rules.specs.Answers.{planTold}
-use Rattle.manager.proofs.Checks.{lent-accepts, lent-roomy, checked-refused, checked-unsound, checked-accepted}
+use Rattle.manager.proofs.Checks.{lent-holds, checked-refused, checked-unsound, checked-accepted}
 use borrow.Author.Needs.{needs}
 use Rattle.manager.proofs.verify.verify.Statement.{statement}
 use Rattle.manager.proofs.verify.verify.Tie as tie
@@ -18,7 +18,7 @@ enum-known-answer-2 c = search needs
 is-sound-requires : tie.Need-is-sound-requires
 unfolding planTold
 is-sound-requires c κs =
-    let e = sym (ap planTold (c .before .answer2 .given .1)) ∙ c .before .before .before .read-lent .ensures in (lent-accepts _ _ _ e, lent-roomy _ _ _ e)
+    let e = sym (ap planTold (c .before .answer2 .given .1)) ∙ c .before .before .before .read-lent .ensures in lent-holds _ _ _ e
 
 returns : tie.Need-returns
 unfolding planTold

@@ -17,7 +17,7 @@ event-of-requires : tie.Need-event-of-requires Inv-loop μ-loop
 event-of-requires c κs = search needs
 
 loop-holds : tie.Need-loop-holds Inv-loop μ-loop
-loop-holds c = walk-start _ _ _ (c .before .before .pre .2)
+loop-holds c = walk-start _ _ _ _ (c .before .before .pre .2)
 
 returns : tie.Need-returns Inv-loop μ-loop
 returns c = λ h. absurd (h refl)
@@ -44,13 +44,13 @@ element-copy-out-y : tie.Need-element-copy-out-y Inv-loop μ-loop
 element-copy-out-y c = search needs
 
 cast-y : tie.Need-cast-y Inv-loop μ-loop
-cast-y c = let q = walk-on _ _ _ _ _ (c .before .before .before .before .loop-test .taken) (c .before .before .before .before .before .loop .inv) (λ e. c .before .if2 .left (c .before .before .event-of2 .ensures ∙ e ∙ sym (c .before .before .before .before .before .before .event-of .ensures))) (c .before .before .before .before .before .before .before .before .pre .3) refl .walk .within in search needs
+cast-y c = let q = walk-on _ _ _ _ _ (c .before .before .before .before .loop-test .taken) (c .before .before .before .before .before .loop .inv) (λ e. c .before .if2 .left (c .before .before .event-of2 .ensures ∙ e ∙ sym (c .before .before .before .before .before .before .event-of .ensures))) (c .before .before .before .before .before .before .before .before .pre .2 .chained) refl .walk .within in search needs
 
 loop-less : tie.Need-loop-less Inv-loop μ-loop
-loop-less c = walk-on _ _ _ _ _ (c .before .before .before .before .loop-test .taken) (c .before .before .before .before .before .loop .inv) (λ e. c .before .if2 .left (c .before .before .event-of2 .ensures ∙ e ∙ sym (c .before .before .before .before .before .before .event-of .ensures))) (c .before .before .before .before .before .before .before .before .pre .3) refl .lower
+loop-less c = walk-on _ _ _ _ _ (c .before .before .before .before .loop-test .taken) (c .before .before .before .before .before .loop .inv) (λ e. c .before .if2 .left (c .before .before .event-of2 .ensures ∙ e ∙ sym (c .before .before .before .before .before .before .event-of .ensures))) (c .before .before .before .before .before .before .before .before .pre .2 .chained) refl .lower
 
 loop-again : tie.Need-loop-again Inv-loop μ-loop
-loop-again c = walk-on _ _ _ _ _ (c .before .before .before .before .loop-test .taken) (c .before .before .before .before .before .loop .inv) (λ e. c .before .if2 .left (c .before .before .event-of2 .ensures ∙ e ∙ sym (c .before .before .before .before .before .before .event-of .ensures))) (c .before .before .before .before .before .before .before .before .pre .3) refl .walk
+loop-again c = walk-on _ _ _ _ _ (c .before .before .before .before .loop-test .taken) (c .before .before .before .before .before .loop .inv) (λ e. c .before .if2 .left (c .before .before .event-of2 .ensures ∙ e ∙ sym (c .before .before .before .before .before .before .event-of .ensures))) (c .before .before .before .before .before .before .before .before .pre .2 .chained) refl .walk
 
 returns-3 : tie.Need-returns-3 Inv-loop μ-loop
 returns-3 c = λ h. walk-end _ _ _ (c .loop-test .left) (c .before .loop .inv)

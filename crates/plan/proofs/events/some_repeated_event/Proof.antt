@@ -36,7 +36,7 @@ cast-comparisons-left : tie.Need-cast-comparisons-left Inv-loop μ-loop
 cast-comparisons-left c = let q = head-most _ _ _ _ _ _ (c .before .before .loop .inv .2) (c .cell-of .ensures .1) in search needs
 
 comparisons-left-requires : tie.Need-comparisons-left-requires Inv-loop μ-loop
-comparisons-left-requires c κs = (search needs, search needs, head-from _ _ _ _ _ _ (c .before .before .before .loop .inv .2) (c .before .cell-of .ensures .1) (c .before .cell-of .ensures .0), c .before .before .before .loop .inv .2 .chained)
+comparisons-left-requires c κs = (search needs, search needs, head-from _ _ _ _ _ _ (c .before .before .before .loop .inv .2) (c .before .cell-of .ensures .1) (c .before .cell-of .ensures .0))
 
 some-marked-event-requires : tie.Need-some-marked-event-requires Inv-loop μ-loop
 some-marked-event-requires c κs = search needs

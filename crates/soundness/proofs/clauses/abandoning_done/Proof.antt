@@ -13,7 +13,7 @@ open-scopes-requires c κs = search needs
 
 failing-requires : tie.Need-failing-requires
 unfolding ofEntries
-failing-requires c κs = no-entries _ _ _ _ (c .before .before .before .pre .0) (c .before .before .before .pre .1) refl
+failing-requires c κs = no-entries _ _ _ _ (c .before .before .before .pre) refl
 
 scopes-with-requires : tie.Need-scopes-with-requires
 scopes-with-requires c κs = search needs
@@ -22,7 +22,7 @@ every-open-requires : tie.Need-every-open-requires
 every-open-requires c κs = search needs
 
 returns : tie.Need-returns
-returns c = abandoning-asked _ _ (c .before .before .before .before .before .before .pre .0) _ _ _ _ (c .before .scopes-with .ensures) _ (c .before .before .before .open-scopes .ensures) (c .before .before .failing .ensures) (c .every-open .ensures)
+returns c = abandoning-asked _ _ (c .before .before .before .before .before .before .pre .accepts) _ _ _ _ (c .before .scopes-with .ensures) _ (c .before .before .before .open-scopes .ensures) (c .before .before .failing .ensures) (c .every-open .ensures)
 
 pub abandoning-done-spec : {M : Type 1} → statement M
 abandoning-done-spec =

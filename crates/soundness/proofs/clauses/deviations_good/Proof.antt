@@ -7,7 +7,7 @@ use Rattle.soundness.proofs.clauses.deviations_good.Statement.{statemen
 use Rattle.soundness.proofs.clauses.deviations_good.Tie as tie
 
 every-track-requires : tie.Need-every-track-requires
-every-track-requires c κs = with-entries _ _ _ _ (c .before .before .pre .0) (c .before .before .pre .1) (c .before .before .pre .2)
+every-track-requires c κs = with-entries _ _ _ _ (c .before .before .pre .0) (c .before .before .pre .1)
 
 returns : tie.Need-returns
 unfolding deviationsGood passes

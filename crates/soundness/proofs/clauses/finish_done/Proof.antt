@@ -10,7 +10,7 @@ use Rattle.soundness.proofs.clauses.finish_done.Tie as tie
 
 every-track-requires : tie.Need-every-track-requires
 unfolding ofEntries
-every-track-requires c κs = no-entries _ _ _ _ (c .before .before .pre .0) (c .before .before .pre .1) refl
+every-track-requires c κs = no-entries _ _ _ _ (c .before .before .pre) refl
 
 returns : tie.Need-returns
 unfolding finishDone isFinishing passes

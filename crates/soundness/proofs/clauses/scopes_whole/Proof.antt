@@ -9,7 +9,7 @@ use Rattle.soundness.proofs.clauses.scopes_whole.Tie as tie
 
 failing-requires : tie.Need-failing-requires
 unfolding ofEntries
-failing-requires c κs = no-entries _ _ _ _ (c .before .before .pre .0) (c .before .before .pre .1) refl
+failing-requires c κs = no-entries _ _ _ _ (c .before .before .pre) refl
 
 scopes-with-requires : tie.Need-scopes-with-requires
 scopes-with-requires c κs = search needs
@@ -18,7 +18,7 @@ every-open-requires : tie.Need-every-open-requires
 every-open-requires c κs = search needs
 
 returns : tie.Need-returns
-returns c = whole-asked _ _ (c .before .before .before .before .before .pre .0) _ _ _ _ (c .before .scopes-with .ensures) (c .before .before .failing .ensures) (c .every-open .ensures)
+returns c = whole-asked _ _ (c .before .before .before .before .before .pre .accepts) _ _ _ _ (c .before .scopes-with .ensures) (c .before .before .failing .ensures) (c .every-open .ensures)
 
 pub scopes-whole-spec : {M : Type 1} → statement M
 scopes-whole-spec =

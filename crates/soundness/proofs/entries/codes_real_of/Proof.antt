@@ -1,6 +1,6 @@
 -- The count read is that of the entries held, which tidy words keep within the limit. Assumes nothing.
 use mathlib.Core.Path.{_∙_}
-use Rattle.lookup.proofs.Facts.{in-room}
+use Rattle.ledger.proofs.Words.{in-room}
 use Rattle.ledger.proofs.ReadTracks.{count-as}
 use Rattle.soundness.proofs.Asking.{few-held, held-asked}
 use borrow.Author.Needs.{needs}

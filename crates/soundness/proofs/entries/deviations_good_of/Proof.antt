@@ -13,10 +13,10 @@ wide-requires : tie.Need-wide-requires
 wide-requires c κs = search needs
 
 good-deviations-requires : tie.Need-good-deviations-requires
-good-deviations-requires c κs = (c .before .before .before .before .pre .0, c .before .before .before .before .pre .1, c .before .before .before .before .pre .2, few-held _ _ _ _ (c .before .before .before .before .pre .3) (c .wide .ensures .0 ∙ count-as _ (c .before .track .ensures)))
+good-deviations-requires c κs = (c .before .before .before .before .pre .0, c .before .before .before .before .pre .1, few-held _ _ _ _ (c .before .before .before .before .pre .2) (c .wide .ensures .0 ∙ count-as _ (c .before .track .ensures)))
 
 returns : tie.Need-returns
-returns c = c .good-deviations .ensures ∙ held-asked _ _ _ _ _ (c .before .before .before .before .before .pre .2) (c .before .wide .ensures .0 ∙ count-as _ (c .before .before .track .ensures))
+returns c = c .good-deviations .ensures ∙ held-asked _ _ _ _ _ (c .before .before .before .before .before .pre .1) (c .before .wide .ensures .0 ∙ count-as _ (c .before .before .track .ensures))
 
 pub deviations-good-of-spec : {M : Type 1} → statement M
 deviations-good-of-spec =

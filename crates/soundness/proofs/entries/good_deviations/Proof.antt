@@ -3,8 +3,8 @@ use mathlib.Core.Path.{_∙_, _≡_, refl, ap}
 use Rattle.rules.specs.Ledger.{entryAt}
 use Rattle.rules.specs.Soundness.{goodDeviation}
 use Rattle.ledger.specs.Words.{entryPlace}
-use Rattle.lookup.specs.Going.{ledgerOf}
-use Rattle.lookup.proofs.Facts.{in-room}
+use Rattle.lookup.specs.Checked.{ledgerOf}
+use Rattle.ledger.proofs.Words.{in-room}
 use Rattle.soundness.proofs.Asking.{held-below}
 use borrow.Author.Needs.{needs}
 use borrow.Author.Tests.{not-true, not-false}
@@ -27,7 +27,7 @@ unfolding everyBelow
 loop-holds c = (search needs, refl)
 
 entry-deviation-requires : tie.Need-entry-deviation-requires Inv-loop μ-loop
-entry-deviation-requires c κs = (in-room _ _ _ (c .before .before .before .before .pre .1) (c .before .before .before .before .pre .2), search needs)
+entry-deviation-requires c κs = (in-room _ _ _ (c .before .before .before .before .pre .0 .room) (c .before .before .before .before .pre .1), search needs)
 
 good-deviation-requires : tie.Need-good-deviation-requires Inv-loop μ-loop
 good-deviation-requires c κs = search needs

@@ -7,7 +7,7 @@ use Prim.Native.Nat.{_-_, _≤_}
 use Rattle.rules.specs.Fold.{everyBelow}
 use Rattle.rules.specs.Plan.{planOf}
 use Rattle.ledger.proofs.Loops.{every-next, every-stops, every-ends}
-use Rattle.lookup.specs.Going.{ledgerOf}
+use Rattle.lookup.specs.Checked.{ledgerOf}
 use Rattle.soundness.specs.Asked.{scopeIs}
 use Rattle.soundness.proofs.scopes.every_open.Statement.{statement}
 use Rattle.soundness.proofs.scopes.every_open.Tie as tie

@@ -25,7 +25,7 @@ cast-marked c = search needs
 
 array-read-marked : tie.Need-array-read-marked
 unfolding noState
-array-read-marked c = let b = host-low _ _ _ _ (c .before .before .before .before .before .before .pre .0) (c .before .host-word .ensures) (c .if2 .left) in let n = c .before .before .before .before .before .before .pre .0 .holds .states in omega arith
+array-read-marked c = let b = host-low _ _ _ _ (c .before .before .before .before .before .before .pre .0 .accepts) (c .before .host-word .ensures) (c .if2 .left) in let n = c .before .before .before .before .before .before .pre .0 .accepts .holds .states in omega arith
 
 returns-3 : tie.Need-returns-3
 unfolding noState

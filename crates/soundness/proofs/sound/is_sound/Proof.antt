@@ -1,12 +1,12 @@
 -- The words, then over, then the clauses. Assumes nothing.
 use Rattle.ledger.proofs.Branches.{holds}
-use Rattle.soundness.proofs.Judging.{in-all, untidy, sound-over, sound-live}
+use Rattle.soundness.proofs.Judging.{untidy, sound-over, sound-live}
 use borrow.Author.Needs.{needs}
 use Rattle.soundness.proofs.sound.is_sound.Statement.{statement}
 use Rattle.soundness.proofs.sound.is_sound.Tie as tie
 
 are-tidy-requires : tie.Need-are-tidy-requires
-are-tidy-requires c κs = in-all _ _ (c .before .before .pre .1)
+are-tidy-requires c κs = c .before .before .pre .room
 
 returns : tie.Need-returns
 returns c = untidy _ _ _ (c .before .are-tidy .ensures) (c .if1 .taken)
@@ -18,7 +18,7 @@ returns-2 : tie.Need-returns-2
 returns-2 c = sound-over _ _ _ (c .before .before .before .are-tidy .ensures) (c .before .before .if1 .left) (c .before .is-over .ensures) (c .if2 .taken)
 
 is-live-requires : tie.Need-is-live-requires
-is-live-requires c κs = (c .before .before .before .before .before .before .pre .0, c .before .before .before .before .before .before .pre .1, holds (c .before .before .before .are-tidy .ensures) (c .before .before .if1 .left))
+is-live-requires c κs = (c .before .before .before .before .before .before .pre, holds (c .before .before .before .are-tidy .ensures) (c .before .before .if1 .left))
 
 returns-3 : tie.Need-returns-3
 returns-3 c = sound-live _ _ _ (c .before .before .before .before .are-tidy .ensures) (c .before .before .before .if1 .left) (c .before .before .is-over .ensures) (c .before .if2 .left) (c .is-live .ensures)

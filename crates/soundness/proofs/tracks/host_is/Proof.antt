@@ -1,5 +1,5 @@
 -- A state's track is one of the plan's; its state and mode as read are the ledger's. Assumes nothing.
-use Rattle.lookup.specs.Going.{ledgerOf}
+use Rattle.lookup.specs.Checked.{ledgerOf}
 use Rattle.lookup.proofs.Facts.{owner-low}
 use Rattle.soundness.proofs.Asking.{host-elsewhere, host-there}
 use mathlib.Core.Path.{_∙_}
@@ -14,7 +14,7 @@ wide-requires : tie.Need-wide-requires
 wide-requires c κs = search needs
 
 track-requires : tie.Need-track-requires
-track-requires c κs = (c .before .before .before .before .pre .1, rw (c .wide .ensures .0 ∙ c .before .track-of .ensures) (owner-low _ _ _ (c .before .before .before .before .pre .0) (c .before .before .before .before .pre .2)))
+track-requires c κs = (c .before .before .before .before .pre .0 .room, rw (c .wide .ensures .0 ∙ c .before .track-of .ensures) (owner-low _ _ _ (c .before .before .before .before .pre .0 .accepts) (c .before .before .before .before .pre .1)))
 
 wide-requires-2 : tie.Need-wide-requires-2
 wide-requires-2 c κs = search needs

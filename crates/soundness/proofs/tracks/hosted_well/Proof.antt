@@ -1,6 +1,6 @@
 -- A root has no host; a track asleep is not asked. Assumes nothing.
 use Rattle.rules.specs.Plan.{noState, planOf}
-use Rattle.lookup.specs.Going.{ledgerOf}
+use Rattle.lookup.specs.Checked.{ledgerOf}
 use mathlib.Core.Path.{ap, _∙_}
 use Rattle.rules.specs.Ledger.{isAwake}
 use Rattle.ledger.proofs.Branches.{or-stops, or-goes}
@@ -34,7 +34,7 @@ wide-requires c κs = search needs
 
 host-is-requires : tie.Need-host-is-requires
 unfolding noState
-host-is-requires c κs = (c .before .before .before .before .before .before .before .before .pre .0, c .before .before .before .before .before .before .before .before .pre .1, rw (c .wide .ensures .0) (host-low _ _ _ _ (c .before .before .before .before .before .before .before .before .pre .0) (c .before .before .before .before .before .host-word .ensures) (c .before .before .before .before .if1 .left)))
+host-is-requires c κs = (c .before .before .before .before .before .before .before .before .pre .0, rw (c .wide .ensures .0) (host-low _ _ _ _ (c .before .before .before .before .before .before .before .before .pre .0 .accepts) (c .before .before .before .before .before .host-word .ensures) (c .before .before .before .before .if1 .left)))
 
 returns-3 : tie.Need-returns-3
 unfolding passes noState

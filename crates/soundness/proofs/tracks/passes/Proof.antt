@@ -22,14 +22,14 @@ enum-told-3 c = search needs
 
 codes-real-of-requires : tie.Need-codes-real-of-requires
 unfolding ofEntries
-codes-real-of-requires c κs = (c .before .before .before .before .pre .0 .roomy, c .before .before .before .before .pre .1, c .before .before .before .before .pre .0 .tidy (ap ofEntries (c .enum-told3 .given .1)))
+codes-real-of-requires c κs = (c .before .before .before .before .pre .0 .lent .room, c .before .before .before .before .pre .1, c .before .before .before .before .pre .0 .tidy (ap ofEntries (c .enum-told3 .given .1)))
 
 enum-told-4 : tie.Need-enum-told-4
 enum-told-4 c = search needs
 
 deviations-good-of-requires : tie.Need-deviations-good-of-requires
 unfolding ofEntries
-deviations-good-of-requires c κs = (c .before .before .before .before .pre .0 .accepts, c .before .before .before .before .pre .0 .roomy, c .before .before .before .before .pre .1, c .before .before .before .before .pre .0 .tidy (ap ofEntries (c .enum-told4 .given .1)))
+deviations-good-of-requires c κs = (c .before .before .before .before .pre .0 .lent, c .before .before .before .before .pre .1, c .before .before .before .before .pre .0 .tidy (ap ofEntries (c .enum-told4 .given .1)))
 
 enum-told-5 : tie.Need-enum-told-5
 enum-told-5 c = search needs

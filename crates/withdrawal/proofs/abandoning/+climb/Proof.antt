@@ -44,7 +44,7 @@ climb-is-taken-back-requires : (t : ℕ) → climb-lts.Need-is-taken-back-requir
   climb-below t,
   climb.Post,
 ) (climb-at t) climb.Post
-climb-is-taken-back-requires t c κs = (c .before .before .pre .1 .1 .roomy, climb-low _ _ (c .before .before .pre .1 .0) _ (c .before .before .pre .1 .1) _ _ (c .before .before .pre .1 .2))
+climb-is-taken-back-requires t c κs = (c .before .before .pre .1 .1 .room, climb-low _ _ (c .before .before .pre .1 .0) _ (c .before .before .pre .1 .1) _ _ (c .before .before .pre .1 .2))
 
 climb-returns : (t : ℕ) → climb-lts.Need-returns (
   is-taken-back-reads.Asked,
@@ -64,7 +64,7 @@ climb-host-track-requires : (t : ℕ) → climb-lts.Need-host-track-requires (
   climb-below t,
   climb.Post,
 ) (climb-at t) climb.Post
-climb-host-track-requires t c κs = (c .before .before .before .before .pre .1 .0, climb-low _ _ (c .before .before .before .before .pre .1 .0) _ (c .before .before .before .before .pre .1 .1) _ _ (c .before .before .before .before .pre .1 .2))
+climb-host-track-requires t c κs = let b = climb-low _ _ (c .before .before .before .before .pre .1 .0) _ (c .before .before .before .before .pre .1 .1) _ _ (c .before .before .before .before .pre .1 .2) in (c .before .before .before .before .pre .1 .0, omega arith)
 
 climb-returns-2 : (t : ℕ) → climb-lts.Need-returns-2 (
   is-taken-back-reads.Asked,

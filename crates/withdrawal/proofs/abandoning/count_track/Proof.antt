@@ -8,36 +8,36 @@ use Rattle.withdrawal.proofs.abandoning.count_track.Statement.{statemen
 use Rattle.withdrawal.proofs.abandoning.count_track.Tie as tie
 
 is-busy-requires : tie.Need-is-busy-requires
-is-busy-requires c κs = (c .before .before .pre .1, c .before .before .pre .2, count-mark _ _ (c .before .before .pre .0) _ _ _ _ (c .before .before .pre .3) (c .before .before .pre .2))
+is-busy-requires c κs = (c .before .before .pre .0 .room, c .before .before .pre .1, count-mark _ _ (c .before .before .pre .0 .accepts) _ _ _ _ (c .before .before .pre .2) (c .before .before .pre .1))
 
 returns : tie.Need-returns
-returns c = count-idle _ _ (c .before .before .before .before .pre .0) _ _ _ _ (c .before .before .before .before .pre .3) (c .before .is-busy .ensures) (c .if1 .taken)
+returns c = count-idle _ _ (c .before .before .before .before .pre .0 .accepts) _ _ _ _ (c .before .before .before .before .pre .2) (c .before .is-busy .ensures) (c .if1 .taken)
 
 host-track-requires : tie.Need-host-track-requires
 host-track-requires c κs = search needs
 
 returns-2 : tie.Need-returns-2
 unfolding noState
-returns-2 c = count-root _ _ (c .before .before .before .before .before .before .pre .0) _ _ _ _ (c .before .before .before .before .before .before .pre .3) (c .before .before .before .is-busy .ensures) (c .before .before .if1 .left) (c .before .host-track .ensures) (c .if2 .taken)
+returns-2 c = count-root _ _ (c .before .before .before .before .before .before .pre .0 .accepts) _ _ _ _ (c .before .before .before .before .before .before .pre .2) (c .before .before .before .is-busy .ensures) (c .before .before .if1 .left) (c .before .host-track .ensures) (c .if2 .taken)
 
 cast-at : tie.Need-cast-at
 cast-at c = search needs
 
 array-read-count : tie.Need-array-read-count
 unfolding noState
-array-read-count c = let b = host-track-low _ _ _ _ (c .before .before .before .before .before .before .pre .0) (c .before .host-track .ensures) (c .if2 .left) in let n = c .before .before .before .before .before .before .pre .0 .holds .tracks in omega arith
+array-read-count c = let b = host-track-low _ _ _ _ (c .before .before .before .before .before .before .pre .0 .accepts) (c .before .host-track .ensures) (c .if2 .left) in let n = c .before .before .before .before .before .before .pre .0 .accepts .holds .tracks in omega arith
 
 add-next : tie.Need-add-next
 unfolding noState
-add-next c = let n = c .before .before .before .before .before .before .pre .0 .holds .tracks in let b = c .before .before .before .before .before .before .pre .2 in let d = count-most _ _ (c .before .before .before .before .before .before .pre .0) _ _ _ _ (c .before .before .before .before .before .before .pre .3) (c .before .before .before .is-busy .ensures) (c .before .before .if1 .left) (c .before .host-track .ensures) (c .if2 .left) in omega arith
+add-next c = let n = c .before .before .before .before .before .before .pre .0 .accepts .holds .tracks in let b = c .before .before .before .before .before .before .pre .1 in let d = count-most _ _ (c .before .before .before .before .before .before .pre .0 .accepts) _ _ _ _ (c .before .before .before .before .before .before .pre .2) (c .before .before .before .is-busy .ensures) (c .before .before .if1 .left) (c .before .host-track .ensures) (c .if2 .left) in omega arith
 
 array-write-next : tie.Need-array-write-next
 unfolding noState
-array-write-next c = let b = host-track-low _ _ _ _ (c .before .before .before .before .before .before .pre .0) (c .before .host-track .ensures) (c .if2 .left) in let n = c .before .before .before .before .before .before .pre .0 .holds .tracks in omega arith
+array-write-next c = let b = host-track-low _ _ _ _ (c .before .before .before .before .before .before .pre .0 .accepts) (c .before .host-track .ensures) (c .if2 .left) in let n = c .before .before .before .before .before .before .pre .0 .accepts .holds .tracks in omega arith
 
 returns-3 : tie.Need-returns-3
 unfolding noState
-returns-3 c = count-host _ _ (c .before .before .before .before .before .before .pre .0) _ _ _ _ (c .before .before .before .before .before .before .pre .3) (c .before .before .before .is-busy .ensures) (c .before .before .if1 .left) (c .before .host-track .ensures) (c .if2 .left)
+returns-3 c = count-host _ _ (c .before .before .before .before .before .before .pre .0 .accepts) _ _ _ _ (c .before .before .before .before .before .before .pre .2) (c .before .before .before .is-busy .ensures) (c .before .before .if1 .left) (c .before .host-track .ensures) (c .if2 .left)
 
 pub count-track-spec : {M : Type 1} → statement M
 count-track-spec =

@@ -2,7 +2,8 @@
 use native.Mathlib.Omega.{arith}
 use borrow.Author.Needs.{needs}
 use Rattle.rules.specs.Plan.{noState}
-use Rattle.lookup.proofs.Facts.{host-track-low, in-room}
+use Rattle.ledger.proofs.Words.{in-room}
+use Rattle.lookup.proofs.Facts.{host-track-low}
 use Rattle.withdrawal.proofs.Leaving.{leave-asleep, leave-root, leave-not, leave-done}
 use Rattle.withdrawal.proofs.abandoning.leave_track.Statement.{statement}
 use Rattle.withdrawal.proofs.abandoning.leave_track.Tie as tie
@@ -41,7 +42,7 @@ unfolding noState
 returns-3 c = leave-not _ _ (c .before .before .before .before .before .before .before .before .pre .0) _ (c .before .before .before .before .before .before .before .before .pre .1) _ _ (c .before .before .before .before .is-awake .ensures) (c .before .before .host-track .ensures) (c .before .if2 .left) (c .if3 .taken)
 
 put-to-sleep-requires : tie.Need-put-to-sleep-requires
-put-to-sleep-requires c κs = in-room _ _ _ (c .before .before .before .before .before .before .before .before .before .pre .1 .roomy) (c .before .before .before .before .before .before .before .before .before .pre .2)
+put-to-sleep-requires c κs = in-room _ _ _ (c .before .before .before .before .before .before .before .before .before .pre .1 .room) (c .before .before .before .before .before .before .before .before .before .pre .2)
 
 same-length-4 : tie.Need-same-length-4
 same-length-4 c = search needs

@@ -3,7 +3,7 @@ use Prim.Native.Nat.{_≤_, _-_}
 use native.Mathlib.Omega.{arith}
 use borrow.Author.Needs.{needs}
 use Rattle.rules.specs.Plan.{planOf}
-use Rattle.lookup.specs.Going.{ledgerOf}
+use Rattle.lookup.specs.Checked.{ledgerOf}
 use Rattle.withdrawal.specs.Scopes.{Cleared}
 use Rattle.withdrawal.proofs.Leaving.{visit-start, visit-end}
 use Rattle.withdrawal.proofs.abandoning.left_open.Statement.{statement}
@@ -16,7 +16,7 @@ abbrev μ-loop : tie.MeasureT-loop
 μ-loop plan c ledger scopes₀ tracks t₀ scopes t = c .tracks - t
 
 open-scopes-requires : tie.Need-open-scopes-requires Inv-loop μ-loop
-open-scopes-requires c κs = (c .before .before .pre .0, c .before .before .pre .1 .roomy)
+open-scopes-requires c κs = record { accepts = c .before .before .pre .0; room = c .before .before .pre .1 .room }
 
 loop-holds : tie.Need-loop-holds Inv-loop μ-loop
 loop-holds c = (omega arith, visit-start _ _ (c .before .before .before .pre .0) _ (c .before .before .before .pre .1) (c .before .before .before .pre .2) _ (c .open-scopes .ensures))

@@ -4,7 +4,7 @@ use Prim.Native.Nat.{_≤_, _-_}
 use native.Mathlib.Omega.{arith}
 use borrow.Author.Needs.{needs}
 use Rattle.rules.specs.Plan.{planOf}
-use Rattle.lookup.specs.Going.{ledgerOf}
+use Rattle.lookup.specs.Checked.{ledgerOf}
 use Rattle.withdrawal.specs.Scopes.{Counted}
 use Rattle.withdrawal.proofs.Counted.{count-start}
 use Rattle.withdrawal.proofs.abandoning.open_scopes.Statement.{statement}
@@ -20,10 +20,10 @@ open-scopes-requires : tie.Need-open-scopes-requires Inv-loop μ-loop
 open-scopes-requires c κs = search needs
 
 loop-holds : tie.Need-loop-holds Inv-loop μ-loop
-loop-holds c = (omega arith, count-start _ _ (c .before .before .before .pre .0) _ _ (c .open-scopes .ensures))
+loop-holds c = (omega arith, count-start _ _ (c .before .before .before .pre .accepts) _ _ (c .open-scopes .ensures))
 
 count-track-requires : tie.Need-count-track-requires Inv-loop μ-loop
-count-track-requires c κs = (c .before .before .before .before .before .pre .0, c .before .before .before .before .before .pre .1, search needs, c .before .loop .inv .1)
+count-track-requires c κs = (c .before .before .before .before .before .pre, search needs, c .before .loop .inv .1)
 
 add-t : tie.Need-add-t Inv-loop μ-loop
 add-t c = search needs

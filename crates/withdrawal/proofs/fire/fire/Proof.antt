@@ -28,7 +28,7 @@ unfolding fireTold
 returns-2 c = fire-not (c .before .before .before .before .before .before .before .before .pre) (c .before .before .before .before .is-over .ensures) (c .before .before .before .if1 .left) _ (c .before .may-fire .ensures) (c .if2 .taken)
 
 track-requires : tie.Need-track-requires
-track-requires c κs = (c .before .before .before .before .before .before .before .before .before .pre .roomy, low (fireable (c .before .before .before .before .before .before .before .before .before .pre) (c .before .before .before .before .before .is-over .ensures) (c .before .before .before .before .if1 .left) _ (c .before .before .may-fire .ensures) (c .before .if2 .left)))
+track-requires c κs = (c .before .before .before .before .before .before .before .before .before .pre .lent .room, low (fireable (c .before .before .before .before .before .before .before .before .before .pre) (c .before .before .before .before .before .is-over .ensures) (c .before .before .before .before .if1 .left) _ (c .before .before .may-fire .ensures) (c .before .if2 .left)))
 
 sub-newest : tie.Need-sub-newest
 sub-newest c =
@@ -61,14 +61,14 @@ deviate-requires c κs =
     let a = fireable (c .before .before .before .before .before .before .before .before .before .before .before .before .before .before .before .before .before .before .before .before .pre) (c .before .before .before .before .before .before .before .before .before .before .before .before .before .before .before .before .is-over .ensures) (c .before .before .before .before .before .before .before .before .before .before .before .before .before .before .before .if1 .left) _ (c .before .before .before .before .before .before .before .before .before .before .before .before .before .may-fire .ensures) (c .before .before .before .before .before .before .before .before .before .before .before .before .if2 .left) in
     let d = removed-words a (c .before .before .before .before .before .before .before .before .before .before .track .ensures) (c .before .before .before .remove-newest .ensures) in
     let e = deviation-is a (c .before .before .before .before .before .before .before .before .before .before .track .ensures) (c .before .before .before .before .before .entry-deviation .ensures) in
-    (c .before .before .before .before .before .before .before .before .before .before .before .before .before .before .before .before .before .before .before .before .pre .accepts, removed-orderly a d e, low a, sleepers a d e)
+    (c .before .before .before .before .before .before .before .before .before .before .before .before .before .before .before .before .before .before .before .before .pre .lent .accepts, removed-orderly a d e, low a, sleepers a d e)
 
 abandon-requires : tie.Need-abandon-requires
 abandon-requires c κs =
     let a = fireable (c .before .before .before .before .before .before .before .before .before .before .before .before .before .before .before .before .before .before .before .before .before .before .before .before .pre) (c .before .before .before .before .before .before .before .before .before .before .before .before .before .before .before .before .before .before .before .before .is-over .ensures) (c .before .before .before .before .before .before .before .before .before .before .before .before .before .before .before .before .before .before .before .if1 .left) _ (c .before .before .before .before .before .before .before .before .before .before .before .before .before .before .before .before .before .may-fire .ensures) (c .before .before .before .before .before .before .before .before .before .before .before .before .before .before .before .before .if2 .left) in
     let d = removed-words a (c .before .before .before .before .before .before .before .before .before .before .before .before .before .before .track .ensures) (c .before .before .before .before .before .before .before .remove-newest .ensures) in
     let e = deviation-is a (c .before .before .before .before .before .before .before .before .before .before .before .before .before .before .track .ensures) (c .before .before .before .before .before .before .before .before .before .entry-deviation .ensures) in
-    (c .before .before .before .before .before .before .before .before .before .before .before .before .before .before .before .before .before .before .before .before .before .before .before .before .pre .accepts, fired-orderly a d e (c .before .before .before .deviate .ensures), fired-nested a d e (c .before .before .before .deviate .ensures))
+    (c .before .before .before .before .before .before .before .before .before .before .before .before .before .before .before .before .before .before .before .before .before .before .before .before .pre .lent .accepts, fired-orderly a d e (c .before .before .before .deviate .ensures), fired-nested a d e (c .before .before .before .deviate .ensures))
 
 same-length-3 : tie.Need-same-length-3
 same-length-3 c = search needs

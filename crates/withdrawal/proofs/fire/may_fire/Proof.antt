@@ -1,7 +1,7 @@
--- The parts of the rule under Fire, one after the other. Assumes nothing.
+-- A track beyond the plan's may not be fired; of another, its words and the mark of its open scope decide. Assumes nothing.
 use native.Mathlib.Omega.{arith}
-use Rattle.lookup.specs.Going.{ledgerOf}
-use Rattle.withdrawal.proofs.Fired.{may-beyond, may-ahead, may-empty, may-open}
+use Rattle.lookup.proofs.Readiness.{fire-read}
+use Rattle.withdrawal.proofs.Fired.{may-beyond}
 use borrow.Author.Needs.{needs}
 use Rattle.withdrawal.proofs.fire.may_fire.Statement.{statement}
 use Rattle.withdrawal.proofs.fire.may_fire.Tie as tie
@@ -9,33 +9,14 @@ use Rattle.withdrawal.proofs.fire.may_fire.Tie as tie
 returns : tie.Need-returns
 returns c = may-beyond _ _ _ _ (omega arith)
 
-track-requires : tie.Need-track-requires
-track-requires c κs = search needs
+open-scopes-requires : tie.Need-open-scopes-requires
+open-scopes-requires c κs = search needs
 
-is-undoing-requires : tie.Need-is-undoing-requires
-is-undoing-requires c κs = search needs
+is-ready-requires : tie.Need-is-ready-requires
+is-ready-requires c κs = search needs
 
 returns-2 : tie.Need-returns-2
-returns-2 c = may-ahead _ _ _ _ (omega arith) (c .before .before .track .ensures) (c .before .is-undoing .ensures) (c .if2 .taken)
-
-returns-3 : tie.Need-returns-3
-returns-3 c = may-empty _ _ _ _ (omega arith) (c .before .before .before .before .track .ensures) (c .before .before .before .is-undoing .ensures) (c .before .before .if2 .left) (c .if3 .taken)
-
-has-open-scope-requires : tie.Need-has-open-scope-requires
-has-open-scope-requires c κs = search needs
-
-returns-4 : tie.Need-returns-4
-unfolding ledgerOf
-returns-4 c = may-open _ _ _ _ (omega arith) (c .before .before .before .before .before .track .ensures) (c .before .before .before .before .is-undoing .ensures) (c .before .before .before .if2 .left) (c .before .if3 .left) (c .has-open-scope .ensures)
+returns-2 c = fire-read _ _ _ _ _ (c .before .before .before .before .before .before .pre .accepts) (c .before .open-scopes .ensures) (omega arith) (c .is-ready .ensures)
 
 pub may-fire-spec : {M : Type 1} → statement M
-may-fire-spec =
-    tie.close
-    (tie.spec
-    returns
-    track-requires
-    is-undoing-requires
-    returns-2
-    returns-3
-    has-open-scope-requires
-    returns-4)
+may-fire-spec = tie.close (tie.spec returns open-scopes-requires is-ready-requires returns-2)

@@ -20,7 +20,7 @@ turn-all-requires : tie.Need-turn-all-requires
 turn-all-requires c κs = orderly _ _ _ (c .before .before .before .before .before .before .pre)
 
 abandon-requires : tie.Need-abandon-requires
-abandon-requires c κs = (c .before .before .before .before .before .before .before .before .before .before .pre .accepts, turned-orderly _ _ _ (c .before .before .before .before .before .before .before .before .before .before .pre) (c .before .before .before .turn-all .ensures .1), turned-nested _ _ _ (c .before .before .before .before .before .before .before .before .before .before .pre) (sym (over-as _ _ _ (c .before .before .before .before .before .before .before .before .before .before .pre) (c .before .before .before .before .before .before .is-over .ensures)) ∙ c .before .before .before .before .before .if1 .left) (c .before .before .before .turn-all .ensures .1))
+abandon-requires c κs = (c .before .before .before .before .before .before .before .before .before .before .pre .lent .accepts, turned-orderly _ _ _ (c .before .before .before .before .before .before .before .before .before .before .pre) (c .before .before .before .turn-all .ensures .1), turned-nested _ _ _ (c .before .before .before .before .before .before .before .before .before .before .pre) (sym (over-as _ _ _ (c .before .before .before .before .before .before .before .before .before .before .pre) (c .before .before .before .before .before .before .is-over .ensures)) ∙ c .before .before .before .before .before .if1 .left) (c .before .before .before .turn-all .ensures .1))
 
 same-length-2 : tie.Need-same-length-2
 same-length-2 c = search needs

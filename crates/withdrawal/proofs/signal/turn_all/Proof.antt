@@ -9,7 +9,7 @@ use Rattle.rules.specs.Ledger.{isForward, written}
 use Rattle.rules.specs.Signal.{turned}
 use Rattle.rules.proofs.Passes.{upTo}
 use Rattle.rules.proofs.Folds.{count-most}
-use Rattle.lookup.specs.Going.{ledgerOf}
+use Rattle.lookup.specs.Checked.{ledgerOf}
 use Rattle.withdrawal.proofs.Tracks.{one-most, turn-count, turning-start, turning-orderly, turning-length, turning-old, turning-more, turning-end}
 use Rattle.withdrawal.proofs.signal.turn_all.Statement.{statement}
 use Rattle.withdrawal.proofs.signal.turn_all.Tie as tie
@@ -28,7 +28,7 @@ turn-track-requires : tie.Need-turn-track-requires Inv-loop μ-loop
 turn-track-requires c κs = (turning-orderly _ _ (c .before .before .before .before .pre) _ (c .before .before .loop .inv .0) (c .before .before .loop .inv .2), search needs)
 
 add-count : tie.Need-add-count Inv-loop μ-loop
-add-count c = let f = c .before .before .before .before .before .before .before .pre .roomy .few in omega (arith, c .before .before .before .before .before .loop .inv .1, count-most (c .before .before .before .before .before .loop .t) (λ t. isForward (ledgerOf (c .before .before .before .before .before .before .before .args .c) (c .before .before .before .before .before .before .before .args .ledger .now) t .mode)), c .before .before .turn-track .ensures .0, one-most (isForward (ledgerOf (c .before .before .before .before .before .before .before .args .c) (c .before .before .before .before .before .loop .ledger) (c .before .before .before .before .before .loop .t) .mode)))
+add-count c = let f = c .before .before .before .before .before .before .before .pre .room .few in omega (arith, c .before .before .before .before .before .loop .inv .1, count-most (c .before .before .before .before .before .loop .t) (λ t. isForward (ledgerOf (c .before .before .before .before .before .before .before .args .c) (c .before .before .before .before .before .before .before .args .ledger .now) t .mode)), c .before .before .turn-track .ensures .0, one-most (isForward (ledgerOf (c .before .before .before .before .before .before .before .args .c) (c .before .before .before .before .before .loop .ledger) (c .before .before .before .before .before .loop .t) .mode)))
 
 add-t : tie.Need-add-t Inv-loop μ-loop
 add-t c = search needs

@@ -1,0 +1,18 @@
+-- Words that hold a ledger, with one track replaced. Assumes nothing.
+use mathlib.Core.Bool.{cond}
+use mathlib.Core.List.{List}
+use Prim.Native.Nat.{ℕ}
+use lib.Dec.{eqb}
+use Rattle.rules.specs.declared.Counts.{Counts}
+use Rattle.rules.specs.declared.Mode.{Mode}
+use Rattle.rules.specs.Layout.{entryLimit}
+use Rattle.rules.specs.Ledger.{Configuration, written}
+use Rattle.lookup.specs.Checked.{ledgerOf}
+
+-- the words with one track's replaced
+unfoldable pub withConfiguration : Counts → List ℕ → ℕ → Configuration → List ℕ
+withConfiguration c ws t x = written entryLimit (c .tracks) (λ u. cond (eqb u t) x (ledgerOf c ws u)) ws
+
+-- a configuration in another mode and state, holding what it held
+unfoldable pub withMode : Mode → ℕ → Configuration → Configuration
+withMode m s x = record { mode = m; state = s; held = x .held }

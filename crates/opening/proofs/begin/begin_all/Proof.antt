@@ -1,0 +1,34 @@
+-- Asleep, the words are tidy and whatever wakes is asleep; the roots entered, they hold begin's ledger. Assumes nothing.
+use Rattle.opening.proofs.BeginLaws.{begin-tidy, begin-sleepers, begin-done}
+use borrow.Author.Needs.{needs}
+use Rattle.opening.proofs.begin.begin_all.Statement.{statement}
+use Rattle.opening.proofs.begin.begin_all.Tie as tie
+
+put-all-to-sleep-requires : tie.Need-put-all-to-sleep-requires
+put-all-to-sleep-requires c κs = search needs
+
+first-states-requires : tie.Need-first-states-requires
+first-states-requires c κs = search needs
+
+root-words-requires : tie.Need-root-words-requires
+root-words-requires c κs = search needs
+
+enter-all-requires : tie.Need-enter-all-requires
+enter-all-requires c κs = (c .before .before .before .before .before .before .before .before .before .pre .accepts, begin-tidy _ _ (c .before .before .before .before .before .before .before .before .before .pre .accepts) _ (c .before .before .before .before .before .before .before .before .before .pre .room) (c .before .before .before .before .before .put-all-to-sleep .ensures), c .before .before .first-states .ensures, begin-sleepers _ _ (c .before .before .before .before .before .before .before .before .before .pre .accepts) _ (c .before .before .before .before .before .before .before .before .before .pre .room) (c .before .before .before .before .before .put-all-to-sleep .ensures) _)
+
+same-length : tie.Need-same-length
+same-length c = search needs
+
+returns : tie.Need-returns
+returns c = begin-done _ _ (c .before .before .before .before .before .before .before .before .before .before .before .before .pre .accepts) _ (c .before .before .before .before .before .before .before .before .before .before .before .before .pre .room) (c .before .before .before .before .before .before .before .before .put-all-to-sleep .ensures) _ (c .before .before .before .before .root-words .ensures) (c .before .before .enter-all .ensures)
+
+pub begin-all-spec : {M : Type 1} → statement M
+begin-all-spec =
+    tie.close
+    (tie.spec
+    put-all-to-sleep-requires
+    first-states-requires
+    root-words-requires
+    enter-all-requires
+    same-length
+    returns)

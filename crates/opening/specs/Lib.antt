@@ -1,0 +1,2 @@
+-- What entering states speaks of beside the rules.
+pub mod Entering

@@ -1,0 +1,25 @@
+// Writing one track of a ledger, the others left as they are.
+use ledger::track;
+use lookup::reading;
+use rules::Counts;
+use rules::Mode;
+use rules::Track;
+ghost use mathlib.Core.Path.{_≡_};
+ghost use Prim.Native.Nat.{_<_};
+ghost use Rattle.ledger.specs.Words.{Tidy};
+ghost use Rattle.lookup.specs.Checked.{ledgerOf};
+ghost use Rattle.lookup.specs.OneTrack.{withConfiguration, withMode};
+
+// A track's mode and state; it holds what it held.
+pub fn put_mode(c: Counts, ledger: &mut [u16], t: usize, m: Mode, s: u16)
+    requires { ⌜ Tidy (now ledger) (c .tracks) × (t < c .tracks) ⌝ }
+    ensures { λ _. ⌜ now (ledger .exit) ≡ withConfiguration c (now (ledger .entry)) t (withMode m s (ledgerOf c (now (ledger .entry)) t)) ⌝ }
+{
+    let k = reading::track(c, &ledger[..], t);
+    let next = Track {
+        mode: m,
+        state: s,
+        count: k.count,
+    };
+    track::put_track(&mut ledger[..], t, next);
+}
