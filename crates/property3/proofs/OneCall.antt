@@ -8,7 +8,8 @@ use lib.ListN.{length, take, drop, set}
 use borrow.Author.Tests.{ne-eqb, eq-eqb}
 use Rattle.rules.specs.Call.{Answer, Outcome, nothing, callOutcome, eventOutcome, signalOutcome, fireOutcome, Meets}
 use Rattle.property3.specs.declared.EncodedAnswer.{EncodedAnswer}
-use Rattle.property3.specs.Encoding.{eventKind, signalKind, decodedCall, encodedAnswer, encodedWords, CallMade}
+use Rattle.rules.specs.Journal.{eventKind, signalKind}
+use Rattle.property3.specs.Encoding.{decodedCall, encodedAnswer, encodedWords, CallMade}
 
 pub encoded : (o : Outcome) (told : Answer) (t : EncodedAnswer) (ws : List ℕ) → Meets o told ws → encodedWords t ≡ encodedAnswer told → CallMade o t ws
 encoded o told t ws m e = record { answered = e ∙ ap encodedAnswer (m .answered); left = m .left }

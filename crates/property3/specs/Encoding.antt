@@ -6,19 +6,10 @@ use Prim.Native.Nat.{ℕ, zero, suc, _*_, _/_}
 use lib.ListN.{length}
 use lib.Dec.{eqb, ltb}
 use Rattle.rules.specs.Call.{Answer, refusal, done, Outcome, Call, event, signal, fire, nothing}
+use Rattle.rules.specs.Journal.{eventKind, signalKind, fireKind}
 use Rattle.property3.specs.declared.EncodedAnswer.{EncodedAnswer}
 
--- the journal's kinds: "16 event .., 17 signal .., 18 fire .."
-abbrev pub eventKind : ℕ
-eventKind = 16
-
-abbrev pub signalKind : ℕ
-signalKind = 17
-
-abbrev pub fireKind : ℕ
-fireKind = 18
-
--- A call is its kind and its argument, an event's or a track's; a signal's is 0.
+-- A call is its kind, the journal's, and its argument, an event's or a track's; a signal's is 0.
 unfoldable pub kindOf : Call → ℕ
 kindOf (event a) = eventKind
 kindOf (signal a) = signalKind
