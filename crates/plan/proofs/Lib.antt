@@ -1,5 +1,4 @@
--- Laws of the plan reader.
-pub mod ChainLaws
+-- Laws of a plan's fields and of the passes over its records.
 pub mod FieldLaws
 pub mod Searches
 pub mod Members
@@ -8,9 +7,3 @@ pub mod Hosting
 pub mod Judging
 pub mod PassLaws
 pub mod PassTurns
-pub mod KindTables
-pub mod MarkLaws
-pub mod Reader
-pub mod RecordTable
-pub mod Runs
-pub mod Scanning

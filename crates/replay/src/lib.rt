@@ -75,7 +75,7 @@ pub fn run(plan: &[u8], journal: &[u8], ledger: &mut [u16], output: &mut [u8]) -
     if MOST_BYTES < journal.len() {
         return RunAnswer::Written(refusal_line(&mut output[..], 0, 1));
     }
-    let answer = plan::read_plan(plan);
+    let answer = plan_reader::read_plan(plan);
     match answer {
         PlanAnswer::Refused(n) => RunAnswer::Written(refusal_line(&mut output[..], 0, n)),
         PlanAnswer::Accepted(c) => {
