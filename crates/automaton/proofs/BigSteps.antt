@@ -303,7 +303,7 @@ module _ (p : Plan) (ρ : FailReading) (ok : Accepted p) (limit : ℕ) (l : Ledg
   one-only (signal a) d e x y = signal-one (view p ρ l) d e x y
   one-only (fire a) d e x y = fire-one (a .track) (x .0) (y .0) d e (x .1) (y .1)
 
-  worked-ended : (c : Call) → view p ρ (after limit p l c) ≡ afterFinish p c (worked c)
+  worked-ended : (c : Call) → view p ρ (after p l c) ≡ afterFinish p c (worked c)
   unfolding worked after afterEvent afterFinish
   worked-ended (event a) =
       let m = moved p l (a .event) in
@@ -312,7 +312,7 @@ module _ (p : Plan) (ρ : FailReading) (ok : Accepted p) (limit : ℕ) (l : Ledg
   worked-ended (fire a) = refl
 
   -- an accepted call leads exactly where the automaton's big steps end
-  pub exactly-big : (c : Call) → callRefusal limit p l c ≡ 0 → (d : Conf) → Ends p ρ c (view p ρ l) d ↔ (d ≡ view p ρ (after limit p l c))
+  pub exactly-big : (c : Call) → callRefusal limit p l c ≡ 0 → (d : Conf) → Ends p ρ c (view p ρ l) d ↔ (d ≡ view p ρ (after p l c))
   unfolding Ends
   exactly-big c h d = (
     λ x. let (e, b, q) = x in q ∙ ap (afterFinish p c) (one-only c e (worked c) b (big c h)) ∙ sym (worked-ended c),

@@ -24,7 +24,7 @@ use Rattle.rules.proofs.Tests.{look, look-option, clash, refuted, and-both}
 use Rattle.rules.proofs.Folds.{first-none, some-at, every-at}
 use Rattle.rules.proofs.Acceptance.{Passed, Accepted, accepted-facts, sane}
 use Rattle.rules.proofs.Abandoning.{hosts-higher}
-use Rattle.theory.proofs.Modes.{forward-awake}
+use Rattle.rules.proofs.Modes.{forward-awake}
 use Rattle.theory.proofs.Nesting.{Awake, Nested}
 use Rattle.theory.proofs.Entries.{Good}
 use Rattle.automaton.specs.Listing.{listedFrom, listed}

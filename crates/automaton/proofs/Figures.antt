@@ -151,7 +151,7 @@ module _ (p : Plan) (ρ : FailReading) (ok : Accepted p) (l : Ledger) (n : Neste
   left-none a b c e f = omega arith
 
   -- moved and closed are the numbers of SUC and NESTSUC, turned that of FAIL and of the hosts that turn early; a firing tells its COMP and its DEV
-  pub figures-counted : (limit : ℕ) (c : Call) → figures limit p l c ≡ countedSteps p ρ l c
+  pub figures-counted : (limit : ℕ) (c : Call) → figures p l c ≡ countedSteps p ρ l c
   unfolding figures countedSteps actsOf movings closers turners abandonings
   figures-counted limit (event a) =
       let m = moved p l (a .event) in

@@ -19,7 +19,7 @@ use Rattle.rules.proofs.Acceptance.{Accepted}
 use Rattle.rules.proofs.Forest.{above-lower}
 use Rattle.rules.proofs.Opening.{wakes-root}
 use Rattle.rules.proofs.Abandoning.{undoing-awake}
-use Rattle.theory.proofs.Modes.{undoing-forward}
+use Rattle.rules.proofs.Modes.{undoing-forward}
 use Rattle.theory.proofs.Nesting.{Awake, Nested}
 use Rattle.theory.proofs.Entries.{Good}
 use Rattle.theory.proofs.Entering.{Fate, enters, wakens, stays, fate, arrived-awake}
@@ -138,18 +138,18 @@ module _ (p : Plan) (ρ : FailReading) (ok : Accepted p) (l : Ledger) (n : Neste
       (DEV t (l t .state) d rest)))
 
   -- the other tracks stay as they are
-  to-other : (u : ℕ) → (u ≡ t → ⊥) → deviatesTo p l t u ≡ none
+  to-other : (u : ℕ) → (u ≡ t → ⊥) → deviatesTo l t u ≡ none
   to-other u d =
-      elim (look-option (deviatesTo p l t u)) [ inl e ↦ e | inr e ↦ absurd (d (sym (deviates-known p l t u (e .0) (e .1) .0))) ]
+      elim (look-option (deviatesTo l t u)) [ inl e ↦ e | inr e ↦ absurd (d (sym (deviates-known p l t u (e .0) (e .1) .0))) ]
 
-  removed-within : (u v : ℕ) → isWithin p l u v ≡ isWithin p (removed p l t) u v
+  removed-within : (u v : ℕ) → isWithin p l u v ≡ isWithin p (removed l t) u v
   unfolding isWithin
   removed-within u v = ap (λ x. isHostedBy p u v && x) (sym (removed-awake p l t v))
 
-  same-within : (u : ℕ) → Awake l u → deviatesTo p l t u ≡ none → (v : ℕ) → isWithin p l u v ≡ isWithin p m u v
+  same-within : (u : ℕ) → Awake l u → deviatesTo l t u ≡ none → (v : ℕ) → isWithin p l u v ≡ isWithin p m u v
   same-within u a e v =
       removed-within u v
-      ∙ entered.stays-within p ok (removed p l t) (removed-nested p l t ok n g free awake) (deviatesTo p l t) (deviates-free p l t ok n g free awake) u (removed-awake p l t u ∙ a) e v
+      ∙ entered.stays-within p ok (removed l t) (removed-nested p l t ok n g free awake) (deviatesTo l t) (deviates-free p l t ok n g free awake) u (removed-awake p l t u ∙ a) e v
       ∙ ap (λ k. isWithin p k u v) (sym (fired-is p l t))
 
   others : (u : ℕ) → (u ≡ t → ⊥) → Awake l u → Alike p ρ ok l m u
@@ -159,13 +159,13 @@ module _ (p : Plan) (ρ : FailReading) (ok : Accepted p) (l : Ledger) (n : Neste
       unchanged p ρ ok l m u (λ v b. same-within u a e v) q
 
   root-awake : (u : ℕ) → host p u ≡ none → isAwake (m u .mode) ≡ isAwake (l u .mode)
-  root-awake u h = ap (λ (k : Ledger). isAwake (k u .mode)) (fired-is p l t) ∙ go (fate p ok (removed p l t) (deviatesTo p l t) u)
+  root-awake u h = ap (λ (k : Ledger). isAwake (k u .mode)) (fired-is p l t) ∙ go (fate p ok (removed l t) (deviatesTo l t) u)
     where
-      go : Fate p ok (removed p l t) (deviatesTo p l t) u → isAwake (enter p (deviatesTo p l t) (removed p l t) u .mode) ≡ isAwake (l u .mode)
+      go : Fate p ok (removed l t) (deviatesTo l t) u → isAwake (enter p (deviatesTo l t) (removed l t) u .mode) ≡ isAwake (l u .mode)
       go (enters s f q) =
-          ap (λ (c : Configuration). isAwake (c .mode)) q ∙ arrived-awake s (removed p l t u)
+          ap (λ (c : Configuration). isAwake (c .mode)) q ∙ arrived-awake s (removed l t u)
           ∙ sym (subst (Awake l) (deviates-known p l t u s f .0) awake)
-      go (wakens f w q) = clash w (wakes-root p ok (deviatesTo p l t) u h)
+      go (wakens f w q) = clash w (wakes-root p ok (deviatesTo l t) u h)
       go (stays f w q) = ap (λ (c : Configuration). isAwake (c .mode)) q ∙ removed-awake p l t u
 
   same-top : (u : ℕ) → isOnTop p l u ≡ isOnTop p m u
@@ -184,14 +184,14 @@ module _ (p : Plan) (ρ : FailReading) (ok : Accepted p) (l : Ledger) (n : Neste
   deviated : (d : ℕ) → leads ≡ some d → goto p t d rest ≡ viewOf p ρ m t
   deviated d e =
       ap (λ es. goto p t d (stackOf es)) (sym (removed-here p l t t (eq-eqb t t refl)))
-      ∙ sym (entered.goes p ok (removed p l t) (removed-nested p l t ok n g free awake) (deviatesTo p l t) (deviates-free p l t ok n g free awake) ρ t low .enters d (deviates-here p l t ∙ e))
+      ∙ sym (entered.goes p ok (removed l t) (removed-nested p l t ok n g free awake) (deviatesTo l t) (deviates-free p l t ok n g free awake) ρ t low .enters d (deviates-here p l t ∙ e))
       ∙ ap (λ k. viewOf p ρ k t) (sym (fired-is p l t))
 
   stayed : leads ≡ none → popped ≡ viewOf p ρ m t
   unfolding popped pushDev basic directionOf
   stayed e =
       let k = deviates-here p l t ∙ e in
-      let q : m t ≡ removed p l t t = fired-still p l t ok n g free awake t awake k in
+      let q : m t ≡ removed l t t = fired-still p l t ok n g free awake t awake k in
       let st : m t .state ≡ l t .state = ap (λ (c : Configuration). c .state) q ∙ removed-state p l t t in
       let md : isForward (m t .mode) ≡ false = ap (λ (c : Configuration). isForward (c .mode)) q ∙ ap isForward (removed-mode p l t t) ∙ back in
       let hd : stackOf (m t .held) ≡ rest = ap (λ (c : Configuration). stackOf (c .held)) q ∙ ap stackOf (removed-here p l t t (eq-eqb t t refl)) in

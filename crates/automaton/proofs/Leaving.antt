@@ -16,7 +16,7 @@ use Rattle.rules.proofs.Tests.{look, clash, none-some, refuted, and-true, and-b
 use Rattle.rules.proofs.Acceptance.{Accepted}
 use Rattle.rules.proofs.Scopes.{in-host, host-in, host-by, by-host, every-in-at, every-in-of, open-find, busy-find}
 use Rattle.rules.proofs.Abandoning.{spent-parts, abandoned-host, left-kept}
-use Rattle.theory.proofs.Modes.{undoing-forward}
+use Rattle.rules.proofs.Modes.{undoing-forward}
 use Rattle.theory.proofs.Nesting.{Awake, Nested, state-of, host-busy}
 use Rattle.theory.proofs.Leaving.{left-awake, left-root}
 use Rattle.automaton.specs.Listing.{listed}

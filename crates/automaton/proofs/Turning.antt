@@ -18,7 +18,7 @@ use Rattle.rules.specs.Call.{nothing}
 use Rattle.rules.proofs.Tests.{look, clash, none-some, refuted, and-true}
 use Rattle.rules.proofs.Acceptance.{Accepted}
 use Rattle.rules.proofs.Abandoning.{hosts-higher}
-use Rattle.theory.proofs.Modes.{forward-awake}
+use Rattle.rules.proofs.Modes.{forward-awake}
 use Rattle.theory.proofs.Nesting.{Awake, Nested, busy-same}
 use Rattle.restoration.proofs.Theorems01.{turned-awake, turned-state, turned-held, turned-forward, turned-nested}
 use Rattle.automaton.specs.Listing.{listed}

@@ -55,7 +55,7 @@ module _ (ρ : FailReading) (limit : ℕ) (bs : List ℕ) (k : Counts) (read : r
   record Made (ws : List ℕ) (c : Call) (told : List ℕ) : Type 0 where
     sound : Sound limit p (theLedger ws)
     taken : callRefusal limit p (theLedger ws) c ≡ 0
-    leaves : theLedger (callOutcome limit bs ws c .words) ≡ after limit p (theLedger ws) c
+    leaves : theLedger (callOutcome limit bs ws c .words) ≡ after p (theLedger ws) c
     kept : Kept limit p (theLedger (callOutcome limit bs ws c .words))
     holds : Holds limit bs k read ws (theLedger ws)
 
@@ -84,7 +84,7 @@ module _ (ρ : FailReading) (limit : ℕ) (bs : List ℕ) (k : Counts) (read : r
   pub record ExactlyWords (ws : List ℕ) (c : Call) (told left : List ℕ) : Type 0 where
     -- it is so of the ledger that the words hold, and the words afterwards hold the ledger afterwards
     pub before : Exactly p ρ limit (theLedger ws) c
-    pub afterwards : theLedger left ≡ after limit p (theLedger ws) c
+    pub afterwards : theLedger left ≡ after p (theLedger ws) c
     -- the figures are those of its steps, and of each of its big steps
     pub figures : told ≡ countedSteps p ρ (theLedger ws) c
     pub tells : (d : Conf) (x : Big p ρ c (view p ρ (theLedger ws)) d) → told ≡ toldBy p ρ (theLedger ws) c (view p ρ (theLedger ws)) d x
@@ -97,7 +97,7 @@ module _ (ρ : FailReading) (limit : ℕ) (bs : List ℕ) (k : Counts) (read : r
   words-exactly ws c told h =
       let m = made ws c told h in
       let x = exactly p ρ ok limit (theLedger ws) (m .sound) c (m .taken) in
-      let q = done-same told (figures limit p (theLedger ws) c) (sym h ∙ ap (λ o. o .answer) (call-accepted limit bs k read ws (theLedger ws) (m .holds) c (m .taken))) in
+      let q = done-same told (figures p (theLedger ws) c) (sym h ∙ ap (λ o. o .answer) (call-accepted limit bs k read ws (theLedger ws) (m .holds) c (m .taken))) in
       record {
         before = x;
         afterwards = m .leaves;

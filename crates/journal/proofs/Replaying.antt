@@ -26,9 +26,9 @@ module _ (bs js : List ℕ) (p : Plan) where
 
   -- one turn
   turn : (x : Entered) → (List ℕ → ℕ → List ℕ) → List ℕ → ℕ → List ℕ
-  turn ended rest ws fired = lastLine bs js p ws fired
-  turn broken rest ws fired = refusalLine 23 ++ lastLine bs js p ws fired
-  turn fireLowest rest ws fired = callText bs js p rest ws fired (fireLowestCall p (ledgerOf bs js p ws))
+  turn ended rest ws fired = lastLine p ws fired
+  turn broken rest ws fired = refusalLine 23 ++ lastLine p ws fired
+  turn fireLowest rest ws fired = callText bs js p rest ws fired (fireLowestCall p (ledgerOf p ws))
   turn (called c) rest ws fired = callText bs js p rest ws fired c
 
   replay-turn : (n at : ℕ) (ws : List ℕ) (fired : ℕ) (x : Entered) → enteredAt js at ≡ x
@@ -44,7 +44,7 @@ module _ (bs js : List ℕ) (p : Plan) where
   unfolding turn sizeOf
   turn-same ended f g ws fired h = refl
   turn-same broken f g ws fired h = refl
-  turn-same fireLowest f g ws fired h = text-same f g ws fired (fireLowestCall p (ledgerOf bs js p ws)) (h (omega arith))
+  turn-same fireLowest f g ws fired h = text-same f g ws fired (fireLowestCall p (ledgerOf p ws)) (h (omega arith))
   turn-same (called (event a)) f g ws fired h = text-same f g ws fired (event a) (h (omega arith))
   turn-same (called (signal a)) f g ws fired h = text-same f g ws fired (signal a) (h (omega arith))
   turn-same (called (fire a)) f g ws fired h = text-same f g ws fired (fire a) (h (omega arith))
@@ -67,15 +67,15 @@ module _ (bs js : List ℕ) (p : Plan) where
   replay-start ws fired = rw sub-zero
 
   module _ (at : ℕ) (ws : List ℕ) (fired : ℕ) where
-    pub replay-ended : enteredAt js at ≡ ended → replayed bs js p at ws fired ≡ lastLine bs js p ws fired
+    pub replay-ended : enteredAt js at ≡ ended → replayed bs js p at ws fired ≡ lastLine p ws fired
     unfolding replayed turn
     replay-ended e = replay-turn (length js - at) at ws fired ended e
 
-    pub replay-broken : enteredAt js at ≡ broken → replayed bs js p at ws fired ≡ refusalLine 23 ++ lastLine bs js p ws fired
+    pub replay-broken : enteredAt js at ≡ broken → replayed bs js p at ws fired ≡ refusalLine 23 ++ lastLine p ws fired
     unfolding replayed turn
     replay-broken e = replay-turn (length js - at) at ws fired broken e
 
-    turn-call : (x : Entered) (rest : List ℕ → ℕ → List ℕ) → 0 < sizeOf x → turn x rest ws fired ≡ callText bs js p rest ws fired (callOf p (ledgerOf bs js p ws) x)
+    turn-call : (x : Entered) (rest : List ℕ → ℕ → List ℕ) → 0 < sizeOf x → turn x rest ws fired ≡ callText bs js p rest ws fired (callOf p (ledgerOf p ws) x)
     unfolding turn callOf sizeOf
     turn-call ended rest l = absurd (omega arith)
     turn-call broken rest l = absurd (omega arith)
@@ -83,7 +83,7 @@ module _ (bs js : List ℕ) (p : Plan) where
     turn-call (called c) rest l = refl
 
     pub replay-call : (x : Entered) → enteredAt js at ≡ x → 0 < sizeOf x
-        → replayed bs js p at ws fired ≡ callText bs js p (replayed bs js p (at + sizeOf x)) ws fired (callOf p (ledgerOf bs js p ws) x)
+        → replayed bs js p at ws fired ≡ callText bs js p (replayed bs js p (at + sizeOf x)) ws fired (callOf p (ledgerOf p ws) x)
     unfolding replayed
     replay-call x e l =
         let s = stands js at x e l in

@@ -63,7 +63,7 @@ module _ (bs js : List ℕ) (p : Plan) (out : List ℕ) (start : ℕ) (whole : L
     run-stopped t out″ end e w = retold (ap (λ (u : List ℕ). r .text ++ u) (sym e) ∙ r .rest) (wrote-then h (r .wrote) w)
 
     -- the call c stands at the place, and its line was written
-    module _ (x : Entered) (c : Call) (e : enteredAt js at ≡ x) (l : 0 < sizeOf x) (q : c ≡ callOf p (ledgerOf bs js p ws) x) where
+    module _ (x : Entered) (c : Call) (e : enteredAt js at ≡ x) (l : 0 < sizeOf x) (q : c ≡ callOf p (ledgerOf p ws) x) where
       call-rest : callLine c (callOutcome entryLimit bs ws c .answer)
           ++ replayed bs js p (at + sizeOf x) (callOutcome entryLimit bs ws c .words) (fired + firingsOf c (callOutcome entryLimit bs ws c .answer))
           ≡ replayed bs js p at ws fired

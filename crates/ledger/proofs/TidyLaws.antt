@@ -40,20 +40,20 @@ module _ (limit : ℕ) (ws : List ℕ) (at : ℕ) where
   asleep-all z h = h ∙ rw (eq-eqb (getD ws at 0) 0 z)
 
   -- the four parts in order
-  pub bad-mode : {r : Bool} → r ≡ goodMode limit ws at → r ≡ false → false ≡ isTidy limit ws at
+  pub bad-mode : {r : Bool} → r ≡ goodMode ws at → r ≡ false → false ≡ isTidy limit ws at
   unfolding isTidy
   bad-mode e h = rw (sym e ∙ h)
 
-  pub bad-count : {q r : Bool} → q ≡ goodMode limit ws at → q ≡ true → r ≡ goodCount limit ws at → r ≡ false → false ≡ isTidy limit ws at
+  pub bad-count : {q r : Bool} → q ≡ goodMode ws at → q ≡ true → r ≡ goodCount limit ws at → r ≡ false → false ≡ isTidy limit ws at
   unfolding isTidy
   bad-count d k e h = rw (sym d ∙ k, sym e ∙ h)
 
-  pub bad-unused : {p q r : Bool} → p ≡ goodMode limit ws at → p ≡ true → q ≡ goodCount limit ws at → q ≡ true
+  pub bad-unused : {p q r : Bool} → p ≡ goodMode ws at → p ≡ true → q ≡ goodCount limit ws at → q ≡ true
       → r ≡ unusedZero limit ws at → r ≡ false → false ≡ isTidy limit ws at
   unfolding isTidy
   bad-unused c j d k e h = rw (sym c ∙ j, sym d ∙ k, sym e ∙ h)
 
-  pub all-tidy : {p q r s : Bool} → p ≡ goodMode limit ws at → p ≡ true → q ≡ goodCount limit ws at → q ≡ true
+  pub all-tidy : {p q r s : Bool} → p ≡ goodMode ws at → p ≡ true → q ≡ goodCount limit ws at → q ≡ true
       → r ≡ unusedZero limit ws at → r ≡ true → s ≡ asleepZero limit ws at → s ≡ isTidy limit ws at
   unfolding isTidy
   all-tidy c j d k e h f = f ∙ rw (sym c ∙ j, sym d ∙ k, sym e ∙ h)

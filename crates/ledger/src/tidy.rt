@@ -15,7 +15,7 @@ ghost use Rattle.ledger.specs.Words.{Room};
 // "mode (0 asleep, 1 forward, 2 undoing)"
 fn good_mode(ledger: &[u16], at: usize) -> bool
     requires { ⌜ at + trackWidth entryLimit ≤ length (now ledger) ⌝ }
-    ensures { λ r. ⌜ r ≡ goodMode entryLimit (now (ledger .entry)) at ⌝ }
+    ensures { λ r. ⌜ r ≡ goodMode (now (ledger .entry)) at ⌝ }
 {
     ledger[at] <= 2
 }

@@ -20,8 +20,8 @@ module _ (bs ws : List ℕ) where
       refused-outcome bs ws _
       (λ p.
       record {
-        answer = done (figures entryLimit p (ledgerAt entryLimit ws (trackCount p)) d);
-        words = written entryLimit (trackCount p) (after entryLimit p (ledgerAt entryLimit ws (trackCount p)) d) ws;
+        answer = done (figures p (ledgerAt entryLimit ws (trackCount p)) d);
+        words = written entryLimit (trackCount p) (after p (ledgerAt entryLimit ws (trackCount p)) d) ws;
       })
       (λ p. callRefusals entryLimit p (ledgerAt entryLimit ws (trackCount p)) d) (λ p. refl) r e
 

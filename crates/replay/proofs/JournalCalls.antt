@@ -68,8 +68,8 @@ module _ (bs js : List ℕ) (p : Plan) where
         | ended ↦ []
         | broken ↦ []
         | fireLowest ↦
-            fireLowestCall p (ledgerOf bs js p ws)
-            ∷ callsFrom n (at + sizeAt js at) (callOutcome entryLimit bs ws (fireLowestCall p (ledgerOf bs js p ws)) .words)
+            fireLowestCall p (ledgerOf p ws)
+            ∷ callsFrom n (at + sizeAt js at) (callOutcome entryLimit bs ws (fireLowestCall p (ledgerOf p ws)) .words)
         | called c ↦ c ∷ callsFrom n (at + sizeAt js at) (callOutcome entryLimit bs ws c .words)
       ]
 
@@ -84,18 +84,18 @@ module _ (bs js : List ℕ) (p : Plan) where
           → left.wordsFrom bs js p (suc n) at ws ≡ clerk.wordsFrom entryLimit bs ws (callsFrom (suc n) at ws)
       go ended e rest = rw (e, left.wordsFrom, callsFrom)
       go broken e rest = rw (e, left.wordsFrom, callsFrom)
-      go fireLowest e rest = rw (e, left.wordsFrom, callsFrom) (rest (fireLowestCall p (ledgerOf bs js p ws)))
+      go fireLowest e rest = rw (e, left.wordsFrom, callsFrom) (rest (fireLowestCall p (ledgerOf p ws)))
       go (called c) e rest = rw (e, left.wordsFrom, callsFrom) (rest c)
 
   -- the lines of calls and of their answers from the words ws on, with the firings done so far, and the last lines
   unfoldable pub textOf : List Call → Bool → List ℕ → ℕ → List ℕ
   textOf cs b ws fired =
       callLines cs (answers ws cs)
-      ++ (brokenLine b ++ lastLine bs js p (clerk.wordsFrom entryLimit bs ws cs) (fired + firingsIn cs (answers ws cs)))
+      ++ (brokenLine b ++ lastLine p (clerk.wordsFrom entryLimit bs ws cs) (fired + firingsIn cs (answers ws cs)))
 
-  text-end : (b : Bool) (ws : List ℕ) (fired : ℕ) → textOf [] b ws fired ≡ brokenLine b ++ lastLine bs js p ws fired
+  text-end : (b : Bool) (ws : List ℕ) (fired : ℕ) → textOf [] b ws fired ≡ brokenLine b ++ lastLine p ws fired
   unfolding textOf callLines clerk.wordsFrom clerk.answersFrom firingsIn
-  text-end b ws fired = let e : fired + 0 ≡ fired = omega arith in ap (λ (k : ℕ). brokenLine b ++ lastLine bs js p ws k) e
+  text-end b ws fired = let e : fired + 0 ≡ fired = omega arith in ap (λ (k : ℕ). brokenLine b ++ lastLine p ws k) e
 
   text-call : (c : Call) (cs : List Call) (b : Bool) (ws : List ℕ) (fired : ℕ)
       → textOf (c ∷ cs) b ws fired ≡ callLine c (outcome ws c .answer) ++ textOf cs b (outcome ws c .words) (fired + firingsOf c (outcome ws c .answer))
@@ -106,7 +106,7 @@ module _ (bs js : List ℕ) (p : Plan) where
       let e : fired + (firingsOf c r + firingsIn cs (answers vs cs)) ≡ fired + firingsOf c r + firingsIn cs (answers vs cs) = omega arith in
       append-assoc (callLine c r) (callLines cs (answers vs cs)) _
       ∙ ap
-      (λ (k : ℕ). callLine c r ++ (callLines cs (answers vs cs) ++ (brokenLine b ++ lastLine bs js p (clerk.wordsFrom entryLimit bs vs cs) k)))
+      (λ (k : ℕ). callLine c r ++ (callLines cs (answers vs cs) ++ (brokenLine b ++ lastLine p (clerk.wordsFrom entryLimit bs vs cs) k)))
       e
 
   -- the text from a place on, if so many visits are enough
@@ -135,5 +135,5 @@ module _ (bs js : List ℕ) (p : Plan) where
       go ended e rest = rw (e, replay, callsFrom, endsBroken) (sym (text-end false ws fired))
       go broken e rest = rw (e, replay, callsFrom, endsBroken) (sym (text-end true ws fired))
       go fireLowest e rest =
-          rw (e, replay, callsFrom, endsBroken) (one n at ws fired k rest fireLowest e (omega arith) (fireLowestCall p (ledgerOf bs js p ws)))
+          rw (e, replay, callsFrom, endsBroken) (one n at ws fired k rest fireLowest e (omega arith) (fireLowestCall p (ledgerOf p ws)))
       go (called c) e rest = rw (e, replay, callsFrom, endsBroken) (one n at ws fired k rest (called c) e (size-some c) c)

@@ -30,7 +30,7 @@ use Rattle.replay.specs.Runs.{RanFrom}
 use Rattle.replay.proofs.Keeping.{call-keeps}
 
 -- the ledger that the text speaks of is the one that the steps work on
-ledgers : (bs js : List ℕ) (c : Counts) (ws : List ℕ) → ledgerOf c ws ≡ text.ledgerOf bs js (planOf bs c) ws
+ledgers : (bs js : List ℕ) (c : Counts) (ws : List ℕ) → ledgerOf c ws ≡ text.ledgerOf (planOf bs c) ws
 unfolding ledgerOf text.ledgerOf
 ledgers bs js c ws = ap (ledgerAt entryLimit ws) (sym (track-count bs c))
 
@@ -47,7 +47,7 @@ module _ (bs js : List ℕ) (p : Plan) where
   words-stopped (suc n) at ws (called (fire a)) e z = absurd (omega arith)
 
   words-turn : (n at : ℕ) (ws : List ℕ) (x : Entered) → enteredAt js at ≡ x → 0 < sizeOf x
-      → wordsFrom bs js p (suc n) at ws ≡ wordsFrom bs js p n (at + sizeAt js at) (callOutcome entryLimit bs ws (callOf p (text.ledgerOf bs js p ws) x) .words)
+      → wordsFrom bs js p (suc n) at ws ≡ wordsFrom bs js p n (at + sizeAt js at) (callOutcome entryLimit bs ws (callOf p (text.ledgerOf p ws) x) .words)
   unfolding wordsFrom sizeOf callOf
   words-turn n at ws ended e l = absurd (omega arith)
   words-turn n at ws broken e l = absurd (omega arith)
@@ -55,10 +55,10 @@ module _ (bs js : List ℕ) (p : Plan) where
   words-turn n at ws (called d) e l = rw (e, wordsFrom)
 
   words-call : (n at : ℕ) (ws : List ℕ) (x : Entered) → enteredAt js at ≡ x → 0 < sizeOf x
-      → wordsFrom bs js p (suc n) at ws ≡ wordsFrom bs js p n (at + sizeOf x) (callOutcome entryLimit bs ws (callOf p (text.ledgerOf bs js p ws) x) .words)
+      → wordsFrom bs js p (suc n) at ws ≡ wordsFrom bs js p n (at + sizeOf x) (callOutcome entryLimit bs ws (callOf p (text.ledgerOf p ws) x) .words)
   words-call n at ws x e l =
       words-turn n at ws x e l
-      ∙ ap (λ (k : ℕ). wordsFrom bs js p n (at + k) (callOutcome entryLimit bs ws (callOf p (text.ledgerOf bs js p ws) x) .words)) (sym (stands js at x e l .size))
+      ∙ ap (λ (k : ℕ). wordsFrom bs js p n (at + k) (callOutcome entryLimit bs ws (callOf p (text.ledgerOf p ws) x) .words)) (sym (stands js at x e l .size))
 
 -- The words after the rest of the journal are `words`: so many turns are enough for it.
 module _ (bs js : List ℕ) (p : Plan) (words : List ℕ) where
@@ -68,7 +68,7 @@ module _ (bs js : List ℕ) (p : Plan) (words : List ℕ) where
     pub left : wordsFrom bs js p turns at ws ≡ words
 
   leaves-next : (at : ℕ) (ws : List ℕ) (x : Entered) (d : Call) (n : ℕ) → length js - at < n → wordsFrom bs js p n at ws ≡ words
-      → enteredAt js at ≡ x → 0 < sizeOf x → d ≡ callOf p (text.ledgerOf bs js p ws) x → Leaves (at + sizeOf x) (callOutcome entryLimit bs ws d .words)
+      → enteredAt js at ≡ x → 0 < sizeOf x → d ≡ callOf p (text.ledgerOf p ws) x → Leaves (at + sizeOf x) (callOutcome entryLimit bs ws d .words)
   leaves-next at ws x d zero h e i l q = absurd (omega arith)
   leaves-next at ws x d (suc n) h e i l q =
       let w = stands js at x i l .within in
@@ -120,7 +120,7 @@ module _ (bs js : List ℕ) (c : Counts) (out : List ℕ) (start : ℕ) (whole w
     underway-next x size e s z ws′ out″ next t =
         let l : 0 < sizeOf x = omega arith in
         let d : Call = callOf (planOf bs c) (ledgerOf c ws) x in
-        let q : d ≡ callOf (planOf bs c) (text.ledgerOf bs js (planOf bs c) ws) x = ap (λ (k : Ledger). callOf (planOf bs c) k x) (ledgers bs js c ws) in
+        let q : d ≡ callOf (planOf bs c) (text.ledgerOf (planOf bs c) ws) x = ap (λ (k : Ledger). callOf (planOf bs c) k x) (ledgers bs js c ws) in
         record {
           running =
               subst (λ (k : ℕ). Running bs js (planOf bs c) out start whole (at + k) ws′ (next .tally .fired) out″ (next .place)) (sym s)
@@ -138,7 +138,7 @@ module _ (bs js : List ℕ) (c : Counts) (out : List ℕ) (start : ℕ) (whole w
         }
 
     -- the last line, by the tally
-    last-told : tallyLine (so-far .tally .held) (so-far .tally .fired) ≡ lastLine bs js (planOf bs c) ws (so-far .tally .fired)
+    last-told : tallyLine (so-far .tally .held) (so-far .tally .fired) ≡ lastLine (planOf bs c) ws (so-far .tally .fired)
     unfolding lastLine
     last-told =
         ap (λ (n : ℕ). tallyLine n (so-far .tally .fired))

@@ -69,21 +69,21 @@ unfolding ledgerOf
 few-held c ws t k g e = count-within entryLimit (c .tracks) ws t k g e
 
 -- A deviation, asked in this order.
-module _ (p : Plan) (l : Ledger) (t d : ℕ) where
-  pub no-deviation : d ≡ 65535 → true ≡ goodDeviation p l t d
+module _ (p : Plan) (t d : ℕ) where
+  pub no-deviation : d ≡ 65535 → true ≡ goodDeviation p t d
   unfolding goodDeviation noState
   no-deviation h = rw (eq-eqb d 65535 h)
 
-  pub deviates-hosted : {q : Bool} → (d ≡ 65535 → ⊥) → q ≡ isRoot p t → not q ≡ true → false ≡ goodDeviation p l t d
+  pub deviates-hosted : {q : Bool} → (d ≡ 65535 → ⊥) → q ≡ isRoot p t → not q ≡ true → false ≡ goodDeviation p t d
   unfolding goodDeviation noState
   deviates-hosted n e h = rw (ne-eqb d 65535 n, sym e ∙ not-true _ h)
 
-  pub deviates-out : {q r : Bool} → (d ≡ 65535 → ⊥) → q ≡ isRoot p t → not q ≡ false → r ≡ isStateOf p t d → not r ≡ true → false ≡ goodDeviation p l t d
+  pub deviates-out : {q r : Bool} → (d ≡ 65535 → ⊥) → q ≡ isRoot p t → not q ≡ false → r ≡ isStateOf p t d → not r ≡ true → false ≡ goodDeviation p t d
   unfolding goodDeviation noState
   deviates-out n e h f k = rw (ne-eqb d 65535 n, sym e ∙ not-false _ h, sym f ∙ not-true _ k)
 
   pub deviates-final : {q r s : Bool} → (d ≡ 65535 → ⊥) → q ≡ isRoot p t → not q ≡ false → r ≡ isStateOf p t d → not r ≡ false
-      → s ≡ isFinal p d → not s ≡ goodDeviation p l t d
+      → s ≡ isFinal p d → not s ≡ goodDeviation p t d
   unfolding goodDeviation noState
   deviates-final n e h f k g = rw (ne-eqb d 65535 n, sym e ∙ not-false _ h, sym f ∙ not-false _ k, g)
 

@@ -38,7 +38,7 @@ module _ (p : Plan) (l : Ledger) where
   passes RootAwake t = not (isRoot p t) || isAwake (l t .mode)
   passes StateOwn t = not (isAwake (l t .mode)) || isStateOf p t (l t .state)
   passes CodesReal t = everyHeld (λ e. not (eqb (e .code) 0)) (l t .held)
-  passes DeviationsGood t = everyHeld (λ e. goodDeviation p l t (e .deviation)) (l t .held)
+  passes DeviationsGood t = everyHeld (λ e. goodDeviation p t (e .deviation)) (l t .held)
   passes HostedWell t = isHostedWell p l t
   passes RootDone t = not (isRoot p t) || (isForward (l t .mode) && isFinal p (l t .state))
   passes Awake t = isAwake (l t .mode)

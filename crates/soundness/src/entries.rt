@@ -55,7 +55,7 @@ pub fn codes_real_of(c: Counts, ledger: &[u16], t: usize) -> bool
 // "a deviation held is 65535, or, in a root, a non-final state of that root"
 fn good_deviation(plan: &[u8], c: Counts, ledger: &[u16], t: usize, deviation: u16) -> bool
     requires { ⌜ Accepts (now plan) c × (t < c .tracks) ⌝ }
-    ensures { λ r. ⌜ r ≡ goodDeviation (planOf (now (plan .entry)) c) (ledgerOf c (now (ledger .entry))) t deviation ⌝ }
+    ensures { λ r. ⌜ r ≡ goodDeviation (planOf (now (plan .entry)) c) t deviation ⌝ }
 {
     if deviation == NO_STATE {
         return true;
@@ -72,7 +72,7 @@ fn good_deviation(plan: &[u8], c: Counts, ledger: &[u16], t: usize, deviation: u
 // Whether the deviations of a track's first entries, so many of them, are good.
 fn good_deviations(plan: &[u8], c: Counts, ledger: &[u16], t: usize, count: usize) -> bool
     requires { ⌜ Lent (now plan) c (now ledger) × (t < c .tracks) × (count ≤ entryLimit) ⌝ }
-    ensures { λ r. ⌜ r ≡ everyHeld (λ e. goodDeviation (planOf (now (plan .entry)) c) (ledgerOf c (now (ledger .entry))) t (e .deviation)) (heldAt (now (ledger .entry)) (entriesPlace entryLimit t) count) ⌝ }
+    ensures { λ r. ⌜ r ≡ everyHeld (λ e. goodDeviation (planOf (now (plan .entry)) c) t (e .deviation)) (heldAt (now (ledger .entry)) (entriesPlace entryLimit t) count) ⌝ }
 {
     let mut k: usize = 0;
     while k < count {
@@ -87,7 +87,7 @@ fn good_deviations(plan: &[u8], c: Counts, ledger: &[u16], t: usize, count: usiz
 // Whether the deviations that a track holds are good.
 pub fn deviations_good_of(plan: &[u8], c: Counts, ledger: &[u16], t: usize) -> bool
     requires { ⌜ Lent (now plan) c (now ledger) × (t < c .tracks) × (areTidy entryLimit (now ledger) (c .tracks) ≡ true) ⌝ }
-    ensures { λ r. ⌜ r ≡ everyHeld (λ e. goodDeviation (planOf (now (plan .entry)) c) (ledgerOf c (now (ledger .entry))) t (e .deviation)) (ledgerOf c (now (ledger .entry)) t .held) ⌝ }
+    ensures { λ r. ⌜ r ≡ everyHeld (λ e. goodDeviation (planOf (now (plan .entry)) c) t (e .deviation)) (ledgerOf c (now (ledger .entry)) t .held) ⌝ }
 {
     let k = reading::track(c, ledger, t);
     good_deviations(plan, c, ledger, t, layout::wide(k.count))

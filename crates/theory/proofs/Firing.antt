@@ -19,31 +19,31 @@ use Rattle.theory.proofs.Entering.{Enterable, kept, kept-busy, new-fres
 use Rattle.theory.proofs.Entries.{Good, deviates}
 
 module _ (p : Plan) (l : Ledger) (t : ℕ) where
-  pub fired-is : fired p l t ≡ enter p (deviatesTo p l t) (removed p l t)
+  pub fired-is : fired p l t ≡ enter p (deviatesTo l t) (removed l t)
   unfolding fired
   fired-is = refl
 
-  pub removed-mode : (u : ℕ) → removed p l t u .mode ≡ l u .mode
+  pub removed-mode : (u : ℕ) → removed l t u .mode ≡ l u .mode
   unfolding removed
   removed-mode u = elim (look (eqb u t)) [ inl e ↦ rw e | inr e ↦ rw e ]
 
-  pub removed-state : (u : ℕ) → removed p l t u .state ≡ l u .state
+  pub removed-state : (u : ℕ) → removed l t u .state ≡ l u .state
   unfolding removed
   removed-state u = elim (look (eqb u t)) [ inl e ↦ rw e | inr e ↦ rw e ]
 
-  pub removed-here : (u : ℕ) → eqb u t ≡ true → removed p l t u .held ≡ older (l u .held)
+  pub removed-here : (u : ℕ) → eqb u t ≡ true → removed l t u .held ≡ older (l u .held)
   unfolding removed
   removed-here u e = rw e
 
-  pub removed-other : (u : ℕ) → eqb u t ≡ false → removed p l t u ≡ l u
+  pub removed-other : (u : ℕ) → eqb u t ≡ false → removed l t u ≡ l u
   unfolding removed
   removed-other u e = rw e
 
-  pub removed-awake : (u : ℕ) → isAwake (removed p l t u .mode) ≡ isAwake (l u .mode)
+  pub removed-awake : (u : ℕ) → isAwake (removed l t u .mode) ≡ isAwake (l u .mode)
   removed-awake u = ap isAwake (removed-mode u)
 
   -- the one that deviates is the one fired
-  pub deviates-known : (u d : ℕ) → deviatesTo p l t u ≡ some d → (t ≡ u) × (optional (newest (l t .held) .deviation) ≡ some d)
+  pub deviates-known : (u d : ℕ) → deviatesTo l t u ≡ some d → (t ≡ u) × (optional (newest (l t .held) .deviation) ≡ some d)
   unfolding deviatesTo
   deviates-known u d h =
       elim (look (eqb u t)) [
@@ -51,25 +51,25 @@ module _ (p : Plan) (l : Ledger) (t : ℕ) where
         | inr e ↦ let q : none ≡ some d = rw e at h in none-some refl q
       ]
 
-  pub deviates-here : deviatesTo p l t t ≡ optional (newest (l t .held) .deviation)
+  pub deviates-here : deviatesTo l t t ≡ optional (newest (l t .held) .deviation)
   unfolding deviatesTo
   deviates-here = rw (eq-eqb t t refl)
 
-  pub deviates-not : optional (newest (l t .held) .deviation) ≡ none → (u : ℕ) → deviatesTo p l t u ≡ none
+  pub deviates-not : optional (newest (l t .held) .deviation) ≡ none → (u : ℕ) → deviatesTo l t u ≡ none
   deviates-not h u =
-      elim (look-option (deviatesTo p l t u)) [ inl e ↦ e | inr e ↦ none-some h (deviates-known u (e .0) (e .1) .1) ]
+      elim (look-option (deviatesTo l t u)) [ inl e ↦ e | inr e ↦ none-some h (deviates-known u (e .0) (e .1) .1) ]
 
   module _ (ok : Accepted p) (n : Nested p l) (g : Good p t (l t .held)) (free : hasOpenScope p l t ≡ false) (a : Awake l t) where
-    pub deviates-hosted : (u h : ℕ) → host p u ≡ some h → deviatesTo p l t u ≡ none
+    pub deviates-hosted : (u h : ℕ) → host p u ≡ some h → deviatesTo l t u ≡ none
     deviates-hosted u h e =
-        elim (look-option (deviatesTo p l t u)) [
+        elim (look-option (deviatesTo l t u)) [
           | inl k ↦ k
           | inr k ↦
               let (q, d) = deviates-known u (k .0) (k .1) in
               none-some (subst (λ x. host p x ≡ none) q (deviates p t (k .0) (l t .held) g d .0)) e
         ]
 
-    pub removed-nested : Nested p (removed p l t)
+    pub removed-nested : Nested p (removed l t)
     removed-nested =
         record {
           below = λ u b. n .below u (sym (removed-awake u) ∙ b);
@@ -88,12 +88,12 @@ module _ (p : Plan) (l : Ledger) (t : ℕ) where
               ];
         }
 
-    pub deviates-free : Enterable p (removed p l t) (deviatesTo p l t)
+    pub deviates-free : Enterable p (removed l t) (deviatesTo l t)
     deviates-free =
         record {
           free =
               λ u d h.
-              busy-same p (removed p l t) l removed-awake u
+              busy-same p (removed l t) l removed-awake u
               ∙ subst (λ x. hasOpenScope p l x ≡ false) (deviates-known u d h .0) free;
           own =
               λ u d h.
@@ -103,28 +103,28 @@ module _ (p : Plan) (l : Ledger) (t : ℕ) where
         }
 
     pub fired-nested : Nested p (fired p l t)
-    fired-nested = subst (Nested p) (sym fired-is) (enter-nested p ok (removed p l t) (deviatesTo p l t) removed-nested deviates-free)
+    fired-nested = subst (Nested p) (sym fired-is) (enter-nested p ok (removed l t) (deviatesTo l t) removed-nested deviates-free)
 
     -- an awake track that does not deviate is left as the removal left it
-    pub fired-still : (u : ℕ) → Awake l u → deviatesTo p l t u ≡ none → fired p l t u ≡ removed p l t u
+    pub fired-still : (u : ℕ) → Awake l u → deviatesTo l t u ≡ none → fired p l t u ≡ removed l t u
     fired-still u b e =
         ap (λ m. m u) fired-is
-        ∙ kept p ok (removed p l t) (deviatesTo p l t) removed-nested deviates-free u (removed-awake u ∙ b) e
+        ∙ kept p ok (removed l t) (deviatesTo l t) removed-nested deviates-free u (removed-awake u ∙ b) e
 
-    pub fired-busy : (u : ℕ) → Awake l u → hasOpenScope p l u ≡ true → fired p l t u ≡ removed p l t u
+    pub fired-busy : (u : ℕ) → Awake l u → hasOpenScope p l u ≡ true → fired p l t u ≡ removed l t u
     fired-busy u b o =
         ap (λ m. m u) fired-is
-        ∙ kept-busy p ok (removed p l t) (deviatesTo p l t) removed-nested deviates-free u (removed-awake u ∙ b)
-        (busy-same p (removed p l t) l removed-awake u ∙ o)
+        ∙ kept-busy p ok (removed l t) (deviatesTo l t) removed-nested deviates-free u (removed-awake u ∙ b)
+        (busy-same p (removed l t) l removed-awake u ∙ o)
 
     -- what was asleep and is awake is fresh
     pub fired-new : (u : ℕ) → Sleeps l u → Awake (fired p l t) u → fired p l t u ≡ fresh p u
     fired-new u b c =
-        let e : deviatesTo p l t u ≡ none =
-        elim (look-option (deviatesTo p l t u)) [
+        let e : deviatesTo l t u ≡ none =
+        elim (look-option (deviatesTo l t u)) [
           | inl e ↦ e
           | inr e ↦ clash (subst (λ x. Awake l x) (deviates-known u (e .0) (e .1) .0) a) b
         ] in
         ap (λ m. m u) fired-is
-        ∙ new-fresh p ok (removed p l t) (deviatesTo p l t) removed-nested deviates-free u e (removed-awake u ∙ b)
+        ∙ new-fresh p ok (removed l t) (deviatesTo l t) removed-nested deviates-free u e (removed-awake u ∙ b)
         (ap (λ m. isAwake (m u .mode)) (sym fired-is) ∙ c)

@@ -149,7 +149,7 @@ module _ {σ : Seams} (ω : Laws σ) (limit : ℕ) (p : Plan) (ok : Accepted p) 
           join-single N t last (n .below t awake) (λ u c d. rw (ne-eqb u t d))
           ∙ (rw (eq-eqb t t refl))
 
-  removed-blocks : Blocks limit p ok k (removed p l t) shorter R
+  removed-blocks : Blocks limit p ok k (removed l t) shorter R
   removed-blocks =
       record {
         held =
@@ -162,7 +162,7 @@ module _ {σ : Seams} (ω : Laws σ) (limit : ℕ) (p : Plan) (ok : Accepted p) 
             ];
         runs =
             λ z o f.
-            let o′ = sym (open-same p (removed p l t) l (removed-awake p l t) z) ∙ o in
+            let o′ = sym (open-same p (removed l t) l (removed-awake p l t) z) ∙ o in
             let f′ = ap isForward (sym (removed-mode p l t (owner p z))) ∙ f in
             let (a, q) = g .runs z o′ f′ in
             (a, λ b. q b ∙ ap (λ w. act (k .changed) w b) (inner-same z f′));
@@ -187,7 +187,7 @@ module _ {σ : Seams} (ω : Laws σ) (limit : ℕ) (p : Plan) (ok : Accepted p) 
   pub fired-blocks : Blocks limit p ok k (fired p l t) shorter (λ z. when (isOpen p l z) (R z))
   fired-blocks =
       subst (λ m. Blocks limit p ok k m shorter (λ z. when (isOpen p l z) (R z))) (sym (fired-is p l t))
-      (subst (λ r. Blocks limit p ok k (enter p (deviatesTo p l t) (removed p l t)) shorter r)
-      (fun-ext (λ z. ap (λ b. when b (R z)) (open-same p (removed p l t) l (removed-awake p l t) z)))
-      (enter-blocks limit p ok k (removed p l t) (removed-nested p l t ok n (s .formed .good t) free awake) shorter R removed-blocks
-      (deviatesTo p l t) (deviates-free p l t ok n (s .formed .good t) free awake)))
+      (subst (λ r. Blocks limit p ok k (enter p (deviatesTo l t) (removed l t)) shorter r)
+      (fun-ext (λ z. ap (λ b. when b (R z)) (open-same p (removed l t) l (removed-awake p l t) z)))
+      (enter-blocks limit p ok k (removed l t) (removed-nested p l t ok n (s .formed .good t) free awake) shorter R removed-blocks
+      (deviatesTo l t) (deviates-free p l t ok n (s .formed .good t) free awake)))

@@ -1,7 +1,6 @@
 -- Property 3's mathematics, over the seams: theorems that know of the rules of calls only the laws of Laws.antt.
 -- Changes composed; ledgers nested, and what they hold; the laws.
 pub mod Composition
-pub mod Modes
 pub mod Roots
 pub mod Nesting
 pub mod Entering

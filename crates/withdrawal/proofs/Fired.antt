@@ -78,13 +78,13 @@ less-stores limit x s =
     }
 
 module _ (p : Plan) (l : Ledger) (t : ℕ) where
-  removed-here : (u : ℕ) → eqb u t ≡ true → removed p l t u ≡ lessOne (l u)
+  removed-here : (u : ℕ) → eqb u t ≡ true → removed l t u ≡ lessOne (l u)
   unfolding removed lessOne
   removed-here u e = rw e
 
-  storable-removed : (limit n : ℕ) → t < n → Storable limit n l → Storable limit n (removed p l t)
+  storable-removed : (limit n : ℕ) → t < n → Storable limit n l → Storable limit n (removed l t)
   storable-removed limit n b s =
-      storable-of limit n (removed p l t)
+      storable-of limit n (removed l t)
       (λ u.
       elim (look (eqb u t)) [
         | inl e ↦ subst (Stores limit) (sym (removed-here u e)) (less-stores limit (l u) (stores-at limit n l s u))
@@ -97,9 +97,9 @@ module _ (p : Plan) (l : Ledger) (t : ℕ) where
   storable-fired ok limit n few b s =
       let r = storable-removed limit n b s in
       storable-of limit n (fired p l t)
-      (λ u. entered-stores limit p (removed p l t u) u (deviatesTo p l t u) (wakes p (deviatesTo p l t) u) (stores-at limit n (removed p l t) r u))
+      (λ u. entered-stores limit p (removed l t u) u (deviatesTo l t u) (wakes p (deviatesTo l t) u) (stores-at limit n (removed l t) r u))
       (λ u h.
-      enter-kept p ok (deviatesTo p l t) (removed p l t) u (to-other p l t u (λ (z : u ≡ t). omega arith)) (wakes-root p ok (deviatesTo p l t) u (rootless u h))
+      enter-kept p ok (deviatesTo l t) (removed l t) u (to-other p l t u (λ (z : u ≡ t). omega arith)) (wakes-root p ok (deviatesTo l t) u (rootless u h))
       ∙ r .beyond u h)
     where
       rootless : (u : ℕ) → n ≤ u → host p u ≡ none
@@ -167,7 +167,7 @@ module _ {bs : List ℕ} {c : Counts} {ws : List ℕ} {t : ℕ} (a : Fireable bs
       let q : k .count ≡ length (l t .held) = ap (λ (x : Track). x .count) e in
       omega arith
 
-  pub removed-words : {k : Track} → k ≡ trackOf (l t) → {vs : List ℕ} → vs ≡ withRemoved ws t → vs ≡ written entryLimit (c .tracks) (removed p l t) ws
+  pub removed-words : {k : Track} → k ≡ trackOf (l t) → {vs : List ℕ} → vs ≡ withRemoved ws t → vs ≡ written entryLimit (c .tracks) (removed l t) ws
   unfolding withConfiguration lessOne
   removed-words {k} e d =
       d ∙ put-removed c ws in-order t low (entryAt ws (entryPlace t (k .count - 1))) (older (l t .held)) (newest-read c ws t (k .count - 1) low (holding e))
@@ -203,14 +203,14 @@ module _ {bs : List ℕ} {c : Counts} {ws : List ℕ} {t : ℕ} (a : Fireable bs
       → r ≡ newest (l t .held) .deviation
   deviation-is e f = f ∙ sym (ap (λ (x : Entry). x .deviation) (newest-is e))
 
-  module _ {vs : List ℕ} (d : vs ≡ written entryLimit (c .tracks) (removed p l t) ws) {dev : ℕ} (e : dev ≡ newest (l t .held) .deviation) where
-    stored : Storable entryLimit (c .tracks) (removed p l t)
+  module _ {vs : List ℕ} (d : vs ≡ written entryLimit (c .tracks) (removed l t) ws) {dev : ℕ} (e : dev ≡ newest (l t .held) .deviation) where
+    stored : Storable entryLimit (c .tracks) (removed l t)
     stored = storable-removed p l t entryLimit (c .tracks) low (holds c ws in-order)
 
     pub removed-orderly : Tidy vs (c .tracks)
-    removed-orderly = orderly-after c ws in-order (removed p l t) stored d
+    removed-orderly = orderly-after c ws in-order (removed l t) stored d
 
-    same-to : deviating t dev ≡ deviatesTo p l t
+    same-to : deviating t dev ≡ deviatesTo l t
     unfolding deviating deviatesTo
     same-to = rw e
 
@@ -218,14 +218,14 @@ module _ {bs : List ℕ} {c : Counts} {ws : List ℕ} {t : ℕ} (a : Fireable bs
     sleepers u w =
         let a = woken-asleep p ok l live t parts u (subst (λ (f : ℕ → Option ℕ). wakes p f u ≡ true) same-to w) in
         let n : u ≡ t → ⊥ = λ z. clash (undoing-awake (l t .mode) (parts .undoing)) (subst (λ v. isAwake (l v .mode) ≡ false) z a) in
-        ap (λ (m : Ledger). m u) (read-back c ws in-order (removed p l t) stored d) ∙ removed-other p l t u n ∙ holds c ws in-order .blank u a
+        ap (λ (m : Ledger). m u) (read-back c ws in-order (removed l t) stored d) ∙ removed-other p l t u n ∙ holds c ws in-order .blank u a
 
     module _ {us : List ℕ} (f : us ≡ written entryLimit (c .tracks) (enter p (deviating t dev) (ledgerOf c vs)) vs) where
       fired-words : us ≡ written entryLimit (c .tracks) (fired p l t) ws
       unfolding fired
       fired-words =
-          then c ws in-order (removed p l t) stored d (enter p (deviating t dev)) f
-          ∙ ap (λ (h : ℕ → Option ℕ). written entryLimit (c .tracks) (enter p h (removed p l t)) ws) same-to
+          then c ws in-order (removed l t) stored d (enter p (deviating t dev)) f
+          ∙ ap (λ (h : ℕ → Option ℕ). written entryLimit (c .tracks) (enter p h (removed l t)) ws) same-to
 
       stored-fired : Storable entryLimit (c .tracks) (fired p l t)
       stored-fired = storable-fired p l t ok entryLimit (c .tracks) few low (holds c ws in-order)

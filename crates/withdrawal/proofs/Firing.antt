@@ -36,17 +36,17 @@ fire-parts p l t h =
     record { low = ltb-true t (trackCount p) (q0 .0); undoing = q0 .1; holding = not-true _ (q1 .1); free = not-true _ (q2 .1) }
 
 module _ (p : Plan) (l : Ledger) (t : ℕ) where
-  pub to-other : (u : ℕ) → (u ≡ t → ⊥) → deviatesTo p l t u ≡ none
+  pub to-other : (u : ℕ) → (u ≡ t → ⊥) → deviatesTo l t u ≡ none
   unfolding deviatesTo
   to-other u n = rw (ne-eqb u t n)
 
-  pub removed-other : (u : ℕ) → (u ≡ t → ⊥) → removed p l t u ≡ l u
+  pub removed-other : (u : ℕ) → (u ≡ t → ⊥) → removed l t u ≡ l u
   unfolding removed
   removed-other u n = rw (ne-eqb u t n)
 
 module _ (p : Plan) (ok : Accepted p) (l : Ledger) (live : Live p l) (t : ℕ) (may : Fires p l t) where
   abbrev to : ℕ → Option ℕ
-  to = deviatesTo p l t
+  to = deviatesTo l t
 
   -- what wakes was asleep
   pub woken-asleep : (u : ℕ) → wakes p to u ≡ true → isAwake (l u .mode) ≡ false

@@ -37,9 +37,9 @@ module _ (p : Plan) (l : Ledger) (live : Live p l) where
 
   module _ (ok : Accepted p) (t : ℕ) (may : Fires p l t) where
     abbrev to : ℕ → Option ℕ
-    to = deviatesTo p l t
+    to = deviatesTo l t
 
-    removed-awake : (u : ℕ) → isAwake (removed p l t u .mode) ≡ isAwake (l u .mode)
+    removed-awake : (u : ℕ) → isAwake (removed l t u .mode) ≡ isAwake (l u .mode)
     unfolding removed
     removed-awake u = ⊎-elim (λ e. rw e) (λ e. rw e) (look (eqb u t))
 
@@ -50,18 +50,18 @@ module _ (p : Plan) (l : Ledger) (live : Live p l) where
     enters : (u s : ℕ) → to u ≡ some s → (fired p l t u .state ≡ s) × Awake u
     unfolding fired isAwake Awake
     enters u s e =
-        let q = enter-to p ok to (removed p l t) u s e in
+        let q = enter-to p ok to (removed l t) u s e in
         (ap (λ (x : Configuration). x .state) q, ap (λ (x : Configuration). isAwake (x .mode)) q)
 
     woken : (u : ℕ) → to u ≡ none → wakes p to u ≡ true → (fired p l t u .state ≡ firstState p u) × Awake u
     unfolding fired fresh isAwake Awake
     woken u e w =
-        let q = enter-woken p ok to (removed p l t) u e w in
+        let q = enter-woken p ok to (removed l t) u e w in
         (ap (λ (x : Configuration). x .state) q, ap (λ (x : Configuration). isAwake (x .mode)) q)
 
-    stays : (u : ℕ) → to u ≡ none → wakes p to u ≡ false → fired p l t u ≡ removed p l t u
+    stays : (u : ℕ) → to u ≡ none → wakes p to u ≡ false → fired p l t u ≡ removed l t u
     unfolding fired
-    stays u e w = enter-kept p ok to (removed p l t) u e w
+    stays u e w = enter-kept p ok to (removed l t) u e w
 
     -- awake afterwards: it wakes, or was awake
     was : (u : ℕ) → Awake u → (wakes p to u ≡ true) ⊎ (isAwake (l u .mode) ≡ true)

@@ -17,7 +17,7 @@ use Rattle.soundness.proofs.entries.good_deviations.Statement.{statemen
 use Rattle.soundness.proofs.entries.good_deviations.Tie as tie
 
 abbrev Inv-loop : tie.InvT-loop
-Inv-loop plan c ledger t count k₀ k = (k ≤ count) × (everyBelow k (λ k. goodDeviation (planOf plan c) (ledgerOf c ledger) t (entryAt ledger (entryPlace t k) .deviation)) ≡ true)
+Inv-loop plan c ledger t count k₀ k = (k ≤ count) × (everyBelow k (λ k. goodDeviation (planOf plan c) t (entryAt ledger (entryPlace t k) .deviation)) ≡ true)
 
 abbrev μ-loop : tie.MeasureT-loop
 μ-loop plan c ledger t count k₀ k = count - k
@@ -34,7 +34,7 @@ good-deviation-requires c κs = search needs
 
 returns : tie.Need-returns Inv-loop μ-loop
 unfolding entryPlace
-returns c = (every-stops _ _ _ (c .before .good-deviation .ensures ∙ ap (goodDeviation _ _ _) (c .before .before .entry-deviation .ensures)) (not-true _ (c .if1 .taken)) (search needs)) ∙ held-below _ _ _ _
+returns c = (every-stops _ _ _ (c .before .good-deviation .ensures ∙ ap (goodDeviation _ _) (c .before .before .entry-deviation .ensures)) (not-true _ (c .if1 .taken)) (search needs)) ∙ held-below _ _ _ _
 
 add-k : tie.Need-add-k Inv-loop μ-loop
 add-k c = search needs
@@ -43,7 +43,7 @@ loop-less : tie.Need-loop-less Inv-loop μ-loop
 loop-less c = search needs
 
 loop-again : tie.Need-loop-again Inv-loop μ-loop
-loop-again c = (search needs, every-next _ _ (c .before .before .before .before .loop .inv .1) (c .before .good-deviation .ensures ∙ ap (goodDeviation _ _ _) (c .before .before .entry-deviation .ensures)) (not-false _ (c .if1 .left)))
+loop-again c = (search needs, every-next _ _ (c .before .before .before .before .loop .inv .1) (c .before .good-deviation .ensures ∙ ap (goodDeviation _ _) (c .before .before .entry-deviation .ensures)) (not-false _ (c .if1 .left)))
 
 returns-2 : tie.Need-returns-2 Inv-loop μ-loop
 unfolding entryPlace
