@@ -38,7 +38,7 @@ use Rattle.automaton.proofs.Listings.{run-then, run-same}
 use Rattle.automaton.proofs.Frames.{top-parts}
 use Rattle.automaton.proofs.Entered.{begin-init}
 use Rattle.automaton.proofs.Terminated.{view-compensated, compensated-of}
-use Rattle.automaton.proofs.Calls.{stepwise}
+use Rattle.automaton.proofs.CallSteps.{stepwise}
 use Rattle.automaton.proofs.Faithful.{over-unlike}
 use Rattle.automaton.proofs.Exactly.{exactly}
 use Rattle.automaton.proofs.SelfCancelling.{corollary1}

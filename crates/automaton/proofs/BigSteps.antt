@@ -28,12 +28,12 @@ use Rattle.automaton.specs.StepTests.{isFail, isMute, isSilent}
 use Rattle.automaton.specs.BigSteps.{afterFinish, actsIn, has, isOnceEach, sucs, Exhausted, Exhausts, OnEvent, OnSignal, OnFiring, Big, Ends}
 use Rattle.automaton.proofs.Listings.{alike, from-every}
 use Rattle.automaton.proofs.Settled.{view-settled}
-use Rattle.automaton.proofs.Moving.{moves-some, apart, moving-run}
-use Rattle.automaton.proofs.Closing.{closing-run}
-use Rattle.automaton.proofs.Leaving.{abandoning-run}
-use Rattle.automaton.proofs.Turning.{going-forward, turning-run}
-use Rattle.automaton.proofs.Firing.{fire-run}
-use Rattle.automaton.proofs.Calls.{finished-view}
+use Rattle.automaton.proofs.MovingSteps.{moves-some, apart, moving-run}
+use Rattle.automaton.proofs.ClosingSteps.{closing-run}
+use Rattle.automaton.proofs.AbandoningSteps.{abandoning-run}
+use Rattle.automaton.proofs.TurningSteps.{going-forward, turning-run}
+use Rattle.automaton.proofs.FiringSteps.{fire-run}
+use Rattle.automaton.proofs.CallSteps.{finished-view}
 use Rattle.automaton.proofs.Enabled.{suc-enabled, fail-enabled}
 use Rattle.automaton.proofs.Confluence.{silent-unique, fail-unique, run-steps, run-acts, settled-exhausted}
 use Rattle.automaton.proofs.OnePlace.{comp-unique, suc-unique, view-once}

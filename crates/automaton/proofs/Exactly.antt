@@ -30,10 +30,10 @@ use Rattle.automaton.specs.StepTests.{isNestsuc, isFail, numberOf, devia
 use Rattle.automaton.specs.BigSteps.{has, isOnceEach, actsIn, OnEvent, OnSignal, OnFiring, Big}
 use Rattle.automaton.specs.Exactly.{toldBy, Exactly}
 use Rattle.automaton.proofs.Listings.{listed-length}
-use Rattle.automaton.proofs.Moving.{moves-some}
-use Rattle.automaton.proofs.Closing.{closings-counted}
+use Rattle.automaton.proofs.MovingSteps.{moves-some}
+use Rattle.automaton.proofs.ClosingSteps.{closings-counted}
 use Rattle.automaton.proofs.Figures.{all-listed, none-down}
-use Rattle.automaton.proofs.Calls.{stepwise}
+use Rattle.automaton.proofs.CallSteps.{stepwise}
 use Rattle.automaton.proofs.Enabled.{comp-newest}
 use Rattle.automaton.proofs.OnePlace.{comp-unique, view-once}
 use Rattle.automaton.proofs.SettlingSteps.{same-steps}

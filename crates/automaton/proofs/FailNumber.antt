@@ -21,7 +21,7 @@ use Rattle.automaton.specs.CountedSteps.{isTurnedEarly}
 use Rattle.automaton.specs.StepTests.{isFail, numberOf}
 use Rattle.automaton.specs.BigSteps.{Steps, stay, more, actsIn, Exhausted}
 use Rattle.automaton.proofs.Figures.{all-down, forward-split}
-use Rattle.automaton.proofs.Turning.{turning-run}
+use Rattle.automaton.proofs.TurningSteps.{turning-run}
 use Rattle.automaton.proofs.Confluence.{Still, first-still, later-still, run-steps, run-acts}
 use Rattle.automaton.proofs.BigSteps.{turners-fail, none-going}
 

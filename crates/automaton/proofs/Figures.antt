@@ -27,8 +27,8 @@ use Rattle.automaton.specs.View.{leavesScope, isGoing, leaveAt, abandoni
 use Rattle.automaton.specs.CountedSteps.{isTurnedEarly, countedSteps}
 use Rattle.automaton.specs.StepTests.{isSuc, isNestsuc, isFail, numberOf, codeIn, codesIn, deviationIn}
 use Rattle.automaton.proofs.Listings.{listed-length}
-use Rattle.automaton.proofs.Closing.{closings-counted}
-use Rattle.automaton.proofs.Turning.{going-forward}
+use Rattle.automaton.proofs.ClosingSteps.{closings-counted}
+use Rattle.automaton.proofs.TurningSteps.{going-forward}
 
 -- Steps of joined lists, of a list all of one rule, and of one with none of it.
 number-joined : (f : Act → Bool) (v w : List Act) → numberOf f (v ++ w) ≡ numberOf f v + numberOf f w

@@ -23,9 +23,9 @@ use Rattle.rules.proofs.Acceptance.{Accepted}
 use Rattle.rules.proofs.Closing.{closed-asleep, closed-replaced, closed-kept}
 use Rattle.rules.proofs.Abandoning.{left-asleep, left-kept}
 use Rattle.theory.proofs.Nesting.{Nested}
-use Rattle.theory.proofs.Entering.{Fate, enters, wakens, stays, fate, fresh-held}
-use Rattle.theory.proofs.Firing.{fired-is, removed-here, removed-other}
-use Rattle.theory.proofs.Soundness.{sleeping-held}
+use Rattle.theory.proofs.EnteringNested.{Fate, enters, wakens, stays, fate, fresh-held}
+use Rattle.theory.proofs.FiringNested.{fired-is, removed-here, removed-other}
+use Rattle.theory.proofs.SoundParts.{sleeping-held}
 use Rattle.theory.proofs.SoundBegin.{all-asleep}
 use Rattle.restoration.proofs.Theorems01.{move-takes, installed-held, by-none, by-some, turned-held, work, next-cases, next-refused, reached-kept, over-refused, recorded, goes, moved-is, mover-is, Kept, over-is}
 use Rattle.automaton.specs.SelfCancelling.{Perfect}

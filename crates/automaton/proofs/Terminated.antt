@@ -22,7 +22,7 @@ use Rattle.rules.proofs.Closing.{closing-final}
 use Rattle.rules.proofs.Abandoning.{bare-parts}
 use Rattle.rules.proofs.Modes.{undoing-forward}
 use Rattle.theory.proofs.Nesting.{Awake, Nested, open-host}
-use Rattle.theory.proofs.Closing.{closing-of, final-free}
+use Rattle.theory.proofs.ClosingNested.{closing-of, final-free}
 use Rattle.theory.proofs.SoundBegin.{abandoning-bare}
 use Rattle.theory.proofs.SoundEvent.{abandoning-of}
 use Rattle.automaton.specs.Listing.{listed, someOf, everyOf}

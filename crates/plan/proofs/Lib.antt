@@ -4,6 +4,6 @@ pub mod Searches
 pub mod Members
 pub mod ForestLaws
 pub mod Hosting
-pub mod Judging
+pub mod RefusalTests
 pub mod PassLaws
-pub mod PassTurns
+pub mod PassedLaws

@@ -36,8 +36,8 @@ use Rattle.theory.specs.Seams.{Seams, CallOf, event, signal, fire, isEvent, ins
 use Rattle.theory.proofs.Composition.{when, join}
 use Rattle.theory.proofs.Nesting.{Nested, root-above}
 use Rattle.theory.proofs.Entries.{deviates}
-use Rattle.theory.proofs.Firing.{fired-is, removed-mode, deviates-here, deviates-not, fired-still}
-use Rattle.theory.proofs.Soundness.{Sound}
+use Rattle.theory.proofs.FiringNested.{fired-is, removed-mode, deviates-here, deviates-not, fired-still}
+use Rattle.theory.proofs.SoundParts.{Sound}
 use Rattle.theory.proofs.Laws.{Takes, ended, Settled, Spare, Laws, Unfinished}
 use Rattle.theory.proofs.SoundRetraction.{track-untouched, fired-awake, fired-root}
 

@@ -23,10 +23,10 @@ use Rattle.rules.proofs.Abandoning.{left-asleep, left-kept}
 use Rattle.rules.proofs.Ready.{may-fire}
 use Rattle.theory.specs.Seams.{Seams, Call, event, signal, fire, isEvent, firingsOf, turned, work}
 use Rattle.theory.specs.Runs.{firingsFrom, isEventless}
-use Rattle.theory.proofs.Entering.{Fate, enters, wakens, stays, fate, fresh-held}
+use Rattle.theory.proofs.EnteringNested.{Fate, enters, wakens, stays, fate, fresh-held}
 use Rattle.theory.proofs.Entries.{older-length, older-less}
-use Rattle.theory.proofs.Firing.{fired-is, removed-here, removed-other}
-use Rattle.theory.proofs.Soundness.{sleeping-held}
+use Rattle.theory.proofs.FiringNested.{fired-is, removed-here, removed-other}
+use Rattle.theory.proofs.SoundParts.{sleeping-held}
 use Rattle.theory.proofs.Laws.{Laws}
 use Rattle.theory.proofs.Settling.{next-cases}
 use Rattle.theory.proofs.Turning.{turned-held}

@@ -24,12 +24,12 @@ use Rattle.theory.specs.Seams.{Seams, turned}
 use Rattle.theory.specs.Runs.{act, Books}
 use Rattle.theory.proofs.Composition.{when, join, All, Swap, nil-swap, join-same, join-single, put-behind}
 use Rattle.theory.proofs.Nesting.{Awake, Nested, open-same, mode-inside}
-use Rattle.theory.proofs.Firing.{fired-is, removed-mode, removed-awake, removed-here, removed-other, removed-nested, deviates-free}
-use Rattle.theory.proofs.Soundness.{Sound, sleeping-held}
+use Rattle.theory.proofs.FiringNested.{fired-is, removed-mode, removed-awake, removed-here, removed-other, removed-nested, deviates-free}
+use Rattle.theory.proofs.SoundParts.{Sound, sleeping-held}
 use Rattle.theory.proofs.Entries.{empty-nil}
 use Rattle.theory.proofs.Laws.{Laws}
 use Rattle.theory.proofs.Turning.{turned-awake, turned-held, scope-untouched}
-use Rattle.theory.proofs.Leaving.{left-awake, left-host-stays}
+use Rattle.theory.proofs.SignalNested.{left-awake, left-host-stays}
 use Rattle.theory.proofs.SoundRetraction.{fired-awake}
 use Rattle.theory.proofs.Invariant.{Undoes, Below, Held, inner, Blocks, swap-free, enter-blocks}
 

@@ -24,14 +24,14 @@ use Rattle.rules.proofs.Abandoning.{undoing-awake, awake-kept, left-kept, aband
 use Rattle.rules.proofs.Ready.{may-fire}
 use Rattle.theory.specs.Seams.{Seams, turned}
 use Rattle.theory.proofs.Nesting.{Awake, Nested}
-use Rattle.theory.proofs.Entering.{Fate, enters, wakens, stays, fate, arrived-awake, fresh-awake, fresh-state}
+use Rattle.theory.proofs.EnteringNested.{Fate, enters, wakens, stays, fate, arrived-awake, fresh-awake, fresh-state}
 use Rattle.theory.proofs.Entries.{Good, good-older, older-length}
-use Rattle.theory.proofs.Firing.{fired-is, removed-mode, removed-state, removed-here, removed-other, removed-awake, deviates-hosted, deviates-free, removed-nested, fired-still, fired-new}
-use Rattle.theory.proofs.Soundness.{Formed, Sound}
+use Rattle.theory.proofs.FiringNested.{fired-is, removed-mode, removed-state, removed-here, removed-other, removed-awake, deviates-hosted, deviates-free, removed-nested, fired-still, fired-new}
+use Rattle.theory.proofs.SoundParts.{Formed, Sound}
 use Rattle.theory.proofs.Laws.{Laws}
 use Rattle.theory.proofs.Turning.{turned-awake, unturned}
-use Rattle.theory.proofs.Closing.{closing-open, closing-of}
-use Rattle.theory.proofs.Leaving.{left-together, left-awake, left-root}
+use Rattle.theory.proofs.ClosingNested.{closing-open, closing-of}
+use Rattle.theory.proofs.SignalNested.{left-together, left-awake, left-root}
 use Rattle.theory.proofs.Forming.{enter-formed, turned-formed, abandoned-formed}
 
 module _ {σ : Seams} (ω : Laws σ) (limit : ℕ) (p : Plan) (ok : Accepted p) (l : Ledger) (s : Sound σ limit p l) where

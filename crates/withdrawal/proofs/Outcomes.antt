@@ -21,7 +21,7 @@ use Rattle.lookup.specs.Checked.{Checked, Going, ledgerOf}
 use Rattle.lookup.proofs.Facts.{tidy-words, live-of-going}
 use Rattle.lookup.proofs.OneTrackLaws.{holds, read-back, orderly-after, then}
 use Rattle.withdrawal.specs.Scopes.{Nested}
-use Rattle.withdrawal.proofs.Nesting.{nested-turned}
+use Rattle.withdrawal.proofs.ScopesNested.{nested-turned}
 use Rattle.withdrawal.proofs.Storing.{storable-turned}
 
 module _ (bs : List ℕ) (c : Counts) (ws : List ℕ) (g : Checked bs c ws) where

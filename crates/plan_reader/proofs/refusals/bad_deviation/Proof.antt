@@ -1,7 +1,7 @@
 -- The test's parts in the order of the code: each return knows that the parts before it failed. Assumes nothing.
 use mathlib.Core.Path.{refl, sym, ap, _∙_}
 use Rattle.plan.proofs.FieldLaws.{state-count}
-use Rattle.plan.proofs.Judging.{no-deviation, deviation-lost, deviation-final, deviation-hosted, deviation-code, state-within}
+use Rattle.plan.proofs.RefusalTests.{no-deviation, deviation-lost, deviation-final, deviation-hosted, deviation-code, state-within}
 use Rattle.rules.specs.Plan.{noState, mover, owner}
 use borrow.Author.Tests.{not-true, not-false}
 use borrow.Author.Needs.{needs}

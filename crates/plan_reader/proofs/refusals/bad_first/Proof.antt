@@ -2,7 +2,7 @@
 use Rattle.rules.specs.Plan.{noState}
 use mathlib.Core.Path.{sym, _∙_}
 use Rattle.plan.proofs.FieldLaws.{state-count}
-use Rattle.plan.proofs.Judging.{first-lost, first-here}
+use Rattle.plan.proofs.RefusalTests.{first-lost, first-here}
 use borrow.Author.Needs.{needs}
 use Rattle.plan_reader.proofs.refusals.bad_first.Statement.{statement}
 use Rattle.plan_reader.proofs.refusals.bad_first.Tie as tie

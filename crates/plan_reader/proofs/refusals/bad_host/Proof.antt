@@ -1,7 +1,7 @@
 -- A root passes; a hosted track's host must be a state, and its track lower. Assumes nothing.
 use mathlib.Core.Path.{sym}
 use Rattle.plan.proofs.FieldLaws.{state-count}
-use Rattle.plan.proofs.Judging.{host-root, host-lost, host-track}
+use Rattle.plan.proofs.RefusalTests.{host-root, host-lost, host-track}
 use Rattle.rules.specs.Plan.{noState}
 use borrow.Author.Needs.{needs}
 use Rattle.plan_reader.proofs.refusals.bad_host.Statement.{statement}

@@ -1,6 +1,6 @@
 -- A hosting state is judged by its final field, any other by its replacement. Assumes nothing.
 use mathlib.Core.Path.{sym, _∙_}
-use Rattle.plan.proofs.Judging.{hosting-here, hosting-none}
+use Rattle.plan.proofs.RefusalTests.{hosting-here, hosting-none}
 use borrow.Author.Needs.{needs}
 use Rattle.plan_reader.proofs.refusals.bad_hosting.Statement.{statement}
 use Rattle.plan_reader.proofs.refusals.bad_hosting.Tie as tie

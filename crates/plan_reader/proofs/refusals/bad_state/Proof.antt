@@ -1,7 +1,7 @@
 -- The test's two parts, in the order of the code. Assumes nothing.
 use mathlib.Core.Path.{sym}
 use Rattle.plan.proofs.FieldLaws.{track-count}
-use Rattle.plan.proofs.Judging.{state-lost, state-owned}
+use Rattle.plan.proofs.RefusalTests.{state-lost, state-owned}
 use borrow.Author.Needs.{needs}
 use Rattle.plan_reader.proofs.refusals.bad_state.Statement.{statement}
 use Rattle.plan_reader.proofs.refusals.bad_state.Tie as tie

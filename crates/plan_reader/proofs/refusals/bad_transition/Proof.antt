@@ -1,7 +1,7 @@
 -- The test's five parts, in the order of the code: each return knows that the parts before it failed. Assumes nothing.
 use mathlib.Core.Path.{refl, sym, _∙_}
 use Rattle.plan.proofs.FieldLaws.{state-count}
-use Rattle.plan.proofs.Judging.{source-lost, destination-lost, two-tracks, from-final, by-event}
+use Rattle.plan.proofs.RefusalTests.{source-lost, destination-lost, two-tracks, from-final, by-event}
 use borrow.Author.Needs.{needs}
 use Rattle.plan_reader.proofs.refusals.bad_transition.Statement.{statement}
 use Rattle.plan_reader.proofs.refusals.bad_transition.Tie as tie

@@ -1,5 +1,5 @@
 -- The invariant: no record looked at so far meets the test. The measure is the records left. Assumes nothing.
-use Rattle.plan.proofs.Judging.{mover-passed}
+use Rattle.plan.proofs.RefusalTests.{mover-passed}
 use mathlib.Core.Path.{_≡_, refl, sym, _∙_}
 use mathlib.Core.Bool.{false}
 use Prim.Native.Nat.{_≤_, _-_}

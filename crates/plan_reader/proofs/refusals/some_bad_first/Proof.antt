@@ -8,7 +8,7 @@ use Rattle.rules.proofs.Folds.{some-at}
 use Rattle.plan.proofs.Searches.{none-more, none-all}
 use native.Mathlib.Omega.{arith}
 use Rattle.rules.specs.Acceptance.{badFirst}
-use Rattle.plan.proofs.PassTurns.{first-read}
+use Rattle.plan.proofs.PassedLaws.{first-read}
 use borrow.Author.Needs.{needs}
 use Rattle.plan_reader.proofs.refusals.some_bad_first.Statement.{statement}
 use Rattle.plan_reader.proofs.refusals.some_bad_first.Tie as tie

@@ -8,7 +8,7 @@ use Rattle.rules.proofs.Folds.{some-at}
 use Rattle.plan.proofs.Searches.{none-more, none-all}
 use native.Mathlib.Omega.{arith}
 use Rattle.rules.specs.Acceptance.{badHosting}
-use Rattle.plan.proofs.PassTurns.{hosting-read}
+use Rattle.plan.proofs.PassedLaws.{hosting-read}
 use borrow.Author.Needs.{needs}
 use Rattle.plan_reader.proofs.refusals.some_bad_hosting.Statement.{statement}
 use Rattle.plan_reader.proofs.refusals.some_bad_hosting.Tie as tie

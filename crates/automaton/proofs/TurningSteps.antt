@@ -29,7 +29,7 @@ use Rattle.automaton.proofs.Listings.{listed-same, run-then, run-same}
 use Rattle.automaton.proofs.Frames.{down, same-conf, instead-none, instead-some, within-parts, frame, shown-free, shown-busy, shown-alike, view-law, frame-law}
 use Rattle.automaton.proofs.Entered.{facing-forward}
 use Rattle.automaton.proofs.Replacing.{Alike, frames-view, steppedFrom, from-some, from-none, from-low, falling-run}
-use Rattle.automaton.proofs.Leaving.{abandoning-run}
+use Rattle.automaton.proofs.AbandoningSteps.{abandoning-run}
 
 -- Whom FAIL turns, by the reading.
 module _ (p : Plan) (l : Ledger) where

@@ -22,8 +22,8 @@ use Rattle.rules.proofs.Abandoning.{undoing-awake}
 use Rattle.rules.proofs.Modes.{undoing-forward}
 use Rattle.theory.proofs.Nesting.{Awake, Nested}
 use Rattle.theory.proofs.Entries.{Good}
-use Rattle.theory.proofs.Entering.{Fate, enters, wakens, stays, fate, arrived-awake}
-use Rattle.theory.proofs.Firing.{fired-is, removed-mode, removed-state, removed-here, removed-other, removed-awake, deviates-known, deviates-here, removed-nested, deviates-free, fired-nested, fired-still}
+use Rattle.theory.proofs.EnteringNested.{Fate, enters, wakens, stays, fate, arrived-awake}
+use Rattle.theory.proofs.FiringNested.{fired-is, removed-mode, removed-state, removed-here, removed-other, removed-awake, deviates-known, deviates-here, removed-nested, deviates-free, fired-nested, fired-still}
 use Rattle.restoration.proofs.Theorems01.{may-fire}
 use Rattle.automaton.specs.Listing.{someOf, everyOf}
 use Rattle.automaton.specs.Configuration.{backward, Comp, Dev, Stack, NConf, Basic, Nest, end, members, pushComp, pushDev, hasTerminated, hasCompensated, goto}
@@ -33,7 +33,7 @@ use Rattle.automaton.proofs.Listings.{alike, run-then}
 use Rattle.automaton.proofs.Frames.{same-conf, frame, frames, instead-some, top-parts, top-of, shown-free, busy-alike, view-frame, view-frames, view-law, frame-law, replaced}
 use Rattle.automaton.proofs.Entered as entered
 use Rattle.automaton.proofs.Replacing.{Alike, unchanged, frames-view}
-use Rattle.automaton.proofs.Leaving.{abandoning-run}
+use Rattle.automaton.proofs.AbandoningSteps.{abandoning-run}
 
 -- the newest entry is on top of the stack: its compensation above its deviation
 stack-newest : (es : List Entry) → isEmpty es ≡ false → stackOf es ≡ Comp (newest es .code) ∷ pushDev (optional (newest es .deviation)) (stackOf (older es))

@@ -15,7 +15,7 @@ use Rattle.rules.specs.Fire.{newest, older, removed, deviatesTo, fired}
 use Rattle.rules.proofs.Tests.{look, look-option, clash, none-some}
 use Rattle.rules.proofs.Acceptance.{Accepted}
 use Rattle.theory.proofs.Nesting.{Awake, Sleeps, Nested, busy-same}
-use Rattle.theory.proofs.Entering.{Enterable, kept, kept-busy, new-fresh, enter-nested}
+use Rattle.theory.proofs.EnteringNested.{Enterable, kept, kept-busy, new-fresh, enter-nested}
 use Rattle.theory.proofs.Entries.{Good, deviates}
 
 module _ (p : Plan) (l : Ledger) (t : ℕ) where

@@ -17,7 +17,7 @@ use Rattle.rules.proofs.Acceptance.{Accepted}
 use Rattle.rules.proofs.Scopes.{host-by, by-host, open-find, busy-find}
 use Rattle.rules.proofs.Closing.{closing-final, closed-host, closed-root, closed-kept, closed-replaced, closed-alike}
 use Rattle.theory.proofs.Nesting.{Awake, Nested, state-of, open-host}
-use Rattle.theory.proofs.Closing.{closing-open, closes-known, closes-of, closing-busy, closing-open-track, closing-direct}
+use Rattle.theory.proofs.ClosingNested.{closing-open, closes-known, closes-of, closing-busy, closing-open-track, closing-direct}
 use Rattle.restoration.proofs.Theorems01.{installed-mode, installed-state, installed-held, closed-awake}
 use Rattle.automaton.specs.Configuration.{forward, NConf, Basic, Nest, push, hasTerminated}
 use Rattle.automaton.specs.Semantics.{FailReading, nestsucAt, Step, NESTSUC, Run}
@@ -27,7 +27,7 @@ use Rattle.automaton.proofs.Frames.{same-conf, within-parts, within-of,
 use Rattle.automaton.proofs.Entered.{facing-forward}
 use Rattle.automaton.proofs.Terminated.{closing-terminated}
 use Rattle.automaton.proofs.Replacing.{unchanged, frames-view, allStepped, stepped-all, stepped-not, steps-run}
-use Rattle.automaton.proofs.Moving.{stack-install}
+use Rattle.automaton.proofs.MovingSteps.{stack-install}
 
 no-state : optional noState ≡ none
 unfolding optional

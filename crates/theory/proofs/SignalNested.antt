@@ -15,7 +15,7 @@ use Rattle.rules.proofs.Scopes.{in-host, host-by, every-in-of}
 use Rattle.rules.proofs.Abandoning.{spent-parts, abandoned-host, abandoned-root, abandoned-spent, left-asleep, left-kept, awake-kept}
 use Rattle.theory.specs.Seams.{Seams, turned}
 use Rattle.theory.proofs.Nesting.{Awake, Sleeps, Nested, host-awake, scope-open}
-use Rattle.theory.proofs.Soundness.{sleeping-asleep}
+use Rattle.theory.proofs.SoundParts.{sleeping-asleep}
 use Rattle.theory.proofs.Laws.{Laws}
 use Rattle.theory.proofs.Turning.{turned-awake, turned-state, turned-blank, turned-alike}
 

@@ -16,7 +16,7 @@ use Rattle.rules.proofs.Tests.{look, look-option, clash, none-some}
 use Rattle.rules.proofs.Acceptance.{Accepted, transition-for}
 use Rattle.rules.proofs.Opening.{wakes-root}
 use Rattle.theory.proofs.Nesting.{Awake, Nested, free-below}
-use Rattle.theory.proofs.Entering.{Fate, enters, wakens, stays, fate, arrived-awake}
+use Rattle.theory.proofs.EnteringNested.{Fate, enters, wakens, stays, fate, arrived-awake}
 use Rattle.restoration.proofs.Theorems01.{move-takes, by-some, to-none, to-some, to-destination, recorded, goes, moved-is, recorded-awake, mover-awake, mover-is, recorded-nested, goes-free, moved-still}
 use Rattle.automaton.specs.Configuration.{forward, NConf, Basic, push, goto}
 use Rattle.automaton.specs.Semantics.{FailReading, sucAt, Step, SUC, Run}

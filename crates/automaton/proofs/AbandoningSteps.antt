@@ -18,7 +18,7 @@ use Rattle.rules.proofs.Scopes.{in-host, host-in, host-by, by-host, every-in-at
 use Rattle.rules.proofs.Abandoning.{spent-parts, abandoned-host, left-kept}
 use Rattle.rules.proofs.Modes.{undoing-forward}
 use Rattle.theory.proofs.Nesting.{Awake, Nested, state-of, host-busy}
-use Rattle.theory.proofs.Leaving.{left-awake, left-root}
+use Rattle.theory.proofs.SignalNested.{left-awake, left-root}
 use Rattle.automaton.specs.Listing.{listed}
 use Rattle.automaton.specs.Configuration.{backward, Stack, NConf, Basic, Nest, Conf, Vect, isBackwards, isCompensated, hasTerminated, hasCompensated}
 use Rattle.automaton.specs.Semantics.{FailReading, basicAlone, nestedToo, Step, NESTFAIL, NESTCOMP, Run}

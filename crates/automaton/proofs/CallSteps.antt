@@ -17,7 +17,7 @@ use Rattle.rules.proofs.Acceptance.{Accepted}
 use Rattle.rules.proofs.Scopes.{root-of, root-none}
 use Rattle.rules.proofs.Closing.{closed-done}
 use Rattle.theory.proofs.Nesting.{Nested}
-use Rattle.theory.proofs.Soundness.{RootsAwake}
+use Rattle.theory.proofs.SoundParts.{RootsAwake}
 use Rattle.restoration.proofs.Theorems01.{fire-accepted, moved-nested, sleeping-asleep, closed-nested, Sound, event-roots, event-abandoning, signal-sound, fire-sound, unfinished}
 use Rattle.automaton.specs.Listing.{listed, everyOf}
 use Rattle.automaton.specs.Configuration.{Vect, members, isTerminated}
@@ -29,10 +29,10 @@ use Rattle.automaton.proofs.Listings.{alike, listed-none, listed-every,
 use Rattle.automaton.proofs.Frames.{top-parts, top-of}
 use Rattle.automaton.proofs.Terminated.{members-vect, view-terminated}
 use Rattle.automaton.proofs.Settled.{view-settled}
-use Rattle.automaton.proofs.Moving.{moving-run}
-use Rattle.automaton.proofs.Closing.{closing-run}
-use Rattle.automaton.proofs.Turning.{signal-run}
-use Rattle.automaton.proofs.Firing.{fire-run}
+use Rattle.automaton.proofs.MovingSteps.{moving-run}
+use Rattle.automaton.proofs.ClosingSteps.{closing-run}
+use Rattle.automaton.proofs.TurningSteps.{signal-run}
+use Rattle.automaton.proofs.FiringSteps.{fire-run}
 use Rattle.automaton.proofs.Figures.{figures-counted}
 
 module _ (p : Plan) (ρ : FailReading) (ok : Accepted p) where

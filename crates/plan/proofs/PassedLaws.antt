@@ -16,7 +16,7 @@ use Rattle.plan.specs.Passes.{slots, stateSlots, firstAmong, firstMarks}
 use Rattle.plan.specs.Holds.{Holds}
 use Rattle.plan.proofs.FieldLaws.{track-count, state-count}
 use Rattle.plan.proofs.Hosting.{host-some}
-use Rattle.plan.proofs.Judging.{owner-passed}
+use Rattle.plan.proofs.RefusalTests.{owner-passed}
 
 -- 10 passed
 pub host-passed : (p : Plan) (t h : ℕ) → h ≡ hostWord p t → (h ≡ noState → ⊥) → badHost p t ≡ false → (h < stateCount p) × (owner p h < t)

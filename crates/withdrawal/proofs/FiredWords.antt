@@ -38,8 +38,8 @@ use Rattle.lookup.proofs.OneTrackLaws.{Stores, stores-at, storable-of, holds, p
 use Rattle.opening.proofs.EnteringLaws.{entered-stores}
 use Rattle.withdrawal.specs.Deviating.{deviating}
 use Rattle.withdrawal.specs.Scopes.{Nested}
-use Rattle.withdrawal.proofs.Firing.{Fires, fire-parts, to-other, removed-other, woken-asleep}
-use Rattle.withdrawal.proofs.Nesting.{nested-fired}
+use Rattle.withdrawal.proofs.FireLaws.{Fires, fire-parts, to-other, removed-other, woken-asleep}
+use Rattle.withdrawal.proofs.ScopesNested.{nested-fired}
 use Rattle.withdrawal.proofs.Outcomes.{orderly, over-as, refused-call, done-call, going}
 
 -- the newest entry stands last in the track's words

@@ -19,7 +19,7 @@ use Rattle.rules.proofs.Abandoning.{undoing-awake}
 use Rattle.theory.specs.Seams as seam
 use Rattle.theory.specs.Seams.{Seams}
 use Rattle.theory.proofs.Nesting.{Awake, Sleeps, Nested, state-of, busy-same}
-use Rattle.theory.proofs.Entering.{Enterable, Fate, enters, wakens, stays, fate, fresh-mode, kept, new-fresh, enter-nested}
+use Rattle.theory.proofs.EnteringNested.{Enterable, Fate, enters, wakens, stays, fate, fresh-mode, kept, new-fresh, enter-nested}
 use Rattle.theory.proofs.Laws.{Laws}
 use Rattle.theory.proofs.Installing.{by-mode, by-state, by-none}
 

@@ -1,4 +1,4 @@
--- One track's turn of a pass, as the code takes it: each branch is a case of the turn's definition. Assumes nothing.
+-- One track's visit in a pass, as the code takes it: each branch is a case of the definition. Assumes nothing.
 use mathlib.Core.Path.{_≡_, sym, ap, _∙_}
 use mathlib.Core.Bool.{Bool, true, false, cond, not}
 use mathlib.Core.List.{List}

@@ -18,7 +18,7 @@ use Rattle.rules.proofs.Closing.{Alike, closing-alike, closing-asleep, closing-
 use Rattle.rules.proofs.Abandoning.{undoing-awake}
 use Rattle.theory.specs.Seams.{Seams}
 use Rattle.theory.proofs.Nesting.{Awake, Sleeps, Nested, state-of, host-awake, host-busy, open-host}
-use Rattle.theory.proofs.Soundness.{sleeping-asleep}
+use Rattle.theory.proofs.SoundParts.{sleeping-asleep}
 use Rattle.theory.proofs.Laws.{Laws}
 use Rattle.theory.proofs.Installing.{installed-mode, installed-state}
 

@@ -20,8 +20,8 @@ use Rattle.rules.proofs.Opening.{wakes-together, wakes-entered, wakes-woken, en
 use Rattle.rules.proofs.Abandoning.{undoing-awake}
 use Rattle.rules.proofs.Soundness.{Live}
 use Rattle.withdrawal.specs.Scopes.{Nested}
-use Rattle.withdrawal.proofs.Turning.{turned-awake, turned-state}
-use Rattle.withdrawal.proofs.Firing.{Fires, to-other, removed-other, woken-asleep}
+use Rattle.withdrawal.proofs.SignalLaws.{turned-awake, turned-state}
+use Rattle.withdrawal.proofs.FireLaws.{Fires, to-other, removed-other, woken-asleep}
 
 module _ (p : Plan) (l : Ledger) (live : Live p l) where
   pub nested-turned : Nested p (turned l)
