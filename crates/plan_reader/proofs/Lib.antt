@@ -4,5 +4,5 @@ pub mod KindTables
 pub mod MarkLaws
 pub mod Reader
 pub mod RecordTable
-pub mod Runs
+pub mod RunLaws
 pub mod Scanning

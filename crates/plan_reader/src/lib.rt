@@ -3,6 +3,7 @@ pub mod events;
 pub mod heights;
 pub mod records;
 pub mod refusals;
+pub mod runs;
 
 use crate::events::some_repeated_event;
 use crate::heights::some_too_high;

@@ -1,4 +1,6 @@
 // The records of a plan, one after the other: refusals 2 to 7, and how many records there are of each kind.
+use crate::runs::ends_after;
+use crate::runs::runs;
 use plan::fields::STATE_LENGTH;
 use plan::fields::TRACK_LENGTH;
 use plan::fields::TRANSITION_LENGTH;
@@ -10,8 +12,8 @@ ghost use mathlib.Core.List.{[], _∷_};
 ghost use Prim.Native.Nat.{_+_, _<_, _≤_};
 ghost use lib.ListN.{length, getD};
 ghost use lib.Dec.{eqb, ltb};
-ghost use Rattle.rules.specs.Record.{sizeAt, kindAt, lengthOf, mostOf, countOf, judgeRecord, scan};
-ghost use Rattle.plan_reader.specs.Scanned.{scanTold, Run, moreOf};
+ghost use Rattle.rules.specs.Record.{sizeAt, kindAt, lengthOf, mostOf, countOf, oneMore, judgeRecord, scan};
+ghost use Rattle.plan_reader.specs.Scanned.{scanTold};
 
 const END_KIND: u16 = 4;
 
@@ -76,21 +78,21 @@ fn count_of(c: Counts, kind: u16) -> usize
     of_kind(c.tracks, c.states, c.transitions, 0, kind)
 }
 
-fn many_where(test: bool, n: usize) -> usize
-    ensures { λ r. ⌜ (r ≡ cond test n 0) × (r ≤ n) ⌝ }
+fn one_where(test: bool) -> usize
+    ensures { λ r. ⌜ (r ≡ cond test 1 0) × (r ≤ 1) ⌝ }
 {
-    if test { n } else { 0 }
+    if test { 1 } else { 0 }
 }
 
-// With so many more records of a kind.
-fn more_of(c: Counts, kind: u16, n: usize) -> Counts
-    requires { ⌜ (c .tracks ≤ 32) × (c .states ≤ 128) × (c .transitions ≤ 256) × (n ≤ 256) ⌝ }
-    ensures { λ r. ⌜ r ≡ moreOf c kind n ⌝ }
+// With one more record of a kind.
+fn one_more(c: Counts, kind: u16) -> Counts
+    requires { ⌜ (c .tracks ≤ 32) × (c .states ≤ 128) × (c .transitions ≤ 256) ⌝ }
+    ensures { λ r. ⌜ r ≡ oneMore c kind ⌝ }
 {
     Counts {
-        tracks: c.tracks + many_where(kind == 1, n),
-        states: c.states + many_where(kind == 2, n),
-        transitions: c.transitions + many_where(kind == 3, n),
+        tracks: c.tracks + one_where(kind == 1),
+        states: c.states + one_where(kind == 2),
+        transitions: c.transitions + one_where(kind == 3),
     }
 }
 
@@ -139,34 +141,8 @@ pub fn judge_record(plan: &[u8], k: Cursor) -> u8
     0
 }
 
-// How many records after the one at a place are like it: whole, with its length and its kind; at most so many.
-fn run_after(plan: &[u8], at: usize, most: usize) -> usize
-    requires { ⌜ (4 ≤ sizeAt (now plan) at) × (at + sizeAt (now plan) at ≤ length (now plan)) ⌝ }
-    ensures { λ r. ⌜ (r ≤ most) × Run (now (plan .entry)) (sizeAt (now (plan .entry)) at) (kindAt (now (plan .entry)) at) at r ⌝ }
-{
-    let size = word_at(plan, at);
-    let kind = word_at(plan, at + 2);
-    let length = size as usize;
-    let mut n: usize = 0;
-    let mut here = at + length;
-    while n < most {
-        if plan.len() - here < length {
-            return n;
-        }
-        if word_at(plan, here) != size {
-            return n;
-        }
-        if word_at(plan, here + 2) != kind {
-            return n;
-        }
-        n += 1;
-        here += length;
-    }
-    n
-}
-
-// The records up to the end record: each visit judges one, and takes those after it that are like it.
-pub fn scan_records(plan: &[u8]) -> Scanned
+// The records up to the end record, one after the other.
+fn scan_each(plan: &[u8]) -> Scanned
     ensures { λ r. ⌜ scanTold r ≡ scan (now (plan .entry)) ⌝ }
 {
     let mut k = Cursor {
@@ -189,13 +165,22 @@ pub fn scan_records(plan: &[u8]) -> Scanned
         if kind == END_KIND {
             return Scanned::Counted(counts);
         }
-        let free = most_of(kind) - count_of(counts, kind);
-        let n = run_after(plan, at, free - 1) + 1;
-        let more = more_of(counts, kind, n);
+        let more = one_more(counts, kind);
         k = Cursor {
-            at: at + length_of(kind) * n,
+            at: at + length_of(kind),
             last: kind,
             counts: more,
         };
     }
+}
+
+// The records up to the end record. Those of an accepted plan stand in runs of one kind; others are judged one after the other.
+pub fn scan_records(plan: &[u8]) -> Scanned
+    ensures { λ r. ⌜ scanTold r ≡ scan (now (plan .entry)) ⌝ }
+{
+    let c = runs(plan);
+    if ends_after(plan, c) {
+        return Scanned::Counted(c);
+    }
+    scan_each(plan)
 }
