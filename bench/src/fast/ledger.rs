@@ -133,9 +133,8 @@ fn are_zero(words: &[u16]) -> bool {
 /// Codes are not 0; deviations are none, or states of the root not final.
 #[inline(always)]
 fn fit_root(plan: &Plan, track: usize, held: &[u16]) -> bool {
-    held.chunks_exact(2).all(|pair| {
-        pair[0] != 0 && (pair[1] == NONE || plan.is_open_state(track, pair[1]))
-    })
+    held.chunks_exact(2)
+        .all(|pair| pair[0] != 0 && (pair[1] == NONE || plan.is_open_state(track, pair[1])))
 }
 
 /// Codes are not 0; deviations are none.

@@ -36,64 +36,65 @@ pub struct Entry {
 }
 
 /// Begin overwrites the ledger.
-pub fn begin(plan: &[u8], words: &mut [u16]) -> Result<(), Refused> {
-    let plan = accepted(plan, words)?;
+pub fn begin(bytes: &[u8], words: &mut [u16]) -> Result<(), Refused> {
+    let mut plan = Plan::unread();
+    accept(&mut plan, bytes, words)?;
     steps::begin(&plan, words);
     Ok(())
 }
 
 /// Event: tracks moved, scopes closed.
-pub fn event(plan: &[u8], words: &mut [u16], event: u16) -> Result<Moved, Refused> {
-    let plan = accepted(plan, words)?;
-    let mut sets = sound(&plan, words)?;
+pub fn event(bytes: &[u8], words: &mut [u16], event: u16) -> Result<Moved, Refused> {
+    let mut plan = Plan::unread();
+    let mut sets = check(&mut plan, bytes, words)?;
     steps::event(&plan, words, &mut sets, event)
 }
 
 /// Signal: tracks turned.
-pub fn signal(plan: &[u8], words: &mut [u16]) -> Result<u16, Refused> {
-    let plan = accepted(plan, words)?;
-    let mut sets = sound(&plan, words)?;
+pub fn signal(bytes: &[u8], words: &mut [u16]) -> Result<u16, Refused> {
+    let mut plan = Plan::unread();
+    let mut sets = check(&mut plan, bytes, words)?;
     steps::signal(&plan, words, &mut sets)
 }
 
 /// Fire a named track: code and deviation.
-pub fn fire(plan: &[u8], words: &mut [u16], track: u16) -> Result<Entry, Refused> {
-    let plan = accepted(plan, words)?;
-    let mut sets = sound(&plan, words)?;
+pub fn fire(bytes: &[u8], words: &mut [u16], track: u16) -> Result<Entry, Refused> {
+    let mut plan = Plan::unread();
+    let mut sets = check(&mut plan, bytes, words)?;
     steps::fire(&plan, words, &mut sets, track)
 }
 
 /// Ready: bit n set exactly if track n may be fired.
-pub fn ready(plan: &[u8], words: &[u16]) -> Result<u32, Refused> {
-    let plan = accepted(plan, words)?;
-    Ok(sound(&plan, words)?.ready())
+pub fn ready(bytes: &[u8], words: &[u16]) -> Result<u32, Refused> {
+    let sets = check(&mut Plan::unread(), bytes, words)?;
+    Ok(sets.ready())
 }
 
 /// Entries: the part of the ledger that holds one track's pairs, those held
 /// and no unused ones; the empty part on refusal.
-pub fn entries<'a>(plan: &[u8], words: &'a [u16], track: u16) -> &'a [u16] {
+pub fn entries<'a>(bytes: &[u8], words: &'a [u16], track: u16) -> &'a [u16] {
+    let mut plan = Plan::unread();
     let track = usize::from(track);
-    match accepted(plan, words) {
-        Ok(plan) if track < plan.tracks && sound(&plan, words).is_ok() => {
-            let words = &words[track * TRACK_WORDS..][..TRACK_WORDS];
-            &words[PAIRS..][..2 * usize::from(words[2])]
-        }
-        _ => &[],
+    if check(&mut plan, bytes, words).is_err() || track >= plan.tracks {
+        return &[];
     }
+    let own = &words[track * TRACK_WORDS..][..TRACK_WORDS];
+    &own[PAIRS..][..2 * usize::from(own[2])]
 }
 
 /// 2 to 17: an accepted plan, and enough words for it.
 #[inline(always)]
-fn accepted<'a>(plan: &'a [u8], words: &[u16]) -> Result<Plan<'a>, Refused> {
-    let plan = Plan::read(plan)?;
+fn accept<'a>(plan: &mut Plan<'a>, bytes: &'a [u8], words: &[u16]) -> Result<(), Refused> {
+    plan.read(bytes)?;
     match words.len() < plan.tracks * TRACK_WORDS {
         true => Err(Refused(17)),
-        false => Ok(plan),
+        false => Ok(()),
     }
 }
 
-/// 18: a sound ledger.
+/// 2 to 18: an accepted plan and a sound ledger, whose sets are the answer.
 #[inline(always)]
-fn sound(plan: &Plan, words: &[u16]) -> Result<Sets, Refused> {
+fn check<'a>(plan: &mut Plan<'a>, bytes: &'a [u8], words: &[u16]) -> Result<Sets, Refused> {
+    accept(plan, bytes, words)?;
     Sets::of(plan, words).ok_or(Refused(18))
 }

@@ -59,10 +59,15 @@ pub struct Plan<'a> {
 }
 
 impl<'a> Plan<'a> {
+    /// A plan to be read. It is large, so it is read where it stands.
     #[inline(always)]
-    pub fn read(bytes: &'a [u8]) -> Result<Plan<'a>, Refused> {
-        let mut faults = Faults(0);
-        let mut plan = Plan {
+    pub fn unread() -> Plan<'a> {
+        let state = State {
+            track: 0,
+            last: false,
+            replacement: 0,
+        };
+        Plan {
             tracks: 0,
             states: 0,
             transitions: &[],
@@ -70,20 +75,22 @@ impl<'a> Plan<'a> {
             host: [NONE; MAX_TRACKS],
             above: [0; MAX_TRACKS],
             first: [NONE; MAX_TRACKS],
-            state: [State {
-                track: 0,
-                last: false,
-                replacement: 0,
-            }; MAX_STATES],
+            state: [state; MAX_STATES],
             scope: [0; MAX_STATES],
             places: [0; PLACES],
-        };
-        let rest = plan.read_tracks(bytes);
-        let rest = plan.read_states(rest, &mut faults);
-        plan.place_tracks(&mut faults);
-        plan.judge_hosting(&mut faults);
-        match plan.read_transitions(rest, &mut faults) {
-            true => faults.lowest().map(|()| plan),
+        }
+    }
+
+    /// Reads a plan not yet read.
+    #[inline(always)]
+    pub fn read(&mut self, bytes: &'a [u8]) -> Result<(), Refused> {
+        let mut faults = Faults(0);
+        let rest = self.read_tracks(bytes);
+        let rest = self.read_states(rest, &mut faults);
+        self.place_tracks(&mut faults);
+        self.judge_hosting(&mut faults);
+        match self.read_transitions(rest, &mut faults) {
+            true => faults.lowest(),
             false => Err(out_of_shape(bytes)),
         }
     }

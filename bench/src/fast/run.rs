@@ -18,12 +18,14 @@ const FIRE_LOWEST: u16 = 19;
 /// The whole output of `unwind`.
 pub fn unwind(plan: &[u8], journal: &[u8]) -> Vec<u8> {
     let mut text = Text(Vec::with_capacity(2 * MAX_BYTES));
-    let refused = match plan.len().max(journal.len()) <= MAX_BYTES {
-        true => Plan::read(plan).map(|plan| run(&plan, journal, &mut text)),
+    let mut read = Plan::unread();
+    let accepted = match plan.len().max(journal.len()) <= MAX_BYTES {
+        true => read.read(plan),
         false => Err(Refused(1)),
     };
-    if let Err(Refused(number)) = refused {
-        text.line("R", &[number]);
+    match accepted {
+        Ok(()) => run(&read, journal, &mut text),
+        Err(Refused(number)) => text.line("R", &[number]),
     }
     text.0
 }
@@ -40,8 +42,9 @@ fn run(plan: &Plan, journal: &[u8], text: &mut Text) {
         let done = next(&mut rest).and_then(|(kind, argument)| match kind {
             EVENT => steps::event(plan, &mut words, &mut sets, argument)
                 .map(|figures| text.line("E", &[argument, figures.moved, figures.closed])),
-            SIGNAL => steps::signal(plan, &mut words, &mut sets)
-                .map(|turned| text.line("S", &[turned])),
+            SIGNAL => {
+                steps::signal(plan, &mut words, &mut sets).map(|turned| text.line("S", &[turned]))
+            }
             _ => {
                 let track = fired(kind, argument, &sets);
                 let entry = steps::fire(plan, &mut words, &mut sets, track)?;

@@ -180,12 +180,7 @@ fn abandon(plan: &Plan, words: &mut [u16], sets: &mut Sets, host: usize) -> bool
 /// Fire: the newest entry is removed; a deviation turns the track forward, and
 /// the last entry abandons its scope, and so on up. Answers the entry.
 #[inline(always)]
-pub fn fire(
-    plan: &Plan,
-    words: &mut [u16],
-    sets: &mut Sets,
-    track: u16,
-) -> Result<Entry, Refused> {
+pub fn fire(plan: &Plan, words: &mut [u16], sets: &mut Sets, track: u16) -> Result<Entry, Refused> {
     if sets.awake == 0 {
         return Err(Refused(20));
     }
