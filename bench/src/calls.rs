@@ -49,6 +49,7 @@ pub fn times(rounds: &mut Rounds, plan: &[u8], given: &[Given]) -> [f64; 3] {
 
 /// The table of all plans and calls.
 pub fn print(rounds: &mut Rounds, cases: &[Case]) {
+    println!("## Calls\n");
     println!(
         "| Plan | Call | Proved, ns | Second, ns | Fast, ns | Proved to second | Proved to fast |"
     );

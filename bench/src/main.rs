@@ -40,6 +40,7 @@ fn main() -> io::Result<()> {
             calls::print(&mut rounds, &cases);
             println!();
             runs::print(&mut rounds, &cases, [proved, second, fast])?;
+            println!();
             scaling::print(&mut rounds);
         }
         ["one", plan, call] => {
@@ -54,6 +55,6 @@ fn main() -> io::Result<()> {
         }
         _ => return Err(io::Error::new(io::ErrorKind::Other, USAGE)),
     }
-    println!("\n{}", rounds.verdict());
+    println!("\n## The machine\n\n{}", rounds.verdict());
     Ok(())
 }

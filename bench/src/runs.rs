@@ -17,6 +17,7 @@ const ROUNDS: usize = 101;
 pub fn print(rounds: &mut Rounds, cases: &[Case], programs: [&str; 3]) -> io::Result<()> {
     let [proved, second, fast] = programs.map(fs::canonicalize);
     let programs = [proved?, second?, fast?];
+    println!("## Whole runs\n");
     println!(
         "| Plan | Journal, bytes | Proved, µs | Second, µs | Fast, µs | Proved to second | Proved to fast |"
     );

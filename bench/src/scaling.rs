@@ -13,7 +13,7 @@ use crate::shapes::{self, Order};
 /// What grows, with rows of points.
 struct Table {
     what: &'static str,
-    /// One of what grows.
+    /// One more of it.
     unit: &'static str,
     sizes: Vec<usize>,
     rows: Vec<Row>,
@@ -27,46 +27,52 @@ struct Row {
 
 /// Prints all tables.
 pub fn print(rounds: &mut Rounds) {
+    println!("## Growth\n\nNanoseconds a call, by the size named in the heading of the column.");
     for table in [tracks(), states(), transitions(), steps(), entries()] {
         table.print(rounds);
     }
 }
 
 impl Table {
-    /// For each row and side the times, and nanoseconds for one more of what
-    /// grows, up to the last size but one and from there on.
     fn print(&self, rounds: &mut Rounds) {
-        let join = |cells: Vec<String>| cells.join(" | ");
-        let last = self.sizes.len() - 1;
-        let [low, middle, high] = [self.sizes[0], self.sizes[last - 1], self.sizes[last]];
-        let sizes = join(self.sizes.iter().map(usize::to_string).collect());
-        println!("\n{}\n", self.what);
-        println!(
-            "| Call | By | {sizes} | ns a {unit}, {low} to {middle} | {middle} to {high} |",
-            unit = self.unit
-        );
-        println!("|---|---|{}", "---:|".repeat(self.sizes.len() + 2));
+        self.print_heading();
         for row in &self.rows {
             let times: Vec<[f64; 3]> = (row.points.iter())
                 .map(|(plan, given)| calls::times(rounds, plan, std::slice::from_ref(given)))
                 .collect();
             for (number, side) in ["proved", "second", "fast"].iter().enumerate() {
-                let at = |place: usize| times[place][number];
-                let each = |from: usize, to: usize| {
-                    (at(to) - at(from)) / (self.sizes[to] - self.sizes[from]) as f64
-                };
-                let cells = join(
-                    (0..=last)
-                        .map(|place| format!("{:.0}", at(place)))
-                        .collect(),
-                );
-                let (first, second) = (each(0, last - 1), each(last - 1, last));
-                println!(
-                    "| {} | {side} | {cells} | {first:.1} | {second:.1} |",
-                    row.name
-                );
+                let times: Vec<f64> = times.iter().map(|sides| sides[number]).collect();
+                println!("| {} | {side} | {} |", row.name, self.cells(&times));
             }
         }
+    }
+
+    fn print_heading(&self) {
+        let sizes: Vec<String> = self.sizes.iter().map(usize::to_string).collect();
+        let (low, [middle, high]) = (&sizes[0], self.upper().map(|place| &sizes[place]));
+        let (what, unit, columns) = (self.what, self.unit, sizes.join(" | "));
+        println!("\n### {what}\n");
+        println!("| Call | By | {columns} | ns {unit}, {low} to {middle} | {middle} to {high} |");
+        println!("|---|---|{}", "---:|".repeat(sizes.len() + 2));
+    }
+
+    /// The times, and nanoseconds for one more of what grows: up to the last
+    /// size but one, and from there on.
+    fn cells(&self, times: &[f64]) -> String {
+        let each = |from: usize, to: usize| {
+            let time = (times[to] - times[from]) / (self.sizes[to] - self.sizes[from]) as f64;
+            format!("{time:.1}")
+        };
+        let [middle, high] = self.upper();
+        let mut cells: Vec<String> = times.iter().map(|time| format!("{time:.0}")).collect();
+        cells.extend([each(0, middle), each(middle, high)]);
+        cells.join(" | ")
+    }
+
+    /// The last two places.
+    fn upper(&self) -> [usize; 2] {
+        let high = self.sizes.len() - 1;
+        [high - 1, high]
     }
 }
 
@@ -116,8 +122,8 @@ fn tracks() -> Table {
     let plan = |&tracks: &usize| (shapes::tree(tracks, 128, 256), 2);
     let rows = rows(&sizes.iter().map(plan).collect::<Vec<_>>());
     Table {
-        what: "Tracks, a tree of them; 128 states, 256 transitions:",
-        unit: "track",
+        what: "Tracks, a tree of them; 128 states, 256 transitions",
+        unit: "a track",
         sizes,
         rows,
     }
@@ -128,8 +134,8 @@ fn states() -> Table {
     let plan = |&states: &usize| (shapes::tree(4, states, 24), 2);
     let rows = rows(&sizes.iter().map(plan).collect::<Vec<_>>());
     Table {
-        what: "States; 4 tracks, 24 transitions:",
-        unit: "state",
+        what: "States; 4 tracks, 24 transitions",
+        unit: "a state",
         sizes,
         rows,
     }
@@ -140,8 +146,8 @@ fn transitions() -> Table {
     let plan = |&transitions: &usize| (shapes::tree(1, 128, transitions), 2);
     let rows = rows(&sizes.iter().map(plan).collect::<Vec<_>>());
     Table {
-        what: "Transitions, of many states; 1 track, 128 states:",
-        unit: "transition",
+        what: "Transitions, of many states; 1 track, 128 states",
+        unit: "a transition",
         sizes,
         rows,
     }
@@ -166,8 +172,8 @@ fn steps() -> Table {
         all.push(refused(&plans(order), name));
     }
     Table {
-        what: "Steps out of one state, their events rising unless said; 1 track, 2 states:",
-        unit: "step",
+        what: "Steps out of one state, their events rising unless said; 1 track, 2 states",
+        unit: "a step",
         sizes,
         rows: all,
     }
@@ -196,8 +202,8 @@ fn entries() -> Table {
     let plan = |&events: &usize| (shapes::roots(32, 128, 256), events);
     let rows = rows(&events.iter().map(plan).collect::<Vec<_>>());
     Table {
-        what: "Entries held; 32 tracks, all roots, 128 states, 256 transitions:",
-        unit: "entry",
+        what: "Entries held; 32 tracks, all roots, 128 states, 256 transitions",
+        unit: "an entry",
         sizes: events.map(|held| 32 * held).to_vec(),
         rows,
     }

@@ -61,7 +61,7 @@ fn half_a_million_single_calls() {
 /// Ledgers that go on from call to call, from a begin on any words.
 #[test]
 fn calls_of_histories() {
-    for index in 0..1_500 {
+    for index in 0..10_000 {
         let mut rng = Rng::for_case(31, 2, index);
         let bytes = plans::bytes(&mut rng, MAX_TRACKS);
         let plan = plan::read(&bytes).expect("accepted");
@@ -121,7 +121,7 @@ fn wide(rng: &mut Rng) -> plan::Records {
 /// Whole runs, text for text.
 #[test]
 fn texts_of_journals() {
-    for index in 0..3_000 {
+    for index in 0..20_000 {
         let case = journals::case(&mut Rng::for_case(31, 5, index), MAX_TRACKS);
         let expected = journal::unwind(&case.plan, &case.journal);
         let found = run::unwind(&case.plan, &case.journal);
