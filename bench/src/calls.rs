@@ -56,7 +56,11 @@ pub fn print(rounds: &mut Rounds, cases: &[Case]) {
     println!("|---|---|---:|---:|---:|---:|---:|");
     for case in cases {
         for name in CALLS {
-            let [proved, second, fast] = times(rounds, &case.plan, &case.given(name, LEDGERS));
+            let given = case.given(name, LEDGERS);
+            if given.is_empty() {
+                continue;
+            }
+            let [proved, second, fast] = times(rounds, &case.plan, &given);
             let (label, to_second, to_fast) = (case.label(), proved / second, proved / fast);
             println!(
                 "| {label} | {name} | {proved:.0} | {second:.0} | {fast:.0} | {to_second:.2} | \

@@ -101,9 +101,9 @@ fn bits(tracks: u32) -> u64 {
 
 /// Bits 0 to 15 the count of words, the others the index of the first one.
 fn part(words: &[u16], part: &[u16]) -> u64 {
-    let bytes = part.as_ptr() as usize - words.as_ptr() as usize;
-    match part.len() as u64 {
-        0 => 0,
-        count => count | (bytes as u64 / 2) << 16,
+    if part.is_empty() {
+        return 0;
     }
+    let bytes = part.as_ptr() as usize - words.as_ptr() as usize;
+    part.len() as u64 | (bytes as u64 / 2) << 16
 }

@@ -71,9 +71,20 @@ fn overfills(words: &[u16], track: usize, code: u16) -> bool {
     code != 0 && words[track * TRACK_WORDS + 2] == CAPACITY
 }
 
-/// Event: the moves are chosen on the ledger before the call, and so are the
-/// scopes that will close: a scope that opens is not complete, and a host
-/// whose scope closes is in no final state. Then they are written.
+/// What an event will do, chosen on the ledger before the call. The scopes that
+/// will close are known then, too: a scope that opens has no track in a final
+/// state, and a host whose scope closes is in none.
+struct Chosen {
+    /// The tracks that move, and each one's transition.
+    moved: u32,
+    moves: [u16; 32],
+    /// The tracks in a final state after the moves.
+    last: u32,
+    /// The tracks whose open scope closes.
+    closing: u32,
+}
+
+/// Event: tracks moved, scopes closed.
 #[inline(always)]
 pub fn event(
     plan: &Plan,
@@ -87,62 +98,100 @@ pub fn event(
     if sets.awake == 0 {
         return Err(Refused(20));
     }
-    let mut moves = [0; 32];
-    let (mut moved, mut last) = (0, sets.last);
-    for track in members(sets.may_move()) {
-        let state = words[track * TRACK_WORDS + 1];
-        let number = plan.transition_number(state, event);
-        if number != 0 {
+    let mut chosen = Chosen {
+        moved: 0,
+        moves: [0; 32],
+        last: sets.last,
+        closing: 0,
+    };
+    chosen.choose_moves(plan, words, sets, event)?;
+    let done = sets.forward & chosen.last;
+    chosen.choose_closing(plan, words, sets, done)?;
+    if plan.roots & !done == 0 {
+        words[..plan.tracks * TRACK_WORDS].fill(0);
+        *sets = Sets::default();
+    } else {
+        chosen.write(plan, words, sets);
+    }
+    Ok(Moved {
+        moved: chosen.moved.count_ones() as u16,
+        closed: chosen.closing.count_ones() as u16,
+    })
+}
+
+impl Chosen {
+    /// The moves; 21 where one would install a 33rd entry.
+    #[inline(always)]
+    fn choose_moves(
+        &mut self,
+        plan: &Plan,
+        words: &[u16],
+        sets: &Sets,
+        event: u16,
+    ) -> Result<(), Refused> {
+        for track in members(sets.may_move()) {
+            let number = plan.transition_number(words[track * TRACK_WORDS + 1], event);
+            if number == 0 {
+                continue;
+            }
             let transition = plan.transition(number);
             if overfills(words, track, transition.code) {
                 return Err(Refused(21));
             }
-            let bit = u32::from(plan.is_last(transition.destination)) << track;
-            last = last & !(1 << track) | bit;
-            moves[track] = number;
-            moved |= 1u32 << track;
+            let last = u32::from(plan.is_last(transition.destination));
+            self.last = self.last & !(1 << track) | last << track;
+            self.moves[track] = number;
+            self.moved |= 1 << track;
+        }
+        Ok(())
+    }
+
+    /// The scopes whose tracks are all done after the moves; 21 where a host
+    /// would install a 33rd entry.
+    #[inline(always)]
+    fn choose_closing(
+        &mut self,
+        plan: &Plan,
+        words: &[u16],
+        sets: &Sets,
+        done: u32,
+    ) -> Result<(), Refused> {
+        for host in members(sets.open) {
+            let state = words[host * TRACK_WORDS + 1];
+            if plan.scope(state) & !done != 0 {
+                continue;
+            }
+            if overfills(words, host, plan.state(state).replacement) {
+                return Err(Refused(21));
+            }
+            self.closing |= 1 << host;
+        }
+        Ok(())
+    }
+
+    #[inline(always)]
+    fn write(&self, plan: &Plan, words: &mut [u16], sets: &mut Sets) {
+        sets.last = self.last;
+        for track in members(self.moved) {
+            let transition = plan.transition(self.moves[track]);
+            let entry = Entry {
+                code: transition.code,
+                deviation: transition.deviation,
+            };
+            install(words, sets, track, entry);
+            words[track * TRACK_WORDS + 1] = transition.destination;
+            enter(plan, words, sets, track, transition.destination);
+        }
+        for host in members(self.closing) {
+            let state = words[host * TRACK_WORDS + 1];
+            let entry = Entry {
+                code: plan.state(state).replacement,
+                deviation: NONE,
+            };
+            close(words, sets, host, plan.scope(state));
+            install(words, sets, host, entry);
         }
     }
-    let done = sets.forward & last;
-    let closes = |&host: &usize| open_scope(plan, words, host) & !done == 0;
-    let mut closing = 0u32;
-    for host in members(sets.open).filter(closes) {
-        let replacement = plan.state(words[host * TRACK_WORDS + 1]).replacement;
-        if overfills(words, host, replacement) {
-            return Err(Refused(21));
-        }
-        closing |= 1 << host;
-    }
-    let figures = Moved {
-        moved: moved.count_ones() as u16,
-        closed: closing.count_ones() as u16,
-    };
-    if plan.roots & !done == 0 {
-        words[..plan.tracks * TRACK_WORDS].fill(0);
-        *sets = Sets::default();
-        return Ok(figures);
-    }
-    sets.last = last;
-    for track in members(moved) {
-        let transition = plan.transition(moves[track]);
-        let entry = Entry {
-            code: transition.code,
-            deviation: transition.deviation,
-        };
-        install(words, sets, track, entry);
-        words[track * TRACK_WORDS + 1] = transition.destination;
-        enter(plan, words, sets, track, transition.destination);
-    }
-    for host in members(closing) {
-        let state = words[host * TRACK_WORDS + 1];
-        let entry = Entry {
-            code: plan.state(state).replacement,
-            deviation: NONE,
-        };
-        close(words, sets, host, plan.scope(state));
-        install(words, sets, host, entry);
-    }
-    Ok(figures)
 }
 
 /// Signal: every forward track turns; then abandoning, inner scopes first,
