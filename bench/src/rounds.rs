@@ -7,7 +7,7 @@ use std::time::Instant;
 const STEPS: usize = 8_000;
 const NUMBERS: usize = 8;
 
-/// From this spread of the fixed loop on the machine counts as disturbed.
+/// The machine counts as quiet below this spread of the fixed loop.
 const SPREAD: f64 = 0.05;
 
 /// The times of the fixed loop so far.

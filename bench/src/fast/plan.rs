@@ -36,8 +36,9 @@ pub struct Transition {
     pub destination: u16,
 }
 
-/// An accepted plan. Tables have room for the largest; state numbers beyond
-/// the plan's are found there as states of track 0, and never asked for.
+/// An accepted plan. Tables have room for the largest. A number is looked up
+/// modulo their size, so that no bound is checked twice: while the plan is
+/// read, one beyond them finds some state, and is refused by its own test.
 pub struct Plan<'a> {
     pub tracks: usize,
     pub states: usize,
@@ -148,7 +149,7 @@ impl<'a> Plan<'a> {
         }
     }
 
-    /// 12.
+    /// 12: a final state hosts, or one that hosts none has a replacement.
     #[inline(always)]
     fn judge_hosting(&self, faults: &mut Faults) {
         let states = self.states.min(MAX_STATES);
