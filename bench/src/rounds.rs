@@ -3,24 +3,26 @@
 
 use std::time::Instant;
 
-/// Steps of the fixed loop, and numbers in it.
-const STEPS: usize = 8_000;
-const NUMBERS: usize = 8;
+/// Steps of the fixed loop.
+const STEPS: usize = 16_000;
 
-/// The machine counts as quiet below this spread of the fixed loop.
-const SPREAD: f64 = 0.05;
+/// On a quiet machine the fixed loop's average lies at most so far above its
+/// median, and its slow times so far above its quick ones.
+const AVERAGE: f64 = 0.05;
+const SLOW: f64 = 0.10;
 
 /// The times of the fixed loop so far.
 pub struct Rounds {
     loops: Vec<f64>,
-    numbers: [u64; NUMBERS],
+    /// What the fixed loop has come to.
+    numbers: [u64; 4],
 }
 
 impl Rounds {
     pub fn new() -> Rounds {
         Rounds {
             loops: Vec::new(),
-            numbers: [1, 2, 3, 4, 5, 6, 7, 8],
+            numbers: [1, 2, 3, 4],
         }
     }
 
@@ -42,40 +44,35 @@ impl Rounds {
         figures.map(median)
     }
 
-    /// Numbers that do not wait for one another keep the processor's units
-    /// busy, so that whoever shares them shows. What comes out is kept, and
-    /// the next loop starts from it.
+    /// Numbers that do not wait for one another keep the processor busy, so
+    /// that whoever shares it shows. What comes out is kept, and the next loop
+    /// starts from it.
     fn fixed_loop(&mut self) {
         let start = Instant::now();
+        let [mut a, mut b, mut c, mut d] = self.numbers;
+        let next = |number: u64| (number ^ number >> 29).wrapping_mul(0x9E37_79B9_7F4A_7C15);
         for _ in 0..STEPS {
-            for number in &mut self.numbers {
-                *number ^= *number << 13;
-                *number ^= *number >> 7;
-                *number ^= *number << 17;
-            }
+            (a, b, c, d) = (next(a), next(b), next(c), next(d));
         }
+        self.numbers = [a, b, c, d];
         self.loops.push(start.elapsed().as_nanos() as f64);
     }
 
-    /// One line: how far the times of the fixed loop lie apart.
+    /// One line. Who slows the processor shows in the slow times, who takes it
+    /// away for a while in the average.
     pub fn verdict(&self) -> String {
         let mut loops = self.loops.clone();
         loops.sort_by(f64::total_cmp);
-        let at = |percent: usize| loops[(loops.len() - 1) * percent / 100];
-        let spread = (at(90) - at(1)) / at(50);
-        let word = if spread < SPREAD {
-            "quiet"
-        } else {
-            "disturbed"
-        };
+        let at = |percent: usize| loops[(loops.len() - 1) * percent / 100] / 1000.0;
+        let (quick, middle, slow) = (at(10), at(50), at(90));
+        let average = loops.iter().sum::<f64>() / loops.len() as f64 / 1000.0;
+        let quiet = average <= middle * (1.0 + AVERAGE) && slow <= quick * (1.0 + SLOW);
+        let word = if quiet { "quiet" } else { "disturbed" };
+        let rounds = loops.len();
         format!(
-            "The machine was {word}: a fixed loop, timed in each of {} rounds, took {:.1} to {:.1} µs \
-            from the 1st to the 90th of a hundred, {:.0} % of its median {:.1} apart.",
-            loops.len(),
-            at(1) / 1000.0,
-            at(90) / 1000.0,
-            100.0 * spread,
-            at(50) / 1000.0
+            "The machine was {word}: a fixed loop, timed in each of {rounds} rounds, took \
+            {middle:.1} µs at the median, {quick:.1} at the 10th of a hundred, {slow:.1} at the \
+            90th, and {average:.1} on average."
         )
     }
 }
