@@ -1,43 +1,86 @@
--- The four parts in order; the count is good where unused pairs are asked. Assumes nothing.
-use borrow.Author.Tests.{not-true, not-false}
-use Rattle.ledger.proofs.TidyLaws.{bad-mode, bad-count, bad-unused, all-tidy, count-good}
+-- An asleep track's words, or the mode, the count and the words behind the entries held. Assumes nothing.
+use Rattle.rules.specs.Layout.{entryLimit, entryWidth, headWords, trackWidth}
+use Rattle.ledger.proofs.TidyLaws.{asleep-tidy, bad-mode, bad-count, awake-tidy}
 use borrow.Author.Needs.{needs}
 use Rattle.ledger.proofs.tidy.is_tidy.Statement.{statement}
 use Rattle.ledger.proofs.tidy.is_tidy.Tie as tie
 
-good-mode-requires : tie.Need-good-mode-requires
-good-mode-requires c κs = search needs
+mul-mode : tie.Need-mul-mode
+mul-mode c = search needs
+
+shared-slice-read-mode : tie.Need-shared-slice-read-mode
+unfolding trackWidth headWords entryWidth entryLimit
+shared-slice-read-mode c = search needs
+
+are-zero-requires : tie.Need-are-zero-requires
+unfolding trackWidth headWords entryWidth entryLimit
+are-zero-requires c κs = search needs
 
 returns : tie.Need-returns
-returns c = bad-mode _ _ _ (c .before .good-mode .ensures) (not-true _ (c .if1 .taken))
-
-good-count-requires : tie.Need-good-count-requires
-good-count-requires c κs = search needs
+unfolding trackWidth headWords entryWidth entryLimit
+returns c = asleep-tidy 32 _ _ (c .before .if1 .taken) (c .are-zero .ensures)
 
 returns-2 : tie.Need-returns-2
-returns-2 c = bad-count _ _ _ (c .before .before .before .good-mode .ensures) (not-false _ (c .before .before .if1 .left)) (c .before .good-count .ensures) (not-true _ (c .if2 .taken))
+returns-2 c = bad-mode _ _ _ (c .if2 .taken)
 
-unused-zero-requires : tie.Need-unused-zero-requires
-unused-zero-requires c κs = (c .before .before .before .before .before .pre, count-good _ _ _ (c .before .good-count .ensures) (not-false _ (c .if2 .left)))
+add-wide : tie.Need-add-wide
+add-wide c = search needs
+
+mul-wide : tie.Need-mul-wide
+mul-wide c = search needs
+
+shared-slice-read-wide : tie.Need-shared-slice-read-wide
+unfolding trackWidth headWords entryWidth entryLimit
+shared-slice-read-wide c = search needs
+
+wide-requires : tie.Need-wide-requires
+wide-requires c κs = search needs
 
 returns-3 : tie.Need-returns-3
-returns-3 c = bad-unused _ _ _ (c .before .before .before .before .before .good-mode .ensures) (not-false _ (c .before .before .before .before .if1 .left)) (c .before .before .before .good-count .ensures) (not-false _ (c .before .before .if2 .left)) (c .before .unused-zero .ensures) (not-true _ (c .if3 .taken))
+unfolding entryLimit
+returns-3 c = bad-count _ _ _ (search needs) (search needs)
 
-asleep-zero-requires : tie.Need-asleep-zero-requires
-asleep-zero-requires c κs = search needs
+mul-held : tie.Need-mul-held
+mul-held c = search needs
+
+add-are-zero : tie.Need-add-are-zero
+add-are-zero c = search needs
+
+add-are-zero-2 : tie.Need-add-are-zero-2
+add-are-zero-2 c = search needs
+
+mul-are-zero : tie.Need-mul-are-zero
+mul-are-zero c = search needs
+
+sub-are-zero : tie.Need-sub-are-zero
+sub-are-zero c = search needs
+
+are-zero-requires-2 : tie.Need-are-zero-requires-2
+unfolding trackWidth headWords entryWidth entryLimit
+are-zero-requires-2 c κs = search needs
 
 returns-4 : tie.Need-returns-4
-returns-4 c = all-tidy _ _ _ (c .before .before .before .before .before .before .good-mode .ensures) (not-false _ (c .before .before .before .before .before .if1 .left)) (c .before .before .before .before .good-count .ensures) (not-false _ (c .before .before .before .if2 .left)) (c .before .before .unused-zero .ensures) (not-false _ (c .before .if3 .left)) (c .asleep-zero .ensures)
+unfolding trackWidth headWords entryWidth entryLimit
+returns-4 c = awake-tidy 32 _ _ (search needs) _ (c .before .before .before .before .before .if1 .left) (search needs) (search needs) (c .are-zero2 .ensures)
 
 pub is-tidy-spec : {M : Type 1} → statement M
 is-tidy-spec =
     tie.close
     (tie.spec
-    good-mode-requires
+    mul-mode
+    shared-slice-read-mode
+    are-zero-requires
     returns
-    good-count-requires
     returns-2
-    unused-zero-requires
+    add-wide
+    mul-wide
+    shared-slice-read-wide
+    wide-requires
     returns-3
-    asleep-zero-requires
+    mul-held
+    add-are-zero
+    add-are-zero-2
+    mul-are-zero
+    sub-are-zero
+    are-zero-requires-2
     returns-4)
