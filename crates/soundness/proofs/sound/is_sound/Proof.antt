@@ -1,6 +1,6 @@
 -- The words, then over, then the clauses. Assumes nothing.
 use Rattle.ledger.proofs.Branches.{holds}
-use Rattle.soundness.proofs.Judging.{untidy, sound-over, sound-live}
+use Rattle.soundness.proofs.Clauses.{untidy, sound-over, sound-live}
 use borrow.Author.Needs.{needs}
 use Rattle.soundness.proofs.sound.is_sound.Statement.{statement}
 use Rattle.soundness.proofs.sound.is_sound.Tie as tie
