@@ -20,17 +20,8 @@ loop-holds : tie.Need-loop-holds Inv-loop μ-loop
 unfolding everyBelow
 loop-holds c = (search needs, refl)
 
-track-place-requires : tie.Need-track-place-requires Inv-loop μ-loop
-track-place-requires c κs = search needs
-
 is-tidy-requires : tie.Need-is-tidy-requires Inv-loop μ-loop
 is-tidy-requires c κs = rw (c .track-place .ensures) (in-room _ _ (c .before .before .loop .t) (c .before .before .before .before .pre) (search needs) .room)
-
-add-t : tie.Need-add-t Inv-loop μ-loop
-add-t c = search needs
-
-loop-less : tie.Need-loop-less Inv-loop μ-loop
-loop-less c = search needs
 
 loop-again : tie.Need-loop-again Inv-loop μ-loop
 loop-again c = (search needs, every-visit _ _ (c .before .before .before .loop .inv .1) (c .is-tidy .ensures ∙ ap (isTidy entryLimit _) (c .before .track-place .ensures)))
@@ -42,13 +33,4 @@ returns c = every-done _ _ _ (c .before .loop .inv .1) (search needs) (search ne
 pub are-tidy-spec : {M : Type 1} → statement M
 are-tidy-spec =
     tie.close
-    (tie.spec
-    Inv-loop
-    μ-loop
-    loop-holds
-    track-place-requires
-    is-tidy-requires
-    add-t
-    loop-less
-    loop-again
-    returns)
+    (tie.spec Inv-loop μ-loop loop-holds (λ c κs. search needs) is-tidy-requires (λ c. search needs) (λ c. search needs) loop-again returns)

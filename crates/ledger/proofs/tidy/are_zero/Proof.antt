@@ -20,21 +20,6 @@ loop-holds : tie.Need-loop-holds Inv-loop μ-loop
 unfolding everyBelow
 loop-holds c = (search needs, refl)
 
-add-bits : tie.Need-add-bits Inv-loop μ-loop
-add-bits c = search needs
-
-mul-bits : tie.Need-mul-bits Inv-loop μ-loop
-mul-bits c = search needs
-
-shared-slice-read-bits : tie.Need-shared-slice-read-bits Inv-loop μ-loop
-shared-slice-read-bits c = search needs
-
-add-j : tie.Need-add-j Inv-loop μ-loop
-add-j c = search needs
-
-loop-less : tie.Need-loop-less Inv-loop μ-loop
-loop-less c = search needs
-
 loop-again : tie.Need-loop-again Inv-loop μ-loop
 loop-again c = (search needs, or-zero (c .before .before .loop .bits) (getD (c .before .before .before .args .ledger .now) (c .before .before .before .args .from + c .before .before .loop .j) 0) ∙ every-visit _ _ (c .before .before .loop .inv .1) refl)
 
@@ -44,14 +29,5 @@ returns c = every-done _ _ _ (c .before .loop .inv .1) (search needs) (search ne
 pub are-zero-spec : {M : Type 1} → statement M
 are-zero-spec =
     tie.close
-    (tie.spec
-    Inv-loop
-    μ-loop
-    loop-holds
-    add-bits
-    mul-bits
-    shared-slice-read-bits
-    add-j
-    loop-less
-    loop-again
+    (tie.spec Inv-loop μ-loop loop-holds (λ c. search needs) (λ c. search needs) (λ c. search needs) (λ c. search needs) (λ c. search needs) loop-again
     returns)
