@@ -79,7 +79,7 @@ module _ (p : Plan) (l : Ledger) where
       ∙ ap₂ (λ a b. a && b) (every-and n (isWhole p l) (λ s. not (isClosing p l s)) ∙ ap (λ a. scopesWhole p l && a) (not-some n (isClosing p l)))
       (not-some n (isAbandoning p l))
 
-  pub live-parts : ((everyBelow (trackCount p) (soundTrack p l) && not (isFinishing p l)) && everyBelow (stateCount p) (soundScope p l)) ≡ isLive p l
+  live-parts : ((everyBelow (trackCount p) (soundTrack p l) && not (isFinishing p l)) && everyBelow (stateCount p) (soundScope p l)) ≡ isLive p l
   unfolding isLive finishDone
   live-parts =
       ap₂ (λ a b. (a && not (isFinishing p l)) && b) tracks-part scopes-part

@@ -13,7 +13,7 @@ use lib.Seq.{getD-set-same, getD-set-other}
 use borrow.Author.Tests.{eqb-true, eqb-false}
 use Rattle.rules.specs.declared.Counts.{Counts}
 use Rattle.rules.specs.declared.Track.{Track}
-use Rattle.rules.specs.Fold.{someBelow, everyBelow}
+use Rattle.rules.specs.Fold.{someBelow}
 use Rattle.rules.specs.Plan.{Plan, planOf, trackCount, noState, hostWord, host, isIn, isFinal, everyIn, someIn}
 use Rattle.rules.specs.Ledger.{Ledger, isAwake, isForward, isUndoing}
 use Rattle.rules.specs.Scope.{isOpen, hasOpenScope}
@@ -28,7 +28,7 @@ use Rattle.plan.proofs.FieldLaws.{track-count}
 use Rattle.plan.proofs.Hosting.{host-none}
 use Rattle.ledger.specs.Words.{trackOf}
 use Rattle.ledger.proofs.ReadTracks.{empty-count}
-use Rattle.lookup.specs.Checked.{Accepts, ledgerOf}
+use Rattle.lookup.specs.Checked.{Accepts}
 use Rattle.lookup.specs.Figures.{Figures}
 use Rattle.lookup.specs.Marks.{openMarks}
 use Rattle.lookup.proofs.Facts.{plan-facts, few-tracks, host-is, host-low}

@@ -10,19 +10,10 @@ returns : tie.Need-returns
 unfolding goodDeviation noState
 returns c = rw (eq-eqb (c .before .before .before .args .deviation) 65535 (c .if1 .taken))
 
-is-root-requires : tie.Need-is-root-requires
-is-root-requires c κs = search needs
-
-is-state-of-requires : tie.Need-is-state-of-requires
-is-state-of-requires c κs = search needs
-
-is-final-requires : tie.Need-is-final-requires
-is-final-requires c κs = search needs
-
 returns-2 : tie.Need-returns-2
 unfolding goodDeviation noState
 returns-2 c = rw (ne-eqb (c .before .before .before .before .before .before .args .deviation) 65535 (c .before .before .before .if1 .left), c .before .before .is-root .ensures, c .before .is-state-of .ensures, c .is-final .ensures)
 
 pub good-deviation-spec : {M : Type 1} → statement M
 good-deviation-spec =
-    tie.close (tie.spec returns is-root-requires is-state-of-requires is-final-requires returns-2)
+    tie.close (tie.spec returns (λ c κs. search needs) (λ c κs. search needs) (λ c κs. search needs) returns-2)

@@ -32,15 +32,6 @@ entry-code-requires c κs = (in-room _ _ _ (c .before .before .before .before .p
 entry-deviation-requires : tie.Need-entry-deviation-requires Inv-loop μ-loop
 entry-deviation-requires c κs = (in-room _ _ _ (c .before .before .before .before .before .pre .0 .room) (c .before .before .before .before .before .pre .1), omega (arith, holds (c .before .before .before .before .before .args .c) (c .before .before .before .before .before .args .ledger .now) (record { room = c .before .before .before .before .before .pre .0 .room; tidy = c .before .before .before .before .before .pre .2 }) .fits (c .before .before .before .before .before .args .t)))
 
-good-deviation-requires : tie.Need-good-deviation-requires Inv-loop μ-loop
-good-deviation-requires c κs = search needs
-
-add-k : tie.Need-add-k Inv-loop μ-loop
-add-k c = search needs
-
-loop-less : tie.Need-loop-less Inv-loop μ-loop
-loop-less c = search needs
-
 loop-again : tie.Need-loop-again Inv-loop μ-loop
 loop-again c = (search needs, every-visit _ _ (c .before .before .before .before .loop .inv .1) (entry-asked _ _ _ _ (c .before .before .entry-code .ensures) (c .before .entry-deviation .ensures) (c .good-deviation .ensures)))
 
@@ -50,14 +41,5 @@ returns c = every-done _ _ _ (c .before .loop .inv .1) (search needs) (search ne
 pub good-entries-spec : {M : Type 1} → statement M
 good-entries-spec =
     tie.close
-    (tie.spec
-    Inv-loop
-    μ-loop
-    loop-holds
-    entry-code-requires
-    entry-deviation-requires
-    good-deviation-requires
-    add-k
-    loop-less
-    loop-again
-    returns)
+    (tie.spec Inv-loop μ-loop loop-holds entry-code-requires entry-deviation-requires (λ c κs. search needs) (λ c. search needs) (λ c. search needs)
+    loop-again returns)

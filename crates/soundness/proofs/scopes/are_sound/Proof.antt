@@ -18,30 +18,9 @@ Inv-loop plan c ledger marks all₀ s₀ all s = (s ≤ c .states) × (all ≡ e
 abbrev μ-loop : tie.MeasureT-loop
 μ-loop plan c ledger marks all₀ s₀ all s = c .states - s
 
-mark-scopes-requires : tie.Need-mark-scopes-requires Inv-loop μ-loop
-mark-scopes-requires c κs = search needs
-
 loop-holds : tie.Need-loop-holds Inv-loop μ-loop
 unfolding everyBelow
 loop-holds c = (search needs, refl)
-
-element-copy-out-all : tie.Need-element-copy-out-all Inv-loop μ-loop
-element-copy-out-all c = search needs
-
-element-copy-out-all-2 : tie.Need-element-copy-out-all-2 Inv-loop μ-loop
-element-copy-out-all-2 c = search needs
-
-element-copy-out-all-3 : tie.Need-element-copy-out-all-3 Inv-loop μ-loop
-element-copy-out-all-3 c = search needs
-
-element-copy-out-all-4 : tie.Need-element-copy-out-all-4 Inv-loop μ-loop
-element-copy-out-all-4 c = search needs
-
-add-s : tie.Need-add-s Inv-loop μ-loop
-add-s c = search needs
-
-loop-less : tie.Need-loop-less Inv-loop μ-loop
-loop-less c = search needs
 
 loop-again : tie.Need-loop-again Inv-loop μ-loop
 loop-again c = (search needs, every-visit _ _ (c .before .before .before .before .before .before .loop .inv .1) (scope-asked _ _ _ _ (sym (track-count _ _)) (c .before .before .before .before .before .before .before .mark-scopes .ensures) (search needs)))
@@ -52,16 +31,5 @@ returns c = every-done _ _ _ (c .before .before .loop .inv .1) (search needs) (s
 pub are-sound-spec : {M : Type 1} → statement M
 are-sound-spec =
     tie.close
-    (tie.spec
-    Inv-loop
-    μ-loop
-    mark-scopes-requires
-    loop-holds
-    element-copy-out-all
-    element-copy-out-all-2
-    element-copy-out-all-3
-    element-copy-out-all-4
-    add-s
-    loop-less
-    loop-again
-    returns)
+    (tie.spec Inv-loop μ-loop (λ c κs. search needs) loop-holds (λ c. search needs) (λ c. search needs) (λ c. search needs) (λ c. search needs)
+    (λ c. search needs) (λ c. search needs) loop-again returns)

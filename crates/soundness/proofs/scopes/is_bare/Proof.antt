@@ -3,11 +3,8 @@ use borrow.Author.Needs.{needs}
 use Rattle.soundness.proofs.scopes.is_bare.Statement.{statement}
 use Rattle.soundness.proofs.scopes.is_bare.Tie as tie
 
-is-undoing-requires : tie.Need-is-undoing-requires
-is-undoing-requires c κs = search needs
-
 returns : tie.Need-returns
 returns c = rw (c .before .is-undoing .ensures)
 
 pub is-bare-spec : {M : Type 1} → statement M
-is-bare-spec = tie.close (tie.spec is-undoing-requires returns)
+is-bare-spec = tie.close (tie.spec (λ c κs. search needs) returns)

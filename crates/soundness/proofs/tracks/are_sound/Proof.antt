@@ -20,15 +20,6 @@ loop-holds : tie.Need-loop-holds Inv-loop μ-loop
 unfolding everyBelow
 loop-holds c = (search needs, refl)
 
-is-sound-requires : tie.Need-is-sound-requires Inv-loop μ-loop
-is-sound-requires c κs = search needs
-
-add-t : tie.Need-add-t Inv-loop μ-loop
-add-t c = search needs
-
-loop-less : tie.Need-loop-less Inv-loop μ-loop
-loop-less c = search needs
-
 loop-again : tie.Need-loop-again Inv-loop μ-loop
 loop-again c = (search needs, every-visit _ _ (c .before .before .loop .inv .1) (c .is-sound .ensures))
 
@@ -38,4 +29,4 @@ returns c = every-done _ _ _ (c .before .loop .inv .1) (search needs) (search ne
 pub are-sound-spec : {M : Type 1} → statement M
 are-sound-spec =
     tie.close
-    (tie.spec Inv-loop μ-loop loop-holds is-sound-requires add-t loop-less loop-again returns)
+    (tie.spec Inv-loop μ-loop loop-holds (λ c κs. search needs) (λ c. search needs) (λ c. search needs) loop-again returns)

@@ -6,29 +6,17 @@ use borrow.Author.Needs.{needs}
 use Rattle.soundness.proofs.tracks.hosted_well.Statement.{statement}
 use Rattle.soundness.proofs.tracks.hosted_well.Tie as tie
 
-host-word-requires : tie.Need-host-word-requires
-host-word-requires c κs = search needs
-
 returns : tie.Need-returns
 unfolding noState
 returns c = root-well _ _ _ (c .before .host-word .ensures) (c .if1 .taken)
-
-cast-track-of : tie.Need-cast-track-of
-cast-track-of c = search needs
 
 track-of-requires : tie.Need-track-of-requires
 unfolding noState
 track-of-requires c κs = (c .before .before .before .before .pre .0 .accepts .holds, host-low _ _ _ _ (c .before .before .before .before .pre .0 .accepts) (c .before .host-word .ensures) (c .if1 .left))
 
-cast-o : tie.Need-cast-o
-cast-o c = search needs
-
 track-requires : tie.Need-track-requires
 unfolding noState
 track-requires c κs = (c .before .before .before .before .before .pre .0 .room, rw (c .track-of .ensures) (owner-low _ _ _ (c .before .before .before .before .before .pre .0 .accepts) (host-low _ _ _ _ (c .before .before .before .before .before .pre .0 .accepts) (c .before .before .host-word .ensures) (c .before .if1 .left))))
-
-same-mode-requires : tie.Need-same-mode-requires
-same-mode-requires c κs = search needs
 
 returns-2 : tie.Need-returns-2
 unfolding noState
@@ -37,12 +25,4 @@ returns-2 c = let pre = c .before .before .before .before .before .before .befor
 pub hosted-well-spec : {M : Type 1} → statement M
 hosted-well-spec =
     tie.close
-    (tie.spec
-    host-word-requires
-    returns
-    cast-track-of
-    track-of-requires
-    cast-o
-    track-requires
-    same-mode-requires
-    returns-2)
+    (tie.spec (λ c κs. search needs) returns (λ c. search needs) track-of-requires (λ c. search needs) track-requires (λ c κs. search needs) returns-2)

@@ -3,7 +3,7 @@ use mathlib.Core.Path.{_≡_, refl, ap}
 use mathlib.Core.Bool.{true, not, _&&_, _||_}
 use Prim.Native.Nat.{_-_, _≤_}
 use Rattle.rules.specs.Fold.{everyBelow}
-use Rattle.rules.specs.Plan.{planOf, trackCount, isRoot, isFinal}
+use Rattle.rules.specs.Plan.{planOf, isRoot, isFinal}
 use Rattle.rules.specs.Ledger.{isForward}
 use Rattle.rules.specs.Event.{isFinishing}
 use Rattle.plan.proofs.FieldLaws.{track-count}
@@ -24,24 +24,9 @@ loop-holds : tie.Need-loop-holds Inv-loop μ-loop
 unfolding everyBelow
 loop-holds c = (search needs, refl)
 
-is-root-requires : tie.Need-is-root-requires Inv-loop μ-loop
-is-root-requires c κs = search needs
-
-track-requires : tie.Need-track-requires Inv-loop μ-loop
-track-requires c κs = search needs
-
-is-done-requires : tie.Need-is-done-requires Inv-loop μ-loop
-is-done-requires c κs = search needs
-
 returns : tie.Need-returns Inv-loop μ-loop
 unfolding isFinishing
 returns c = every-stops _ _ _ (finish-asked _ (ledgerOf _ _) _ (c .before .before .track .ensures) (c .before .before .before .is-root .ensures) (c .before .is-done .ensures)) (ap not (c .if1 .taken)) (rw track-count (search needs))
-
-add-t : tie.Need-add-t Inv-loop μ-loop
-add-t c = search needs
-
-loop-less : tie.Need-loop-less Inv-loop μ-loop
-loop-less c = search needs
 
 loop-again : tie.Need-loop-again Inv-loop μ-loop
 loop-again c = (search needs, every-next _ _ (c .before .before .before .before .before .loop .inv .1) (finish-asked _ (ledgerOf _ _) _ (c .before .before .track .ensures) (c .before .before .before .is-root .ensures) (c .before .is-done .ensures)) (ap not (c .if1 .left)))
@@ -53,15 +38,5 @@ returns-2 c = every-ends _ _ _ (c .before .loop .inv .1) (rw track-count (search
 pub is-finishing-spec : {M : Type 1} → statement M
 is-finishing-spec =
     tie.close
-    (tie.spec
-    Inv-loop
-    μ-loop
-    loop-holds
-    is-root-requires
-    track-requires
-    is-done-requires
-    returns
-    add-t
-    loop-less
-    loop-again
-    returns-2)
+    (tie.spec Inv-loop μ-loop loop-holds (λ c κs. search needs) (λ c κs. search needs) (λ c κs. search needs) returns (λ c. search needs)
+    (λ c. search needs) loop-again returns-2)

@@ -7,23 +7,8 @@ use borrow.Author.Needs.{needs}
 use Rattle.soundness.proofs.tracks.is_sound.Statement.{statement}
 use Rattle.soundness.proofs.tracks.is_sound.Tie as tie
 
-track-requires : tie.Need-track-requires
-track-requires c κs = search needs
-
-is-awake-requires : tie.Need-is-awake-requires
-is-awake-requires c κs = search needs
-
-is-root-requires : tie.Need-is-root-requires
-is-root-requires c κs = search needs
-
 returns : tie.Need-returns
 returns c = asleep-asked _ _ _ (c .before .before .before .track .ensures) (c .before .before .is-awake .ensures) (c .before .if1 .taken) (holds _ _ (record { room = c .before .before .before .before .before .before .pre .0 .room; tidy = c .before .before .before .before .before .before .pre .2 }) .blank _) (c .is-root .ensures)
-
-cast-is-state-of : tie.Need-cast-is-state-of
-cast-is-state-of c = search needs
-
-is-state-of-requires : tie.Need-is-state-of-requires
-is-state-of-requires c κs = search needs
 
 good-entries-requires : tie.Need-good-entries-requires
 good-entries-requires c κs = (c .before .before .before .before .before .before .before .pre .0, c .before .before .before .before .before .before .before .pre .1, c .before .before .before .before .before .before .before .pre .2, count-as _ (c .before .before .before .before .track .ensures))
@@ -37,13 +22,5 @@ returns-2 c = awake-asked _ _ _ (c .before .before .before .before .before .befo
 pub is-sound-spec : {M : Type 1} → statement M
 is-sound-spec =
     tie.close
-    (tie.spec
-    track-requires
-    is-awake-requires
-    is-root-requires
-    returns
-    cast-is-state-of
-    is-state-of-requires
-    good-entries-requires
-    hosted-well-requires
-    returns-2)
+    (tie.spec (λ c κs. search needs) (λ c κs. search needs) (λ c κs. search needs) returns (λ c. search needs) (λ c κs. search needs)
+    good-entries-requires hosted-well-requires returns-2)
