@@ -4,5 +4,3 @@ pub mod SameText
 pub mod Turning
 pub mod Underway
 pub mod WholeText
-pub mod JournalCalls
-pub mod ReferenceRun

@@ -17,72 +17,56 @@ use lib.Seq.{take-at}
 use borrow.Author.Tests.{ltb-false}
 use Rattle.rules.specs.declared.Counts.{Counts}
 use Rattle.rules.specs.Record.{mostOf}
-use Rattle.rules.specs.Plan.{Plan, planOf}
+use Rattle.rules.specs.Plan.{planOf}
 use Rattle.rules.specs.Acceptance.{accepted, readPlan}
 use Rattle.rules.specs.Layout.{entryLimit, wordCount}
 use Rattle.rules.specs.Call.{Answer, Outcome, Call, beginOutcome}
-use Rattle.rules.specs.Transcript.{planLine, tallyLine, heldTotal, ledgerOf, lastLine, replay, mostBytes, transcript}
+use Rattle.rules.specs.Transcript.{planLine, ledgerOf, lastLine, mostBytes, transcript}
 use Rattle.rules.specs.ReferenceRun.{wordsAfter, answersAfter, ledgerAfter}
-use Rattle.rules.specs.History.{Property3}
 use Rattle.restoration.specs.Firings.{firingsIn}
 use Rattle.journal.specs.Writing.{writtenAt}
 use Rattle.property3.proofs.Property3.{from-run}
 use Rattle.replay.specs.declared.RunAnswer.{RunAnswer}
 use Rattle.replay.specs.declared.RunAnswer.the-variants.{Written, TooSmall, ShortLedger}
 use Rattle.replay.specs.Left.{wordsLeft}
 use Rattle.replay.specs.Runs.{textRoom, runOutcome, Ran}
 use Rattle.replay.proofs.Keeping.{begun-outcome}
 use Rattle.replay.proofs.WholeText.{accepts, roomy, neither, accepted-text, accepted-words}
-use Rattle.replay.proofs.JournalCalls.{callLines, brokenLine, endsBroken, callsFrom, textOf, same-words, same-text}
+use Rattle.reference_run.specs.AsReference.{calls, answers, referenceText, AsReference}
+use Rattle.reference_run.proofs.JournalCalls.{textOf, same-words, same-text}
 use Rattle.replay.proofs.run as run
 use Rattle.replay.proofs.run.Kinds as run-kinds
 use Rattle.replay.proofs.run.Reads as run-reads
 
-module _ (bs js : List ℕ) (c : Counts) (lent : List ℕ) where
-  abbrev p : Plan
-  p = planOf bs c
+module _ (bs js : List ℕ) (c : Counts) (lent : List ℕ)
+    (read : readPlan bs ≡ accepted c) (short : length bs ≤ mostBytes) (short′ : length js ≤ mostBytes) (room : wordCount entryLimit (mostOf 1) ≤ length lent) where
+  abbrev cs : List Call
+  cs = calls bs js c lent
 
-  -- the calls that the journal's records are, after a begin on the lent ledger, and what document 01 answers to each
-  abbrev pub calls : List Call
-  calls = callsFrom bs js p (suc (length js)) 0 (beginOutcome entryLimit bs lent .words)
+  abbrev rs : List Answer
+  rs = answers bs js c lent
 
-  abbrev pub answers : List Answer
-  answers = answersAfter entryLimit bs lent calls
+  words-left : wordsLeft bs js lent ≡ wordsAfter entryLimit bs lent cs
+  unfolding wordsAfter
+  words-left = accepted-words bs js lent c (neither bs js lent short short′) read ∙ same-words bs js (planOf bs c) (suc (length js)) 0 (beginOutcome entryLimit bs lent .words)
 
-  -- "It begins, then prints `PLAN` tracks states transitions; a line for each record ..; last `H` entries held, firings done."
-  abbrev pub referenceText : List ℕ
-  referenceText =
-      planLine c
-      ++ (callLines calls answers
-      ++ (brokenLine (endsBroken js (suc (length js)) 0) ++ tallyLine (heldTotal p (ledgerAfter entryLimit bs p lent calls)) (firingsIn calls answers)))
+  text-printed : transcript bs js ≡ referenceText bs js c lent
+  unfolding textOf lastLine ledgerOf ledgerAfter wordsAfter answersAfter
+  text-printed =
+      accepted-text bs js lent c (neither bs js lent short short′) read room
+      ∙ ap (λ (t : List ℕ). planLine c ++ t)
+      (same-text bs js (planOf bs c) (suc (length js)) 0 (beginOutcome entryLimit bs lent .words) 0 (omega arith) (omega arith))
+      ∙ rw (zero-add (firingsIn cs rs)) refl
 
-  pub record AsReference (words text : List ℕ) : Type 1 where
-    pub left : words ≡ wordsAfter entryLimit bs lent calls
-    pub printed : text ≡ referenceText
-    pub property3 : Property3 entryLimit bs p lent calls answers words
-
-  module _ (read : readPlan bs ≡ accepted c) (short : length bs ≤ mostBytes) (short′ : length js ≤ mostBytes) (room : wordCount entryLimit (mostOf 1) ≤ length lent) where
-    words-left : wordsLeft bs js lent ≡ wordsAfter entryLimit bs lent calls
-    unfolding wordsAfter
-    words-left = accepted-words bs js lent c (neither bs js lent short short′) read ∙ same-words bs js p (suc (length js)) 0 (beginOutcome entryLimit bs lent .words)
-
-    text-printed : transcript bs js ≡ referenceText
-    unfolding textOf lastLine ledgerOf ledgerAfter wordsAfter answersAfter
-    text-printed =
-        accepted-text bs js lent c (neither bs js lent short short′) read room
-        ∙ ap (λ (t : List ℕ). planLine c ++ t)
-        (same-text bs js p (suc (length js)) 0 (beginOutcome entryLimit bs lent .words) 0 (omega arith) (omega arith))
-        ∙ rw (zero-add (firingsIn calls answers)) refl
-
-    as-reference : AsReference (wordsLeft bs js lent) (transcript bs js)
-    as-reference =
-        record {
-          left = words-left;
-          printed = text-printed;
-          property3 = from-run entryLimit bs c read lent
-              (ap (λ (o : Outcome). o .answer) (begun-outcome bs c (accepts bs c read) lent (roomy bs c read lent room)))
-              calls answers (wordsLeft bs js lent) words-left refl;
-        }
+  as-reference : AsReference bs js c lent (wordsLeft bs js lent) (transcript bs js)
+  as-reference =
+      record {
+        left = words-left;
+        printed = text-printed;
+        property3 = from-run entryLimit bs c read lent
+            (ap (λ (o : Outcome). o .answer) (begun-outcome bs c (accepts bs c read) lent (roomy bs c read lent room)))
+            cs rs (wordsLeft bs js lent) words-left refl;
+      }
 
 -- a run that answered `Written`: there was room, and the text stands at the output's start
 module _ (bs js lent out : List ℕ) (n : ℕ) where

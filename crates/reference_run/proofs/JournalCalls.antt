@@ -1,7 +1,7 @@
 -- A journal is a list of calls: the words after its records, and their lines, are those of the reference run of these calls. By induction on the
 -- visits of the records; a record has 4 bytes or more, so they never run out. Assumes nothing.
 use mathlib.Core.Path.{_≡_, refl, sym, ap, _∙_}
-use mathlib.Core.Bool.{Bool, true, false, cond}
+use mathlib.Core.Bool.{Bool, true, false}
 use mathlib.Core.List.{List, [], _∷_, _++_, append-assoc}
 use Prim.Native.Nat.{ℕ, zero, suc, _+_, _<_, _≤_}
 use native.Mathlib.Omega.{arith}
@@ -11,22 +11,13 @@ use Rattle.rules.specs.Plan.{Plan}
 use Rattle.rules.specs.Layout.{entryLimit}
 use Rattle.rules.specs.Call.{Answer, Outcome, Call, event, signal, fire, callOutcome}
 use Rattle.rules.specs.Journal.{Entered, ended, broken, fireLowest, called, enteredAt, fireLowestCall}
-use Rattle.rules.specs.Transcript.{refusalLine, callLine, firingsOf, ledgerOf, lastLine, callText, replay}
+use Rattle.rules.specs.Transcript.{callLine, firingsOf, ledgerOf, lastLine, callText, replay}
 use Rattle.rules.specs.ReferenceRun as clerk
 use Rattle.restoration.specs.Firings.{firingsIn}
 use Rattle.journal.specs.Entered.{sizeOf}
 use Rattle.journal.proofs.Entering.{stands}
 use Rattle.replay.specs.Left as left
-
--- a line for each call and its answer
-unfoldable pub callLines : List Call → List Answer → List ℕ
-callLines [] rs = []
-callLines (c ∷ cs) [] = []
-callLines (c ∷ cs) (r ∷ rs) = callLine c r ++ callLines cs rs
-
--- "23 prints its `R` line and ends the reading, then `H` follows."
-unfoldable pub brokenLine : Bool → List ℕ
-brokenLine b = cond b (refusalLine 23) []
+use Rattle.reference_run.specs.JournalCalls.{callLines, brokenLine, endsBroken, callsFrom}
 
 size-some : (c : Call) → 0 < sizeOf (called c)
 unfolding sizeOf
@@ -35,17 +26,6 @@ size-some (signal a) = omega arith
 size-some (fire a) = omega arith
 
 module _ (js : List ℕ) where
-  -- whether the reading from a place on ends at a broken record
-  unfoldable pub endsBroken : ℕ → ℕ → Bool
-  endsBroken zero at = false
-  endsBroken (suc n) at =
-      elim (enteredAt js at) [
-        | ended ↦ false
-        | broken ↦ true
-        | fireLowest ↦ endsBroken n (at + sizeAt js at)
-        | called c ↦ endsBroken n (at + sizeAt js at)
-      ]
-
   -- after a whole record the next place is within the journal, and further on
   next-within : (at : ℕ) (x : Entered) → enteredAt js at ≡ x → 0 < sizeOf x → (at + sizeAt js at ≤ length js) × (0 < sizeAt js at)
   next-within at x e l =
@@ -60,28 +40,15 @@ module _ (bs js : List ℕ) (p : Plan) where
   abbrev answers : List ℕ → List Call → List Answer
   answers ws cs = clerk.answersFrom entryLimit bs ws cs
 
-  -- the calls that the records from a place on are, from the words ws; kind 19 is the firing that it comes to on the ledger before it
-  unfoldable pub callsFrom : ℕ → ℕ → List ℕ → List Call
-  callsFrom zero at ws = []
-  callsFrom (suc n) at ws =
-      elim (enteredAt js at) [
-        | ended ↦ []
-        | broken ↦ []
-        | fireLowest ↦
-            fireLowestCall p (ledgerOf bs js p ws)
-            ∷ callsFrom n (at + sizeAt js at) (callOutcome entryLimit bs ws (fireLowestCall p (ledgerOf bs js p ws)) .words)
-        | called c ↦ c ∷ callsFrom n (at + sizeAt js at) (callOutcome entryLimit bs ws c .words)
-      ]
-
-  pub same-words : (n at : ℕ) (ws : List ℕ) → left.wordsFrom bs js p n at ws ≡ clerk.wordsFrom entryLimit bs ws (callsFrom n at ws)
+  pub same-words : (n at : ℕ) (ws : List ℕ) → left.wordsFrom bs js p n at ws ≡ clerk.wordsFrom entryLimit bs ws (callsFrom bs js p n at ws)
   unfolding left.wordsFrom clerk.wordsFrom callsFrom
   same-words zero at ws = refl
   same-words (suc n) at ws = go (enteredAt js at) refl (λ c. same-words n (at + sizeAt js at) (outcome ws c .words))
     where
       go : (x : Entered) → enteredAt js at ≡ x
           → ((c : Call) → left.wordsFrom bs js p n (at + sizeAt js at) (outcome ws c .words)
-          ≡ clerk.wordsFrom entryLimit bs (outcome ws c .words) (callsFrom n (at + sizeAt js at) (outcome ws c .words)))
-          → left.wordsFrom bs js p (suc n) at ws ≡ clerk.wordsFrom entryLimit bs ws (callsFrom (suc n) at ws)
+          ≡ clerk.wordsFrom entryLimit bs (outcome ws c .words) (callsFrom bs js p n (at + sizeAt js at) (outcome ws c .words)))
+          → left.wordsFrom bs js p (suc n) at ws ≡ clerk.wordsFrom entryLimit bs ws (callsFrom bs js p (suc n) at ws)
       go ended e rest = rw (e, left.wordsFrom, callsFrom)
       go broken e rest = rw (e, left.wordsFrom, callsFrom)
       go fireLowest e rest = rw (e, left.wordsFrom, callsFrom) (rest (fireLowestCall p (ledgerOf bs js p ws)))
@@ -112,18 +79,18 @@ module _ (bs js : List ℕ) (p : Plan) where
   -- the text from a place on, if so many visits are enough
   abbrev Same : ℕ → ℕ → Type 0
   Same n at = (ws : List ℕ) (fired : ℕ) → at ≤ length js → length js < at + n
-      → replay bs js p n at ws fired ≡ textOf (callsFrom n at ws) (endsBroken js n at) ws fired
+      → replay bs js p n at ws fired ≡ textOf (callsFrom bs js p n at ws) (endsBroken js n at) ws fired
 
   one : (n at : ℕ) (ws : List ℕ) (fired : ℕ) → length js < at + suc n → Same n (at + sizeAt js at)
       → (x : Entered) → enteredAt js at ≡ x → 0 < sizeOf x → (c : Call)
       → callText bs js p (replay bs js p n (at + sizeAt js at)) ws fired c
-      ≡ textOf (c ∷ callsFrom n (at + sizeAt js at) (outcome ws c .words)) (endsBroken js n (at + sizeAt js at)) ws fired
+      ≡ textOf (c ∷ callsFrom bs js p n (at + sizeAt js at) (outcome ws c .words)) (endsBroken js n (at + sizeAt js at)) ws fired
   unfolding callText
   one n at ws fired k rest x e l c =
       let (w, z) = next-within js at x e l in
       ap (λ (t : List ℕ). callLine c (outcome ws c .answer) ++ t)
       (rest (outcome ws c .words) (fired + firingsOf c (outcome ws c .answer)) w (omega arith))
-      ∙ sym (text-call c (callsFrom n (at + sizeAt js at) (outcome ws c .words)) (endsBroken js n (at + sizeAt js at)) ws fired)
+      ∙ sym (text-call c (callsFrom bs js p n (at + sizeAt js at) (outcome ws c .words)) (endsBroken js n (at + sizeAt js at)) ws fired)
 
   pub same-text : (n at : ℕ) → Same n at
   unfolding replay callsFrom endsBroken brokenLine sizeOf
@@ -131,7 +98,7 @@ module _ (bs js : List ℕ) (p : Plan) where
   same-text (suc n) at ws fired h k = go (enteredAt js at) refl (same-text n (at + sizeAt js at))
     where
       go : (x : Entered) → enteredAt js at ≡ x → Same n (at + sizeAt js at)
-          → replay bs js p (suc n) at ws fired ≡ textOf (callsFrom (suc n) at ws) (endsBroken js (suc n) at) ws fired
+          → replay bs js p (suc n) at ws fired ≡ textOf (callsFrom bs js p (suc n) at ws) (endsBroken js (suc n) at) ws fired
       go ended e rest = rw (e, replay, callsFrom, endsBroken) (sym (text-end false ws fired))
       go broken e rest = rw (e, replay, callsFrom, endsBroken) (sym (text-end true ws fired))
       go fireLowest e rest =
