@@ -14,8 +14,8 @@ use Rattle.rules.specs.Journal.{Entered, ended, broken, fireLowest, called, ent
 use Rattle.rules.specs.Transcript.{callLine, firingsOf, ledgerOf, lastLine, callText, replay}
 use Rattle.rules.specs.ReferenceRun as clerk
 use Rattle.restoration.specs.Firings.{firingsIn}
-use Rattle.journal.specs.Entered.{sizeOf}
-use Rattle.journal.proofs.Entering.{stands}
+use Rattle.journal.specs.Records.{sizeOf}
+use Rattle.journal.proofs.Records.{stands}
 use Rattle.replay.specs.Left as left
 use Rattle.reference_run.specs.JournalCalls.{callLines, brokenLine, endsBroken, callsFrom}
 

@@ -1,9 +1,9 @@
--- The step's promise, the line's and the tally's are the turn's. Assumes nothing.
+-- The step's promise, the line's and the tally's are the record's. Assumes nothing.
 use Rattle.rules.specs.Call.{event, eventOutcome}
-use Rattle.replay.proofs.Turning.{turned, event-fires}
+use Rattle.replay.proofs.CarriedOut.{carried-out, event-fires}
 use borrow.Author.Needs.{needs}
-use Rattle.replay.proofs.turns.event_turn.Statement.{statement}
-use Rattle.replay.proofs.turns.event_turn.Tie as tie
+use Rattle.replay.proofs.carry_out.carry_out_event.Statement.{statement}
+use Rattle.replay.proofs.carry_out.carry_out_event.Tie as tie
 
 event-requires : tie.Need-event-requires
 event-requires c κs = search needs
@@ -25,10 +25,10 @@ same-length-2 c = search needs
 
 returns : tie.Need-returns
 unfolding eventOutcome
-returns c = turned _ _ (event (record { event = _ })) _ _ _ _ _ _ _ _ _ _ (c .before .before .before .before .before .before .before .before .before .before .event .ensures) (c .before .before .before .before .before .before .event-line .ensures) (c .before .before .held-total .ensures) (event-fires _ _) (c .advanced .ensures)
+returns c = carried-out _ _ (event (record { event = _ })) _ _ _ _ _ _ _ _ _ _ (c .before .before .before .before .before .before .before .before .before .before .event .ensures) (c .before .before .before .before .before .before .event-line .ensures) (c .before .before .held-total .ensures) (event-fires _ _) (c .advanced .ensures)
 
-pub event-turn-spec : {M : Type 1} → statement M
-event-turn-spec =
+pub carry-out-event-spec : {M : Type 1} → statement M
+carry-out-event-spec =
     tie.close
     (tie.spec
     event-requires

@@ -18,11 +18,11 @@ use Rattle.journal.specs.declared.tally.Tally.{Tally}
 use Rattle.journal.specs.declared.record.Record.{Record}
 use Rattle.journal.specs.declared.record.Record.the-variants.{Ended, Broken}
 use Rattle.journal.specs.Tallied.{tallied}
-use Rattle.journal.specs.Entered.{entered, sizeOf}
+use Rattle.journal.specs.Records.{recordTold, sizeOf}
 use Rattle.journal.specs.Writing.{Lined}
 use Rattle.journal.proofs.Written.{wrote-then}
-use Rattle.replay.specs.declared.turns.Progress.{Progress}
-use Rattle.replay.specs.Turned.{Turned, isBrokenRecord, Closed}
+use Rattle.replay.specs.declared.carry_out.Progress.{Progress}
+use Rattle.replay.specs.CarriedOut.{CarriedOut, isBrokenRecord, Closed}
 
 pub event-fires : (a : EventArguments) (x : Answer) → 0 ≡ firingsOf (event a) x
 unfolding firingsOf
@@ -44,14 +44,14 @@ pub held-told : (bs : List ℕ) (c : Counts) (ws : List ℕ) (held : ℕ) → he
 unfolding heldTotal
 held-told bs c ws held e = rw track-count e
 
-pub turned : (bs : List ℕ) (c : Counts) (d : Call) (ws out : List ℕ) (from : Progress) (ws′ out′ : List ℕ) (place : ℕ) (after : Tally) (told : Answer) (held fired : ℕ)
+pub carried-out : (bs : List ℕ) (c : Counts) (d : Call) (ws out : List ℕ) (from : Progress) (ws′ out′ : List ℕ) (place : ℕ) (after : Tally) (told : Answer) (held fired : ℕ)
     → Meets (callOutcome entryLimit bs ws d) told ws′
     → Lined out (from .place) (callLine d told) out′ place
     → held ≡ sumBelow (c .tracks) (λ t. length (ledgerOf c ws′ t .held))
     → fired ≡ firingsOf d told
     → after ≡ tallied (from .tally) held fired
-    → Turned bs c d ws out from ws′ out′ (record { place = place; tally = after })
-turned bs c d ws out from ws′ out′ place after told held fired m l h f e =
+    → CarriedOut bs c d ws out from ws′ out′ (record { place = place; tally = after })
+carried-out bs c d ws out from ws′ out′ place after told held fired m l h f e =
     record {
       words = m .left;
       line = subst (λ (x : Answer). Lined out (from .place) (callLine d x) out′ place) (m .answered) l;
@@ -60,13 +60,13 @@ turned bs c d ws out from ws′ out′ place after told held fired m l h f e =
     }
 
 -- where the reading ends no record is left to do
-pub ended-none : (x : Record) → x ≡ Ended → 0 < sizeOf (entered x) → ⊥
-unfolding entered sizeOf
-ended-none x e l = let z : sizeOf (entered x) ≡ 0 = rw e in omega arith
+pub ended-none : (x : Record) → x ≡ Ended → 0 < sizeOf (recordTold x) → ⊥
+unfolding recordTold sizeOf
+ended-none x e l = let z : sizeOf (recordTold x) ≡ 0 = rw e in omega arith
 
-pub broken-none : (x : Record) → x ≡ Broken → 0 < sizeOf (entered x) → ⊥
-unfolding entered sizeOf
-broken-none x e l = let z : sizeOf (entered x) ≡ 0 = rw e in omega arith
+pub broken-none : (x : Record) → x ≡ Broken → 0 < sizeOf (recordTold x) → ⊥
+unfolding recordTold sizeOf
+broken-none x e l = let z : sizeOf (recordTold x) ≡ 0 = rw e in omega arith
 
 -- the last lines
 pub closed-broken : (x : Entered) (b : Bool) (out : List ℕ) (from : Progress) (mid out′ : List ℕ) (place end : ℕ) → b ≡ isBrokenRecord x → b ≡ true
@@ -89,6 +89,6 @@ closed-whole x b out from out′ end e t l =
     record { wrote = rw i (l .wrote); short = omega arith }
 
 -- the same call under another name
-pub turned-as : (bs : List ℕ) (c : Counts) (d e : Call) (ws out : List ℕ) (from : Progress) (ws′ out′ : List ℕ) (next : Progress) → d ≡ e
-    → Turned bs c d ws out from ws′ out′ next → Turned bs c e ws out from ws′ out′ next
-turned-as bs c d e ws out from ws′ out′ next q t = subst (λ (x : Call). Turned bs c x ws out from ws′ out′ next) q t
+pub carried-out-as : (bs : List ℕ) (c : Counts) (d e : Call) (ws out : List ℕ) (from : Progress) (ws′ out′ : List ℕ) (next : Progress) → d ≡ e
+    → CarriedOut bs c d ws out from ws′ out′ next → CarriedOut bs c e ws out from ws′ out′ next
+carried-out-as bs c d e ws out from ws′ out′ next q t = subst (λ (x : Call). CarriedOut bs c x ws out from ws′ out′ next) q t

@@ -11,17 +11,22 @@ use Rattle.rules.specs.Call.{Call, callOutcome}
 use Rattle.rules.specs.Journal.{Entered, ended, broken, fireLowest, called}
 use Rattle.rules.specs.Transcript.{refusalLine, callLine, firingsOf, heldTotal, tallyLine}
 use Rattle.lookup.specs.Checked.{Checked, ledgerOf}
+use Rattle.journal.specs.Records.{callOf}
 use Rattle.journal.specs.Writing.{Wrote, Lined, lineRoom}
-use Rattle.replay.specs.declared.turns.Progress.{Progress}
+use Rattle.replay.specs.declared.carry_out.Progress.{Progress}
+
+-- the call that a record asks for on the ledger that the words hold
+abbrev pub callAt : List ℕ → Counts → List ℕ → Entered → Call
+callAt bs c ws x = callOf (planOf bs c) (ledgerOf c ws) x
 
 -- There is room for a line, and for one firing more in the tally.
-pub record Ready (bs : List ℕ) (c : Counts) (ws out : List ℕ) (from : Progress) : Type 0 where
+pub record Prepared (bs : List ℕ) (c : Counts) (ws out : List ℕ) (from : Progress) : Type 0 where
   pub checked : Checked bs c ws
   pub room : from .place + lineRoom ≤ length out
   pub few : from .tally .fired + 1 < 2 ^ 32
 
 -- The call was made, and its line written.
-pub record Turned (bs : List ℕ) (c : Counts) (d : Call) (ws out : List ℕ) (from : Progress) (ws′ out′ : List ℕ) (next : Progress) : Type 0 where
+pub record CarriedOut (bs : List ℕ) (c : Counts) (d : Call) (ws out : List ℕ) (from : Progress) (ws′ out′ : List ℕ) (next : Progress) : Type 0 where
   pub words : ws′ ≡ callOutcome entryLimit bs ws d .words
   pub line : Lined out (from .place) (callLine d (callOutcome entryLimit bs ws d .answer)) out′ (next .place)
   pub fired : next .tally .fired ≡ from .tally .fired + firingsOf d (callOutcome entryLimit bs ws d .answer)

@@ -1,11 +1,11 @@
--- The step's promise, the line's and the tally's are the turn's. Assumes nothing.
+-- The step's promise, the line's and the tally's are the record's. Assumes nothing.
 use native.Mathlib.Omega.{arith}
 use Rattle.rules.specs.Answers.{fireTold}
 use Rattle.rules.specs.Call.{fire, fireOutcome}
-use Rattle.replay.proofs.Turning.{turned, fires-one}
+use Rattle.replay.proofs.CarriedOut.{carried-out, fires-one}
 use borrow.Author.Needs.{needs}
-use Rattle.replay.proofs.turns.fire_turn.Statement.{statement}
-use Rattle.replay.proofs.turns.fire_turn.Tie as tie
+use Rattle.replay.proofs.carry_out.carry_out_fire.Statement.{statement}
+use Rattle.replay.proofs.carry_out.carry_out_fire.Tie as tie
 
 fire-requires : tie.Need-fire-requires
 fire-requires c κs = search needs
@@ -30,10 +30,10 @@ same-length-2 c = search needs
 
 returns : tie.Need-returns
 unfolding fireOutcome
-returns c = turned _ _ (fire (record { track = _ })) _ _ _ _ _ _ _ _ _ _ (c .before .before .before .before .before .before .before .before .before .before .before .fire .ensures) (c .before .before .before .before .before .before .before .fire-line .ensures) (c .before .before .before .held-total .ensures) (c .before .before .firings-of .ensures _) (c .advanced .ensures)
+returns c = carried-out _ _ (fire (record { track = _ })) _ _ _ _ _ _ _ _ _ _ (c .before .before .before .before .before .before .before .before .before .before .before .fire .ensures) (c .before .before .before .before .before .before .before .fire-line .ensures) (c .before .before .before .held-total .ensures) (c .before .before .firings-of .ensures _) (c .advanced .ensures)
 
-pub fire-turn-spec : {M : Type 1} → statement M
-fire-turn-spec =
+pub carry-out-fire-spec : {M : Type 1} → statement M
+carry-out-fire-spec =
     tie.close
     (tie.spec
     fire-requires

@@ -1,9 +1,9 @@
--- The step's promise, the line's and the tally's are the turn's. Assumes nothing.
+-- The step's promise, the line's and the tally's are the record's. Assumes nothing.
 use Rattle.rules.specs.Call.{signal, nothing, signalOutcome}
-use Rattle.replay.proofs.Turning.{turned, signal-fires}
+use Rattle.replay.proofs.CarriedOut.{carried-out, signal-fires}
 use borrow.Author.Needs.{needs}
-use Rattle.replay.proofs.turns.signal_turn.Statement.{statement}
-use Rattle.replay.proofs.turns.signal_turn.Tie as tie
+use Rattle.replay.proofs.carry_out.carry_out_signal.Statement.{statement}
+use Rattle.replay.proofs.carry_out.carry_out_signal.Tie as tie
 
 signal-requires : tie.Need-signal-requires
 signal-requires c κs = search needs
@@ -25,10 +25,10 @@ same-length-2 c = search needs
 
 returns : tie.Need-returns
 unfolding signalOutcome
-returns c = turned _ _ (signal nothing) _ _ _ _ _ _ _ _ _ _ (c .before .before .before .before .before .before .before .before .before .before .signal .ensures) (c .before .before .before .before .before .before .signal-line .ensures) (c .before .before .held-total .ensures) (signal-fires _ _) (c .advanced .ensures)
+returns c = carried-out _ _ (signal nothing) _ _ _ _ _ _ _ _ _ _ (c .before .before .before .before .before .before .before .before .before .before .signal .ensures) (c .before .before .before .before .before .before .signal-line .ensures) (c .before .before .held-total .ensures) (signal-fires _ _) (c .advanced .ensures)
 
-pub signal-turn-spec : {M : Type 1} → statement M
-signal-turn-spec =
+pub carry-out-signal-spec : {M : Type 1} → statement M
+carry-out-signal-spec =
     tie.close
     (tie.spec
     signal-requires

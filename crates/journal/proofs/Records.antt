@@ -13,7 +13,7 @@ use Rattle.rules.specs.Record.{word, sizeAt, kindAt}
 use Rattle.rules.specs.Journal.{Entered, ended, broken, journalLength, isBroken, recordOf, enteredAt}
 use Rattle.rules.proofs.Tests.{look, or-right, or-false}
 use Rattle.journal.specs.declared.record.Record.the-variants.{Event, Signal, Fire, FireLowest}
-use Rattle.journal.specs.Entered.{entered, sizeOf}
+use Rattle.journal.specs.Records.{recordTold, sizeOf}
 
 -- the length of each kind
 module _ (k : ℕ) where
@@ -43,20 +43,20 @@ module _ (k : ℕ) where
 
 -- a whole record of each kind
 module _ (k field : ℕ) where
-  pub whole-event : (w : ℕ) → k ≡ 16 → w ≡ field → entered (Event w) ≡ recordOf k field
-  unfolding entered recordOf
+  pub whole-event : (w : ℕ) → k ≡ 16 → w ≡ field → recordTold (Event w) ≡ recordOf k field
+  unfolding recordTold recordOf
   whole-event w e f = rw (e, f)
 
-  pub whole-signal : k ≡ 17 → entered Signal ≡ recordOf k field
-  unfolding entered recordOf
+  pub whole-signal : k ≡ 17 → recordTold Signal ≡ recordOf k field
+  unfolding recordTold recordOf
   whole-signal e = rw e
 
-  pub whole-fire : (w : ℕ) → k ≡ 18 → w ≡ field → entered (Fire w) ≡ recordOf k field
-  unfolding entered recordOf
+  pub whole-fire : (w : ℕ) → k ≡ 18 → w ≡ field → recordTold (Fire w) ≡ recordOf k field
+  unfolding recordTold recordOf
   whole-fire w e f = rw (e, f)
 
-  pub whole-lowest : (k ≡ 16 → ⊥) → (k ≡ 17 → ⊥) → (k ≡ 18 → ⊥) → entered FireLowest ≡ recordOf k field
-  unfolding entered recordOf
+  pub whole-lowest : (k ≡ 16 → ⊥) → (k ≡ 17 → ⊥) → (k ≡ 18 → ⊥) → recordTold FireLowest ≡ recordOf k field
+  unfolding recordTold recordOf
   whole-lowest a b c = rw (ne-eqb k 16 a, ne-eqb k 17 b, ne-eqb k 18 c)
 
 -- one of four tests

@@ -6,13 +6,10 @@ use journal::tally;
 use journal::tally::Tally;
 use rules::Counts;
 ghost use Prim.Native.Nat.{_<_};
-ghost use Rattle.rules.specs.Plan.{planOf};
 ghost use Rattle.rules.specs.Call.{event, signal, fire, nothing};
-ghost use Rattle.rules.specs.Journal.{fireLowestCall};
-ghost use Rattle.lookup.specs.Checked.{ledgerOf};
-ghost use Rattle.journal.specs.Entered.{entered, sizeOf};
-ghost use Rattle.journal.specs.Replayed.{callOf};
-ghost use Rattle.replay.specs.Turned.{Ready, Turned};
+ghost use Rattle.rules.specs.Journal.{fireLowest};
+ghost use Rattle.journal.specs.Records.{recordTold, sizeOf};
+ghost use Rattle.replay.specs.CarriedOut.{callAt, Prepared, CarriedOut};
 
 // How far a run has come: the place in the output, and the tally.
 pub struct Progress {
@@ -20,7 +17,7 @@ pub struct Progress {
     pub tally: Tally,
 }
 
-fn event_turn(
+fn carry_out_event(
     plan: &[u8],
     c: Counts,
     ledger: &mut [u16],
@@ -28,8 +25,9 @@ fn event_turn(
     from: Progress,
     name: u16,
 ) -> Progress
-    requires { ⌜ Ready (now plan) c (now ledger) (now output) from ⌝ }
-    ensures { λ r. ⌜ Turned (now (plan .entry)) c (event (record { event = name })) (now (ledger .entry)) (now (output .entry)) from (now (ledger .exit)) (now (output .exit)) r ⌝ }
+    requires { ⌜ Prepared (now plan) c (now ledger) (now output) from ⌝ }
+    ensures { λ r. ⌜ CarriedOut (now (plan .entry)) c (event (record { event = name }))
+        (now (ledger .entry)) (now (output .entry)) from (now (ledger .exit)) (now (output .exit)) r ⌝ }
 {
     let answer = event_step::event::event(plan, c, &mut ledger[..], name);
     let place = lines::event_line(&mut output[..], from.place, name, answer);
@@ -42,15 +40,16 @@ fn event_turn(
     }
 }
 
-fn signal_turn(
+fn carry_out_signal(
     plan: &[u8],
     c: Counts,
     ledger: &mut [u16],
     output: &mut [u8],
     from: Progress,
 ) -> Progress
-    requires { ⌜ Ready (now plan) c (now ledger) (now output) from ⌝ }
-    ensures { λ r. ⌜ Turned (now (plan .entry)) c (signal nothing) (now (ledger .entry)) (now (output .entry)) from (now (ledger .exit)) (now (output .exit)) r ⌝ }
+    requires { ⌜ Prepared (now plan) c (now ledger) (now output) from ⌝ }
+    ensures { λ r. ⌜ CarriedOut (now (plan .entry)) c (signal nothing)
+        (now (ledger .entry)) (now (output .entry)) from (now (ledger .exit)) (now (output .exit)) r ⌝ }
 {
     let answer = withdrawal::signal::signal(plan, c, &mut ledger[..]);
     let place = lines::signal_line(&mut output[..], from.place, answer);
@@ -63,7 +62,7 @@ fn signal_turn(
     }
 }
 
-fn fire_turn(
+fn carry_out_fire(
     plan: &[u8],
     c: Counts,
     ledger: &mut [u16],
@@ -71,8 +70,9 @@ fn fire_turn(
     from: Progress,
     track: u16,
 ) -> Progress
-    requires { ⌜ Ready (now plan) c (now ledger) (now output) from ⌝ }
-    ensures { λ r. ⌜ Turned (now (plan .entry)) c (fire (record { track = track })) (now (ledger .entry)) (now (output .entry)) from (now (ledger .exit)) (now (output .exit)) r ⌝ }
+    requires { ⌜ Prepared (now plan) c (now ledger) (now output) from ⌝ }
+    ensures { λ r. ⌜ CarriedOut (now (plan .entry)) c (fire (record { track = track }))
+        (now (ledger .entry)) (now (output .entry)) from (now (ledger .exit)) (now (output .exit)) r ⌝ }
 {
     let answer = withdrawal::fire::fire(plan, c, &mut ledger[..], track);
     let place = lines::fire_line(&mut output[..], from.place, track, answer);
@@ -87,22 +87,23 @@ fn fire_turn(
 }
 
 // Fires the lowest ready track, or a track that does not exist.
-fn lowest_turn(
+fn carry_out_lowest(
     plan: &[u8],
     c: Counts,
     ledger: &mut [u16],
     output: &mut [u8],
     from: Progress,
 ) -> Progress
-    requires { ⌜ Ready (now plan) c (now ledger) (now output) from ⌝ }
-    ensures { λ r. ⌜ Turned (now (plan .entry)) c (fireLowestCall (planOf (now (plan .entry)) c) (ledgerOf c (now (ledger .entry)))) (now (ledger .entry)) (now (output .entry)) from (now (ledger .exit)) (now (output .exit)) r ⌝ }
+    requires { ⌜ Prepared (now plan) c (now ledger) (now output) from ⌝ }
+    ensures { λ r. ⌜ CarriedOut (now (plan .entry)) c (callAt (now (plan .entry)) c (now (ledger .entry)) fireLowest)
+        (now (ledger .entry)) (now (output .entry)) from (now (ledger .exit)) (now (output .exit)) r ⌝ }
 {
     let track = held::lowest_ready(plan, c, &ledger[..]);
-    fire_turn(plan, c, &mut ledger[..], &mut output[..], from, track)
+    carry_out_fire(plan, c, &mut ledger[..], &mut output[..], from, track)
 }
 
 // Does what the record asks for.
-pub fn turn(
+pub fn carry_out(
     plan: &[u8],
     c: Counts,
     ledger: &mut [u16],
@@ -110,15 +111,30 @@ pub fn turn(
     from: Progress,
     found: Record,
 ) -> Progress
-    requires { ⌜ Ready (now plan) c (now ledger) (now output) from × (0 < sizeOf (entered found)) ⌝ }
-    ensures { λ r. ⌜ Turned (now (plan .entry)) c (callOf (planOf (now (plan .entry)) c) (ledgerOf c (now (ledger .entry))) (entered found)) (now (ledger .entry)) (now (output .entry)) from (now (ledger .exit)) (now (output .exit)) r ⌝ }
+    requires { ⌜ Prepared (now plan) c (now ledger) (now output) from × (0 < sizeOf (recordTold found)) ⌝ }
+    ensures { λ r. ⌜ CarriedOut (now (plan .entry)) c (callAt (now (plan .entry)) c (now (ledger .entry)) (recordTold found))
+        (now (ledger .entry)) (now (output .entry)) from (now (ledger .exit)) (now (output .exit)) r ⌝ }
 {
     match found {
         Record::Ended => from,
         Record::Broken => from,
-        Record::Event(event) => event_turn(plan, c, &mut ledger[..], &mut output[..], from, event),
-        Record::Signal => signal_turn(plan, c, &mut ledger[..], &mut output[..], from),
-        Record::Fire(track) => fire_turn(plan, c, &mut ledger[..], &mut output[..], from, track),
-        Record::FireLowest => lowest_turn(plan, c, &mut ledger[..], &mut output[..], from),
+        Record::Event(event) => carry_out_event(
+            plan,
+            c,
+            &mut ledger[..],
+            &mut output[..],
+            from,
+            event,
+        ),
+        Record::Signal => carry_out_signal(plan, c, &mut ledger[..], &mut output[..], from),
+        Record::Fire(track) => carry_out_fire(
+            plan,
+            c,
+            &mut ledger[..],
+            &mut output[..],
+            from,
+            track,
+        ),
+        Record::FireLowest => carry_out_lowest(plan, c, &mut ledger[..], &mut output[..], from),
     }
 }
