@@ -14,15 +14,13 @@ use Rattle.rules.specs.Journal.{Entered}
 use Rattle.rules.specs.Transcript.{refusalLine, callLine, firingsOf, heldTotal, tallyLine}
 use Rattle.plan.proofs.FieldLaws.{track-count}
 use Rattle.lookup.specs.Checked.{ledgerOf}
-use Rattle.journal.specs.declared.tally.Tally.{Tally}
 use Rattle.journal.specs.declared.record.Record.{Record}
 use Rattle.journal.specs.declared.record.Record.the-variants.{Ended, Broken}
-use Rattle.journal.specs.Tallied.{tallied}
 use Rattle.journal.specs.Records.{recordTold, sizeOf}
 use Rattle.journal.specs.Writing.{Lined}
 use Rattle.journal.proofs.Written.{wrote-then}
 use Rattle.replay.specs.declared.carry_out.Progress.{Progress}
-use Rattle.replay.specs.CarriedOut.{CarriedOut, isBrokenRecord, Closed}
+use Rattle.replay.specs.CarriedOut.{CameTo, CarriedOut, isBrokenRecord, Closed}
 
 pub event-fires : (a : EventArguments) (x : Answer) → 0 ≡ firingsOf (event a) x
 unfolding firingsOf
@@ -44,19 +42,18 @@ pub held-told : (bs : List ℕ) (c : Counts) (ws : List ℕ) (held : ℕ) → he
 unfolding heldTotal
 held-told bs c ws held e = rw track-count e
 
-pub carried-out : (bs : List ℕ) (c : Counts) (d : Call) (ws out : List ℕ) (from : Progress) (ws′ out′ : List ℕ) (place : ℕ) (after : Tally) (told : Answer) (held fired : ℕ)
+pub carried-out : (bs : List ℕ) (c : Counts) (d : Call) (ws out : List ℕ) (from : Progress) (ws′ out′ : List ℕ) (place : ℕ) (told : Answer) (fired : ℕ) (next : Progress)
     → Meets (callOutcome entryLimit bs ws d) told ws′
     → Lined out (from .place) (callLine d told) out′ place
-    → held ≡ sumBelow (c .tracks) (λ t. length (ledgerOf c ws′ t .held))
     → fired ≡ firingsOf d told
-    → after ≡ tallied (from .tally) held fired
-    → CarriedOut bs c d ws out from ws′ out′ (record { place = place; tally = after })
-carried-out bs c d ws out from ws′ out′ place after told held fired m l h f e =
+    → CameTo c ws′ from place fired next
+    → CarriedOut bs c d ws out from ws′ out′ next
+carried-out bs c d ws out from ws′ out′ place told fired next m l f e =
     record {
       words = m .left;
-      line = subst (λ (x : Answer). Lined out (from .place) (callLine d x) out′ place) (m .answered) l;
-      fired = ap (λ (t : Tally). t .fired) e ∙ ap (λ (n : ℕ). from .tally .fired + n) (f ∙ ap (firingsOf d) (m .answered));
-      held = ap (λ (t : Tally). t .held) e ∙ held-told bs c ws′ held h;
+      line = rw (← m .answered, e .place) l;
+      fired = e .fired ∙ ap (λ (n : ℕ). from .tally .fired + n) (f ∙ ap (firingsOf d) (m .answered));
+      held = held-told bs c ws′ (next .tally .held) (e .held);
     }
 
 -- where the reading ends no record is left to do

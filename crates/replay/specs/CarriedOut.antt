@@ -5,6 +5,7 @@ use mathlib.Core.List.{List, _++_}
 use Prim.Native.Nat.{ℕ, _+_, _*_, _<_, _≤_, _^_}
 use lib.ListN.{length}
 use Rattle.rules.specs.declared.Counts.{Counts}
+use Rattle.rules.specs.Fold.{sumBelow}
 use Rattle.rules.specs.Plan.{planOf}
 use Rattle.rules.specs.Layout.{entryLimit}
 use Rattle.rules.specs.Call.{Call, callOutcome}
@@ -24,6 +25,12 @@ pub record Prepared (bs : List ℕ) (c : Counts) (ws out : List ℕ) (from : Pro
   pub checked : Checked bs c ws
   pub room : from .place + lineRoom ≤ length out
   pub few : from .tally .fired + 1 < 2 ^ 32
+
+-- The place is reached, and the tally has n firings more and the ledger's entries.
+pub record CameTo (c : Counts) (ws : List ℕ) (from : Progress) (end n : ℕ) (next : Progress) : Type 0 where
+  pub place : next .place ≡ end
+  pub fired : next .tally .fired ≡ from .tally .fired + n
+  pub held : next .tally .held ≡ sumBelow (c .tracks) (λ t. length (ledgerOf c ws t .held))
 
 -- The call was made, and its line written.
 pub record CarriedOut (bs : List ℕ) (c : Counts) (d : Call) (ws out : List ℕ) (from : Progress) (ws′ out′ : List ℕ) (next : Progress) : Type 0 where

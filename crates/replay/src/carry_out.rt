@@ -5,16 +5,31 @@ use journal::record::Record;
 use journal::tally;
 use journal::tally::Tally;
 use rules::Counts;
-ghost use Prim.Native.Nat.{_<_};
+ghost use Prim.Native.Nat.{_+_, _<_, _^_};
 ghost use Rattle.rules.specs.Call.{event, signal, fire, nothing};
 ghost use Rattle.rules.specs.Journal.{fireLowest};
+ghost use Rattle.ledger.specs.Words.{Room};
 ghost use Rattle.journal.specs.Records.{recordTold, sizeOf};
-ghost use Rattle.replay.specs.CarriedOut.{callAt, Prepared, CarriedOut};
+ghost use Rattle.replay.specs.CarriedOut.{callAt, Prepared, CameTo, CarriedOut};
 
 // How far a run has come: the place in the output, and the tally.
 pub struct Progress {
     pub place: usize,
     pub tally: Tally,
+}
+
+// How far a run has come after a record that left this ledger, wrote its line up to the place and did so many firings.
+fn come_to(c: Counts, ledger: &[u16], from: Progress, place: usize, fired: u32) -> Progress
+    requires { ⌜ Room (now ledger) (c .tracks) × (from .tally .fired + fired < 2 ^ 32) ⌝ }
+    ensures { λ r. ⌜ CameTo c (now (ledger .entry)) from place fired r ⌝ }
+{
+    let held = held::held_total(c, ledger);
+    let before = from.tally;
+    let after = tally::advanced(before, held, fired);
+    Progress {
+        place: place,
+        tally: after,
+    }
 }
 
 fn carry_out_event(
@@ -31,13 +46,7 @@ fn carry_out_event(
 {
     let answer = event_step::event::event(plan, c, &mut ledger[..], name);
     let place = lines::event_line(&mut output[..], from.place, name, answer);
-    let held = held::held_total(c, &ledger[..]);
-    let before = from.tally;
-    let after = tally::advanced(before, held, 0);
-    Progress {
-        place: place,
-        tally: after,
-    }
+    come_to(c, &ledger[..], from, place, 0)
 }
 
 fn carry_out_signal(
@@ -53,13 +62,7 @@ fn carry_out_signal(
 {
     let answer = withdrawal::signal::signal(plan, c, &mut ledger[..]);
     let place = lines::signal_line(&mut output[..], from.place, answer);
-    let held = held::held_total(c, &ledger[..]);
-    let before = from.tally;
-    let after = tally::advanced(before, held, 0);
-    Progress {
-        place: place,
-        tally: after,
-    }
+    come_to(c, &ledger[..], from, place, 0)
 }
 
 fn carry_out_fire(
@@ -76,14 +79,8 @@ fn carry_out_fire(
 {
     let answer = withdrawal::fire::fire(plan, c, &mut ledger[..], track);
     let place = lines::fire_line(&mut output[..], from.place, track, answer);
-    let held = held::held_total(c, &ledger[..]);
     let fired = tally::firings_of(answer);
-    let before = from.tally;
-    let after = tally::advanced(before, held, fired);
-    Progress {
-        place: place,
-        tally: after,
-    }
+    come_to(c, &ledger[..], from, place, fired)
 }
 
 // Fires the lowest ready track, or a track that does not exist.

@@ -11,11 +11,8 @@ event-requires c κs = search needs
 event-line-requires : tie.Need-event-line-requires
 event-line-requires c κs = search needs
 
-held-total-requires : tie.Need-held-total-requires
-held-total-requires c κs = search needs
-
-advanced-requires : tie.Need-advanced-requires
-advanced-requires c κs = search needs
+come-to-requires : tie.Need-come-to-requires
+come-to-requires c κs = search needs
 
 same-length : tie.Need-same-length
 same-length c = search needs
@@ -25,7 +22,7 @@ same-length-2 c = search needs
 
 returns : tie.Need-returns
 unfolding eventOutcome
-returns c = carried-out _ _ (event (record { event = _ })) _ _ _ _ _ _ _ _ _ _ (c .before .before .before .before .before .before .before .before .before .before .event .ensures) (c .before .before .before .before .before .before .event-line .ensures) (c .before .before .held-total .ensures) (event-fires _ _) (c .advanced .ensures)
+returns c = carried-out _ _ (event (record { event = _ })) _ _ _ _ _ _ _ _ _ (c .before .before .before .before .before .before .before .before .event .ensures) (c .before .before .before .before .event-line .ensures) (event-fires _ _) (c .come-to .ensures)
 
 pub carry-out-event-spec : {M : Type 1} → statement M
 carry-out-event-spec =
@@ -33,8 +30,7 @@ carry-out-event-spec =
     (tie.spec
     event-requires
     event-line-requires
-    held-total-requires
-    advanced-requires
+    come-to-requires
     same-length
     same-length-2
     returns)

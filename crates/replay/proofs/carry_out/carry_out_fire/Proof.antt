@@ -13,14 +13,11 @@ fire-requires c κs = search needs
 fire-line-requires : tie.Need-fire-line-requires
 fire-line-requires c κs = search needs
 
-held-total-requires : tie.Need-held-total-requires
-held-total-requires c κs = search needs
-
 firings-of-requires : tie.Need-firings-of-requires
 firings-of-requires c κs = search needs
 
-advanced-requires : tie.Need-advanced-requires
-advanced-requires c κs = omega (arith, c .before .firings-of .ensures 0, fires-one (record { track = 0 }) (fireTold (c .before .before .before .before .before .before .before .before .before .before .fire .result)), c .before .before .before .before .before .before .before .before .before .before .before .before .before .before .before .pre .few)
+come-to-requires : tie.Need-come-to-requires
+come-to-requires c κs = (search needs, omega (arith, c .before .firings-of .ensures 0, fires-one (record { track = 0 }) (fireTold (c .before .before .before .before .before .before .before .before .fire .result)), c .before .before .before .before .before .before .before .before .before .before .before .before .before .pre .few))
 
 same-length : tie.Need-same-length
 same-length c = search needs
@@ -30,7 +27,7 @@ same-length-2 c = search needs
 
 returns : tie.Need-returns
 unfolding fireOutcome
-returns c = carried-out _ _ (fire (record { track = _ })) _ _ _ _ _ _ _ _ _ _ (c .before .before .before .before .before .before .before .before .before .before .before .fire .ensures) (c .before .before .before .before .before .before .before .fire-line .ensures) (c .before .before .before .held-total .ensures) (c .before .before .firings-of .ensures _) (c .advanced .ensures)
+returns c = carried-out _ _ (fire (record { track = _ })) _ _ _ _ _ _ _ _ _ (c .before .before .before .before .before .before .before .before .before .fire .ensures) (c .before .before .before .before .before .fire-line .ensures) (c .before .before .firings-of .ensures _) (c .come-to .ensures)
 
 pub carry-out-fire-spec : {M : Type 1} → statement M
 carry-out-fire-spec =
@@ -38,9 +35,8 @@ carry-out-fire-spec =
     (tie.spec
     fire-requires
     fire-line-requires
-    held-total-requires
     firings-of-requires
-    advanced-requires
+    come-to-requires
     same-length
     same-length-2
     returns)

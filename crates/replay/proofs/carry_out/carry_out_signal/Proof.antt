@@ -11,11 +11,8 @@ signal-requires c κs = search needs
 signal-line-requires : tie.Need-signal-line-requires
 signal-line-requires c κs = search needs
 
-held-total-requires : tie.Need-held-total-requires
-held-total-requires c κs = search needs
-
-advanced-requires : tie.Need-advanced-requires
-advanced-requires c κs = search needs
+come-to-requires : tie.Need-come-to-requires
+come-to-requires c κs = search needs
 
 same-length : tie.Need-same-length
 same-length c = search needs
@@ -25,7 +22,7 @@ same-length-2 c = search needs
 
 returns : tie.Need-returns
 unfolding signalOutcome
-returns c = carried-out _ _ (signal nothing) _ _ _ _ _ _ _ _ _ _ (c .before .before .before .before .before .before .before .before .before .before .signal .ensures) (c .before .before .before .before .before .before .signal-line .ensures) (c .before .before .held-total .ensures) (signal-fires _ _) (c .advanced .ensures)
+returns c = carried-out _ _ (signal nothing) _ _ _ _ _ _ _ _ _ (c .before .before .before .before .before .before .before .before .signal .ensures) (c .before .before .before .before .signal-line .ensures) (signal-fires _ _) (c .come-to .ensures)
 
 pub carry-out-signal-spec : {M : Type 1} → statement M
 carry-out-signal-spec =
@@ -33,8 +30,7 @@ carry-out-signal-spec =
     (tie.spec
     signal-requires
     signal-line-requires
-    held-total-requires
-    advanced-requires
+    come-to-requires
     same-length
     same-length-2
     returns)
