@@ -1,5 +1,5 @@
 -- Laws of the plan reader.
-pub mod ChainLaws
+pub mod CellLaws
 pub mod KindTables
 pub mod MarkLaws
 pub mod Reader

@@ -16,8 +16,10 @@ use Rattle.rules.specs.Plan.{Plan, transition}
 use Rattle.rules.specs.Acceptance.{repeatsEvent}
 use Rattle.rules.proofs.Tests.{look}
 use Rattle.rules.proofs.Folds.{some-at, some-none}
-use Rattle.plan_reader.specs.Chain.{lastBelow, has, Chained, group}
-use Rattle.plan_reader.proofs.ChainLaws.{last-most, last-passes, last-skips, shares, repeats-some, shared, other-key}
+use Rattle.plan.specs.Chain.{lastBelow, has, Chained}
+use Rattle.plan_reader.specs.Keys.{group}
+use Rattle.plan.proofs.ChainLaws.{last-most, last-passes, last-skips}
+use Rattle.plan_reader.proofs.CellLaws.{shares, repeats-some, shared, other-key}
 
 -- what stands at every place of a list after one was set
 set-all : (C : ℕ → Type 0) (l : List ℕ) (i v : ℕ) → i < length l → C v → ((k : ℕ) → C (getD l k 0)) → (k : ℕ) → C (getD (set l i v) k 0)

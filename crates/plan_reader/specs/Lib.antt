@@ -2,4 +2,4 @@
 pub mod TracksPass
 pub mod Scanned
 pub mod Runs
-pub mod Chain
+pub mod Keys

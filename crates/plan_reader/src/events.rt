@@ -11,7 +11,8 @@ ghost use Rattle.rules.specs.Fold.{someBelow};
 ghost use Rattle.rules.specs.Plan.{planOf, transition};
 ghost use Rattle.rules.specs.Acceptance.{badTransition, repeatsEvent};
 ghost use Rattle.plan.specs.Holds.{Holds};
-ghost use Rattle.plan_reader.specs.Chain.{cell, group, ChainOf, Heads};
+ghost use Rattle.plan.specs.Chain.{ChainOf, Heads, cell};
+ghost use Rattle.plan_reader.specs.Keys.{group};
 
 // So many comparisons are quicker than marks.
 const MOST_COMPARISONS: usize = 512;

@@ -1,5 +1,5 @@
 -- Source and event give the cell. Assumes nothing.
-use Rattle.plan_reader.proofs.ChainLaws.{cell-at}
+use Rattle.plan_reader.proofs.CellLaws.{cell-at}
 use borrow.Author.Needs.{needs}
 use Rattle.plan_reader.proofs.events.cell_of.Statement.{statement}
 use Rattle.plan_reader.proofs.events.cell_of.Tie as tie

@@ -2,7 +2,7 @@
 -- Assumes nothing.
 use mathlib.Core.Path.{refl, sym, _∙_}
 use Rattle.rules.specs.Plan.{planOf}
-use Rattle.plan_reader.proofs.ChainLaws.{Walk, walk-start, walk-end, walk-on}
+use Rattle.plan_reader.proofs.CellLaws.{Walk, walk-start, walk-end, walk-on}
 use borrow.Author.Needs.{needs}
 use Rattle.plan_reader.proofs.events.comparisons_left.Statement.{statement}
 use Rattle.plan_reader.proofs.events.comparisons_left.Tie as tie

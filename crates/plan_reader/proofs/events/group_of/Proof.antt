@@ -1,5 +1,5 @@
 -- Source and event give the group: there are 128 sources, and 16 times 4096 events. Assumes nothing.
-use Rattle.plan_reader.specs.Chain.{group}
+use Rattle.plan_reader.specs.Keys.{group}
 use borrow.Author.Needs.{needs}
 use Rattle.plan_reader.proofs.events.group_of.Statement.{statement}
 use Rattle.plan_reader.proofs.events.group_of.Tie as tie

@@ -2,9 +2,10 @@
 use mathlib.Core.Path.{refl}
 use Prim.Native.Nat.{_≤_, _-_}
 use Rattle.rules.specs.Plan.{planOf}
-use Rattle.plan_reader.specs.Chain.{group, Heads}
+use Rattle.plan.specs.Chain.{Heads}
+use Rattle.plan_reader.specs.Keys.{group}
 use Rattle.plan.proofs.RefusalTests.{source-within}
-use Rattle.plan_reader.proofs.ChainLaws.{heads-none, heads-more, heads-all}
+use Rattle.plan.proofs.ChainLaws.{heads-none, heads-more, heads-all}
 use borrow.Author.Needs.{needs}
 use Rattle.plan_reader.proofs.events.in_groups.Statement.{statement}
 use Rattle.plan_reader.proofs.events.in_groups.Tie as tie

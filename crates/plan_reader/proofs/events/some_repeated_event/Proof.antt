@@ -6,9 +6,9 @@ use Prim.Native.Nat.{_≤_, _-_}
 use Rattle.rules.specs.Fold.{someBelow}
 use Rattle.rules.specs.Plan.{planOf}
 use Rattle.rules.specs.Acceptance.{repeatsEvent}
-use Rattle.plan_reader.specs.Chain.{cell, Heads}
+use Rattle.plan.specs.Chain.{Heads, cell}
 use Rattle.plan.proofs.Searches.{none-more, none-all}
-use Rattle.plan_reader.proofs.ChainLaws.{head-from, head-most, heads-none, heads-more}
+use Rattle.plan.proofs.ChainLaws.{head-from, head-most, heads-none, heads-more}
 use borrow.Author.Needs.{needs}
 use Rattle.plan_reader.proofs.events.some_repeated_event.Statement.{statement}
 use Rattle.plan_reader.proofs.events.some_repeated_event.Tie as tie
