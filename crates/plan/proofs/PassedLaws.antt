@@ -49,11 +49,3 @@ module _ (bs : List ℕ) (c : Counts) (holds : Holds bs c) where
         g
         ∙ ap (λ v. getD v t 0) (e ∙ ap (firstMarks (planOf bs c)) (sym (state-count bs c)))
         ∙ getD-tabulate slots t (firstAmong (planOf bs c) (stateCount (planOf bs c))) 0 (omega arith)
-
-  -- where 10 passed, each host is a state of a lower track
-  module _ (passed : someBelow (c .tracks) (badHost (planOf bs c)) ≡ false) where
-    pub hosting-read : (ms : List Bool) (s : ℕ) (b : Bool) → s < c .states → ms ≡ tabulate stateSlots (isHosting (planOf bs c)) → b ≡ getD ms s false
-        → b ≡ isHosting (planOf bs c) s
-    hosting-read ms s b l e g =
-        let n = holds .states in
-        g ∙ ap (λ v. getD v s false) e ∙ getD-tabulate stateSlots s (isHosting (planOf bs c)) false (omega arith)

@@ -1,6 +1,6 @@
 -- Transitions with one source and one event have one key, so a walk along the chain of x meets every earlier transition with the source and the
 -- event of x, if there is one. Assumes nothing.
-use mathlib.Core.Path.{_≡_, refl, ap, _∙_}
+use mathlib.Core.Path.{_≡_, refl, sym, ap, _∙_}
 use mathlib.Core.Bool.{Bool, true, false, _&&_}
 use mathlib.Core.Logic.{⊎-elim}
 use mathlib.Core.List.{List}
@@ -13,10 +13,11 @@ use borrow.Author.Tests.{eqb-true, eqb-false, ltb-true, ltb-false, eq-eqb, ne-eq
 use Rattle.rules.specs.Fold.{someBelow}
 use Rattle.rules.specs.Plan.{Plan, transition}
 use Rattle.rules.specs.Acceptance.{repeatsEvent}
-use Rattle.rules.proofs.Tests.{look}
+use Rattle.rules.proofs.Tests.{look, and-not}
 use Rattle.rules.proofs.Folds.{some-none}
 use Rattle.plan.specs.Chain.{lastBelow, has, Chained, ChainOf, cell}
 use Rattle.plan.proofs.ChainLaws.{last-most, last-passes, last-skips}
+use Rattle.plan_reader.specs.Keys.{Step}
 
 module _ (p : Plan) where
   -- an earlier transition has the source and the event of x
@@ -42,6 +43,22 @@ module _ (p : Plan) where
       go : (b : Bool) → (b && false) ≡ false
       go true = refl
       go false = refl
+
+  -- told by source and event as one number
+  pub same-step : (x y a b : ℕ) → Step p x a → Step p y b → b ≡ a → shares x y ≡ true
+  same-step x y a b s r e =
+      let h = s .number in let k = r .number in let m = s .source in let n = r .source in shared x y (omega arith) (omega arith)
+
+  pub other-step : (x y a b : ℕ) → Step p x a → Step p y b → (b ≡ a → ⊥) → shares x y ≡ false
+  unfolding shares
+  other-step x y a b s r e =
+      and-not _ _
+      (λ h k.
+      let i : transition p y .source ≡ transition p x .source = eqb-true _ _ h in
+      let j : transition p y .event ≡ transition p x .event = eqb-true _ _ k in
+      let m = s .number in
+      let n = r .number in
+      e (omega arith))
 
   pub cell-at : (x s e : ℕ) → s ≡ transition p x .source → e ≡ transition p x .event → (2 * s + e) % 256 ≡ cell p x
   unfolding cell
@@ -85,12 +102,12 @@ module _ (p : Plan) where
   walk-end x y e w = repeats-some x ∙ some-none x (shares x) (λ k lt. w .behind k (omega arith) lt)
 
   -- the next of the chain
-  pub record Step (x y n : ℕ) : Type 0 where
+  pub record Onward (x y n : ℕ) : Type 0 where
     pub walk : Walk x n
     pub lower : n < y
 
   pub walk-on : (x y n : ℕ) (next : List ℕ) → (y ≡ 0 → ⊥) → Walk x y → (transition p (y - 1) .event ≡ transition p x .event → ⊥)
-      → Chained (cell p) x next → n ≡ getD next (y - 1) 0 → Step x y n
+      → Chained (cell p) x next → n ≡ getD next (y - 1) 0 → Onward x y n
   unfolding Chained
   walk-on x zero n next z w h c e = absurd (z refl)
   walk-on x (suc y) n next z w h c e =

@@ -35,13 +35,13 @@ module _ (bs : List ℕ) (c : Counts) where
   in-order = rw (track-count bs c, state-count bs c, transition-count bs c)
 
   -- what is left of it where the tracks pass
-  pub then-transitions : TracksPass bs c
+  pub then-transitions : (scopes beside : List ℕ) → TracksPass bs c scopes beside
       → judgePlan (planOf bs c)
       ≡ cond (someBelow (c .transitions) (badTransition (planOf bs c))) 13
       (cond (someBelow (c .transitions) (badDeviation (planOf bs c))) 14
       (cond (someBelow (c .transitions) (repeatsEvent (planOf bs c))) 15
       (cond (someBelow (c .tracks) (tooHigh (planOf bs c))) 16 0)))
-  then-transitions a = in-order ∙ rw (a .some-track, a .states, a .hosts, a .firsts, a .hostings)
+  then-transitions scopes beside a = in-order ∙ rw (a .some-track, a .states, a .hosts, a .firsts, a .hostings)
 
   pub plan-refused : (n : ℕ) → scan bs ≡ counted c → judgePlan (planOf bs c) ≡ n → (n ≡ 0 → ⊥) → readPlan bs ≡ turnedBack n
   unfolding readPlan judged

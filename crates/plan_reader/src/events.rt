@@ -1,5 +1,6 @@
-// Refusal 15: two transitions share source and event. Transitions are chained by a cell that source and event give, and each is compared with
-// the earlier ones of its cell. Where that takes too many comparisons, or two compare equal, the plan is judged by marks, in groups of a source and 4096 events.
+// Refusal 15: two transitions share source and event. A few are compared each with each. More are chained by a cell that source and event give,
+// and each is compared with the earlier ones of its cell. Where that takes too many comparisons, or two compare equal, the plan is judged by
+// marks, in groups of a source and 4096 events.
 // In a chain a transition is told by one more than its number, and 0 is the end.
 use plan::fields::event_of;
 use plan::fields::source_of;
@@ -12,7 +13,10 @@ ghost use Rattle.rules.specs.Plan.{planOf, transition};
 ghost use Rattle.rules.specs.Acceptance.{badTransition, repeatsEvent};
 ghost use Rattle.plan.specs.Holds.{Holds};
 ghost use Rattle.plan.specs.Chain.{ChainOf, Heads, cell};
-ghost use Rattle.plan_reader.specs.Keys.{group};
+ghost use Rattle.plan_reader.specs.Keys.{group, Step};
+
+// So few transitions are compared each with each.
+const FEW: usize = 12;
 
 // So many comparisons are quicker than marks.
 const MOST_COMPARISONS: usize = 512;
@@ -21,6 +25,46 @@ const MOST_COMPARISONS: usize = 512;
 struct Groups {
     head: [u16; 2048],
     next: [u16; 256],
+}
+
+// A transition's source and event as one number.
+fn step_of(plan: &[u8], c: Counts, x: usize) -> usize
+    requires { ⌜ Holds (now plan) c × (x < c .transitions) ⌝ }
+    ensures { λ r. ⌜ Step (planOf (now (plan .entry)) c) x r ⌝ }
+{
+    source_of(plan, c, x) as usize + 65536 * (event_of(plan, c, x) as usize)
+}
+
+// Whether an earlier transition has the source and the event of `x`.
+fn repeats_event(plan: &[u8], c: Counts, x: usize) -> bool
+    requires { ⌜ Holds (now plan) c × (x < c .transitions) ⌝ }
+    ensures { λ r. ⌜ r ≡ repeatsEvent (planOf (now (plan .entry)) c) x ⌝ }
+{
+    let step = step_of(plan, c, x);
+    let mut y: usize = 0;
+    while y < x {
+        if step_of(plan, c, y) == step {
+            return true;
+        }
+        y += 1;
+    }
+    false
+}
+
+// Each with each.
+fn some_repeats_event(plan: &[u8], c: Counts) -> bool
+    requires { ⌜ Holds (now plan) c ⌝ }
+    ensures { λ r. ⌜ r ≡ someBelow (c .transitions) (repeatsEvent (planOf (now (plan .entry)) c)) ⌝ }
+{
+    let transitions = c.transitions;
+    let mut x: usize = 0;
+    while x < transitions {
+        if repeats_event(plan, c, x) {
+            return true;
+        }
+        x += 1;
+    }
+    false
 }
 
 fn cell_of(plan: &[u8], c: Counts, x: usize) -> usize
@@ -118,8 +162,8 @@ fn some_marked_event(plan: &[u8], c: Counts) -> bool
     false
 }
 
-// Every source is a state, as 13 has it.
-pub fn some_repeated_event(plan: &[u8], c: Counts) -> bool
+// By cells. Every source is a state, as 13 has it.
+fn some_chained_event(plan: &[u8], c: Counts) -> bool
     requires { ⌜ Holds (now plan) c × (someBelow (c .transitions) (badTransition (planOf (now plan) c)) ≡ false) ⌝ }
     ensures { λ r. ⌜ r ≡ someBelow (c .transitions) (repeatsEvent (planOf (now (plan .entry)) c)) ⌝ }
 {
@@ -140,4 +184,15 @@ pub fn some_repeated_event(plan: &[u8], c: Counts) -> bool
         x += 1;
     }
     false
+}
+
+// Every source is a state, as 13 has it.
+pub fn some_repeated_event(plan: &[u8], c: Counts) -> bool
+    requires { ⌜ Holds (now plan) c × (someBelow (c .transitions) (badTransition (planOf (now plan) c)) ≡ false) ⌝ }
+    ensures { λ r. ⌜ r ≡ someBelow (c .transitions) (repeatsEvent (planOf (now (plan .entry)) c)) ⌝ }
+{
+    if c.transitions <= FEW {
+        return some_repeats_event(plan, c);
+    }
+    some_chained_event(plan, c)
 }

@@ -1,16 +1,15 @@
 // Refusal 16: a track's height and a state's reach, each by the other, as far as a remaining height allows.
 use plan::fields::is_root;
 use plan::passes::chain_states;
-use plan::passes::chain_tracks;
 use rules::Counts;
 ghost use mathlib.Core.Path.{_≡_};
 ghost use mathlib.Core.Bool.{false, _&&_};
 ghost use Prim.Native.Nat.{_<_, max};
 ghost use Rattle.rules.specs.Fold.{someBelow};
-ghost use Rattle.rules.specs.Plan.{planOf, isRoot, heightTo, reachBy};
+ghost use Rattle.rules.specs.Plan.{planOf, isIn, isRoot, heightTo, reachBy};
 ghost use Rattle.rules.specs.Acceptance.{badHost, tooHigh};
 ghost use Rattle.plan.specs.Holds.{Holds};
-ghost use Rattle.plan.specs.Passes.{Forest};
+ghost use Rattle.plan.specs.Passes.{Chains, Forest};
 
 const MOST_HEIGHT: usize = 8;
 
@@ -94,21 +93,20 @@ fn high_root(
     MOST_HEIGHT < height(plan, c, scopes, beside, hosts, earlier, t, MOST_HEIGHT + 1)
 }
 
-// 16: the height of a track exceeds 8. No hosted track is as high as its host's, so the roots decide.
-pub fn some_too_high(plan: &[u8], c: Counts) -> bool
-    requires { ⌜ Holds (now plan) c × (someBelow (c .tracks) (badHost (planOf (now plan) c)) ≡ false) ⌝ }
+// 16: the height of a track exceeds 8. No hosted track is as high as its host's, so the roots decide. `scopes` and `beside` chain the tracks of
+// each scope.
+pub fn some_too_high(plan: &[u8], c: Counts, scopes: &[u8; 128], beside: &[u8; 32]) -> bool
+    requires { ⌜ Holds (now plan) c × (someBelow (c .tracks) (badHost (planOf (now plan) c)) ≡ false)
+        × Chains (isIn (planOf (now plan) c)) 128 (c .tracks) (now scopes) (now beside) ⌝ }
     ensures { λ r. ⌜ r ≡ someBelow (c .tracks) (tooHigh (planOf (now (plan .entry)) c)) ⌝ }
 {
-    let tracks = chain_tracks(plan, c);
-    let scopes = tracks.last;
-    let beside = tracks.before;
-    let states = chain_states(plan, c, &scopes);
-    let hosts = states.last;
-    let earlier = states.before;
+    let mut hosts: [u8; 32] = [0; 32];
+    let mut earlier: [u8; 128] = [0; 128];
+    chain_states(plan, c, scopes, &mut hosts, &mut earlier);
     let count = c.tracks;
     let mut t: usize = 0;
     while t < count {
-        if high_root(plan, c, &scopes, &beside, &hosts, &earlier, t) {
+        if high_root(plan, c, scopes, beside, &hosts, &earlier, t) {
             return true;
         }
         t += 1;

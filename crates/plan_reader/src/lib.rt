@@ -16,6 +16,7 @@ use crate::refusals::some_bad_host;
 use crate::refusals::some_bad_hosting;
 use crate::refusals::some_bad_state;
 use crate::refusals::some_bad_transition;
+use plan::passes::chain_tracks;
 use rules::Counts;
 use rules::PlanAnswer;
 ghost use mathlib.Core.Path.{_≡_};
@@ -25,9 +26,10 @@ ghost use Rattle.rules.specs.Answers.{planTold};
 ghost use Rattle.plan.specs.Holds.{Holds};
 ghost use Rattle.plan_reader.specs.TracksPass.{TracksPass};
 
-// The lowest refusal 13 to 16 that applies anywhere in a plan in which none of 8 to 12 does; 0 where none does.
-fn judge_transitions(plan: &[u8], c: Counts) -> u8
-    requires { ⌜ TracksPass (now plan) c ⌝ }
+// The lowest refusal 13 to 16 that applies anywhere in a plan in which none of 8 to 12 does, 0 where none does. `scopes` and `beside` chain the
+// tracks of each scope.
+fn judge_transitions(plan: &[u8], c: Counts, scopes: &[u8; 128], beside: &[u8; 32]) -> u8
+    requires { ⌜ TracksPass (now plan) c (now scopes) (now beside) ⌝ }
     ensures { λ r. ⌜ r ≡ judgePlan (planOf (now (plan .entry)) c) ⌝ }
 {
     if some_bad_transition(plan, c) {
@@ -39,7 +41,7 @@ fn judge_transitions(plan: &[u8], c: Counts) -> u8
     if some_repeated_event(plan, c) {
         return 15;
     }
-    if some_too_high(plan, c) {
+    if some_too_high(plan, c, scopes, beside) {
         return 16;
     }
     0
@@ -62,10 +64,13 @@ fn judge_plan(plan: &[u8], c: Counts) -> u8
     if some_bad_first(plan, c) {
         return 11;
     }
-    if some_bad_hosting(plan, c) {
+    let mut scopes: [u8; 128] = [0; 128];
+    let mut beside: [u8; 32] = [0; 32];
+    chain_tracks(plan, c, &mut scopes, &mut beside);
+    if some_bad_hosting(plan, c, &scopes) {
         return 12;
     }
-    judge_transitions(plan, c)
+    judge_transitions(plan, c, &scopes, &beside)
 }
 
 // Reads a plan: its counts, or the first refusal 2 to 16.

@@ -13,15 +13,15 @@ use plan::fields::replacement_of;
 use plan::fields::source_of;
 use plan::fields::track_of;
 use plan::passes::first_states;
-use plan::passes::hosting_states;
 use rules::Counts;
 ghost use mathlib.Core.Path.{_≡_};
 ghost use mathlib.Core.Bool.{false};
 ghost use Prim.Native.Nat.{_+_, _<_};
 ghost use Rattle.rules.specs.Fold.{someBelow};
-ghost use Rattle.rules.specs.Plan.{planOf, firstState, isHosting, transition, mover};
+ghost use Rattle.rules.specs.Plan.{planOf, firstState, isIn, isHosting, transition, mover};
 ghost use Rattle.rules.specs.Acceptance.{noTrack, badState, badHost, badFirst, badHosting, badTransition, badDeviation};
 ghost use Rattle.plan.specs.Holds.{Holds};
+ghost use Rattle.plan.specs.Passes.{Ends};
 
 // 8: there is no track.
 pub fn no_track(plan: &[u8], c: Counts) -> bool
@@ -128,16 +128,15 @@ pub fn bad_hosting(plan: &[u8], c: Counts, s: usize, hosting: bool) -> bool
     replacement_of(plan, c, s) != 0
 }
 
-// Every host is a state, as 10 has it.
-pub fn some_bad_hosting(plan: &[u8], c: Counts) -> bool
-    requires { ⌜ Holds (now plan) c × (someBelow (c .tracks) (badHost (planOf (now plan) c)) ≡ false) ⌝ }
+// `scopes` has the last track that each state hosts, 0 where it hosts none.
+pub fn some_bad_hosting(plan: &[u8], c: Counts, scopes: &[u8; 128]) -> bool
+    requires { ⌜ Holds (now plan) c × Ends (isIn (planOf (now plan) c)) 128 (c .tracks) (now scopes) ⌝ }
     ensures { λ r. ⌜ r ≡ someBelow (c .states) (badHosting (planOf (now (plan .entry)) c)) ⌝ }
 {
-    let marks = hosting_states(plan, c);
     let states = c.states;
     let mut s: usize = 0;
     while s < states {
-        let hosting = marks[s];
+        let hosting = scopes[s] != 0;
         if bad_hosting(plan, c, s, hosting) {
             return true;
         }
@@ -186,7 +185,8 @@ pub fn some_bad_transition(plan: &[u8], c: Counts) -> bool
 // 14: a deviation other than 65535 is no state of that track, is final, stands in a hosted track, or comes with code 0.
 // The transition's source is a state of some track, as 9 and 13 have it.
 pub fn bad_deviation(plan: &[u8], c: Counts, x: usize) -> bool
-    requires { ⌜ Holds (now plan) c × (x < c .transitions) × (transition (planOf (now plan) c) x .source < c .states) × (mover (planOf (now plan) c) x < c .tracks) ⌝ }
+    requires { ⌜ Holds (now plan) c × (x < c .transitions) × (transition (planOf (now plan) c) x .source < c .states)
+        × (mover (planOf (now plan) c) x < c .tracks) ⌝ }
     ensures { λ r. ⌜ r ≡ badDeviation (planOf (now (plan .entry)) c) x ⌝ }
 {
     let deviation = deviation_of(plan, c, x);
@@ -209,7 +209,8 @@ pub fn bad_deviation(plan: &[u8], c: Counts, x: usize) -> bool
 }
 
 pub fn some_bad_deviation(plan: &[u8], c: Counts) -> bool
-    requires { ⌜ Holds (now plan) c × (someBelow (c .states) (badState (planOf (now plan) c)) ≡ false) × (someBelow (c .transitions) (badTransition (planOf (now plan) c)) ≡ false) ⌝ }
+    requires { ⌜ Holds (now plan) c × (someBelow (c .states) (badState (planOf (now plan) c)) ≡ false)
+        × (someBelow (c .transitions) (badTransition (planOf (now plan) c)) ≡ false) ⌝ }
     ensures { λ r. ⌜ r ≡ someBelow (c .transitions) (badDeviation (planOf (now (plan .entry)) c)) ⌝ }
 {
     let transitions = c.transitions;

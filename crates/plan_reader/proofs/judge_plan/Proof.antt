@@ -46,16 +46,19 @@ returns-4 c =
       sym (c .before .some-bad-first .ensures) ∙ c .if4 .taken,
     ))
 
+chain-tracks-requires : tie.Need-chain-tracks-requires
+chain-tracks-requires c κs = (search needs, sym (c .before .before .before .before .before .some-bad-host .ensures) ∙ c .before .before .before .before .if3 .left, search needs, search needs)
+
 some-bad-hosting-requires : tie.Need-some-bad-hosting-requires
-some-bad-hosting-requires c κs = (search needs, sym (c .before .before .before .some-bad-host .ensures) ∙ c .before .before .if3 .left)
+some-bad-hosting-requires c κs = (search needs, c .before .chain-tracks .ensures .ends)
 
 returns-5 : tie.Need-returns-5
 returns-5 c =
     sym (in-order _ _ ∙ rw (
-      sym (c .before .before .before .before .before .before .before .before .before .no-track .ensures) ∙ c .before .before .before .before .before .before .before .before .if1 .left,
-      sym (c .before .before .before .before .before .before .before .some-bad-state .ensures) ∙ c .before .before .before .before .before .before .if2 .left,
-      sym (c .before .before .before .before .before .some-bad-host .ensures) ∙ c .before .before .before .before .if3 .left,
-      sym (c .before .before .before .some-bad-first .ensures) ∙ c .before .before .if4 .left,
+      sym (c .before .before .before .before .before .before .before .before .before .before .before .before .before .no-track .ensures) ∙ c .before .before .before .before .before .before .before .before .before .before .before .before .if1 .left,
+      sym (c .before .before .before .before .before .before .before .before .before .before .before .some-bad-state .ensures) ∙ c .before .before .before .before .before .before .before .before .before .before .if2 .left,
+      sym (c .before .before .before .before .before .before .before .before .before .some-bad-host .ensures) ∙ c .before .before .before .before .before .before .before .before .if3 .left,
+      sym (c .before .before .before .before .before .before .before .some-bad-first .ensures) ∙ c .before .before .before .before .before .before .if4 .left,
       sym (c .before .some-bad-hosting .ensures) ∙ c .if5 .taken,
     ))
 
@@ -63,15 +66,16 @@ judge-transitions-requires : tie.Need-judge-transitions-requires
 judge-transitions-requires c κs =
     record {
       holds = search needs;
-      some-track = sym (c .before .before .before .before .before .before .before .before .before .no-track .ensures) ∙ c .before .before .before .before .before .before .before .before .if1 .left;
-      states = sym (c .before .before .before .before .before .before .before .some-bad-state .ensures) ∙ c .before .before .before .before .before .before .if2 .left;
-      hosts = sym (c .before .before .before .before .before .some-bad-host .ensures) ∙ c .before .before .before .before .if3 .left;
-      firsts = sym (c .before .before .before .some-bad-first .ensures) ∙ c .before .before .if4 .left;
-      hostings = sym (c .before .some-bad-hosting .ensures) ∙ c .if5 .left;
+      some-track = sym (c .before .before .before .before .before .before .before .before .before .before .before .before .before .before .before .no-track .ensures) ∙ c .before .before .before .before .before .before .before .before .before .before .before .before .before .before .if1 .left;
+      states = sym (c .before .before .before .before .before .before .before .before .before .before .before .before .before .some-bad-state .ensures) ∙ c .before .before .before .before .before .before .before .before .before .before .before .before .if2 .left;
+      hosts = sym (c .before .before .before .before .before .before .before .before .before .before .before .some-bad-host .ensures) ∙ c .before .before .before .before .before .before .before .before .before .before .if3 .left;
+      firsts = sym (c .before .before .before .before .before .before .before .before .before .some-bad-first .ensures) ∙ c .before .before .before .before .before .before .before .before .if4 .left;
+      hostings = sym (c .before .before .before .some-bad-hosting .ensures) ∙ c .before .before .if5 .left;
+      chains = c .before .before .before .before .before .chain-tracks .ensures;
     }
 
 returns-6 : tie.Need-returns-6
 returns-6 c = search needs
 
 pub judge-plan-spec : {M : Type 1} → statement M
-judge-plan-spec = tie.close (tie.spec no-track-requires returns some-bad-state-requires returns-2 some-bad-host-requires returns-3 some-bad-first-requires returns-4 some-bad-hosting-requires returns-5 judge-transitions-requires returns-6)
+judge-plan-spec = tie.close (tie.spec no-track-requires returns some-bad-state-requires returns-2 some-bad-host-requires returns-3 some-bad-first-requires returns-4 chain-tracks-requires some-bad-hosting-requires returns-5 judge-transitions-requires returns-6)

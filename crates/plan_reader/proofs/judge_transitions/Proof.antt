@@ -11,14 +11,14 @@ some-bad-transition-requires c κs = search needs
 
 returns : tie.Need-returns
 returns c =
-    sym (then-transitions _ _ (c .before .before .before .pre) ∙ rw (sym (c .before .some-bad-transition .ensures) ∙ c .if1 .taken))
+    sym (then-transitions _ _ _ _ (c .before .before .before .pre) ∙ rw (sym (c .before .some-bad-transition .ensures) ∙ c .if1 .taken))
 
 some-bad-deviation-requires : tie.Need-some-bad-deviation-requires
 some-bad-deviation-requires c κs = (c .before .before .before .pre .holds, c .before .before .before .pre .states, sym (c .before .some-bad-transition .ensures) ∙ c .if1 .left)
 
 returns-2 : tie.Need-returns-2
 returns-2 c =
-    sym (then-transitions _ _ (c .before .before .before .before .before .pre) ∙ rw (
+    sym (then-transitions _ _ _ _ (c .before .before .before .before .before .pre) ∙ rw (
       sym (c .before .before .before .some-bad-transition .ensures) ∙ c .before .before .if1 .left,
       sym (c .before .some-bad-deviation .ensures) ∙ c .if2 .taken,
     ))
@@ -28,7 +28,7 @@ some-repeated-event-requires c κs = (c .before .before .before .before .before 
 
 returns-3 : tie.Need-returns-3
 returns-3 c =
-    sym (then-transitions _ _ (c .before .before .before .before .before .before .before .pre) ∙ rw (
+    sym (then-transitions _ _ _ _ (c .before .before .before .before .before .before .before .pre) ∙ rw (
       sym (c .before .before .before .before .before .some-bad-transition .ensures) ∙ c .before .before .before .before .if1 .left,
       sym (c .before .before .before .some-bad-deviation .ensures) ∙ c .before .before .if2 .left,
       sym (c .before .some-repeated-event .ensures) ∙ c .if3 .taken,
@@ -39,7 +39,7 @@ some-too-high-requires c κs = search needs
 
 returns-4 : tie.Need-returns-4
 returns-4 c =
-    sym (then-transitions _ _ (c .before .before .before .before .before .before .before .before .before .pre) ∙ rw (
+    sym (then-transitions _ _ _ _ (c .before .before .before .before .before .before .before .before .before .pre) ∙ rw (
       sym (c .before .before .before .before .before .before .before .some-bad-transition .ensures) ∙ c .before .before .before .before .before .before .if1 .left,
       sym (c .before .before .before .before .before .some-bad-deviation .ensures) ∙ c .before .before .before .before .if2 .left,
       sym (c .before .before .before .some-repeated-event .ensures) ∙ c .before .before .if3 .left,
@@ -48,7 +48,7 @@ returns-4 c =
 
 returns-5 : tie.Need-returns-5
 returns-5 c =
-    sym (then-transitions _ _ (c .before .before .before .before .before .before .before .before .before .pre) ∙ rw (
+    sym (then-transitions _ _ _ _ (c .before .before .before .before .before .before .before .before .before .pre) ∙ rw (
       sym (c .before .before .before .before .before .before .before .some-bad-transition .ensures) ∙ c .before .before .before .before .before .before .if1 .left,
       sym (c .before .before .before .before .before .some-bad-deviation .ensures) ∙ c .before .before .before .before .if2 .left,
       sym (c .before .before .before .some-repeated-event .ensures) ∙ c .before .before .if3 .left,

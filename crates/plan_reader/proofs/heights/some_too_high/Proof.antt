@@ -18,35 +18,27 @@ Inv-loop plan c scopes beside hosts earlier count t₀ t = (t ≤ c .tracks) × 
 abbrev μ-loop : tie.MeasureT-loop
 μ-loop plan c scopes beside hosts earlier count t₀ t = c .tracks - t
 
-chain-tracks-requires : tie.Need-chain-tracks-requires Inv-loop μ-loop
-chain-tracks-requires c κs = search needs
-
-chain-states-requires : tie.Need-chain-states-requires Inv-loop μ-loop
-chain-states-requires c κs = search needs
-
 loop-holds : tie.Need-loop-holds Inv-loop μ-loop
 unfolding someBelow
 loop-holds c = (search needs, refl)
 
 high-root-requires : tie.Need-high-root-requires Inv-loop μ-loop
-high-root-requires c κs = (record { holds = search needs; hosted = search needs; tracks = c .before .before .before .before .before .before .before .before .before .before .before .before .chain-tracks .ensures; states = c .before .before .before .before .before .before .before .before .chain-states .ensures }, search needs)
+high-root-requires c κs = (record { holds = search needs; hosted = search needs; tracks = search needs; states = search needs }, search needs)
 
 returns : tie.Need-returns Inv-loop μ-loop
 unfolding isHighRoot
-returns c = sym (sym (roots-enough _ _ (c .before .before .before .before .before .before .before .before .before .before .before .before .before .before .before .before .pre .0) (c .before .before .before .before .before .before .before .before .before .before .before .before .before .before .before .before .pre .1)) ∙ some-at _ _ (c .before .before .before .before .before .before .before .loop .t) (search needs) (sym (c .before .high-root .ensures) ∙ c .if1 .taken))
-
-add-t : tie.Need-add-t Inv-loop μ-loop
-add-t c = search needs
-
-loop-less : tie.Need-loop-less Inv-loop μ-loop
-loop-less c = search needs
+returns c =
+    let pre = c .before .before .before .before .before .before .before .before .before .before .pre in
+    sym (sym (roots-enough _ _ (pre .0) (pre .1)) ∙ some-at _ _ (c .before .before .before .before .before .loop .t) (search needs) (sym (c .before .high-root .ensures) ∙ c .if1 .taken))
 
 loop-again : tie.Need-loop-again Inv-loop μ-loop
 unfolding isHighRoot
-loop-again c = (search needs, none-more _ _ (c .before .before .before .before .before .before .before .loop .inv .1) (sym (c .before .high-root .ensures) ∙ c .if1 .left))
+loop-again c = (search needs, none-more _ _ (c .before .before .before .before .before .loop .inv .1) (sym (c .before .high-root .ensures) ∙ c .if1 .left))
 
 returns-2 : tie.Need-returns-2 Inv-loop μ-loop
-returns-2 c = sym (sym (roots-enough _ _ (c .before .before .before .before .before .before .before .before .before .before .pre .0) (c .before .before .before .before .before .before .before .before .before .before .pre .1)) ∙ none-all _ _ _ (search needs) (search needs) (c .before .loop .inv .1))
+returns-2 c =
+    let pre = c .before .before .before .before .before .before .pre in
+    sym (sym (roots-enough _ _ (pre .0) (pre .1)) ∙ none-all _ _ _ (search needs) (search needs) (c .before .loop .inv .1))
 
 pub some-too-high-spec : {M : Type 1} → statement M
 some-too-high-spec =
@@ -54,12 +46,11 @@ some-too-high-spec =
     (tie.spec
     Inv-loop
     μ-loop
-    chain-tracks-requires
-    chain-states-requires
+    (λ c κs. search needs)
     loop-holds
     high-root-requires
     returns
-    add-t
-    loop-less
+    (λ c. search needs)
+    (λ c. search needs)
     loop-again
     returns-2)

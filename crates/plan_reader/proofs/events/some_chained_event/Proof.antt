@@ -10,8 +10,8 @@ use Rattle.plan.specs.Chain.{Heads, cell}
 use Rattle.plan.proofs.Searches.{none-more, none-all}
 use Rattle.plan.proofs.ChainLaws.{head-from, head-most, heads-none, heads-more}
 use borrow.Author.Needs.{needs}
-use Rattle.plan_reader.proofs.events.some_repeated_event.Statement.{statement}
-use Rattle.plan_reader.proofs.events.some_repeated_event.Tie as tie
+use Rattle.plan_reader.proofs.events.some_chained_event.Statement.{statement}
+use Rattle.plan_reader.proofs.events.some_chained_event.Tie as tie
 
 abbrev Inv-loop : tie.InvT-loop
 Inv-loop plan c transitions head₀ next₀ left₀ x₀ head next left x = (x ≤ transitions) × (someBelow x (repeatsEvent (planOf plan c)) ≡ false) × Heads (cell (planOf plan c)) 256 x head next
@@ -74,8 +74,8 @@ loop-again c = (search needs, none-more _ _ (c .before .before .before .before .
 returns-2 : tie.Need-returns-2 Inv-loop μ-loop
 returns-2 c = sym (none-all _ _ _ (search needs) (search needs) (c .before .loop .inv .1))
 
-pub some-repeated-event-spec : {M : Type 1} → statement M
-some-repeated-event-spec =
+pub some-chained-event-spec : {M : Type 1} → statement M
+some-chained-event-spec =
     tie.close
     (tie.spec
     Inv-loop
