@@ -52,7 +52,7 @@ module _ (limit : ℕ) (ws : List ℕ) (at : ℕ) where
       let k : getD ws (at + 2) 0 ≡ 0 = eqb-true _ 0 (zero 2 (omega arith)) in
       let u = every-of (2 * limit) (λ j. ltb j (2 * getD ws (at + 2) 0) || eqb (getD ws (at + 3 + j) 0) 0) (λ j b. or-right (ltb j (2 * getD ws (at + 2) 0)) (eqb (getD ws (at + 3 + j) 0) 0) (rw add-assoc (zero (3 + j) (omega arith)))) in
       rw (le-leb (getD ws at 0) 2 (omega arith), le-leb (getD ws (at + 2) 0) limit (omega arith), u, h, eq-eqb (getD ws at 0) 0 z))
-      (λ h. implies (eqb (getD ws at 0) 0) _ (and-true (goodMode limit ws at && goodCount limit ws at && unusedZero limit ws at) (asleepZero limit ws at) h .1) (eq-eqb (getD ws at 0) 0 z))
+      (λ h. implies (eqb (getD ws at 0) 0) _ (and-true (goodMode ws at && goodCount limit ws at && unusedZero limit ws at) (asleepZero limit ws at) h .1) (eq-eqb (getD ws at 0) 0 z))
 
   pub bad-mode : 2 < getD ws at 0 → false ≡ isTidy limit ws at
   unfolding isTidy goodMode

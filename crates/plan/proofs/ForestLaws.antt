@@ -22,7 +22,7 @@ use Rattle.plan.specs.Holds.{Holds}
 use Rattle.plan.proofs.FieldLaws.{track-count, state-count}
 use Rattle.plan.proofs.Hosting.{in-root, in-hosted, within}
 use Rattle.plan.proofs.Members.{ofMember, Walk, walk-end, chains-none, chains-add, chains-pass}
-use Rattle.plan.proofs.PassTurns.{host-low}
+use Rattle.plan.proofs.PassedLaws.{host-low}
 
 -- chains in arrays of so many owners and members
 pub record Chained (isOf : ℕ → ℕ → Bool) (owners n m : ℕ) (last before : List ℕ) : Type 0 where

@@ -51,9 +51,9 @@ held-asked c ws t k f h e =
     held-below f ws (at + headWords) k ∙ ap (λ (i : ℕ). everyHeld f (heldAt ws (at + headWords) i)) i ∙ sym (ap (λ (x : Configuration). everyHeld f (x .held)) q)
 
 module _ (p : Plan) (l : Ledger) (t : ℕ) where
-  pub entry-asked : (e : Entry) {a d : ℕ} {g : Bool} → a ≡ e .code → d ≡ e .deviation → g ≡ goodDeviation p l t d → (not (eqb a 0) && g) ≡ goodEntry p l t e
+  pub entry-asked : (e : Entry) {a d : ℕ} {g : Bool} → a ≡ e .code → d ≡ e .deviation → g ≡ goodDeviation p t d → (not (eqb a 0) && g) ≡ goodEntry p l t e
   unfolding goodEntry
-  entry-asked e h k m = rw (h, m ∙ ap (goodDeviation p l t) k)
+  entry-asked e h k m = rw (h, m ∙ ap (goodDeviation p t) k)
 
   -- a host, by the word of its record
   pub root-well : {w : ℕ} → w ≡ hostWord p t → w ≡ noState → true ≡ isHostedWell p l t

@@ -62,7 +62,7 @@ module _ (p : Plan) (l : Ledger) where
       let root : ℕ → Bool = λ t. not (isRoot p t) || isAwake (l t .mode) in
       let own : ℕ → Bool = λ t. not (isAwake (l t .mode)) || isStateOf p t (l t .state) in
       let real : Entry → Bool = λ e. not (eqb (e .code) 0) in
-      let good : ℕ → Entry → Bool = λ t e. goodDeviation p l t (e .deviation) in
+      let good : ℕ → Entry → Bool = λ t e. goodDeviation p t (e .deviation) in
       let entries : ℕ → Bool = λ t. everyHeld (λ e. real e && good t e) (l t .held) in
       every-and n (λ t. root t && own t && entries t) (isHostedWell p l)
       ∙ ap (λ a. a && hostsAwake p l)

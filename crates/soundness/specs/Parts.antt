@@ -21,7 +21,7 @@ pub record Scoped (p : Plan) (f : ℕ → Bool) (n : ℕ) (ms : List Bool) : Typ
 module _ (p : Plan) (l : Ledger) where
   -- of an entry of the track t: the code is not 0, and the deviation is good
   unfoldable pub goodEntry : ℕ → Entry → Bool
-  goodEntry t e = not (eqb (e .code) 0) && goodDeviation p l t (e .deviation)
+  goodEntry t e = not (eqb (e .code) 0) && goodDeviation p t (e .deviation)
 
   -- of a track: awake if a root, its state its own if awake, its entries good, its host awake in that hosting state and in the same mode
   unfoldable pub soundTrack : ℕ → Bool

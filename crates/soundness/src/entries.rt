@@ -28,7 +28,7 @@ pub fn is_final(plan: &[u8], c: Counts, s: usize) -> bool
 // "a deviation held is 65535, or, in a root, a non-final state of that root"
 fn good_deviation(plan: &[u8], c: Counts, ledger: &[u16], t: usize, deviation: u16) -> bool
     requires { ⌜ Accepts (now plan) c × (t < c .tracks) ⌝ }
-    ensures { λ r. ⌜ r ≡ goodDeviation (planOf (now (plan .entry)) c) (ledgerOf c (now (ledger .entry))) t deviation ⌝ }
+    ensures { λ r. ⌜ r ≡ goodDeviation (planOf (now (plan .entry)) c) t deviation ⌝ }
 {
     if deviation == NO_STATE {
         return true;

@@ -1,6 +1,6 @@
 -- By the kind. Assumes nothing.
 use mathlib.Core.Path.{sym}
-use Rattle.journal.proofs.Entering.{length-16, length-17, length-18, length-19, length-none}
+use Rattle.journal.proofs.Records.{length-16, length-17, length-18, length-19, length-none}
 use Rattle.journal.proofs.record.length_of.Statement.{statement}
 use Rattle.journal.proofs.record.length_of.Tie as tie
 

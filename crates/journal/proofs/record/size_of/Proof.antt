@@ -1,6 +1,6 @@
 -- By the case. Assumes nothing.
 use borrow.Author.Needs.{needs}
-use Rattle.journal.specs.Entered.{entered, sizeOf}
+use Rattle.journal.specs.Records.{recordTold, sizeOf}
 use Rattle.journal.proofs.record.size_of.Statement.{statement}
 use Rattle.journal.proofs.record.size_of.Tie as tie
 
@@ -23,27 +23,27 @@ enum-told-6 : tie.Need-enum-told-6
 enum-told-6 c = search needs
 
 returns : tie.Need-returns
-unfolding entered sizeOf
+unfolding recordTold sizeOf
 returns c = rw (c .enum-told .given .1)
 
 returns-2 : tie.Need-returns-2
-unfolding entered sizeOf
+unfolding recordTold sizeOf
 returns-2 c = rw (c .enum-told2 .given .1)
 
 returns-3 : tie.Need-returns-3
-unfolding entered sizeOf
+unfolding recordTold sizeOf
 returns-3 c = rw (c .enum-told3 .given .1)
 
 returns-4 : tie.Need-returns-4
-unfolding entered sizeOf
+unfolding recordTold sizeOf
 returns-4 c = rw (c .enum-told4 .given .1)
 
 returns-5 : tie.Need-returns-5
-unfolding entered sizeOf
+unfolding recordTold sizeOf
 returns-5 c = rw (c .enum-told5 .given .1)
 
 returns-6 : tie.Need-returns-6
-unfolding entered sizeOf
+unfolding recordTold sizeOf
 returns-6 c = rw (c .enum-told6 .given .1)
 
 pub size-of-spec : {M : Type 1} → statement M

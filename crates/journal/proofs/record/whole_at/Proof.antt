@@ -1,7 +1,7 @@
 -- By the kind; a record with a field has six bytes. Assumes nothing.
 use native.Mathlib.Omega.{arith}
 use borrow.Author.Needs.{needs}
-use Rattle.journal.proofs.Entering.{length-16, length-18, whole-event, whole-signal, whole-fire, whole-lowest}
+use Rattle.journal.proofs.Records.{length-16, length-18, whole-event, whole-signal, whole-fire, whole-lowest}
 use Rattle.journal.proofs.record.whole_at.Statement.{statement}
 use Rattle.journal.proofs.record.whole_at.Tie as tie
 

@@ -1,5 +1,5 @@
 -- The tracks visited so far are chained by their hosts. Assumes nothing.
-use Rattle.plan.proofs.PassTurns.{host-low}
+use Rattle.plan.proofs.PassedLaws.{host-low}
 use Rattle.plan.proofs.ForestLaws.{chained-none, chained-pass, root-alone, visit-hosted, Chained}
 use Rattle.rules.proofs.Folds.{some-not}
 use Rattle.rules.specs.Plan.{noState, planOf, isIn}

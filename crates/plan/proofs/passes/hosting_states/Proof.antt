@@ -7,7 +7,7 @@ use Rattle.rules.specs.Plan.{planOf, noState}
 use Rattle.rules.proofs.Folds.{some-not}
 use Rattle.plan.proofs.FieldLaws.{track-count}
 use Rattle.plan.proofs.PassLaws.{hostingMarks, hosting-done, hosting-kept, hosting-set}
-use Rattle.plan.proofs.PassTurns.{host-low}
+use Rattle.plan.proofs.PassedLaws.{host-low}
 use borrow.Author.Needs.{needs}
 use Rattle.plan.proofs.passes.hosting_states.Statement.{statement}
 use Rattle.plan.proofs.passes.hosting_states.Tie as tie

@@ -1,6 +1,6 @@
 -- By the case. Assumes nothing.
-use Rattle.journal.specs.Entered.{entered}
-use Rattle.replay.specs.Turned.{isBrokenRecord}
+use Rattle.journal.specs.Records.{recordTold}
+use Rattle.replay.specs.CarriedOut.{isBrokenRecord}
 use borrow.Author.Needs.{needs}
 use Rattle.replay.proofs.records.is_broken.Statement.{statement}
 use Rattle.replay.proofs.records.is_broken.Tie as tie
@@ -24,27 +24,27 @@ enum-told-6 : tie.Need-enum-told-6
 enum-told-6 c = search needs
 
 returns : tie.Need-returns
-unfolding entered isBrokenRecord
+unfolding recordTold isBrokenRecord
 returns c = rw (c .enum-told .given .1)
 
 returns-2 : tie.Need-returns-2
-unfolding entered isBrokenRecord
+unfolding recordTold isBrokenRecord
 returns-2 c = rw (c .enum-told2 .given .1)
 
 returns-3 : tie.Need-returns-3
-unfolding entered isBrokenRecord
+unfolding recordTold isBrokenRecord
 returns-3 c = rw (c .enum-told3 .given .1)
 
 returns-4 : tie.Need-returns-4
-unfolding entered isBrokenRecord
+unfolding recordTold isBrokenRecord
 returns-4 c = rw (c .enum-told4 .given .1)
 
 returns-5 : tie.Need-returns-5
-unfolding entered isBrokenRecord
+unfolding recordTold isBrokenRecord
 returns-5 c = rw (c .enum-told5 .given .1)
 
 returns-6 : tie.Need-returns-6
-unfolding entered isBrokenRecord
+unfolding recordTold isBrokenRecord
 returns-6 c = rw (c .enum-told6 .given .1)
 
 pub is-broken-spec : {M : Type 1} → statement M
