@@ -98,10 +98,10 @@ module _ (p : Plan) (l : Ledger) where
         }
 
     -- k is the track as read; what was asked of it
-    pub marked-hosted : {k : Track} {wakes done bare inner : Bool} → (h ≡ noState → ⊥) → h < stateSlots → k ≡ trackOf (l t)
-        → wakes ≡ isAwake (k .mode) → done ≡ (isForward (k .mode) && isFinal p (k .state))
+    pub marked-hosted : {k : Track} {is-awake done bare inner : Bool} → (h ≡ noState → ⊥) → h < stateSlots → k ≡ trackOf (l t)
+        → is-awake ≡ isAwake (k .mode) → done ≡ (isForward (k .mode) && isFinal p (k .state))
         → bare ≡ (isUndoing (k .mode) && eqb (k .count) 0 && not inner) → inner ≡ hasOpenScope p l t
-        → Marked p l (t + 1) (set a h (getD a h false || wakes)) (set z h (getD z h false || not wakes))
+        → Marked p l (t + 1) (set a h (getD a h false || is-awake)) (set z h (getD z h false || not is-awake))
         (set u h (getD u h false || not done)) (set b h (getD b h false || not bare))
     unfolding trackOf isBare
     marked-hosted n low i f g x y =

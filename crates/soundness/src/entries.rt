@@ -42,7 +42,8 @@ fn good_deviation(plan: &[u8], c: Counts, ledger: &[u16], t: usize, deviation: u
 
 // Whether the entries that a track holds, so many of them, are good.
 pub fn good_entries(plan: &[u8], c: Counts, ledger: &[u16], t: usize, count: u16) -> bool
-    requires { ⌜ Lent (now plan) c (now ledger) × (t < c .tracks) × (areTidy entryLimit (now ledger) (c .tracks) ≡ true) × (count ≡ length (ledgerOf c (now ledger) t .held)) ⌝ }
+    requires { ⌜ Lent (now plan) c (now ledger) × (t < c .tracks) × (areTidy entryLimit (now ledger) (c .tracks) ≡ true)
+        × (count ≡ length (ledgerOf c (now ledger) t .held)) ⌝ }
     ensures { λ r. ⌜ r ≡ everyHeld (goodEntry (planOf (now (plan .entry)) c) (ledgerOf c (now (ledger .entry))) t) (ledgerOf c (now (ledger .entry)) t .held) ⌝ }
 {
     let mut all = true;

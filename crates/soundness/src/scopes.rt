@@ -24,14 +24,14 @@ pub struct ScopeMarks {
     pub busy: [bool; 128],
 }
 
-// Whether a track is bare: undoing, holding nothing and without an open scope.
-fn is_bare(k: Track, hosting: bool) -> bool
-    ensures { λ r. ⌜ r ≡ (isUndoing (k .mode) && eqb (k .count) 0 && not hosting) ⌝ }
+// Whether a track is bare: undoing, holding nothing and without an open scope, as `inner` tells.
+fn is_bare(k: Track, inner: bool) -> bool
+    ensures { λ r. ⌜ r ≡ (isUndoing (k .mode) && eqb (k .count) 0 && not inner) ⌝ }
 {
     let m = k.mode;
     let undoing = words::is_undoing(m);
     let empty = k.count == 0;
-    undoing & empty & !hosting
+    undoing & empty & !inner
 }
 
 // The marks of every scope.
@@ -52,11 +52,11 @@ fn mark_scopes(plan: &[u8], c: Counts, ledger: &[u16]) -> ScopeMarks
             let s = h as usize;
             let k = reading::track(c, ledger, t);
             let m = k.mode;
-            let wakes = words::is_awake(m);
+            let is_awake = words::is_awake(m);
             let done = tracks::is_done(plan, c, k);
             let bare = is_bare(k, opens[t]);
-            awake[s] = awake[s] | wakes;
-            asleep[s] = asleep[s] | !wakes;
+            awake[s] = awake[s] | is_awake;
+            asleep[s] = asleep[s] | !is_awake;
             unfinished[s] = unfinished[s] | !done;
             busy[s] = busy[s] | !bare;
         }
@@ -70,7 +70,7 @@ fn mark_scopes(plan: &[u8], c: Counts, ledger: &[u16]) -> ScopeMarks
     }
 }
 
-// Whether every scope is as the clauses on scopes have it. A closed one is.
+// Whether every scope is as the clauses on scopes have it. One that is not open is.
 pub fn are_sound(plan: &[u8], c: Counts, ledger: &[u16]) -> bool
     requires { ⌜ Lent (now plan) c (now ledger) ⌝ }
     ensures { λ r. ⌜ r ≡ everyBelow (c .states) (soundScope (planOf (now (plan .entry)) c) (ledgerOf c (now (ledger .entry)))) ⌝ }
