@@ -44,19 +44,19 @@ module _ (k : ℕ) where
 -- a whole record of each kind
 module _ (k field : ℕ) where
   pub whole-event : (w : ℕ) → k ≡ 16 → w ≡ field → recordTold (Event w) ≡ recordOf k field
-  unfolding recordTold recordOf
+  unfolding recordOf
   whole-event w e f = rw (e, f)
 
   pub whole-signal : k ≡ 17 → recordTold Signal ≡ recordOf k field
-  unfolding recordTold recordOf
+  unfolding recordOf
   whole-signal e = rw e
 
   pub whole-fire : (w : ℕ) → k ≡ 18 → w ≡ field → recordTold (Fire w) ≡ recordOf k field
-  unfolding recordTold recordOf
+  unfolding recordOf
   whole-fire w e f = rw (e, f)
 
   pub whole-lowest : (k ≡ 16 → ⊥) → (k ≡ 17 → ⊥) → (k ≡ 18 → ⊥) → recordTold FireLowest ≡ recordOf k field
-  unfolding recordTold recordOf
+  unfolding recordOf
   whole-lowest a b c = rw (ne-eqb k 16 a, ne-eqb k 17 b, ne-eqb k 18 c)
 
 -- one of four tests
@@ -120,7 +120,7 @@ module _ (js : List ℕ) (at : ℕ) where
 
 -- what stands whole at a place has the size that it tells, and ends within the bytes
 size-of-kind : (k field : ℕ) → (journalLength k ≡ 0 → ⊥) → sizeOf (recordOf k field) ≡ journalLength k
-unfolding sizeOf recordOf
+unfolding recordOf
 size-of-kind k field h =
     elim (look (eqb k 16)) [
       | inl a ↦ rw (a, length-16 k (eqb-true k 16 a))
@@ -159,7 +159,7 @@ module _ (js : List ℕ) (at : ℕ) where
       record { size = s ∙ sym t; within = omega arith }
 
   pub stands : (x : Entered) → enteredAt js at ≡ x → 0 < sizeOf x → Stands js at x
-  unfolding enteredAt sizeOf
+  unfolding enteredAt
   stands x e l =
       elim (look (leb (length js) at)) [
         | inl a ↦ let z : ended ≡ x = sym (at-end js at (leb-true (length js) at a)) ∙ e in absurd (nothing-left x ended z refl l)
