@@ -20,7 +20,6 @@ use Rattle.replay.specs.Left as left
 use Rattle.reference_run.specs.JournalCalls.{callLines, brokenLine, endsBroken, callsFrom}
 
 size-some : (c : Call) → 0 < sizeOf (called c)
-unfolding sizeOf
 size-some (event a) = omega arith
 size-some (signal a) = omega arith
 size-some (fire a) = omega arith
@@ -93,7 +92,7 @@ module _ (bs js : List ℕ) (p : Plan) where
       ∙ sym (text-call c (callsFrom bs js p n (at + sizeAt js at) (outcome ws c .words)) (endsBroken js n (at + sizeAt js at)) ws fired)
 
   pub same-text : (n at : ℕ) → Same n at
-  unfolding replay callsFrom endsBroken brokenLine sizeOf
+  unfolding replay callsFrom endsBroken brokenLine
   same-text zero at ws fired h k = absurd (omega arith)
   same-text (suc n) at ws fired h k = go (enteredAt js at) refl (same-text n (at + sizeAt js at))
     where

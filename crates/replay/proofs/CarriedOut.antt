@@ -58,11 +58,9 @@ carried-out bs c d ws out from ws′ out′ place told fired next m l f e =
 
 -- where the reading ends no record is left to do
 pub ended-none : (x : Record) → x ≡ Ended → 0 < sizeOf (recordTold x) → ⊥
-unfolding recordTold sizeOf
 ended-none x e l = let z : sizeOf (recordTold x) ≡ 0 = rw e in omega arith
 
 pub broken-none : (x : Record) → x ≡ Broken → 0 < sizeOf (recordTold x) → ⊥
-unfolding recordTold sizeOf
 broken-none x e l = let z : sizeOf (recordTold x) ≡ 0 = rw e in omega arith
 
 -- the last lines

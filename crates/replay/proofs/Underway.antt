@@ -36,7 +36,6 @@ ledgers bs js c ws = ap (ledgerAt entryLimit ws) (sym (track-count bs c))
 
 -- a record has four bytes or more, and does one firing at most
 size-least : (x : Entered) → 0 < sizeOf x → 4 ≤ sizeOf x
-unfolding sizeOf
 size-least ended l = absurd (omega arith)
 size-least broken l = absurd (omega arith)
 size-least fireLowest l = omega arith
@@ -54,7 +53,7 @@ firings-most (fire a) (done figures) = omega arith
 -- a visit, where the reading ends and where a call stands
 module _ (bs js : List ℕ) (p : Plan) (n at : ℕ) (ws : List ℕ) where
   words-stopped : (x : Entered) → enteredAt js at ≡ x → sizeOf x ≡ 0 → wordsFrom bs js p (suc n) at ws ≡ ws
-  unfolding wordsFrom sizeOf
+  unfolding wordsFrom
   words-stopped ended e z = rw (e, wordsFrom)
   words-stopped broken e z = rw (e, wordsFrom)
   words-stopped fireLowest e z = absurd (omega arith)
@@ -64,7 +63,7 @@ module _ (bs js : List ℕ) (p : Plan) (n at : ℕ) (ws : List ℕ) where
 
   words-call : (x : Entered) → enteredAt js at ≡ x → 0 < sizeOf x
       → wordsFrom bs js p (suc n) at ws ≡ wordsFrom bs js p n (at + sizeAt js at) (callOutcome entryLimit bs ws (callOf p (text.ledgerOf p ws) x) .words)
-  unfolding wordsFrom sizeOf callOf
+  unfolding wordsFrom
   words-call ended e l = absurd (omega arith)
   words-call broken e l = absurd (omega arith)
   words-call fireLowest e l = rw (e, wordsFrom)
@@ -72,7 +71,7 @@ module _ (bs js : List ℕ) (p : Plan) (n at : ℕ) (ws : List ℕ) where
 
   text-stopped : (fired : ℕ) (last : List ℕ) → last ≡ lastLine p ws fired → (x : Entered) → enteredAt js at ≡ x → sizeOf x ≡ 0
       → replay bs js p (suc n) at ws fired ≡ cond (isBrokenRecord x) (refusalLine 23 ++ last) last
-  unfolding replay isBrokenRecord sizeOf
+  unfolding replay
   text-stopped fired last f ended e z = rw (e, replay, f)
   text-stopped fired last f broken e z = rw (e, replay, f)
   text-stopped fired last f fireLowest e z = absurd (omega arith)
@@ -82,7 +81,7 @@ module _ (bs js : List ℕ) (p : Plan) (n at : ℕ) (ws : List ℕ) where
 
   text-call : (fired : ℕ) (x : Entered) → enteredAt js at ≡ x → 0 < sizeOf x
       → replay bs js p (suc n) at ws fired ≡ callText bs js p (replay bs js p n (at + sizeAt js at)) ws fired (callOf p (text.ledgerOf p ws) x)
-  unfolding replay sizeOf callOf
+  unfolding replay
   text-call fired ended e l = absurd (omega arith)
   text-call fired broken e l = absurd (omega arith)
   text-call fired fireLowest e l = rw (e, replay)

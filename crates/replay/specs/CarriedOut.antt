@@ -40,7 +40,7 @@ pub record CarriedOut (bs : List ℕ) (c : Counts) (d : Call) (ws out : List ℕ
   pub held : next .tally .held ≡ heldTotal (planOf bs c) (ledgerOf c ws′)
 
 -- whether the reading ends at a broken record
-unfoldable pub isBrokenRecord : Entered → Bool
+abbrev pub isBrokenRecord : Entered → Bool
 isBrokenRecord ended = false
 isBrokenRecord broken = true
 isBrokenRecord fireLowest = false

@@ -1,5 +1,4 @@
 -- By the case; where the reading ends there is nothing to carry out. Assumes nothing.
-use Rattle.journal.specs.Records.{recordTold, callOf}
 use Rattle.replay.proofs.CarriedOut.{ended-none, broken-none}
 use borrow.Author.Needs.{needs}
 use Rattle.replay.proofs.carry_out.carry_out.Statement.{statement}
@@ -48,7 +47,6 @@ same-length-2 : tie.Need-same-length-2
 same-length-2 c = search needs
 
 returns-3 : tie.Need-returns-3
-unfolding recordTold callOf
 returns-3 c = rw (c .before .before .before .before .before .before .before .before .found .given .1) (c .before .before .before .before .carry-out-event .ensures)
 
 same-length-3 : tie.Need-same-length-3
@@ -58,7 +56,6 @@ same-length-4 : tie.Need-same-length-4
 same-length-4 c = search needs
 
 returns-4 : tie.Need-returns-4
-unfolding recordTold callOf
 returns-4 c = rw (c .before .before .before .before .before .before .before .enum-told3 .given .1) (c .before .before .before .before .carry-out-signal .ensures)
 
 same-length-5 : tie.Need-same-length-5
@@ -68,7 +65,6 @@ same-length-6 : tie.Need-same-length-6
 same-length-6 c = search needs
 
 returns-5 : tie.Need-returns-5
-unfolding recordTold callOf
 returns-5 c = rw (c .before .before .before .before .before .before .before .before .found2 .given .1) (c .before .before .before .before .carry-out-fire .ensures)
 
 same-length-7 : tie.Need-same-length-7
@@ -78,7 +74,6 @@ same-length-8 : tie.Need-same-length-8
 same-length-8 c = search needs
 
 returns-6 : tie.Need-returns-6
-unfolding recordTold callOf
 returns-6 c = rw (c .before .before .before .before .before .before .before .enum-told4 .given .1) (c .before .before .before .before .carry-out-lowest .ensures)
 
 pub carry-out-spec : {M : Type 1} → statement M

@@ -1,5 +1,4 @@
 -- Firing the track that was found is the call that the rules name. Assumes nothing.
-use Rattle.journal.specs.Records.{callOf}
 use Rattle.replay.proofs.CarriedOut.{carried-out-as}
 use borrow.Author.Needs.{needs}
 use Rattle.replay.proofs.carry_out.carry_out_lowest.Statement.{statement}
@@ -18,7 +17,6 @@ same-length-2 : tie.Need-same-length-2
 same-length-2 c = search needs
 
 returns : tie.Need-returns
-unfolding callOf
 returns c = carried-out-as _ _ _ _ _ _ _ _ _ _ (c .before .before .before .before .before .before .before .lowest-ready .ensures) (c .before .before .before .before .carry-out-fire .ensures)
 
 pub carry-out-lowest-spec : {M : Type 1} → statement M
