@@ -4,6 +4,7 @@ use mathlib.Core.Path.{_≡_, refl, sym, ap, _∙_}
 use mathlib.Core.Logic.{inl, inr}
 use mathlib.Core.Bool.{Bool, true, false, cond}
 use mathlib.Core.List.{List}
+use mathlib.Core.Option.{Option, none, some}
 use Prim.Native.Nat.{ℕ, _+_, _<_, _≤_}
 use native.Mathlib.Nat.{not-suc-le-zero}
 use native.Mathlib.Omega.{arith}
@@ -11,10 +12,10 @@ use lib.Dec.{eqb}
 use lib.ListN.{length, getD, set, replicate, length-set, length-replicate, getD-replicate}
 use lib.Seq.{getD-set-same, getD-set-other}
 use borrow.Author.Tests.{eqb-true, eqb-false, ne-eqb}
-use Rattle.rules.specs.Plan.{noState}
+use Rattle.rules.specs.Plan.{noState, optional}
 use Rattle.rules.proofs.Tests.{look}
 use Rattle.plan.specs.Passes.{slots}
-use Rattle.lookup.specs.Figures.{Figures, Only}
+use Rattle.lookup.specs.Figures.{Figures, Numbers, Only}
 
 -- a list with one figure set
 module _ {A : Type 0} (d : A) (ms : List A) (r : ℕ) (v : A) (size : length ms ≡ slots) (low : r < slots) where
@@ -70,6 +71,51 @@ module _ {A : Type 0} {d : A} {ms : List A} {n : ℕ} {f : ℕ → A} (m : Figur
       record {
         size = set-size d ms r v (m .size) low;
         at = λ t b. set-at d ms r v (m .size) low t ∙ ap (λ (q : Bool). cond q v (getD ms t d)) (sym (o .at t b)) ∙ ap (cond (test t) v) (m .at t b) ∙ next t b;
+      }
+
+-- the same of numbers
+pub numbers-none : {n : ℕ} → n ≤ slots → {f : ℕ → Option ℕ} → ((t : ℕ) → none ≡ f t) → Numbers (replicate slots noState) n f
+numbers-none few e =
+    record { size = length-replicate slots noState; at = λ t l. ap optional (getD-replicate slots t noState 0 (omega arith)) ∙ no-number ∙ e t }
+  where
+    no-number : optional noState ≡ none
+    no-number = unfold optional noState in refl
+
+pub number-more : {f : ℕ → Option ℕ} {ms : List ℕ} {n : ℕ} (v : ℕ) → Numbers ms n f → n < slots → optional v ≡ f n → Numbers (set ms n v) (n + 1) f
+number-more {f} {ms} {n} v m l e =
+    record {
+      size = set-size 0 ms n v (m .size) l;
+      at = λ t b.
+          ap optional (set-at 0 ms n v (m .size) l t)
+          ∙ elim (look (eqb t n)) [
+            | inl q ↦ rw q (e ∙ ap f (sym (eqb-true t n q)))
+            | inr q ↦ let i : t ≡ n → ⊥ = eqb-false t n q in rw q (m .at t (omega arith))
+          ];
+    }
+
+module _ {ms : List ℕ} {n : ℕ} {f : ℕ → Option ℕ} (m : Numbers ms n f) (few : n ≤ slots) {test : ℕ → Bool} {r : ℕ} (o : Only n test r)
+    {v : ℕ} (real : optional v ≡ some v) (g : ℕ → Option ℕ) (next : (t : ℕ) → t < n → cond (test t) (some v) (f t) ≡ g t) where
+  pub number-none : r ≡ noState → Numbers ms n g
+  unfolding noState
+  number-none z =
+      record {
+        size = m .size;
+        at = λ t b.
+            let q : test t ≡ false = o .at t b ∙ ne-eqb t r (λ e. absurd (omega arith)) in
+            m .at t b ∙ (rw q at (next t b));
+      }
+
+  pub number-one : (r ≡ noState → ⊥) → Numbers (set ms r v) n g
+  number-one z =
+      let low : r < slots = let b = o .low z in omega arith in
+      record {
+        size = set-size 0 ms r v (m .size) low;
+        at = λ t b.
+            ap optional (set-at 0 ms r v (m .size) low t) ∙ ap (λ (q : Bool). optional (cond q v (getD ms t 0))) (sym (o .at t b))
+            ∙ elim (look (test t)) [
+              | inl q ↦ rw q (real ∙ (rw q at (next t b)))
+              | inr q ↦ rw q (m .at t b ∙ (rw q at (next t b)))
+            ];
       }
 
 -- no track passes the test
