@@ -81,6 +81,12 @@ numbers-none few e =
     no-number : optional noState ≡ none
     no-number = unfold optional noState in refl
 
+pub numbers-empty : (x : ℕ) (f : ℕ → Option ℕ) → Numbers (replicate slots x) 0 f
+numbers-empty x f = record { size = length-replicate slots x; at = λ t l. absurd (not-suc-le-zero l) }
+
+pub numbers-all : {ms : List ℕ} {n k : ℕ} {f : ℕ → Option ℕ} → k ≡ n → Numbers ms k f → Numbers ms n f
+numbers-all e m = rw (← e) m
+
 pub number-more : {f : ℕ → Option ℕ} {ms : List ℕ} {n : ℕ} (v : ℕ) → Numbers ms n f → n < slots → optional v ≡ f n → Numbers (set ms n v) (n + 1) f
 number-more {f} {ms} {n} v m l e =
     record {
