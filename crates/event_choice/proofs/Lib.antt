@@ -1,2 +1,6 @@
--- Laws of the passes that choose.
-pub mod Turns
+-- Laws of an event's choice.
+pub mod Visits
+pub mod Takers
+pub mod Moved
+pub mod Still
+pub mod Choosing

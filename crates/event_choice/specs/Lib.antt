@@ -1,2 +1,3 @@
--- What an event chooses, as a figure for each track.
-pub mod Marks
+-- What an event will do, and the choice that says so.
+pub mod Next
+pub mod Chosen

@@ -4,110 +4,69 @@ use lookup::reading;
 use plan::fields;
 use plan::fields::NO_STATE;
 use rules::Counts;
+use rules::Track;
 ghost use mathlib.Core.Path.{_≡_};
+ghost use mathlib.Core.Bool.{false, not, _&&_};
 ghost use Prim.Native.Nat.{_<_};
-ghost use Rattle.rules.specs.Plan.{planOf, isFinal};
-ghost use Rattle.ledger.specs.Words.{Room};
-ghost use Rattle.lookup.specs.Checked.{Going, ledgerOf};
-ghost use Rattle.event_choice.specs.Marks.{InRange, stateAfter, isForwardOpen, forwardMarks, closeMark, closeMarks};
+ghost use lib.ListN.{getD};
+ghost use Rattle.rules.specs.Plan.{planOf, noState, optional, isHostedBy};
+ghost use Rattle.rules.specs.Ledger.{isAwake};
+ghost use Rattle.rules.specs.Scope.{hasOpenScope};
+ghost use Rattle.lookup.specs.Checked.{Accepts, Going, ledgerOf};
+ghost use Rattle.lookup.specs.Figures.{Figures, Only};
+ghost use Rattle.event_choice.specs.Next.{InRange, movesOf, endsBy, endsNext, closesNext};
 
-// The state that a track will be in.
-fn state_after(plan: &[u8], c: Counts, ledger: &[u16], taken: [u16; 32], t: usize) -> u16
-    requires { ⌜ Going (now plan) c (now ledger) × InRange c taken × (t < c .tracks) ⌝ }
-    ensures { λ r. ⌜ r ≡ stateAfter (planOf (now (plan .entry)) c) (ledgerOf c (now (ledger .entry))) taken t ⌝ }
+// Whether a track that takes a transition, 65535 for none, will be forward in a final state.
+pub fn ends(plan: &[u8], c: Counts, k: Track, x: u16) -> bool
+    requires { ⌜ Accepts (now plan) c × (k .state < c .states) × ((x ≡ noState → ⊥) → x < c .transitions) ⌝ }
+    ensures { λ r. ⌜ r ≡ endsBy (planOf (now (plan .entry)) c) (k .mode) (k .state) (optional x) ⌝ }
 {
-    let x = taken[t];
-    if x == NO_STATE {
-        let k = reading::track(c, ledger, t);
-        return k.state;
-    }
-    fields::destination_of(plan, c, x as usize)
-}
-
-// Whether a track will be in a final state.
-pub fn ends(plan: &[u8], c: Counts, ledger: &[u16], taken: [u16; 32], t: usize) -> bool
-    requires { ⌜ Going (now plan) c (now ledger) × InRange c taken × (t < c .tracks) ⌝ }
-    ensures { λ r. ⌜ r ≡ isFinal (planOf (now (plan .entry)) c) (stateAfter (planOf (now (plan .entry)) c) (ledgerOf c (now (ledger .entry))) taken t) ⌝ }
-{
-    let s = state_after(plan, c, ledger, taken, t);
-    fields::is_final(plan, c, s as usize)
-}
-
-// Whether a track has an open scope and is forward.
-fn has_forward_scope(c: Counts, ledger: &[u16], opens: [bool; 32], t: usize) -> bool
-    requires { ⌜ Room (now ledger) (c .tracks) × (t < c .tracks) ⌝ }
-    ensures { λ r. ⌜ r ≡ isForwardOpen (ledgerOf c (now (ledger .entry))) opens t ⌝ }
-{
-    let k = reading::track(c, ledger, t);
     let m = k.mode;
     if !track::is_forward(m) {
         return false;
     }
-    opens[t]
-}
-
-// The open scopes that are forward.
-fn forward_scopes(c: Counts, ledger: &[u16], opens: [bool; 32]) -> [bool; 32]
-    requires { ⌜ Room (now ledger) (c .tracks) ⌝ }
-    ensures { λ r. ⌜ r ≡ forwardMarks (ledgerOf c (now (ledger .entry))) opens (c .tracks) ⌝ }
-{
-    let mut marks = opens;
-    let tracks = c.tracks;
-    let mut t: usize = 0;
-    while t < tracks {
-        marks[t] = has_forward_scope(c, ledger, opens, t);
-        t += 1;
+    let s = k.state;
+    if x == NO_STATE {
+        return fields::is_final(plan, c, s as usize);
     }
-    marks
+    let d = fields::destination_of(plan, c, x as usize);
+    fields::is_final(plan, c, d as usize)
 }
 
-// A track's turn: if it is left awake in a state that is not final, its scope stays open.
-fn mark_left(
-    plan: &[u8],
-    c: Counts,
-    ledger: &[u16],
-    taken: [u16; 32],
-    marks: [bool; 32],
-    t: usize,
-) -> [bool; 32]
-    requires { ⌜ Going (now plan) c (now ledger) × InRange c taken × (t < c .tracks) ⌝ }
-    ensures { λ r. ⌜ r ≡ closeMark (planOf (now (plan .entry)) c) (ledgerOf c (now (ledger .entry))) taken t marks ⌝ }
+// The track whose scope a track keeps open, 65535 for none: its host's, if it is awake and will not be forward in a final state.
+fn kept_open(plan: &[u8], c: Counts, ledger: &[u16], taken: &[u16; 32], t: usize) -> u16
+    requires { ⌜ Going (now plan) c (now ledger) × InRange c (now taken) × (t < c .tracks) ⌝ }
+    ensures { λ r. ⌜ Only (c .tracks)
+        (λ u. isHostedBy (planOf (now (plan .entry)) c) u t && (isAwake (ledgerOf c (now (ledger .entry)) t .mode)
+            && not (endsNext (planOf (now (plan .entry)) c) (ledgerOf c (now (ledger .entry))) (movesOf (now (taken .entry)) (c .tracks)) t))) r ⌝ }
 {
     let k = reading::track(c, ledger, t);
     let m = k.mode;
     if !track::is_awake(m) {
-        return marks;
+        return NO_STATE;
     }
-    if ends(plan, c, ledger, taken, t) {
-        return marks;
+    if ends(plan, c, k, taken[t]) {
+        return NO_STATE;
     }
-    let u = reading::host_track(plan, c, t);
-    if u == NO_STATE {
-        return marks;
-    }
-    let mut next = marks;
-    next[u as usize] = false;
-    next
+    reading::host_track(plan, c, t)
 }
 
 // The tracks whose open scope closes, given which have one and what each takes.
-pub fn closing_scopes(
-    plan: &[u8],
-    c: Counts,
-    ledger: &[u16],
-    opens: [bool; 32],
-    taken: [u16; 32],
-) -> [bool; 32]
-    requires { ⌜ Going (now plan) c (now ledger) × InRange c taken ⌝ }
-    ensures { λ r. ⌜ r ≡ closeMarks (planOf (now (plan .entry)) c) (ledgerOf c (now (ledger .entry))) taken (forwardMarks (ledgerOf c (now (ledger .entry))) opens (c .tracks)) (c .tracks) ⌝ }
+pub fn closing_scopes(plan: &[u8], c: Counts, ledger: &[u16], opens: [bool; 32], taken: &[u16; 32]) -> [bool; 32]
+    requires { ⌜ Going (now plan) c (now ledger) × InRange c (now taken)
+        × Figures false opens (c .tracks) (hasOpenScope (planOf (now plan) c) (ledgerOf c (now ledger))) ⌝ }
+    ensures { λ r. ⌜ Figures false r (c .tracks)
+        (closesNext (planOf (now (plan .entry)) c) (ledgerOf c (now (ledger .entry))) (movesOf (now (taken .entry)) (c .tracks))) ⌝ }
 {
-    let mut marks = forward_scopes(c, ledger, opens);
+    let mut closing = opens;
     let tracks = c.tracks;
     let mut t: usize = 0;
     while t < tracks {
-        let next = mark_left(plan, c, ledger, taken, marks, t);
-        marks = next;
+        let u = kept_open(plan, c, ledger, taken, t);
+        if u != NO_STATE {
+            closing[u as usize] = false;
+        }
         t += 1;
     }
-    marks
+    closing
 }

@@ -1,125 +1,59 @@
-// What is known of an event before a word is written: the code given to each track, whether one is full, whether the event finishes,
-// and the figures.
+// What is known of an event before a word is written: whether a track that it gives an entry is full, whether it finishes, and the figures.
 use crate::closing;
 use ledger::layout::ENTRY_LIMIT;
-use ledger::track;
 use lookup::reading;
 use plan::fields;
 use plan::fields::NO_STATE;
 use rules::Counts;
+use rules::Track;
 ghost use mathlib.Core.Path.{_≡_};
-ghost use mathlib.Core.Bool.{false, cond};
+ghost use mathlib.Core.Bool.{false, cond, not, _&&_, _||_};
 ghost use Prim.Native.Nat.{_<_, _≤_};
+ghost use lib.Dec.{eqb, leb};
 ghost use lib.ListN.{getD};
-ghost use Rattle.rules.specs.Fold.{someBelow, everyBelow, countBelow};
-ghost use Rattle.rules.specs.Plan.{planOf};
-ghost use Rattle.ledger.specs.Words.{Room};
-ghost use Rattle.lookup.specs.Checked.{Going, ledgerOf};
-ghost use Rattle.event_choice.specs.Marks.{InRange, table, takes, codeGiven, isFullAt, endsAt};
+ghost use Rattle.rules.specs.Fold.{countBelow};
+ghost use Rattle.rules.specs.Layout.{entryLimit};
+ghost use Rattle.rules.specs.Plan.{planOf, noState, optional, isRoot};
+ghost use Rattle.lookup.specs.Checked.{Accepts, Going, ledgerOf};
+ghost use Rattle.lookup.specs.Figures.{Figures};
+ghost use Rattle.event_choice.specs.Next.{InRange, movesOf, endsBy, codeBy, closesNext};
+ghost use Rattle.event_choice.specs.Chosen.{Judged};
 
-// The code that a track is given: its transition's, or the replacement of its closing scope.
-fn code_given(
-    plan: &[u8],
-    c: Counts,
-    ledger: &[u16],
-    taken: [u16; 32],
-    closing: [bool; 32],
-    t: usize,
-) -> u16
-    requires { ⌜ Going (now plan) c (now ledger) × InRange c taken × (t < c .tracks) ⌝ }
-    ensures { λ r. ⌜ r ≡ codeGiven (planOf (now (plan .entry)) c) (ledgerOf c (now (ledger .entry))) taken closing t ⌝ }
+// The code that a track is given: its transition's, or the replacement if its scope closes; 0 for none.
+fn code_given(plan: &[u8], c: Counts, k: Track, x: u16, closes: bool) -> u16
+    requires { ⌜ Accepts (now plan) c × (k .state < c .states) × ((x ≡ noState → ⊥) → x < c .transitions) ⌝ }
+    ensures { λ r. ⌜ r ≡ codeBy (planOf (now (plan .entry)) c) (k .state) (optional x) closes ⌝ }
 {
-    let x = taken[t];
     if x != NO_STATE {
         return fields::code_of(plan, c, x as usize);
     }
-    if !closing[t] {
+    if !closes {
         return 0;
     }
-    let k = reading::track(c, ledger, t);
     let s = k.state;
     fields::replacement_of(plan, c, s as usize)
 }
 
-// The code that each track is given, 0 for none.
-pub fn codes_given(
-    plan: &[u8],
-    c: Counts,
-    ledger: &[u16],
-    taken: [u16; 32],
-    closing: [bool; 32],
-) -> [u16; 32]
-    requires { ⌜ Going (now plan) c (now ledger) × InRange c taken ⌝ }
-    ensures { λ r. ⌜ r ≡ table 0 (codeGiven (planOf (now (plan .entry)) c) (ledgerOf c (now (ledger .entry))) taken closing) (c .tracks) ⌝ }
-{
-    let mut codes: [u16; 32] = [0; 32];
-    let tracks = c.tracks;
-    let mut t: usize = 0;
-    while t < tracks {
-        codes[t] = code_given(plan, c, ledger, taken, closing, t);
-        t += 1;
-    }
-    codes
-}
-
 // Whether a track that is given a code is full.
-fn is_full_at(c: Counts, ledger: &[u16], codes: [u16; 32], t: usize) -> bool
-    requires { ⌜ Room (now ledger) (c .tracks) × (t < c .tracks) ⌝ }
-    ensures { λ r. ⌜ r ≡ isFullAt (ledgerOf c (now (ledger .entry))) codes t ⌝ }
+fn is_full(plan: &[u8], c: Counts, k: Track, x: u16, closes: bool) -> bool
+    requires { ⌜ Accepts (now plan) c × (k .state < c .states) × ((x ≡ noState → ⊥) → x < c .transitions) ⌝ }
+    ensures { λ r. ⌜ r ≡ (leb entryLimit (k .count) && not (eqb (codeBy (planOf (now (plan .entry)) c) (k .state) (optional x) closes) 0)) ⌝ }
 {
-    if codes[t] == 0 {
+    if (k.count as usize) < ENTRY_LIMIT {
         return false;
     }
-    let k = reading::track(c, ledger, t);
-    ENTRY_LIMIT <= k.count as usize
-}
-
-// Whether some track that is given a code is full.
-pub fn is_full(c: Counts, ledger: &[u16], codes: [u16; 32]) -> bool
-    requires { ⌜ Room (now ledger) (c .tracks) ⌝ }
-    ensures { λ r. ⌜ r ≡ someBelow (c .tracks) (isFullAt (ledgerOf c (now (ledger .entry))) codes) ⌝ }
-{
-    let tracks = c.tracks;
-    let mut t: usize = 0;
-    while t < tracks {
-        if is_full_at(c, ledger, codes, t) {
-            return true;
-        }
-        t += 1;
-    }
-    false
+    code_given(plan, c, k, x, closes) != 0
 }
 
 // Whether a track, if it is a root, will be forward in a final state.
-fn root_ends(plan: &[u8], c: Counts, ledger: &[u16], taken: [u16; 32], t: usize) -> bool
-    requires { ⌜ Going (now plan) c (now ledger) × InRange c taken × (t < c .tracks) ⌝ }
-    ensures { λ r. ⌜ r ≡ endsAt (planOf (now (plan .entry)) c) (ledgerOf c (now (ledger .entry))) taken t ⌝ }
+fn root_ends(plan: &[u8], c: Counts, k: Track, x: u16, t: usize) -> bool
+    requires { ⌜ Accepts (now plan) c × (k .state < c .states) × ((x ≡ noState → ⊥) → x < c .transitions) × (t < c .tracks) ⌝ }
+    ensures { λ r. ⌜ r ≡ (not (isRoot (planOf (now (plan .entry)) c) t) || endsBy (planOf (now (plan .entry)) c) (k .mode) (k .state) (optional x)) ⌝ }
 {
     if !fields::is_root(plan, c, t) {
         return true;
     }
-    let k = reading::track(c, ledger, t);
-    let m = k.mode;
-    if !track::is_forward(m) {
-        return false;
-    }
-    closing::ends(plan, c, ledger, taken, t)
-}
-
-// Whether every root will be forward in a final state.
-pub fn finishes(plan: &[u8], c: Counts, ledger: &[u16], taken: [u16; 32]) -> bool
-    requires { ⌜ Going (now plan) c (now ledger) × InRange c taken ⌝ }
-    ensures { λ r. ⌜ r ≡ everyBelow (c .tracks) (endsAt (planOf (now (plan .entry)) c) (ledgerOf c (now (ledger .entry))) taken) ⌝ }
-{
-    let tracks = c.tracks;
-    let mut t: usize = 0;
-    while t < tracks {
-        if !root_ends(plan, c, ledger, taken, t) {
-            return false;
-        }
-        t += 1;
-    }
-    true
+    closing::ends(plan, c, k, x)
 }
 
 fn one_where(test: bool) -> u16
@@ -128,10 +62,28 @@ fn one_where(test: bool) -> u16
     if test { 1 } else { 0 }
 }
 
+fn both(a: bool, b: bool) -> bool
+    ensures { λ r. ⌜ r ≡ (a && b) ⌝ }
+{
+    if a {
+        return b;
+    }
+    false
+}
+
+fn either(a: bool, b: bool) -> bool
+    ensures { λ r. ⌜ r ≡ (a || b) ⌝ }
+{
+    if a {
+        return true;
+    }
+    b
+}
+
 // How many tracks move.
-pub fn moves(c: Counts, taken: [u16; 32]) -> u16
+pub fn moves(c: Counts, taken: &[u16; 32]) -> u16
     requires { ⌜ c .tracks ≤ 32 ⌝ }
-    ensures { λ r. ⌜ r ≡ countBelow (c .tracks) (takes taken) ⌝ }
+    ensures { λ r. ⌜ r ≡ countBelow (c .tracks) (λ t. not (eqb (getD (now (taken .entry)) t 0) noState)) ⌝ }
 {
     let tracks = c.tracks;
     let mut n: u16 = 0;
@@ -143,17 +95,36 @@ pub fn moves(c: Counts, taken: [u16; 32]) -> u16
     n
 }
 
-// How many scopes close.
-pub fn closings(c: Counts, closing: [bool; 32]) -> u16
-    requires { ⌜ c .tracks ≤ 32 ⌝ }
-    ensures { λ r. ⌜ r ≡ countBelow (c .tracks) (λ t. getD closing t false) ⌝ }
+// Of an event: how many scopes close, whether it finishes, and whether a track that it gives an entry is full.
+pub struct Verdict {
+    pub closed: u16,
+    pub finishing: bool,
+    pub full: bool,
+}
+
+// The verdict on the moves and the closings.
+pub fn judge(plan: &[u8], c: Counts, ledger: &[u16], taken: &[u16; 32], closing: &[bool; 32]) -> Verdict
+    requires { ⌜ Going (now plan) c (now ledger) × InRange c (now taken)
+        × Figures false (now closing) (c .tracks) (closesNext (planOf (now plan) c) (ledgerOf c (now ledger)) (movesOf (now taken) (c .tracks))) ⌝ }
+    ensures { λ r. ⌜ Judged (planOf (now (plan .entry)) c) (ledgerOf c (now (ledger .entry))) (movesOf (now (taken .entry)) (c .tracks)) (c .tracks) r ⌝ }
 {
     let tracks = c.tracks;
-    let mut n: u16 = 0;
+    let mut closed: u16 = 0;
+    let mut finishing = true;
+    let mut full = false;
     let mut t: usize = 0;
     while t < tracks {
-        n += one_where(closing[t]);
+        let k = reading::track(c, ledger, t);
+        let x = taken[t];
+        let closes = closing[t];
+        closed += one_where(closes);
+        finishing = both(finishing, root_ends(plan, c, k, x, t));
+        full = either(full, is_full(plan, c, k, x, closes));
         t += 1;
     }
-    n
+    Verdict {
+        closed: closed,
+        finishing: finishing,
+        full: full,
+    }
 }

@@ -4,79 +4,54 @@ use lookup::reading;
 use plan::fields;
 use plan::fields::NO_STATE;
 use rules::Counts;
-ghost use mathlib.Core.Path.{_≡_};
+ghost use mathlib.Core.Bool.{false};
 ghost use Prim.Native.Nat.{_<_};
 ghost use Rattle.rules.specs.Plan.{planOf};
+ghost use Rattle.rules.specs.Scope.{hasOpenScope};
+ghost use Rattle.rules.specs.Event.{move};
 ghost use Rattle.lookup.specs.Checked.{Going, ledgerOf};
-ghost use Rattle.event_choice.specs.Marks.{isTaken, takeMark, takeMarks};
+ghost use Rattle.lookup.specs.Figures.{Figures, Numbers, Only};
+ghost use Rattle.event_choice.specs.Next.{isTaken};
 
-// Whether a transition for the event is taken by its track: it is forward in the source, has no open scope, and took none before.
-fn is_taken(
-    plan: &[u8],
-    c: Counts,
-    ledger: &[u16],
-    event: u16,
-    opens: [bool; 32],
-    taken: [u16; 32],
-    x: usize,
-) -> bool
-    requires { ⌜ Going (now plan) c (now ledger) × (x < c .transitions) ⌝ }
-    ensures { λ r. ⌜ r ≡ isTaken (planOf (now (plan .entry)) c) (ledgerOf c (now (ledger .entry))) event opens x taken ⌝ }
+// The track that takes a transition for the event, 65535 for none: its own, if it is forward in the source and has no open scope.
+fn taker(plan: &[u8], c: Counts, ledger: &[u16], event: u16, opens: &[bool; 32], x: usize) -> u16
+    requires { ⌜ Going (now plan) c (now ledger) × (x < c .transitions)
+        × Figures false (now opens) (c .tracks) (hasOpenScope (planOf (now plan) c) (ledgerOf c (now ledger))) ⌝ }
+    ensures { λ r. ⌜ Only (c .tracks) (isTaken (planOf (now (plan .entry)) c) (ledgerOf c (now (ledger .entry))) event x) r ⌝ }
 {
     if fields::event_of(plan, c, x) != event {
-        return false;
+        return NO_STATE;
     }
     let s = fields::source_of(plan, c, x);
-    let t = fields::track_of(plan, c, s as usize) as usize;
+    let u = fields::track_of(plan, c, s as usize);
+    let t = u as usize;
+    if opens[t] {
+        return NO_STATE;
+    }
     let k = reading::track(c, ledger, t);
+    if s != k.state {
+        return NO_STATE;
+    }
     let m = k.mode;
     if !track::is_forward(m) {
-        return false;
+        return NO_STATE;
     }
-    if opens[t] {
-        return false;
-    }
-    if s != k.state {
-        return false;
-    }
-    taken[t] == NO_STATE
+    u
 }
 
-// A transition's turn: its track takes it, if it may.
-fn take(
-    plan: &[u8],
-    c: Counts,
-    ledger: &[u16],
-    event: u16,
-    opens: [bool; 32],
-    taken: [u16; 32],
-    x: usize,
-) -> [u16; 32]
-    requires { ⌜ Going (now plan) c (now ledger) × (x < c .transitions) ⌝ }
-    ensures { λ r. ⌜ r ≡ takeMark (planOf (now (plan .entry)) c) (ledgerOf c (now (ledger .entry))) event opens x taken ⌝ }
-{
-    if !is_taken(plan, c, ledger, event, opens, taken, x) {
-        return taken;
-    }
-    let s = fields::source_of(plan, c, x);
-    let t = fields::track_of(plan, c, s as usize) as usize;
-    let mut next = taken;
-    next[t] = x as u16;
-    next
-}
-
-// The transition that each track takes for an event, 65535 for none. Only a transition for that event has its turn.
-pub fn choose(plan: &[u8], c: Counts, ledger: &[u16], event: u16, opens: [bool; 32]) -> [u16; 32]
-    requires { ⌜ Going (now plan) c (now ledger) ⌝ }
-    ensures { λ r. ⌜ r ≡ takeMarks (planOf (now (plan .entry)) c) (ledgerOf c (now (ledger .entry))) event opens (c .transitions) ⌝ }
+// The transition that each track takes for an event, 65535 for none, given which have an open scope.
+pub fn taken_by(plan: &[u8], c: Counts, ledger: &[u16], event: u16, opens: &[bool; 32]) -> [u16; 32]
+    requires { ⌜ Going (now plan) c (now ledger)
+        × Figures false (now opens) (c .tracks) (hasOpenScope (planOf (now plan) c) (ledgerOf c (now ledger))) ⌝ }
+    ensures { λ r. ⌜ Numbers r (c .tracks) (move (planOf (now (plan .entry)) c) (ledgerOf c (now (ledger .entry))) event) ⌝ }
 {
     let mut taken = [NO_STATE; 32];
     let transitions = c.transitions;
     let mut x: usize = 0;
     while x < transitions {
-        if fields::event_of(plan, c, x) == event {
-            let next = take(plan, c, ledger, event, opens, taken, x);
-            taken = next;
+        let t = taker(plan, c, ledger, event, opens, x);
+        if t != NO_STATE {
+            taken[t as usize] = x as u16;
         }
         x += 1;
     }

@@ -1,3 +1,5 @@
 -- Laws of an event's writing.
-pub mod Writing
-pub mod Writes
+pub mod OneTrack
+pub mod Installing
+pub mod Closing
+pub mod Written

@@ -1,2 +1,2 @@
--- The ledger that an event's writing leaves.
-pub mod Settled
+-- What the writing of an event needs, and what it comes to for one track.
+pub mod Writing

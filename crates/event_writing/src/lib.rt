@@ -1,87 +1,82 @@
-// The writing pass of an event, track by track in rising order: a track goes to sleep, or is given its code and enters its state.
+// The writing of an event, as the rules have it: the movers install their entries, all enter their destinations, scopes close; or all sleep.
+use event_choice::Choice;
 use ledger::track;
 use lookup::reading;
+use opening::entering;
 use opening::firsts;
-use opening::waking;
 use plan::fields;
 use plan::fields::NO_STATE;
 use rules::Counts;
 use rules::Mode;
-use rules::Track;
 ghost use mathlib.Core.Path.{_≡_};
-ghost use mathlib.Core.Bool.{false};
+ghost use mathlib.Core.Bool.{true, false};
 ghost use Prim.Native.Nat.{_<_};
-ghost use lib.ListN.{getD};
+ghost use lib.ListN.{length, getD};
 ghost use Rattle.rules.specs.Layout.{entryLimit};
-ghost use Rattle.rules.specs.Plan.{planOf, noState, firstState};
-ghost use Rattle.rules.specs.Opening.{wakes};
-ghost use Rattle.rules.specs.Ledger.{written};
-ghost use Rattle.ledger.specs.Words.{Within, trackAt};
-ghost use Rattle.lookup.specs.Checked.{Accepts, Going, ledgerOf, Lent};
-ghost use Rattle.lookup.specs.Figures.{Figures};
-ghost use Rattle.opening.specs.Entering.{statesOf};
-ghost use Rattle.event_choice.specs.Marks.{InRange, table};
-ghost use Rattle.event_writing.specs.Settled.{Spare, withGiven, withEntered, withVisit, destinationWord, deviationWord};
-ghost use Rattle.event_writing.specs.Settled.{entersFrom, entersAt, closedAt, sleepsAt, settledLedger};
+ghost use Rattle.rules.specs.Plan.{planOf, noState, optional, replacement};
+ghost use Rattle.rules.specs.Ledger.{written, isAwake};
+ghost use Rattle.rules.specs.Event.{installed, installedBy, destinationOf, hasCode, closed, afterEvent};
+ghost use Rattle.ledger.specs.Words.{Tidy};
+ghost use Rattle.lookup.specs.Checked.{Accepts, Going, ledgerOf};
+ghost use Rattle.lookup.specs.Figures.{Numbers};
+ghost use Rattle.lookup.specs.OneTrack.{withConfiguration};
+ghost use Rattle.event_choice.specs.Next.{InRange, movesOf};
+ghost use Rattle.event_choice.specs.Chosen.{Chosen};
+ghost use Rattle.event_writing.specs.Writing.{Movers, Closings, isClosedBy, closedBy};
 
-// The destination of the transition that a track takes, 65535 for none.
-fn destination(plan: &[u8], c: Counts, taken: [u16; 32], t: usize) -> u16
-    requires { ⌜ Accepts (now plan) c × InRange c taken × (t < c .tracks) ⌝ }
-    ensures { λ r. ⌜ r ≡ destinationWord (planOf (now (plan .entry)) c) taken t ⌝ }
+// Installs a code, if it is not 0, as a track's newest entry.
+fn give(c: Counts, ledger: &mut [u16], t: usize, code: u16, deviation: u16)
+    requires { ⌜ Tidy (now ledger) (c .tracks) × (t < c .tracks) × ((code ≡ 0 → ⊥) → length (ledgerOf c (now ledger) t .held) < entryLimit) ⌝ }
+    ensures { λ _. ⌜ now (ledger .exit)
+        ≡ withConfiguration c (now (ledger .entry)) t (installed code deviation (ledgerOf c (now (ledger .entry)) t)) ⌝ }
 {
-    let x = taken[t];
+    if code == 0 {
+        return;
+    }
+    track::install(&mut ledger[..], t, code, deviation);
+}
+
+// A track that takes a transition, 65535 for none, installs its entry; the state that it enters.
+fn install_move(plan: &[u8], c: Counts, ledger: &mut [u16], t: usize, x: u16) -> u16
+    requires { ⌜ Accepts (now plan) c × Tidy (now ledger) (c .tracks) × (t < c .tracks) × ((x ≡ noState → ⊥) → x < c .transitions)
+        × (hasCode (planOf (now plan) c) (optional x) ≡ true → length (ledgerOf c (now ledger) t .held) < entryLimit) ⌝ }
+    ensures { λ r. ⌜ (now (ledger .exit)
+        ≡ withConfiguration c (now (ledger .entry)) t (installedBy (planOf (now (plan .entry)) c) (optional x) (ledgerOf c (now (ledger .entry)) t)))
+        × (optional r ≡ destinationOf (planOf (now (plan .entry)) c) (optional x)) ⌝ }
+{
     if x == NO_STATE {
         return NO_STATE;
     }
+    let code = fields::code_of(plan, c, x as usize);
+    let deviation = fields::deviation_of(plan, c, x as usize);
+    give(c, &mut ledger[..], t, code, deviation);
     fields::destination_of(plan, c, x as usize)
 }
 
-// The destination of each track, 65535 for none.
-fn destinations(plan: &[u8], c: Counts, taken: [u16; 32]) -> [u16; 32]
-    requires { ⌜ Accepts (now plan) c × InRange c taken ⌝ }
-    ensures { λ r. ⌜ r ≡ table noState (destinationWord (planOf (now (plan .entry)) c) taken) (c .tracks) ⌝ }
+// Every mover installs its entry; the state that each track enters, 65535 for none.
+fn install_moves(plan: &[u8], c: Counts, ledger: &mut [u16], taken: &[u16; 32]) -> [u16; 32]
+    requires { ⌜ Accepts (now plan) c × Tidy (now ledger) (c .tracks) × InRange c (now taken)
+        × Movers (planOf (now plan) c) (ledgerOf c (now ledger)) (movesOf (now taken) (c .tracks)) ⌝ }
+    ensures { λ r. ⌜ (now (ledger .exit)
+        ≡ written entryLimit (c .tracks)
+        (λ t. installedBy (planOf (now (plan .entry)) c) (movesOf (now (taken .entry)) (c .tracks) t) (ledgerOf c (now (ledger .entry)) t)) (now (ledger .entry)))
+        × Numbers r (c .tracks) (λ t. destinationOf (planOf (now (plan .entry)) c) (movesOf (now (taken .entry)) (c .tracks) t)) ⌝ }
 {
     let mut to = [NO_STATE; 32];
     let tracks = c.tracks;
     let mut t: usize = 0;
     while t < tracks {
-        to[t] = destination(plan, c, taken, t);
+        let s = install_move(plan, c, &mut ledger[..], t, taken[t]);
+        to[t] = s;
         t += 1;
     }
     to
 }
 
-// The deviation of the entry that a track is given, 65535 for none: a replacement has none.
-fn deviation(plan: &[u8], c: Counts, taken: [u16; 32], t: usize) -> u16
-    requires { ⌜ Accepts (now plan) c × InRange c taken × (t < c .tracks) ⌝ }
-    ensures { λ r. ⌜ r ≡ deviationWord (planOf (now (plan .entry)) c) taken t ⌝ }
-{
-    let x = taken[t];
-    if x == NO_STATE {
-        return NO_STATE;
-    }
-    fields::deviation_of(plan, c, x as usize)
-}
-
-// The state that a track enters, by its move or woken, 65535 for none.
-fn entered(firsts: [u16; 32], to: [u16; 32], woken: [bool; 32], t: usize) -> u16
-    requires { ⌜ t < 32 ⌝ }
-    ensures { λ r. ⌜ r ≡ entersFrom (getD firsts t 0) to woken t ⌝ }
-{
-    let s = to[t];
-    if s != NO_STATE {
-        return s;
-    }
-    if !woken[t] {
-        return NO_STATE;
-    }
-    firsts[t]
-}
-
-// Whether a track, in this mode before the call, is in a scope that closes.
-fn is_closed(plan: &[u8], c: Counts, closing: [bool; 32], m: Mode, t: usize) -> bool
+// Whether a track in this mode is in a scope that closes.
+fn is_closed(plan: &[u8], c: Counts, closing: &[bool; 32], m: Mode, t: usize) -> bool
     requires { ⌜ Accepts (now plan) c × (t < c .tracks) ⌝ }
-    ensures { λ r. ⌜ r ≡ closedAt (planOf (now (plan .entry)) c) closing m t ⌝ }
+    ensures { λ r. ⌜ r ≡ isClosedBy (planOf (now (plan .entry)) c) (now (closing .entry)) t (isAwake m) ⌝ }
 {
     let u = reading::host_track(plan, c, t);
     if u == NO_STATE {
@@ -93,123 +88,58 @@ fn is_closed(plan: &[u8], c: Counts, closing: [bool; 32], m: Mode, t: usize) -> 
     closing[u as usize]
 }
 
-// Installs a code, if it is not 0.
-fn give(ledger: &mut [u16], t: usize, code: u16, deviation: u16)
-    requires { ⌜ Within (now ledger) t × ((code ≡ 0 → ⊥) → trackAt (now ledger) t .count < entryLimit) ⌝ }
-    ensures { λ _. ⌜ now (ledger .exit) ≡ withGiven (now (ledger .entry)) t code deviation ⌝ }
+// A track goes to sleep if its scope closes, and is given the replacement if its own does.
+fn close_track(plan: &[u8], c: Counts, ledger: &mut [u16], closing: &[bool; 32], t: usize)
+    requires { ⌜ Accepts (now plan) c × Tidy (now ledger) (c .tracks) × (t < c .tracks)
+        × (getD (now closing) t false ≡ true → (ledgerOf c (now ledger) t .state < c .states)
+            × ((replacement (planOf (now plan) c) (ledgerOf c (now ledger) t .state) ≡ 0 → ⊥) → length (ledgerOf c (now ledger) t .held) < entryLimit)) ⌝ }
+    ensures { λ _. ⌜ now (ledger .exit)
+        ≡ withConfiguration c (now (ledger .entry)) t
+        (closedBy (planOf (now (plan .entry)) c) (now (closing .entry)) t (ledgerOf c (now (ledger .entry)) t)) ⌝ }
 {
-    if code == 0 {
-        return;
-    }
-    track::install(&mut ledger[..], t, code, deviation);
-}
-
-// Puts a track forward into the state that it enters, if it enters one.
-fn enter(ledger: &mut [u16], t: usize, s: u16)
-    requires { ⌜ Within (now ledger) t ⌝ }
-    ensures { λ _. ⌜ now (ledger .exit) ≡ withEntered (now (ledger .entry)) t s ⌝ }
-{
-    if s == NO_STATE {
-        return;
-    }
-    let k = track::track_at(&ledger[..], t);
-    let next = Track {
-        mode: Mode::Forward,
-        state: s,
-        count: k.count,
-    };
-    track::put_track(&mut ledger[..], t, next);
-}
-
-// What a visit writes.
-fn visit(ledger: &mut [u16], t: usize, asleep: bool, s: u16, code: u16, deviation: u16)
-    requires { ⌜ Within (now ledger) t × ((code ≡ 0 → ⊥) → trackAt (now ledger) t .count < entryLimit) ⌝ }
-    ensures { λ _. ⌜ now (ledger .exit) ≡ withVisit (now (ledger .entry)) t asleep s code deviation ⌝ }
-{
-    if asleep {
+    let k = reading::track(c, &ledger[..], t);
+    let m = k.mode;
+    if is_closed(plan, c, closing, m, t) {
         track::put_to_sleep(&mut ledger[..], t);
         return;
     }
-    give(&mut ledger[..], t, code, deviation);
-    enter(&mut ledger[..], t, s);
-}
-
-// Whether a track goes to sleep: the event finishes, or closes its scope.
-fn sleeps(plan: &[u8], c: Counts, finishing: bool, closing: [bool; 32], m: Mode, t: usize) -> bool
-    requires { ⌜ Accepts (now plan) c × (t < c .tracks) ⌝ }
-    ensures { λ r. ⌜ r ≡ sleepsAt (planOf (now (plan .entry)) c) finishing closing m t ⌝ }
-{
-    if finishing {
-        return true;
+    if !closing[t] {
+        return;
     }
-    is_closed(plan, c, closing, m, t)
+    let s = k.state;
+    let code = fields::replacement_of(plan, c, s as usize);
+    give(c, &mut ledger[..], t, code, NO_STATE);
 }
 
-// A track's visit.
-fn settle_track(
-    plan: &[u8],
-    c: Counts,
-    ledger: &mut [u16],
-    finishing: bool,
-    taken: [u16; 32],
-    closing: [bool; 32],
-    codes: [u16; 32],
-    firsts: [u16; 32],
-    to: [u16; 32],
-    woken: [bool; 32],
-    t: usize,
-)
-    requires { ⌜ Lent (now plan) c (now ledger) × InRange c taken × (t < c .tracks)
-        × ((getD codes t 0 ≡ 0 → ⊥) → trackAt (now ledger) t .count < entryLimit)
-        × Figures 0 firsts (c .tracks) (firstState (planOf (now plan) c))
-        × Figures false woken (c .tracks) (wakes (planOf (now plan) c) (statesOf to)) ⌝ }
+// The scopes that are due to close do.
+fn close_scopes(plan: &[u8], c: Counts, ledger: &mut [u16], closing: &[bool; 32])
+    requires { ⌜ Accepts (now plan) c × Tidy (now ledger) (c .tracks) × Closings (planOf (now plan) c) (ledgerOf c (now ledger)) (now closing) ⌝ }
     ensures { λ _. ⌜ now (ledger .exit)
-        ≡ withVisit (now (ledger .entry)) t
-        (sleepsAt (planOf (now (plan .entry)) c) finishing closing (trackAt (now (ledger .entry)) t .mode) t)
-        (entersAt (planOf (now (plan .entry)) c) to t) (getD codes t 0) (deviationWord (planOf (now (plan .entry)) c) taken t) ⌝ }
+        ≡ written entryLimit (c .tracks) (closed (planOf (now (plan .entry)) c) (ledgerOf c (now (ledger .entry)))) (now (ledger .entry)) ⌝ }
 {
-    let k = track::track_at(&ledger[..], t);
-    let m = k.mode;
-    let asleep = sleeps(plan, c, finishing, closing, m, t);
-    let s = entered(firsts, to, woken, t);
-    let d = deviation(plan, c, taken, t);
-    visit(&mut ledger[..], t, asleep, s, codes[t], d);
-}
-
-// Writes the ledger that the event leaves.
-pub fn settle(
-    plan: &[u8],
-    c: Counts,
-    ledger: &mut [u16],
-    finishing: bool,
-    taken: [u16; 32],
-    closing: [bool; 32],
-    codes: [u16; 32],
-)
-    requires { ⌜ Going (now plan) c (now ledger) × InRange c taken × Spare (c .tracks) (ledgerOf c (now ledger)) codes ⌝ }
-    ensures { λ _. ⌜ now (ledger .exit)
-        ≡ written entryLimit (c .tracks)
-        (settledLedger (planOf (now (plan .entry)) c) (ledgerOf c (now (ledger .entry))) finishing taken closing codes) (now (ledger .entry)) ⌝ }
-{
-    let firsts = firsts::first_states(plan, c);
-    let to = destinations(plan, c, taken);
-    let woken = waking::woken_by(plan, c, firsts, to);
     let tracks = c.tracks;
     let mut t: usize = 0;
     while t < tracks {
-        settle_track(
-            plan,
-            c,
-            &mut ledger[..],
-            finishing,
-            taken,
-            closing,
-            codes,
-            firsts,
-            to,
-            woken,
-            t,
-        );
+        close_track(plan, c, &mut ledger[..], closing, t);
         t += 1;
     }
+}
+
+// Writes the ledger that the event leaves.
+pub fn write(plan: &[u8], c: Counts, ledger: &mut [u16], choice: Choice)
+    requires { ⌜ Going (now plan) c (now ledger) × Chosen (planOf (now plan) c) (ledgerOf c (now ledger)) choice × (choice .full ≡ false) ⌝ }
+    ensures { λ _. ⌜ now (ledger .exit)
+        ≡ written entryLimit (c .tracks)
+        (afterEvent (planOf (now (plan .entry)) c) (ledgerOf c (now (ledger .entry))) (choice .event)) (now (ledger .entry)) ⌝ }
+{
+    if choice.finishing {
+        track::put_all_to_sleep(&mut ledger[..], c.tracks);
+        return;
+    }
+    let taken = choice.taken;
+    let closing = choice.closing;
+    let to = install_moves(plan, c, &mut ledger[..], &taken);
+    let firsts = firsts::first_states(plan, c);
+    entering::enter_all(plan, c, &mut ledger[..], firsts, to);
+    close_scopes(plan, c, &mut ledger[..], &closing);
 }

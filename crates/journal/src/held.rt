@@ -37,7 +37,7 @@ pub fn lowest_ready(plan: &[u8], c: Counts, ledger: &[u16]) -> u16
     let tracks = c.tracks;
     let mut t: usize = 0;
     while t < tracks {
-        if ready::is_ready(c, ledger, opens, t) {
+        if ready::is_ready(plan, c, ledger, &opens, t) {
             return t as u16;
         }
         t += 1;

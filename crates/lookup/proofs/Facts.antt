@@ -1,18 +1,21 @@
 -- Where a step starts, in facts: the accepted plan's, the live ledger's, and what a track's words and host say. Assumes nothing.
 use mathlib.Core.Path.{_≡_, refl, sym, ap, _∙_}
 use mathlib.Core.Logic.{inl, inr}
-use mathlib.Core.Bool.{true, _||_}
+use mathlib.Core.Bool.{Bool, true, false, not, _&&_, _||_, and-false}
 use mathlib.Core.List.{List}
 use mathlib.Core.Option.{Option, none, some}
 use Prim.Native.Nat.{ℕ, _<_, _≤_}
 use native.Mathlib.Omega.{arith}
+use lib.Dec.{eqb, ltb}
+use borrow.Author.Tests.{eq-eqb, eqb-true, lt-ltb}
 use Rattle.rules.specs.declared.Counts.{Counts}
-use Rattle.rules.specs.Plan.{Plan, planOf, trackCount, noState, hostWord, host, owner}
+use Rattle.rules.specs.Plan.{Plan, planOf, trackCount, noState, hostWord, host, owner, isHostedBy}
 use Rattle.rules.specs.Layout.{entryLimit}
-use Rattle.rules.specs.Ledger.{Ledger, sleeping, ledgerAt}
-use Rattle.rules.specs.Scope.{isOver}
+use Rattle.rules.specs.Ledger.{Ledger, isUndoing, isEmpty, sleeping, ledgerAt}
+use Rattle.rules.specs.Scope.{isOver, hasOpenScope}
+use Rattle.rules.specs.Fire.{mayFire}
 use Rattle.rules.specs.Soundness.{areTidy, isLive, isSound}
-use Rattle.rules.proofs.Tests.{clash, and-true, or-true}
+use Rattle.rules.proofs.Tests.{look-option, clash, and-true, or-true, same-test}
 use Rattle.rules.proofs.Acceptance.{Accepted, accepts}
 use Rattle.rules.proofs.Soundness.{Live, live-facts}
 use Rattle.rules.proofs.Stored.{Storable, read-at, read-beyond, storable-read}
@@ -20,6 +23,8 @@ use Rattle.plan.proofs.FieldLaws.{track-count, state-count}
 use Rattle.plan.proofs.Hosting.{host-none, host-some}
 use Rattle.ledger.specs.Words.{Tidy, trackOf, trackAt}
 use Rattle.lookup.specs.Checked.{Accepts, Checked, Going, ledgerOf, hostTrack}
+use Rattle.lookup.specs.Figures.{Only}
+use Rattle.lookup.proofs.FiguresLaws.{only-none}
 
 -- the plan's facts
 pub plan-facts : (bs : List ℕ) (c : Counts) → Accepts bs c → Accepted (planOf bs c)
@@ -105,3 +110,45 @@ host-track-low bs c t u a e n =
     let k = track-count bs c in
     let w : u ≡ owner (planOf bs c) h = e ∙ sym o in
     omega arith
+
+-- it is the one track that hosts it, where a condition holds
+module _ (bs : List ℕ) (c : Counts) (t : ℕ) (a : Accepts bs c) where
+  pub host-unless : {b : Bool} → b ≡ false → Only (c .tracks) (λ v. isHostedBy (planOf bs c) v t && b) noState
+  host-unless e = only-none (c .tracks) (a .holds .tracks) _ (λ v l. rw e (and-false (isHostedBy (planOf bs c) v t)))
+
+  pub host-if : {u : ℕ} → u ≡ hostTrack (planOf bs c) t → {b : Bool} → b ≡ true → Only (c .tracks) (λ v. isHostedBy (planOf bs c) v t && b) u
+  unfolding isHostedBy hostTrack
+  host-if {u} e y =
+      elim (look-option (host (planOf bs c) t)) [
+        | inl z ↦
+            let q : u ≡ noState = e ∙ (rw (z, hostTrack)) in
+            rw q (only-none (c .tracks) (a .holds .tracks) _ (λ v l. rw (z, isHostedBy)))
+        | inr z ↦
+            record {
+              low = host-track-low bs c t u a e;
+              at = λ v b.
+                  let q : u ≡ owner (planOf bs c) (z .0) = e ∙ (rw (z .1, hostTrack)) in
+                  rw (z .1, isHostedBy, q, y) (mathlib.Core.Bool.and-true (eqb (owner (planOf bs c) (z .0)) v) ∙ eqb-turned (owner (planOf bs c) (z .0)) v);
+            }
+      ]
+    where
+      eqb-turned : (i j : ℕ) → eqb i j ≡ eqb j i
+      eqb-turned i j = same-test (eqb i j) (eqb j i) (λ h. eq-eqb j i (sym (eqb-true i j h))) (λ h. eq-eqb i j (sym (eqb-true j i h)))
+
+-- whether a track may be fired
+module _ (bs : List ℕ) (c : Counts) (l : Ledger) (t : ℕ) (low : t < c .tracks) where
+  there : ltb t (trackCount (planOf bs c)) ≡ true
+  there = lt-ltb t (trackCount (planOf bs c)) (rw (track-count bs c) low)
+
+  pub fire-not : isUndoing (l t .mode) ≡ false → false ≡ mayFire (planOf bs c) l t
+  unfolding mayFire
+  fire-not u = rw (there, u)
+
+  pub fire-nothing : isUndoing (l t .mode) ≡ true → isEmpty (l t .held) ≡ true → false ≡ mayFire (planOf bs c) l t
+  unfolding mayFire
+  fire-nothing u e = rw (there, u, e)
+
+  pub fire-free : isUndoing (l t .mode) ≡ true → isEmpty (l t .held) ≡ false → {b : Bool} → b ≡ hasOpenScope (planOf bs c) l t
+      → not b ≡ mayFire (planOf bs c) l t
+  unfolding mayFire
+  fire-free u e o = rw (there, u, e, ← o)

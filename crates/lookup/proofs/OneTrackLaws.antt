@@ -18,8 +18,8 @@ use Rattle.rules.proofs.Tests.{look}
 use Rattle.rules.proofs.Stored.{Storable, length-written, read-written, tidy-written, written-twice, written-read, storable-read}
 use Rattle.rules.proofs.Replaced.{updated, updated-same}
 use Rattle.rules.proofs.Passes.{upTo, up-new, up-old, up-none, up-more, up-all}
-use Rattle.ledger.specs.Words.{trackOf, withTrack, withAsleep, withRemoved, Tidy}
-use Rattle.ledger.proofs.Words.{put-written, asleep-written, removed-written}
+use Rattle.ledger.specs.Words.{trackOf, withTrack, withAsleep, withInstalled, withRemoved, Tidy}
+use Rattle.ledger.proofs.Words.{put-written, asleep-written, installed-written, removed-written}
 use Rattle.lookup.specs.Checked.{ledgerOf}
 use Rattle.lookup.specs.OneTrack.{withConfiguration, withMode}
 
@@ -56,7 +56,7 @@ module _ (c : Counts) (ws : List ℕ) (o : Tidy ws (c .tracks)) where
       ∙ ap (λ (y : Configuration). written entryLimit (c .tracks) (updated (ledgerOf c ws) t y) ws) (sym e)
 
   module _ (t : ℕ) (b : t < c .tracks) where
-    -- its mode and state replaced, its words all zero, its newest entry gone
+    -- its mode and state replaced, its words all zero, an entry more, its newest entry gone
     pub put-mode : (k : Track) → k .count ≡ length (ledgerOf c ws t .held)
         → withTrack ws t k ≡ withConfiguration c ws t (record { mode = k .mode; state = k .state; held = ledgerOf c ws t .held })
     unfolding withConfiguration updated
@@ -74,6 +74,14 @@ module _ (c : Counts) (ws : List ℕ) (o : Tidy ws (c .tracks)) where
     unfolding withConfiguration updated
     put-asleep =
         ap (λ (v : List ℕ). withAsleep v t) as-held ∙ asleep-written (c .tracks) (ledgerOf c ws) ws t (holds .fits) b (o .room .words)
+
+    pub put-installed : (e : Entry) → length (ledgerOf c ws t .held) < entryLimit
+        → withInstalled ws t (e .code) (e .deviation)
+        ≡ withConfiguration c ws t (record { mode = ledgerOf c ws t .mode; state = ledgerOf c ws t .state; held = e ∷ ledgerOf c ws t .held })
+    unfolding withConfiguration updated
+    put-installed e r =
+        ap (λ (v : List ℕ). withInstalled v t (e .code) (e .deviation)) as-held
+        ∙ installed-written (c .tracks) (ledgerOf c ws) ws t (holds .fits) b (o .room .words) e r
 
     pub put-removed : (e : Entry) (es : List Entry) → ledgerOf c ws t .held ≡ e ∷ es
         → withRemoved ws t

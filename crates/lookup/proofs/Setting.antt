@@ -2,22 +2,24 @@
 -- sets one mark at most and takes none back. Assumes nothing.
 use mathlib.Core.Path.{_≡_, refl, sym, ap, _∙_, subst}
 use mathlib.Core.Logic.{_⊎_, inl, inr, ⊎-elim}
-use mathlib.Core.Bool.{Bool, true, false, _&&_, _||_}
+use mathlib.Core.Bool.{Bool, true, false, not, _&&_, _||_}
 use mathlib.Core.List.{List}
 use mathlib.Core.Option.{Option, none, some}
-use Prim.Native.Nat.{ℕ, zero, suc, _<_, _≤_}
+use Prim.Native.Nat.{ℕ, zero, suc, _+_, _<_, _≤_}
+use native.Mathlib.Numerals.{add-one}
 use native.Mathlib.Omega.{arith}
 use lib.Dec.{eqb, ltb}
 use lib.ListN.{length, getD, set, replicate, length-set, length-replicate, getD-replicate, List·getD-eq-default}
 use lib.Seq.{getD-set-same, getD-set-other}
-use borrow.Author.Tests.{eqb-true, eqb-false, ltb-true, ltb-false}
+use borrow.Author.Tests.{eqb-true, eqb-false, ltb-true, ltb-false, not-true, not-false}
 use Rattle.rules.specs.Fold.{someBelow}
-use Rattle.rules.specs.Plan.{Plan, trackCount, stateCount, host, isIn, someIn}
+use Rattle.rules.specs.Plan.{Plan, trackCount, stateCount, noState, host, hostWord, isIn, someIn}
 use Rattle.rules.proofs.Tests.{look, look-option, or-right}
 use Rattle.rules.proofs.Folds.{some-same}
 use Rattle.rules.proofs.Acceptance.{Accepted}
 use Rattle.plan.specs.Passes.{stateSlots}
-use Rattle.lookup.specs.Marks.{setAt, markTurn, marksFrom, scopeMarks}
+use Rattle.lookup.specs.Marks.{setAt, markTurn, marksFrom, scopeMark, scopeMarks}
+use Rattle.lookup.proofs.Facts.{host-is}
 
 -- the track's place is i
 unfoldable pub isPlace : Option ℕ → ℕ → Bool
@@ -111,3 +113,22 @@ module _ (p : Plan) (ok : Accepted p) where
       marks-fresh stateSlots (host p) (λ t. getD ms t false) (λ t i e. let b = ok .host-state t i e in omega arith) (trackCount p) s
       ∙ some-same (trackCount p) (λ t. isPlace (host p t) s && getD ms t false) (λ t. isIn p s t && getD ms t false)
       (λ t b. ap (λ z. z && getD ms t false) (in-scope s t))
+
+-- a scope's mark
+module _ (p : Plan) (ms ss : List Bool) (t : ℕ) where
+  pub scope-unmarked : not (getD ms t false) ≡ true → ss ≡ scopeMark p ms t ss
+  unfolding scopeMark markTurn
+  scope-unmarked h = rw (not-true (getD ms t false) h)
+
+  module _ (h : ℕ) (m : not (getD ms t false) ≡ false) (e : h ≡ hostWord p t) where
+    pub scope-root : h ≡ noState → ss ≡ scopeMark p ms t ss
+    unfolding scopeMark markTurn setAt
+    scope-root z = rw (not-false (getD ms t false) m, Rattle.plan.proofs.Hosting.host-none p t (sym e ∙ z), setAt)
+
+    pub scope-hosted : (h ≡ noState → ⊥) → set ss h true ≡ scopeMark p ms t ss
+    unfolding scopeMark markTurn setAt
+    scope-hosted n = rw (not-false (getD ms t false) m, host-is p t h e n, setAt)
+
+pub scope-more : (p : Plan) (ms ss r : List Bool) (t : ℕ) → ss ≡ scopeMarks p ms t → r ≡ scopeMark p ms t ss → r ≡ scopeMarks p ms (t + 1)
+unfolding scopeMark scopeMarks marksFrom
+scope-more p ms ss r t e f = rw (add-one, ← e) f

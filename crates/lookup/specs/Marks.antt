@@ -1,14 +1,12 @@
--- Figures kept for each track or state while a step is worked out, each by one pass up the tracks: who has an open scope, and
--- which scopes have a marked track. Assumes nothing.
+-- Which scopes have a marked track, by one pass up the tracks. Assumes nothing.
 use mathlib.Core.Path.{_≡_}
 use mathlib.Core.Bool.{Bool, true, false, cond}
 use mathlib.Core.List.{List}
 use mathlib.Core.Option.{Option, none, some}
 use Prim.Native.Nat.{ℕ, zero, suc, _<_}
 use lib.ListN.{getD, set, replicate}
-use Rattle.rules.specs.Plan.{Plan, host, owner}
-use Rattle.rules.specs.Ledger.{Ledger, isAwake}
-use Rattle.plan.specs.Passes.{slots, stateSlots}
+use Rattle.rules.specs.Plan.{Plan, host}
+use Rattle.plan.specs.Passes.{stateSlots}
 
 -- figures below n are as f says
 abbrev pub Marks : {A : Type 0} → A → List A → ℕ → (ℕ → A) → Type 0
@@ -28,28 +26,10 @@ unfoldable pub marksFrom : List Bool → (ℕ → Option ℕ) → (ℕ → Bool)
 marksFrom ms place test zero = ms
 marksFrom ms place test (suc t) = markTurn place test t (marksFrom ms place test t)
 
-module _ (p : Plan) where
-  -- the scopes that have a marked track: a track's place is the state that hosts it
-  module _ (ms : List Bool) where
-    unfoldable pub scopeMark : ℕ → List Bool → List Bool
-    scopeMark = markTurn (host p) (λ t. getD ms t false)
+-- the scopes that have a marked track: a track's place is the state that hosts it
+module _ (p : Plan) (ms : List Bool) where
+  unfoldable pub scopeMark : ℕ → List Bool → List Bool
+  scopeMark = markTurn (host p) (λ t. getD ms t false)
 
-    unfoldable pub scopeMarks : ℕ → List Bool
-    scopeMarks = marksFrom (replicate stateSlots false) (host p) (λ t. getD ms t false)
-
-  -- the track of a track's host, if it has one
-  unfoldable pub hostOwner : ℕ → Option ℕ
-  hostOwner t = elim (host p t) [ none ↦ none | some h ↦ some (owner p h) ]
-
-  -- the mark of the host's track set, if there is one
-  unfoldable pub setHost : Option ℕ → Bool → List Bool → List Bool
-  setHost none b ms = ms
-  setHost (some h) b ms = set ms (owner p h) b
-
-  -- an awake track is the open scope of its host's track
-  module _ (l : Ledger) where
-    unfoldable pub openMark : ℕ → List Bool → List Bool
-    openMark = markTurn hostOwner (λ t. isAwake (l t .mode))
-
-    unfoldable pub openMarks : ℕ → List Bool
-    openMarks = marksFrom (replicate slots false) hostOwner (λ t. isAwake (l t .mode))
+  unfoldable pub scopeMarks : ℕ → List Bool
+  scopeMarks = marksFrom (replicate stateSlots false) (host p) (λ t. getD ms t false)

@@ -2,40 +2,39 @@
 use crate::reading;
 use plan::fields::NO_STATE;
 use rules::Counts;
-ghost use mathlib.Core.Path.{_≡_};
+ghost use mathlib.Core.Bool.{false, _&&_};
 ghost use Prim.Native.Nat.{_<_};
-ghost use Rattle.rules.specs.Plan.{planOf};
+ghost use Rattle.rules.specs.Plan.{planOf, isHostedBy};
+ghost use Rattle.rules.specs.Ledger.{isAwake};
+ghost use Rattle.rules.specs.Scope.{hasOpenScope};
 ghost use Rattle.lookup.specs.Checked.{ledgerOf, Lent};
-ghost use Rattle.lookup.specs.Marks.{openMark, openMarks};
+ghost use Rattle.lookup.specs.Figures.{Figures, Only};
 
-// An awake track is the open scope of its host's track.
-fn mark_open(plan: &[u8], c: Counts, ledger: &[u16], opens: [bool; 32], t: usize) -> [bool; 32]
+// The track in whose open scope a track is, 65535 for none: its host's, if it is awake.
+fn inside(plan: &[u8], c: Counts, ledger: &[u16], t: usize) -> u16
     requires { ⌜ Lent (now plan) c (now ledger) × (t < c .tracks) ⌝ }
-    ensures { λ r. ⌜ r ≡ openMark (planOf (now (plan .entry)) c) (ledgerOf c (now (ledger .entry))) t opens ⌝ }
+    ensures { λ r. ⌜ Only (c .tracks)
+        (λ u. isHostedBy (planOf (now (plan .entry)) c) u t && isAwake (ledgerOf c (now (ledger .entry)) t .mode)) r ⌝ }
 {
     if !reading::is_awake(c, ledger, t) {
-        return opens;
+        return NO_STATE;
     }
-    let u = reading::host_track(plan, c, t);
-    if u == NO_STATE {
-        return opens;
-    }
-    let mut next = opens;
-    next[u as usize] = true;
-    next
+    reading::host_track(plan, c, t)
 }
 
 // The tracks that have an open scope.
 pub fn open_scopes(plan: &[u8], c: Counts, ledger: &[u16]) -> [bool; 32]
     requires { ⌜ Lent (now plan) c (now ledger) ⌝ }
-    ensures { λ r. ⌜ r ≡ openMarks (planOf (now (plan .entry)) c) (ledgerOf c (now (ledger .entry))) (c .tracks) ⌝ }
+    ensures { λ r. ⌜ Figures false r (c .tracks) (hasOpenScope (planOf (now (plan .entry)) c) (ledgerOf c (now (ledger .entry)))) ⌝ }
 {
     let mut opens = [false; 32];
     let tracks = c.tracks;
     let mut t: usize = 0;
     while t < tracks {
-        let next = mark_open(plan, c, ledger, opens, t);
-        opens = next;
+        let u = inside(plan, c, ledger, t);
+        if u != NO_STATE {
+            opens[u as usize] = true;
+        }
         t += 1;
     }
     opens

@@ -3,17 +3,19 @@ use crate::reading;
 use ledger::track;
 use rules::Counts;
 ghost use mathlib.Core.Path.{_≡_};
-ghost use mathlib.Core.Bool.{false, not, _&&_};
+ghost use mathlib.Core.Bool.{false};
 ghost use Prim.Native.Nat.{_<_};
-ghost use lib.ListN.{getD};
-ghost use Rattle.rules.specs.Ledger.{isUndoing, isEmpty};
-ghost use Rattle.ledger.specs.Words.{Room};
-ghost use Rattle.lookup.specs.Checked.{ledgerOf};
+ghost use Rattle.rules.specs.Plan.{planOf};
+ghost use Rattle.rules.specs.Scope.{hasOpenScope};
+ghost use Rattle.rules.specs.Fire.{mayFire};
+ghost use Rattle.lookup.specs.Checked.{ledgerOf, Lent};
+ghost use Rattle.lookup.specs.Figures.{Figures};
 
-// "it must be undoing, hold an entry and have no open scope"
-pub fn is_ready(c: Counts, ledger: &[u16], opens: [bool; 32], t: usize) -> bool
-    requires { ⌜ Room (now ledger) (c .tracks) × (t < c .tracks) ⌝ }
-    ensures { λ r. ⌜ r ≡ (isUndoing (ledgerOf c (now (ledger .entry)) t .mode) && not (isEmpty (ledgerOf c (now (ledger .entry)) t .held)) && not (getD opens t false)) ⌝ }
+// "it must be undoing, hold an entry and have no open scope", under the plan that says whose scopes are open
+pub fn is_ready(plan: &[u8], c: Counts, ledger: &[u16], opens: &[bool; 32], t: usize) -> bool
+    requires { ⌜ Lent (now plan) c (now ledger) × (t < c .tracks)
+        × Figures false (now opens) (c .tracks) (hasOpenScope (planOf (now plan) c) (ledgerOf c (now ledger))) ⌝ }
+    ensures { λ r. ⌜ r ≡ mayFire (planOf (now (plan .entry)) c) (ledgerOf c (now (ledger .entry))) t ⌝ }
 {
     let k = reading::track(c, ledger, t);
     let m = k.mode;

@@ -18,7 +18,7 @@ pub fn ready_bits(plan: &[u8], c: Counts, ledger: &[u16]) -> u32
     let mut bit: u64 = 1;
     let mut t: usize = 0;
     while t < tracks {
-        if ready::is_ready(c, ledger, open, t) {
+        if ready::is_ready(plan, c, ledger, &open, t) {
             bits += bit;
         }
         bit = bit * 2;

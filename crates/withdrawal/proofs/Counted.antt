@@ -26,9 +26,8 @@ use Rattle.plan.proofs.FieldLaws.{track-count}
 use Rattle.ledger.specs.Words.{trackOf}
 use Rattle.ledger.proofs.ReadTracks.{mode-as, empty-as, held-as}
 use Rattle.lookup.specs.Checked.{Accepts, hostTrack}
-use Rattle.lookup.specs.Marks.{openMarks}
-use Rattle.lookup.proofs.Facts.{plan-facts, few-tracks, no-host-track, host-of-track, host-track-low}
-use Rattle.lookup.proofs.Marks.{length-open, open-scopes}
+use Rattle.lookup.specs.Figures.{Figures}
+use Rattle.lookup.proofs.Facts.{no-host-track, host-of-track, host-track-low}
 use Rattle.withdrawal.specs.Scopes.{isBusy, busyBelow, Counted}
 
 -- Counts: none passes, and one that passes no longer.
@@ -125,17 +124,15 @@ module _ (bs : List ℕ) (c : Counts) (acc : Accepts bs c) (l : Ledger) (opens :
   abbrev p : Plan
   p = planOf bs c
 
-  pub count-start : opens ≡ openMarks p l (c .tracks) → Counted p l opens (replicate slots 0) 0
+  pub count-start : Figures false opens (c .tracks) (hasOpenScope p l) → Counted p l opens (replicate slots 0) 0
   unfolding busyBelow countBelow
-  count-start e =
+  count-start m =
       let q = track-count bs c in
       let f = acc .holds .tracks in
       record {
-        opens-size = ap length e ∙ length-open p (plan-facts bs c acc) (few-tracks bs c acc) l (c .tracks);
+        opens-size = m .size;
         busy-size = length-replicate {A = ℕ} slots 0;
-        mark = λ u d.
-            ap (λ (z : List Bool). getD z u false) (e ∙ ap (openMarks p l) (sym q))
-            ∙ open-scopes p (plan-facts bs c acc) (few-tracks bs c acc) l u (omega arith);
+        mark = λ u d. m .at u (omega arith);
         count = λ u d. getD-replicate slots u 0 0 (omega arith);
       }
 

@@ -32,7 +32,7 @@ fn may_fire(plan: &[u8], c: Counts, ledger: &[u16], t: usize) -> bool
         return false;
     }
     let opens = opens::open_scopes(plan, c, ledger);
-    ready::is_ready(c, ledger, opens, t)
+    ready::is_ready(plan, c, ledger, &opens, t)
 }
 
 // A track goes forward in a state, 65535 for none, and the scopes that it enters open.

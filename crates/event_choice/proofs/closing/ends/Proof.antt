@@ -1,22 +1,49 @@
--- The state after the move is one of the plan. Assumes nothing.
-use mathlib.Core.Path.{ap, _∙_}
-use Rattle.rules.specs.Plan.{isFinal}
-use Rattle.event_choice.proofs.Turns.{after-low}
+-- Forward or not; then the state that it is in, or its transition's destination. Assumes nothing.
+use Rattle.rules.specs.Plan.{noState}
+use Rattle.event_choice.specs.Next.{endsBy}
+use Rattle.ledger.proofs.Branches.{and-stops, and-goes}
+use Rattle.event_choice.proofs.Visits.{destination-low, next-still, next-moved}
 use borrow.Author.Needs.{needs}
 use Rattle.event_choice.proofs.closing.ends.Statement.{statement}
 use Rattle.event_choice.proofs.closing.ends.Tie as tie
 
-state-after-requires : tie.Need-state-after-requires
-state-after-requires c κs = search needs
+is-forward-requires : tie.Need-is-forward-requires
+is-forward-requires c κs = search needs
+
+returns : tie.Need-returns
+unfolding endsBy
+returns c = and-stops (c .before .is-forward .ensures) _ (c .if1 .taken)
 
 cast-is-final : tie.Need-cast-is-final
 cast-is-final c = search needs
 
 is-final-requires : tie.Need-is-final-requires
-is-final-requires c κs = (c .before .before .before .pre .0 .checked .lent .accepts .holds, after-low _ _ _ _ _ _ (c .before .before .before .pre .0) (c .before .before .before .pre .1) (c .before .before .before .pre .2) (c .state-after .ensures))
+is-final-requires c κs = search needs
 
-returns : tie.Need-returns
-returns c = c .is-final .ensures ∙ ap (isFinal _) (c .before .state-after .ensures)
+returns-2 : tie.Need-returns-2
+unfolding endsBy noState
+returns-2 c =     and-goes (c .before .before .before .is-forward .ensures) (c .before .before .if1 .left) (next-still _ _ (c .before .if2 .taken) (c .is-final .ensures))
+
+destination-of-requires : tie.Need-destination-of-requires
+unfolding noState
+destination-of-requires c κs = (c .before .before .before .before .pre .0 .holds, c .before .before .before .before .pre .2 (c .if2 .left))
+
+cast-is-final-2 : tie.Need-cast-is-final-2
+cast-is-final-2 c = search needs
+
+is-final-requires-2 : tie.Need-is-final-requires-2
+unfolding noState
+is-final-requires-2 c κs =
+    let a = c .before .before .before .before .before .pre in
+    (a .0 .holds, destination-low _ _ (a .0) (a .2 (c .before .if2 .left)) (c .destination-of .ensures))
+
+returns-3 : tie.Need-returns-3
+unfolding endsBy noState
+returns-3 c =
+    and-goes (c .before .before .before .before .is-forward .ensures) (c .before .before .before .if1 .left)
+    (next-moved _ _ (c .before .before .if2 .left) (c .before .destination-of .ensures) (c .is-final2 .ensures))
 
 pub ends-spec : {M : Type 1} → statement M
-ends-spec = tie.close (tie.spec state-after-requires cast-is-final is-final-requires returns)
+ends-spec =
+    tie.close
+    (tie.spec is-forward-requires returns cast-is-final is-final-requires returns-2 destination-of-requires cast-is-final-2 is-final-requires-2 returns-3)

@@ -1,17 +1,19 @@
--- The count after t turns is that of the tracks below t. Assumes nothing.
+-- The count after t visits is that of the tracks below t. Assumes nothing.
 use mathlib.Core.Path.{_≡_, refl}
+use mathlib.Core.Bool.{not}
 use Prim.Native.Nat.{_≤_, _-_}
 use native.Mathlib.Omega.{arith}
-use borrow.Author.Needs.{needs}
+use lib.Dec.{eqb}
+use lib.ListN.{getD}
 use Rattle.rules.specs.Fold.{countBelow}
-use Rattle.event_choice.proofs.Turns.{one-more}
 use Rattle.rules.specs.Plan.{noState}
-use Rattle.event_choice.specs.Marks.{takes}
+use Rattle.event_choice.proofs.Visits.{one-more}
+use borrow.Author.Needs.{needs}
 use Rattle.event_choice.proofs.judging.moves.Statement.{statement}
 use Rattle.event_choice.proofs.judging.moves.Tie as tie
 
 abbrev Inv-loop : tie.InvT-loop
-Inv-loop taken tracks n₀ t₀ n t = (t ≤ tracks) × (n ≤ t) × (n ≡ countBelow t (takes taken))
+Inv-loop taken tracks n₀ t₀ n t = (t ≤ tracks) × (n ≤ t) × (n ≡ countBelow t (λ i. not (eqb (getD taken i 0) noState)))
 
 abbrev μ-loop : tie.MeasureT-loop
 μ-loop taken tracks n₀ t₀ n t = tracks - t
@@ -23,8 +25,8 @@ loop-holds c = (search needs, search needs, refl)
 mul-one-where : tie.Need-mul-one-where Inv-loop μ-loop
 mul-one-where c = search needs
 
-array-read-one-where : tie.Need-array-read-one-where Inv-loop μ-loop
-array-read-one-where c = search needs
+element-copy-out-one-where : tie.Need-element-copy-out-one-where Inv-loop μ-loop
+element-copy-out-one-where c = search needs
 
 one-where-requires : tie.Need-one-where-requires Inv-loop μ-loop
 one-where-requires c κs = search needs
@@ -39,8 +41,8 @@ loop-less : tie.Need-loop-less Inv-loop μ-loop
 loop-less c = search needs
 
 loop-again : tie.Need-loop-again Inv-loop μ-loop
-unfolding takes noState
-loop-again c = (search needs, search needs, one-more _ _ _ _ (c .before .before .loop .inv .2) (c .one-where .ensures .0))
+unfolding noState
+loop-again c = (search needs, search needs, one-more _ _ _ _ (c .before .before .before .loop .inv .2) (c .one-where .ensures .0))
 
 returns : tie.Need-returns Inv-loop μ-loop
 returns c = let e : c .before .loop .t ≡ c .before .before .args .c .tracks = omega arith in rw e at (c .before .loop .inv .2)
@@ -48,15 +50,4 @@ returns c = let e : c .before .loop .t ≡ c .before .before .args .c .tracks = 
 pub moves-spec : {M : Type 1} → statement M
 moves-spec =
     tie.close
-    (tie.spec
-    Inv-loop
-    μ-loop
-    loop-holds
-    mul-one-where
-    array-read-one-where
-    one-where-requires
-    add-n
-    add-t
-    loop-less
-    loop-again
-    returns)
+    (tie.spec Inv-loop μ-loop loop-holds mul-one-where element-copy-out-one-where one-where-requires add-n add-t loop-less loop-again returns)

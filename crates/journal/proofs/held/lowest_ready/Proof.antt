@@ -8,7 +8,6 @@ use Rattle.rules.specs.Plan.{planOf}
 use Rattle.rules.specs.Fire.{mayFire}
 use Rattle.rules.proofs.Folds.{first-more-none}
 use Rattle.lookup.specs.Checked.{ledgerOf}
-use Rattle.lookup.proofs.Readiness.{fire-read}
 use Rattle.journal.proofs.OfLedger.{lowest-is, lowest-lacks}
 use Rattle.journal.proofs.held.lowest_ready.Statement.{statement}
 use Rattle.journal.proofs.held.lowest_ready.Tie as tie
@@ -33,7 +32,7 @@ cast-result : tie.Need-cast-result Inv-loop μ-loop
 cast-result c = search needs
 
 returns : tie.Need-returns Inv-loop μ-loop
-returns c = lowest-is _ _ _ _ (c .before .before .loop-test .taken) (c .before .before .before .loop .inv .1) (sym (fire-read _ _ _ _ _ (c .before .before .before .before .before .before .before .pre .accepts) (c .before .before .before .before .open-scopes .ensures) (c .before .before .loop-test .taken) (c .before .is-ready .ensures)) ∙ c .if1 .taken)
+returns c = lowest-is _ _ _ _ (c .before .before .before .loop-test .taken) (c .before .before .before .before .loop .inv .1) (sym (c .before .is-ready .ensures) ∙ c .if1 .taken)
 
 add-t : tie.Need-add-t Inv-loop μ-loop
 add-t c = search needs
@@ -42,7 +41,7 @@ loop-less : tie.Need-loop-less Inv-loop μ-loop
 loop-less c = search needs
 
 loop-again : tie.Need-loop-again Inv-loop μ-loop
-loop-again c = (search needs, first-more-none _ _ (c .before .before .before .loop .inv .1) (sym (fire-read _ _ _ _ _ (c .before .before .before .before .before .before .before .pre .accepts) (c .before .before .before .before .open-scopes .ensures) (c .before .before .loop-test .taken) (c .before .is-ready .ensures)) ∙ c .if1 .left))
+loop-again c = (search needs, first-more-none _ _ (c .before .before .before .before .loop .inv .1) (sym (c .before .is-ready .ensures) ∙ c .if1 .left))
 
 cast-result-2 : tie.Need-cast-result-2 Inv-loop μ-loop
 cast-result-2 c = search needs

@@ -1,8 +1,9 @@
--- The mode and the count read are the track's; a count of 0 is nothing held. Assumes nothing.
+-- The mode and the count read are the track's, the mark says whether it has an open scope. Assumes nothing.
 use mathlib.Core.Path.{ap, _∙_}
 use Rattle.rules.specs.Ledger.{isUndoing}
 use Rattle.ledger.proofs.Branches.{holds, fails}
 use Rattle.ledger.proofs.ReadTracks.{mode-as, empty-as, held-as}
+use Rattle.lookup.proofs.Facts.{fire-not, fire-nothing, fire-free}
 use borrow.Author.Needs.{needs}
 use Rattle.lookup.proofs.ready.is_ready.Statement.{statement}
 use Rattle.lookup.proofs.ready.is_ready.Tie as tie
@@ -14,18 +15,25 @@ is-undoing-requires : tie.Need-is-undoing-requires
 is-undoing-requires c κs = search needs
 
 returns : tie.Need-returns
-returns c = rw (fails (c .before .is-undoing .ensures ∙ ap isUndoing (mode-as _ (c .before .before .track .ensures))) (c .if1 .taken))
+returns c =
+    fire-not _ _ _ _ (c .before .before .before .before .before .pre .1)
+    (fails (c .before .is-undoing .ensures ∙ ap isUndoing (mode-as _ (c .before .before .track .ensures))) (c .if1 .taken))
 
 returns-2 : tie.Need-returns-2
-returns-2 c = rw (holds (c .before .before .before .is-undoing .ensures ∙ ap isUndoing (mode-as _ (c .before .before .before .before .track .ensures))) (c .before .before .if1 .left), empty-as _ (c .before .before .before .before .track .ensures) (c .if2 .taken))
+returns-2 c =
+    let k = c .before .before .before .before .track .ensures in
+    fire-nothing _ _ _ _ (c .before .before .before .before .before .before .before .pre .1)
+    (holds (c .before .before .before .is-undoing .ensures ∙ ap isUndoing (mode-as _ k)) (c .before .before .if1 .left)) (empty-as _ k (c .if2 .taken))
 
-array-read-result : tie.Need-array-read-result
-array-read-result c = search needs
+element-copy-out-result : tie.Need-element-copy-out-result
+element-copy-out-result c = search needs
 
 returns-3 : tie.Need-returns-3
-returns-3 c = rw (holds (c .before .before .before .is-undoing .ensures ∙ ap isUndoing (mode-as _ (c .before .before .before .before .track .ensures))) (c .before .before .if1 .left), held-as _ (c .before .before .before .before .track .ensures) (c .if2 .left))
+returns-3 c =
+    let k = c .before .before .before .before .before .track .ensures in
+    let pre = c .before .before .before .before .before .before .before .before .pre in
+    fire-free _ _ _ _ (pre .1) (holds (c .before .before .before .before .is-undoing .ensures ∙ ap isUndoing (mode-as _ k)) (c .before .before .before .if1 .left))
+    (held-as _ k (c .before .if2 .left)) (pre .2 .at _ (pre .1))
 
 pub is-ready-spec : {M : Type 1} → statement M
-is-ready-spec =
-    tie.close
-    (tie.spec track-requires is-undoing-requires returns returns-2 array-read-result returns-3)
+is-ready-spec = tie.close (tie.spec track-requires is-undoing-requires returns returns-2 element-copy-out-result returns-3)

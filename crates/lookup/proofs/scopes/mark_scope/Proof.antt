@@ -2,7 +2,7 @@
 use native.Mathlib.Omega.{arith}
 use Rattle.rules.specs.Plan.{noState}
 use Rattle.lookup.proofs.Facts.{host-low}
-use Rattle.lookup.proofs.Turns.{scope-unmarked, scope-root, scope-hosted}
+use Rattle.lookup.proofs.Setting.{scope-unmarked, scope-root, scope-hosted}
 use borrow.Author.Needs.{needs}
 use Rattle.lookup.proofs.scopes.mark_scope.Statement.{statement}
 use Rattle.lookup.proofs.scopes.mark_scope.Tie as tie

@@ -5,7 +5,7 @@ use native.Mathlib.Omega.{arith}
 use borrow.Author.Needs.{needs}
 use Rattle.rules.specs.Plan.{planOf}
 use Rattle.lookup.specs.Marks.{scopeMarks, marksFrom}
-use Rattle.lookup.proofs.Turns.{scope-more}
+use Rattle.lookup.proofs.Setting.{scope-more}
 use Rattle.lookup.proofs.scopes.scopes_with.Statement.{statement}
 use Rattle.lookup.proofs.scopes.scopes_with.Tie as tie
 

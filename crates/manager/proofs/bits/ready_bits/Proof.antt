@@ -7,7 +7,6 @@ use native.Mathlib.Omega.{arith}
 use Rattle.rules.specs.Plan.{planOf}
 use Rattle.rules.specs.Fire.{mayFire}
 use Rattle.lookup.specs.Checked.{ledgerOf}
-use Rattle.lookup.proofs.Readiness.{fire-read}
 use Rattle.manager.proofs.BitLaws.{bitsBelow, bits-none, twice, bit-small, bits-fit, bits-yes, bits-no, bits-ready}
 use Rattle.manager.proofs.bits.ready_bits.Statement.{statement}
 use Rattle.manager.proofs.bits.ready_bits.Tie as tie
@@ -28,10 +27,10 @@ is-ready-requires : tie.Need-is-ready-requires Inv-loop μ-loop
 is-ready-requires c κs = search needs
 
 add-bits : tie.Need-add-bits Inv-loop μ-loop
-add-bits c = let h : c .before .before .before .loop .t ≤ 32 = omega (arith, c .before .before .before .before .before .before .before .pre .room .few) in omega (arith, bit-small _ _ (c .before .before .before .loop .inv .1) h, bits-fit _ _ _ (c .before .before .before .loop .inv .2) h)
+add-bits c = let h : c .before .before .before .before .loop .t ≤ 32 = omega (arith, c .before .before .before .before .before .before .before .before .pre .room .few) in omega (arith, bit-small _ _ (c .before .before .before .before .loop .inv .1) h, bits-fit _ _ _ (c .before .before .before .before .loop .inv .2) h)
 
 mul-bit : tie.Need-mul-bit Inv-loop μ-loop
-mul-bit c = let h : c .before .before .before .loop .t ≤ 32 = omega (arith, c .before .before .before .before .before .before .before .pre .room .few) in omega (arith, bit-small _ _ (c .before .before .before .loop .inv .1) h)
+mul-bit c = let h : c .before .before .before .before .loop .t ≤ 32 = omega (arith, c .before .before .before .before .before .before .before .before .pre .room .few) in omega (arith, bit-small _ _ (c .before .before .before .before .loop .inv .1) h)
 
 add-t : tie.Need-add-t Inv-loop μ-loop
 add-t c = search needs
@@ -40,7 +39,7 @@ loop-less : tie.Need-loop-less Inv-loop μ-loop
 loop-less c = search needs
 
 loop-again : tie.Need-loop-again Inv-loop μ-loop
-loop-again c = (search needs, twice _ _ (c .before .before .before .loop .inv .1), ⊎-elim (λ w. w .1 ∙ bits-yes _ _ _ _ (c .before .before .before .loop .inv .2) (c .before .before .before .loop .inv .1) (fire-read _ _ _ _ _ (c .before .before .before .before .before .before .before .pre .accepts) (c .before .before .before .before .open-scopes .ensures) (search needs) (c .before .is-ready .ensures)) (w .0 .taken)) (λ w. w .1 ∙ bits-no _ _ _ (c .before .before .before .loop .inv .2) (fire-read _ _ _ _ _ (c .before .before .before .before .before .before .before .pre .accepts) (c .before .before .before .before .open-scopes .ensures) (search needs) (c .before .is-ready .ensures)) (w .0 .left)) (c .if1 .came))
+loop-again c = (search needs, twice _ _ (c .before .before .before .before .loop .inv .1), ⊎-elim (λ w. w .1 ∙ bits-yes _ _ _ _ (c .before .before .before .before .loop .inv .2) (c .before .before .before .before .loop .inv .1) (c .before .is-ready .ensures) (w .0 .taken)) (λ w. w .1 ∙ bits-no _ _ _ (c .before .before .before .before .loop .inv .2) (c .before .is-ready .ensures) (w .0 .left)) (c .if1 .came))
 
 cast-result : tie.Need-cast-result Inv-loop μ-loop
 cast-result c = let h : c .before .loop .t ≤ 32 = omega (arith, c .before .before .before .before .before .pre .room .few) in omega (arith, bits-fit _ _ _ (c .before .loop .inv .2) h)

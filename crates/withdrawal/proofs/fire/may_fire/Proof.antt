@@ -1,6 +1,5 @@
 -- A track beyond the plan's may not be fired; of another, its words and the mark of its open scope decide. Assumes nothing.
 use native.Mathlib.Omega.{arith}
-use Rattle.lookup.proofs.Readiness.{fire-read}
 use Rattle.withdrawal.proofs.FiredWords.{may-beyond}
 use borrow.Author.Needs.{needs}
 use Rattle.withdrawal.proofs.fire.may_fire.Statement.{statement}
@@ -16,7 +15,7 @@ is-ready-requires : tie.Need-is-ready-requires
 is-ready-requires c κs = search needs
 
 returns-2 : tie.Need-returns-2
-returns-2 c = fire-read _ _ _ _ _ (c .before .before .before .before .before .before .pre .accepts) (c .before .open-scopes .ensures) (omega arith) (c .is-ready .ensures)
+returns-2 c = c .is-ready .ensures
 
 pub may-fire-spec : {M : Type 1} → statement M
 may-fire-spec = tie.close (tie.spec returns open-scopes-requires is-ready-requires returns-2)

@@ -1,0 +1,114 @@
+-- From the passes to the choice: the words name the event's moves, so what was judged of those moves is what the rules say. Assumes nothing.
+use mathlib.Core.Path.{_≡_, refl, sym, ap, _∙_, subst, fun-ext}
+use mathlib.Core.Logic.{inl, inr}
+use mathlib.Core.Bool.{Bool, true, false, cond, not, _&&_}
+use mathlib.Core.List.{List}
+use mathlib.Core.Option.{Option, none, some}
+use Prim.Native.Nat.{ℕ, _<_, _≤_}
+use native.Mathlib.Omega.{arith}
+use lib.Dec.{eqb, ltb}
+use lib.ListN.{getD, replicate}
+use borrow.Author.Tests.{ltb-true, ltb-false}
+use Rattle.rules.specs.declared.Counts.{Counts}
+use Rattle.rules.specs.Fold.{someBelow, countBelow}
+use Rattle.rules.specs.Layout.{entryLimit}
+use Rattle.rules.specs.Plan.{Plan, planOf, trackCount, transitionCount, noState, optional}
+use Rattle.rules.specs.Ledger.{Ledger, isForward, sleeping}
+use Rattle.rules.specs.Event.{isMove, move, moves, moved, closesScope, closed, closings, isFinishing, isFull}
+use Rattle.rules.proofs.Tests.{look}
+use Rattle.rules.proofs.Folds.{count-same}
+use Rattle.rules.proofs.Acceptance.{Accepted, transition-for}
+use Rattle.rules.proofs.Soundness.{Live}
+use Rattle.plan.specs.Passes.{slots}
+use Rattle.plan.proofs.FieldLaws.{track-count, transition-count}
+use Rattle.lookup.specs.Checked.{Going, ledgerOf}
+use Rattle.lookup.specs.Figures.{Figures, Numbers}
+use Rattle.lookup.proofs.Facts.{plan-facts, few-tracks, live-of-going, beyond}
+use Rattle.lookup.proofs.FiguresLaws.{figure-each}
+use Rattle.event_choice.specs.declared.Choice.{Choice}
+use Rattle.event_choice.specs.declared.judging.Verdict.{Verdict}
+use Rattle.event_choice.specs.Next.{InRange, movesOf, closesNext}
+use Rattle.event_choice.specs.Chosen.{Judged, Chosen}
+use Rattle.event_choice.proofs.Visits.{word-some, moves-at}
+use Rattle.event_choice.proofs.Moved.{mover-facts, closes-before, closings-before, finishes-before, full-before}
+use Rattle.event_choice.proofs.Still.{no-moves, still-closes, still-closings, still-finish, still-full}
+
+is-move : (p : Plan) (w : ℕ) → not (eqb w noState) ≡ isMove p (optional w)
+unfolding optional isMove
+is-move p w = elim (look (eqb w noState)) [ inl q ↦ rw (q, isMove) | inr q ↦ rw (q, isMove) ]
+
+module _ (bs : List ℕ) (c : Counts) (ws : List ℕ) (g : Going bs c ws) (event : ℕ) {ts : List ℕ}
+    (took : Numbers ts (c .tracks) (move (planOf bs c) (ledgerOf c ws) event)) where
+  abbrev p : Plan
+  p = planOf bs c
+
+  abbrev l : Ledger
+  l = ledgerOf c ws
+
+  ok : Accepted p
+  ok = plan-facts bs c (g .checked .lent .accepts)
+
+  live : Live p l
+  live = live-of-going bs c ws g
+
+  pub in-range : InRange c ts
+  in-range =
+      record {
+        low = λ t b n.
+            let (d, s, e) = transition-for p (l t .state) event (getD ts t 0) (mover-facts p ok l live event t (getD ts t 0) (sym (took .at t b) ∙ word-some n) .taken) in
+            omega (arith, transition-count bs c);
+      }
+
+  -- the moves that the words name are the event's: beyond the plan's tracks none moves
+  pub moves-are : movesOf ts (c .tracks) ≡ move p l event
+  moves-are =
+      fun-ext
+      (λ t.
+      elim (look (ltb t (c .tracks))) [
+        | inl q ↦ let b = ltb-true t (c .tracks) q in moves-at ts (c .tracks) t b ∙ took .at t b
+        | inr q ↦ let b = ltb-false t (c .tracks) q in (unfold movesOf in rw q (sym (idle t (beyond bs c ws t (omega (arith, track-count bs c))))))
+      ])
+    where
+      idle : (t : ℕ) → l t ≡ sleeping → move p l event t ≡ none
+      idle t s = unfold move isForward sleeping in rw s
+
+  taken-all : Numbers ts (trackCount p) (move p l event)
+  taken-all = subst (λ n. Numbers ts n (move p l event)) (sym (track-count bs c)) took
+
+  count-all : {n : ℕ} → n ≡ countBelow (c .tracks) (λ t. not (eqb (getD ts t 0) noState)) → n ≡ countBelow (trackCount p) (moves p l event)
+  unfolding moves
+  count-all e =
+      e ∙ ap (λ k. countBelow k (λ t. not (eqb (getD ts t 0) noState))) (sym (track-count bs c))
+      ∙ count-same (trackCount p) _ _ (λ t b. is-move p (getD ts t 0) ∙ ap (isMove p) (taken-all .at t b))
+
+  module _ {n : ℕ} (count : n ≡ countBelow (c .tracks) (λ t. not (eqb (getD ts t 0) noState))) where
+    -- no track moves
+    pub chosen-none : n ≡ 0
+        → Chosen p l (record { event = event; taken = ts; closing = replicate slots false; moved = 0; closed = 0; finishing = false; full = false })
+    chosen-none z =
+        let still = no-moves p l event (beyond bs c ws) (sym (count-all count) ∙ z) in
+        record {
+          taken = taken-all;
+          closing = figure-each false _ false (trackCount p) (few-tracks bs c (g .checked .lent .accepts)) (λ t b. sym (still-closes p l event ok live still t));
+          many-moved = sym z ∙ count-all count;
+          many-closed = sym (still-closings p l event ok live still);
+          finishing = sym (still-finish p l event ok live still);
+          full = sym (still-full p l event ok live still entryLimit);
+        }
+
+    -- some do
+    pub chosen-all : {ms : List Bool} {v : Verdict} → Figures false ms (c .tracks) (closesNext p l (movesOf ts (c .tracks)))
+        → Judged p l (movesOf ts (c .tracks)) (c .tracks) v
+        → Chosen p l (record { event = event; taken = ts; closing = ms; moved = n; closed = v .closed; finishing = v .finishing; full = v .full })
+    chosen-all {ms} {v} f j =
+        let q = sym (track-count bs c) in
+        let h = subst (λ n. Judged p l (move p l event) n v) q (subst (λ goes. Judged p l goes (c .tracks) v) moves-are j) in
+        let k = subst (λ n. Figures false ms n (closesNext p l (move p l event))) q (subst (λ goes. Figures false ms (c .tracks) (closesNext p l goes)) moves-are f) in
+        record {
+          taken = taken-all;
+          closing = record { size = k .size; at = λ t b. k .at t b ∙ sym (closes-before p ok l live event t b) };
+          many-moved = count-all count;
+          many-closed = h .closings ∙ sym (closings-before p ok l live event);
+          finishing = h .finishes ∙ sym (finishes-before p ok l live event);
+          full = h .fills ∙ sym (full-before p ok l live event entryLimit);
+        }

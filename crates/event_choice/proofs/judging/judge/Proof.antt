@@ -1,0 +1,106 @@
+-- After t visits the verdict is that on the tracks below t. Assumes nothing.
+use mathlib.Core.Path.{_≡_, refl, sym, ap, _∙_}
+use mathlib.Core.Bool.{true, false, cond, not, _||_}
+use Prim.Native.Nat.{_≤_, _-_}
+use native.Mathlib.Omega.{arith}
+use denote.Ref.{now}
+use Rattle.rules.specs.Fold.{everyBelow, someBelow, countBelow}
+use Rattle.rules.specs.Layout.{entryLimit}
+use Rattle.rules.specs.Plan.{planOf, noState, isRoot}
+use Rattle.lookup.specs.Checked.{ledgerOf}
+use Rattle.event_choice.specs.Next.{movesOf, endsNext, closesNext, fullNext}
+use Rattle.event_choice.proofs.Visits.{state-low, one-more, finishes-more, full-more, finishes-all}
+use borrow.Author.Needs.{needs}
+use Rattle.event_choice.proofs.judging.judge.Statement.{statement}
+use Rattle.event_choice.proofs.judging.judge.Tie as tie
+
+abbrev Inv-loop : tie.InvT-loop
+Inv-loop plan c ledger taken closing tracks closed₀ finishing₀ full₀ t₀ closed finishing full t =
+    let p = planOf plan c in
+    let l = ledgerOf c ledger in
+    let goes = movesOf taken (c .tracks) in
+    (t ≤ c .tracks) × (closed ≤ t) × (closed ≡ countBelow t (closesNext p l goes))
+    × (finishing ≡ everyBelow t (λ i. not (isRoot p i) || endsNext p l goes i)) × (full ≡ someBelow t (fullNext p l goes entryLimit))
+
+abbrev μ-loop : tie.MeasureT-loop
+μ-loop plan c ledger taken closing tracks closed₀ finishing₀ full₀ t₀ closed finishing full t = c .tracks - t
+
+loop-holds : tie.Need-loop-holds Inv-loop μ-loop
+unfolding countBelow everyBelow someBelow
+loop-holds c = (omega arith, omega arith, refl, refl, refl)
+
+track-requires : tie.Need-track-requires Inv-loop μ-loop
+track-requires c κs = search needs
+
+mul-x : tie.Need-mul-x Inv-loop μ-loop
+mul-x c = search needs
+
+element-copy-out-x : tie.Need-element-copy-out-x Inv-loop μ-loop
+element-copy-out-x c = search needs
+
+element-copy-out-closes : tie.Need-element-copy-out-closes Inv-loop μ-loop
+element-copy-out-closes c = search needs
+
+one-where-requires : tie.Need-one-where-requires Inv-loop μ-loop
+one-where-requires c κs = search needs
+
+add-closed : tie.Need-add-closed Inv-loop μ-loop
+add-closed c = search needs
+
+root-ends-requires : tie.Need-root-ends-requires Inv-loop μ-loop
+unfolding noState
+root-ends-requires c κs =
+    let a = c .before .before .before .before .before .before .before .before .pre in
+    let b = c .before .before .before .before .loop-test .taken in
+    (a .0 .checked .lent .accepts, state-low _ _ _ _ (a .0) b (c .before .before .before .track .ensures), a .1 .low _ b, b)
+
+both-requires : tie.Need-both-requires Inv-loop μ-loop
+both-requires c κs = search needs
+
+is-full-requires : tie.Need-is-full-requires Inv-loop μ-loop
+unfolding noState
+is-full-requires c κs =
+    let a = c .before .before .before .before .before .before .before .before .before .before .pre in
+    let b = c .before .before .before .before .before .before .loop-test .taken in
+    (a .0 .checked .lent .accepts, state-low _ _ _ _ (a .0) b (c .before .before .before .before .before .track .ensures), a .1 .low _ b)
+
+either-requires : tie.Need-either-requires Inv-loop μ-loop
+either-requires c κs = search needs
+
+add-t : tie.Need-add-t Inv-loop μ-loop
+add-t c = search needs
+
+loop-less : tie.Need-loop-less Inv-loop μ-loop
+loop-less c = search needs
+
+loop-again : tie.Need-loop-again Inv-loop μ-loop
+loop-again c =
+    let a = c .before .before .before .before .before .before .before .before .before .before .before .before in
+    let p = planOf (now (a .args .plan)) (a .args .c) in
+    let l = ledgerOf (a .args .c) (now (a .args .ledger)) in
+    let inv = c .before .before .before .before .before .before .before .before .before .loop .inv in
+    let b = c .before .before .before .before .before .before .before .before .loop-test .taken in
+    let k = c .before .before .before .before .before .before .before .track .ensures in
+    let m = a .pre .2 .at _ b in (
+      omega arith,
+      omega (arith, inv .1, c .before .before .before .before .one-where .ensures .1),
+      one-more (closesNext p l _) _ _ _ (inv .2) (c .before .before .before .before .one-where .ensures .0 ∙ ap (λ x. cond x 1 0) m),
+      finishes-more p l _ _ _ b k (inv .3) (c .before .before .before .root-ends .ensures) (c .before .before .both .ensures),
+      full-more p l _ _ _ b k (inv .4) m (c .before .is-full .ensures) (c .either .ensures),
+    )
+
+returns : tie.Need-returns Inv-loop μ-loop
+returns c =
+    let a = c .before .before .before .before in
+    let inv = c .before .loop .inv in
+    let e : c .before .loop .t ≡ a .args .c .tracks = omega arith in
+    record {
+      closings = rw e at (inv .2);
+      finishes = finishes-all (now (a .args .plan)) (a .args .c) (ledgerOf (a .args .c) (now (a .args .ledger))) _ e (inv .3);
+      fills = rw e at (inv .4);
+    }
+
+pub judge-spec : {M : Type 1} → statement M
+judge-spec =
+    tie.close
+    (tie.spec Inv-loop μ-loop loop-holds track-requires mul-x element-copy-out-x element-copy-out-closes one-where-requires add-closed root-ends-requires both-requires is-full-requires either-requires add-t loop-less loop-again returns)

@@ -1,0 +1,57 @@
+-- What an event will do, read off the ledger before the call and the moves that are made. Assumes nothing.
+use mathlib.Core.Path.{_≡_}
+use mathlib.Core.Bool.{Bool, cond, not, _&&_, _||_}
+use mathlib.Core.List.{List}
+use mathlib.Core.Option.{Option, none, some}
+use Prim.Native.Nat.{ℕ, _<_}
+use lib.Dec.{eqb, leb, ltb}
+use lib.ListN.{length, getD}
+use Rattle.rules.specs.declared.Counts.{Counts}
+use Rattle.rules.specs.declared.Mode.{Mode}
+use Rattle.rules.specs.Fold.{everyBelow}
+use Rattle.rules.specs.Plan.{Plan, trackCount, noState, optional, transition, replacement, isRoot, isFinal, isHostedBy}
+use Rattle.rules.specs.Ledger.{Ledger, isAwake, isForward}
+use Rattle.rules.specs.Scope.{hasOpenScope}
+
+-- the moves that words name: a transition for each track below n, 65535 for none
+unfoldable pub movesOf : List ℕ → ℕ → ℕ → Option ℕ
+movesOf ts n t = cond (ltb t n) (optional (getD ts t 0)) none
+
+-- each transition is one of the plan's
+pub record InRange (c : Counts) (ts : List ℕ) : Type 0 where
+  pub low : (t : ℕ) → t < c .tracks → (getD ts t 0 ≡ noState → ⊥) → getD ts t 0 < c .transitions
+
+-- the event's transition is the track's: it is forward in the source, without an open scope
+unfoldable pub isTaken : Plan → Ledger → ℕ → ℕ → ℕ → Bool
+isTaken p l event x t =
+    isForward (l t .mode) && not (hasOpenScope p l t) && (eqb (transition p x .source) (l t .state) && eqb (transition p x .event) event)
+
+-- the state after a move, if there is one
+unfoldable pub nextOf : Plan → ℕ → Option ℕ → ℕ
+nextOf p s none = s
+nextOf p s (some x) = transition p x .destination
+
+-- a track in this mode and state will be forward in a final state
+unfoldable pub endsBy : Plan → Mode → ℕ → Option ℕ → Bool
+endsBy p m s o = isForward m && isFinal p (nextOf p s o)
+
+-- the code that a track is given: its transition's, or the replacement if its scope closes; 0 for none
+unfoldable pub codeBy : Plan → ℕ → Option ℕ → Bool → ℕ
+codeBy p s none closes = cond closes (replacement p s) 0
+codeBy p s (some x) closes = transition p x .code
+
+module _ (p : Plan) (l : Ledger) (goes : ℕ → Option ℕ) where
+  unfoldable pub endsNext : ℕ → Bool
+  endsNext t = endsBy p (l t .mode) (l t .state) (goes t)
+
+  -- the track has an open scope, and every awake track there will be forward in a final state
+  unfoldable pub closesNext : ℕ → Bool
+  closesNext t = hasOpenScope p l t && everyBelow (trackCount p) (λ u. not (isHostedBy p t u && isAwake (l u .mode)) || endsNext u)
+
+  -- every root will be forward in a final state
+  unfoldable pub finishesNext : Bool
+  finishesNext = everyBelow (trackCount p) (λ t. not (isRoot p t) || endsNext t)
+
+  -- a track that is given a code holds as many entries as it can
+  unfoldable pub fullNext : ℕ → ℕ → Bool
+  fullNext limit t = leb limit (length (l t .held)) && not (eqb (codeBy p (l t .state) (goes t) (closesNext t)) 0)

@@ -1,0 +1,104 @@
+-- One track written: a code given, a move's entry installed, a closing done. Each branch of the code is a case of the definition. Assumes nothing.
+use mathlib.Core.Path.{_≡_, refl, sym, ap, _∙_}
+use mathlib.Core.Bool.{Bool, true, false, not, _&&_}
+use mathlib.Core.List.{List, _∷_}
+use mathlib.Core.Option.{some}
+use Prim.Native.Nat.{ℕ, _<_}
+use native.Mathlib.Omega.{arith}
+use lib.Dec.{eqb}
+use lib.ListN.{length, getD}
+use borrow.Author.Tests.{eq-eqb, ne-eqb, not-true, not-false}
+use Rattle.rules.specs.declared.Counts.{Counts}
+use Rattle.rules.specs.declared.Track.{Track}
+use Rattle.rules.specs.Layout.{entryLimit}
+use Rattle.rules.specs.Plan.{Plan, planOf, noState, optional, owner, transition, replacement}
+use Rattle.rules.specs.Ledger.{Configuration, Ledger, isAwake, sleeping}
+use Rattle.rules.specs.Event.{install, installed, destinationOf, installedBy, hasCode}
+use Rattle.ledger.specs.Words.{Tidy, trackOf, trackAt, withInstalled, withAsleep}
+use Rattle.ledger.proofs.ReadTracks.{mode-as, state-as}
+use Rattle.lookup.specs.Checked.{Accepts, ledgerOf, hostTrack}
+use Rattle.lookup.specs.OneTrack.{withConfiguration}
+use Rattle.lookup.proofs.Facts.{track-read, no-host-track, host-of-track}
+use Rattle.lookup.proofs.OneTrackLaws.{kept-track, put-installed, put-asleep}
+use Rattle.event_choice.proofs.Visits.{word-none, word-some, word-small}
+use Rattle.event_writing.specs.Writing.{isClosedBy, closedBy}
+
+-- a code given
+module _ (c : Counts) (ws : List ℕ) (o : Tidy ws (c .tracks)) (t : ℕ) (b : t < c .tracks) (code deviation : ℕ) where
+  pub give-none : code ≡ 0 → ws ≡ withConfiguration c ws t (installed code deviation (ledgerOf c ws t))
+  unfolding installed install
+  give-none z = kept-track c ws o t _ (rw (eq-eqb code 0 z))
+
+  module _ (room : length (ledgerOf c ws t .held) < entryLimit) where
+    pub give-room : trackAt ws t .count < entryLimit
+    unfolding trackOf
+    give-room = let e = ap (λ (k : Track). k .count) (track-read c ws t b) in omega (arith, e)
+
+    pub give-some : (code ≡ 0 → ⊥) → {vs : List ℕ} → vs ≡ withInstalled ws t code deviation
+        → vs ≡ withConfiguration c ws t (installed code deviation (ledgerOf c ws t))
+    unfolding installed install
+    give-some n d = d ∙ put-installed c ws o t b (record { code = code; deviation = deviation }) room ∙ ap (withConfiguration c ws t) (sym (rw (ne-eqb code 0 n)))
+
+-- what a transition installs, and where it leads
+module _ (p : Plan) (x : ℕ) where
+  pub stays : x ≡ noState → (y : Configuration) → installedBy p (optional x) y ≡ y
+  unfolding installedBy
+  stays z y = rw (word-none z, installedBy)
+
+  pub enters-none : x ≡ noState → optional noState ≡ destinationOf p (optional x)
+  unfolding destinationOf
+  enters-none z = word-none refl ∙ sym (rw (word-none z, destinationOf))
+
+  module _ (n : x ≡ noState → ⊥) where
+    pub installs : {code deviation : ℕ} → code ≡ transition p x .code → deviation ≡ transition p x .deviation → (c : Counts) (ws : List ℕ) (t : ℕ) {vs : List ℕ}
+        → vs ≡ withConfiguration c ws t (installed code deviation (ledgerOf c ws t))
+        → vs ≡ withConfiguration c ws t (installedBy p (optional x) (ledgerOf c ws t))
+    unfolding installedBy
+    installs e f c ws t d = d ∙ ap (withConfiguration c ws t) (rw (word-some n, installedBy, e, f))
+
+    pub enters-some : {d : ℕ} → d ≡ transition p x .destination → d < 256 → optional d ≡ destinationOf p (optional x)
+    unfolding destinationOf
+    enters-some e b = word-small b ∙ ap some e ∙ sym (rw (word-some n, destinationOf))
+
+    pub has-code : {code : ℕ} → code ≡ transition p x .code → (code ≡ 0 → ⊥) → hasCode p (optional x) ≡ true
+    unfolding hasCode
+    has-code {code} e z = rw (word-some n, hasCode) (ap not (ap (λ k. eqb k 0) (sym e) ∙ ne-eqb code 0 z))
+
+-- whether a track is in a scope that closes
+module _ (bs : List ℕ) (c : Counts) (ms : List Bool) (a : Bool) (t u : ℕ) (g : u ≡ hostTrack (planOf bs c) t) where
+  pub closed-root : Accepts bs c → u ≡ noState → false ≡ isClosedBy (planOf bs c) ms t a
+  unfolding isClosedBy
+  closed-root acc z = rw (no-host-track bs c t acc (sym g ∙ z), isClosedBy)
+
+  module _ (n : u ≡ noState → ⊥) {r : Bool} (e : r ≡ a) where
+    pub closed-asleep : not r ≡ true → false ≡ isClosedBy (planOf bs c) ms t a
+    unfolding isClosedBy
+    closed-asleep h = let (s, q, o) = host-of-track (planOf bs c) t (λ w. n (g ∙ w)) in rw (q, isClosedBy, sym e ∙ not-true r h)
+
+    pub closed-awake : not r ≡ false → getD ms u false ≡ isClosedBy (planOf bs c) ms t a
+    unfolding isClosedBy
+    closed-awake h =
+        let (s, q, o) = host-of-track (planOf bs c) t (λ w. n (g ∙ w)) in
+        rw (q, isClosedBy, sym e ∙ not-false r h) (ap (λ (v : ℕ). getD ms v false) (g ∙ sym o))
+
+-- the closing of one track
+module _ (c : Counts) (ws : List ℕ) (o : Tidy ws (c .tracks)) (t : ℕ) (b : t < c .tracks) (p : Plan) (ms : List Bool) {k : Track}
+    (read : k ≡ trackOf (ledgerOf c ws t)) {q : Bool} (e : q ≡ isClosedBy p ms t (isAwake (k .mode))) where
+  is : isClosedBy p ms t (isAwake (ledgerOf c ws t .mode)) ≡ q
+  is = sym (e ∙ ap (λ m. isClosedBy p ms t (isAwake m)) (mode-as _ read))
+
+  pub put-closed : q ≡ true → {vs : List ℕ} → vs ≡ withAsleep ws t → vs ≡ withConfiguration c ws t (closedBy p ms t (ledgerOf c ws t))
+  unfolding closedBy
+  put-closed y d = d ∙ put-asleep c ws o t b ∙ ap (withConfiguration c ws t) (sym (rw (is ∙ y)))
+
+  module _ (n : q ≡ false) where
+    pub put-kept : getD ms t false ≡ false → ws ≡ withConfiguration c ws t (closedBy p ms t (ledgerOf c ws t))
+    unfolding closedBy
+    put-kept z = kept-track c ws o t _ (rw (is ∙ n, z))
+
+    pub put-replaced : getD ms t false ≡ true → {code : ℕ} → code ≡ replacement p (k .state)
+        → {vs : List ℕ} → vs ≡ withConfiguration c ws t (installed code noState (ledgerOf c ws t)) → vs ≡ withConfiguration c ws t (closedBy p ms t (ledgerOf c ws t))
+    unfolding closedBy
+    put-replaced y f d =
+        d ∙ ap (λ i. withConfiguration c ws t (installed i noState (ledgerOf c ws t))) (f ∙ ap (replacement p) (state-as _ read))
+        ∙ ap (withConfiguration c ws t) (sym (rw (is ∙ n, y)))

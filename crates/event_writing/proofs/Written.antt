@@ -1,0 +1,203 @@
+-- The three passes one after the other: entries installed, states entered, scopes closed. Each is the rules' own step on the ledger that the one
+-- before left, so together they are the event. Assumes nothing.
+use mathlib.Core.Path.{_≡_, refl, sym, ap, _∙_, subst}
+use mathlib.Core.Logic.{inl, inr}
+use mathlib.Core.Bool.{Bool, true, false, cond, not, _&&_, _||_}
+use mathlib.Core.List.{List}
+use mathlib.Core.Option.{Option, none, some}
+use Prim.Native.Nat.{ℕ, _<_, _≤_}
+use native.Mathlib.Omega.{arith}
+use lib.Dec.{eqb, leb, ltb}
+use lib.ListN.{length, getD}
+use borrow.Author.Tests.{leb-false, ltb-true, ltb-false}
+use Rattle.rules.specs.declared.Counts.{Counts}
+use Rattle.rules.specs.Fold.{someBelow}
+use Rattle.rules.specs.Layout.{entryLimit}
+use Rattle.rules.specs.Plan.{Plan, planOf, trackCount, stateCount, optional, host, replacement}
+use Rattle.rules.specs.Ledger.{Configuration, Ledger, isAwake, isForward, sleeping, written}
+use Rattle.rules.specs.Opening.{fresh, wakes, entered, enter}
+use Rattle.rules.specs.Event.{destinationOf, installedBy, hasCode, move, moved, isClosing, closesScope, closed, finished, isFinishing, isReplaced, isFull, afterEvent}
+use Rattle.rules.proofs.Tests.{look, look-option, clash, none-some, refuted, and-true, and-both, or-right}
+use Rattle.rules.proofs.Folds.{some-not}
+use Rattle.rules.proofs.Acceptance.{Accepted}
+use Rattle.rules.proofs.Opening.{wakes-root, wakes-same}
+use Rattle.rules.proofs.Soundness.{Live}
+use Rattle.rules.proofs.Stored.{Storable, written-same}
+use Rattle.plan.proofs.FieldLaws.{track-count}
+use Rattle.ledger.specs.Words.{Tidy}
+use Rattle.lookup.specs.Checked.{Going, ledgerOf}
+use Rattle.lookup.specs.Figures.{Numbers}
+use Rattle.lookup.proofs.Facts.{plan-facts, live-of-going, tidy-words, storable, beyond}
+use Rattle.lookup.proofs.OneTrackLaws.{Stores, stores-at, storable-of, read-back, orderly-after, then}
+use Rattle.opening.specs.Entering.{statesOf, Sleepers}
+use Rattle.opening.proofs.EnteringLaws.{entered-stores}
+use Rattle.event_choice.specs.declared.Choice.{Choice}
+use Rattle.event_choice.specs.Next.{InRange, movesOf}
+use Rattle.event_choice.specs.Chosen.{Chosen}
+use Rattle.event_choice.proofs.Visits.{own-low}
+use Rattle.event_choice.proofs.Takers.{forward-awake}
+use Rattle.event_choice.proofs.Moved.{mover-facts, woken-asleep, moved-kept, moved-own, moved-up, closes-before, closing-still}
+use Rattle.event_choice.proofs.Choosing as choosing
+use Rattle.event_writing.specs.Writing.{Movers, Closings}
+use Rattle.event_writing.proofs.Installing.{installing-stores}
+
+module _ (bs : List ℕ) (c : Counts) (ws : List ℕ) (g : Going bs c ws) (r : Choice) (ch : Chosen (planOf bs c) (ledgerOf c ws) r) where
+  abbrev p : Plan
+  p = planOf bs c
+
+  abbrev l : Ledger
+  l = ledgerOf c ws
+
+  abbrev e : ℕ
+  e = r .event
+
+  abbrev m : Ledger
+  m = moved p l e
+
+  abbrev to : ℕ → Option ℕ
+  to t = destinationOf p (move p l e t)
+
+  ok : Accepted p
+  ok = plan-facts bs c (g .checked .lent .accepts)
+
+  live : Live p l
+  live = live-of-going bs c ws g
+
+  o : Tidy ws (c .tracks)
+  o = tidy-words bs c ws (g .checked)
+
+  took : Numbers (r .taken) (c .tracks) (move p l e)
+  took = subst (λ n. Numbers (r .taken) n (move p l e)) (track-count bs c) (ch .taken)
+
+  pub in-range : InRange c (r .taken)
+  in-range = choosing.in-range bs c ws g e took
+
+  moves-are : movesOf (r .taken) (c .tracks) ≡ move p l e
+  moves-are = choosing.moves-are bs c ws g e took
+
+  -- every track goes to sleep
+  pub finish-written : r .finishing ≡ true → {vs : List ℕ} → vs ≡ written entryLimit (c .tracks) (λ t. sleeping) ws
+      → vs ≡ written entryLimit (c .tracks) (afterEvent p l e) ws
+  unfolding afterEvent finished
+  finish-written f d = d ∙ written-same entryLimit (c .tracks) _ _ ws (λ t b. sym (rw (sym (ch .finishing) ∙ f)))
+
+  module _ (free : r .full ≡ false) where
+    -- a track that is given an entry has room for it
+    spare : (t : ℕ) → t < trackCount p → (hasCode p (move p l e t) || isReplaced p m t) ≡ true → length (l t .held) < entryLimit
+    unfolding isFull
+    spare t b h =
+        let q = some-not (trackCount p) (λ t. (hasCode p (move p l e t) || isReplaced p m t) && leb entryLimit (length (l t .held))) (sym (ch .full) ∙ free) t b in
+        leb-false entryLimit (length (l t .held)) (refuted (leb entryLimit (length (l t .held))) (λ f. clash (and-both (hasCode p (move p l e t) || isReplaced p m t) _ h f) q))
+
+    mover-low : (t x : ℕ) → move p l e t ≡ some x → t < trackCount p
+    unfolding sleeping isForward
+    mover-low t x q =
+        elim (look (ltb t (trackCount p))) [
+          | inl b ↦ ltb-true t (trackCount p) b
+          | inr b ↦ clash (mover-facts p ok l live e t x q .ahead) (ap (λ (y : Configuration). isForward (y .mode)) (beyond bs c ws t (ltb-false t (trackCount p) b)))
+        ]
+
+    pub movers : Movers p l (movesOf (r .taken) (c .tracks))
+    unfolding hasCode
+    movers =
+        subst (Movers p l) (sym moves-are)
+        (record {
+          awake = λ t x q. forward-awake (l t .mode) (mover-facts p ok l live e t x q .ahead);
+          room = λ t h.
+              elim (look-option (move p l e t)) [
+                | inl q ↦ clash h (ap (hasCode p) q)
+                | inr q ↦ spare t (mover-low t (q .0) (q .1)) (ap (λ b. b || isReplaced p m t) h)
+              ];
+        })
+
+    -- the entries are installed
+    abbrev first : Ledger
+    first t = installedBy p (movesOf (r .taken) (c .tracks) t) (l t)
+
+    same : (t : ℕ) → first t ≡ installedBy p (move p l e t) (l t)
+    same t = ap (λ goes. installedBy p (goes t) (l t)) moves-are
+
+    idle : (t : ℕ) → move p l e t ≡ none → first t ≡ l t
+    unfolding installedBy
+    idle t q = same t ∙ (rw (q, installedBy))
+
+    none-beyond : (t : ℕ) → c .tracks ≤ t → move p l e t ≡ none
+    none-beyond t b =
+        elim (look-option (move p l e t)) [ inl q ↦ q | inr q ↦ absurd (let k = mover-low t (q .0) (q .1) in let n = track-count bs c in omega arith) ]
+
+    asleep-beyond : (t : ℕ) → c .tracks ≤ t → l t ≡ sleeping
+    asleep-beyond t b = beyond bs c ws t (omega (arith, track-count bs c))
+
+    stores-first : Storable entryLimit (c .tracks) first
+    stores-first =
+        storable-of entryLimit (c .tracks) first (installing-stores c ws o p (r .taken) movers) (λ t b. idle t (none-beyond t b) ∙ asleep-beyond t b)
+
+    module _ {vs : List ℕ} (d : vs ≡ written entryLimit (c .tracks) first ws) where
+      pub first-tidy : Tidy vs (c .tracks)
+      first-tidy = orderly-after c ws o first stores-first d
+
+      module _ {ts : List ℕ} (n : Numbers ts (c .tracks) (λ t. destinationOf p (movesOf (r .taken) (c .tracks) t))) where
+        goes-to : (t : ℕ) → t < trackCount p → statesOf ts t ≡ to t
+        unfolding statesOf
+        goes-to t b = n .at t (omega (arith, track-count bs c)) ∙ ap (λ goes. destinationOf p (goes t)) moves-are
+
+        -- what wakes was asleep
+        pub sleepers : Sleepers p (statesOf ts) (ledgerOf c vs)
+        sleepers u w =
+            let a = woken-asleep p ok l live e u (sym (wakes-same p ok (statesOf ts) to goes-to u) ∙ w) in
+            ap (λ (k : Ledger). k u) (read-back c ws o first stores-first d)
+            ∙ elim (look-option (move p l e u)) [
+              | inl q ↦ idle u q ∙ storable bs c ws g .blank u a
+              | inr q ↦ clash (forward-awake (l u .mode) (mover-facts p ok l live e u (q .0) (q .1) .ahead)) a
+            ]
+
+        -- the states are entered
+        module _ {us : List ℕ} (f : us ≡ written entryLimit (c .tracks) (enter p (statesOf ts) (ledgerOf c vs)) vs) where
+          second : us ≡ written entryLimit (c .tracks) m ws
+          unfolding enter moved
+          second =
+              then c ws o first stores-first d (enter p (statesOf ts)) f
+              ∙ written-same entryLimit (c .tracks) _ _ ws
+              (λ t b.
+              let h : t < trackCount p = omega (arith, track-count bs c) in
+              (λ i. entered p (same t i) (fresh p t) (goes-to t h i) (wakes-same p ok (statesOf ts) to goes-to t i)))
+
+          stores-second : Storable entryLimit (c .tracks) m
+          unfolding moved enter
+          stores-second =
+              storable-of entryLimit (c .tracks) m
+              (λ t.
+              let s = subst (λ x. Stores entryLimit x) (same t) (installing-stores c ws o p (r .taken) movers t) in
+              entered-stores entryLimit p (installedBy p (move p l e t) (l t)) t (to t) (wakes p to t) s)
+              (λ t b. moved-kept p ok l live e t (none-beyond t b) (wakes-root p ok to t (no-host t b)) ∙ asleep-beyond t b)
+            where
+              no-host : (t : ℕ) → c .tracks ≤ t → host p t ≡ none
+              no-host t b = elim (look-option (host p t)) [ inl q ↦ q | inr q ↦ absurd (let k = ok .hosted t (q .0) (q .1) in let n = track-count bs c in omega arith) ]
+
+          read-second : ledgerOf c us ≡ m
+          read-second = read-back c ws o m stores-second second
+
+          pub second-tidy : Tidy us (c .tracks)
+          second-tidy = orderly-after c ws o m stores-second second
+
+          pub closings : Closings p (ledgerOf c us) (r .closing)
+          unfolding closesScope isReplaced
+          closings =
+              subst (λ (k : Ledger). Closings p k (r .closing)) (sym read-second)
+              (record {
+                marks = ch .closing;
+                state = λ t b h. own-low p t (m t .state) (moved-own p ok l live e t b (and-true (isAwake (m t .mode)) _ h .0));
+                room = λ t b h.
+                    let s = closing-still p ok l live e t (sym (closes-before p ok l live e t b) ∙ and-true (closesScope p m t) _ h .0) in
+                    let k = spare t b (or-right (hasCode p (move p l e t)) (isReplaced p m t) h) in
+                    omega (arith, ap (λ (x : Configuration). length (x .held)) s);
+                hosting = moved-up p ok l live e;
+              })
+
+          -- the scopes are closed
+          pub all-written : r .finishing ≡ false → {xs : List ℕ} → xs ≡ written entryLimit (c .tracks) (closed p (ledgerOf c us)) us
+              → xs ≡ written entryLimit (c .tracks) (afterEvent p l e) ws
+          unfolding afterEvent finished
+          all-written z x =
+              then c ws o m stores-second second (closed p) x
+              ∙ written-same entryLimit (c .tracks) _ _ ws (λ t b. sym (rw (sym (ch .finishing) ∙ z)))

@@ -1,0 +1,25 @@
+-- Asleep it is in no open scope; awake it is in its host's track's. Assumes nothing.
+use Rattle.rules.specs.Plan.{noState}
+use Rattle.ledger.proofs.Branches.{holds, fails}
+use Rattle.lookup.proofs.Facts.{host-if, host-unless}
+use borrow.Author.Needs.{needs}
+use Rattle.lookup.proofs.opens.inside.Statement.{statement}
+use Rattle.lookup.proofs.opens.inside.Tie as tie
+
+is-awake-requires : tie.Need-is-awake-requires
+is-awake-requires c κs = search needs
+
+returns : tie.Need-returns
+unfolding noState
+returns c = host-unless _ _ _ (c .before .before .before .before .pre .0 .accepts) (fails (c .before .is-awake .ensures) (c .if1 .taken))
+
+host-track-requires : tie.Need-host-track-requires
+host-track-requires c κs = search needs
+
+returns-2 : tie.Need-returns-2
+returns-2 c =
+    host-if _ _ _ (c .before .before .before .before .before .pre .0 .accepts) (c .host-track .ensures)
+    (holds (c .before .before .is-awake .ensures) (c .before .if1 .left))
+
+pub inside-spec : {M : Type 1} → statement M
+inside-spec = tie.close (tie.spec is-awake-requires returns host-track-requires returns-2)
