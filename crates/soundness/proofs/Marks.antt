@@ -8,7 +8,7 @@ use mathlib.Core.Option.{none, some}
 use Prim.Native.Nat.{ℕ, _+_, _<_}
 use native.Mathlib.Omega.{arith}
 use lib.Dec.{eqb}
-use lib.ListN.{length, getD, set, replicate, length-set, length-replicate, getD-replicate}
+use lib.ListN.{getD, set, replicate, length-set, length-replicate, getD-replicate}
 use lib.Seq.{getD-set-same, getD-set-other}
 use borrow.Author.Tests.{eqb-true, eqb-false}
 use Rattle.rules.specs.declared.Counts.{Counts}
@@ -24,29 +24,13 @@ use Rattle.rules.proofs.Tests.{look}
 use Rattle.rules.proofs.Folds.{every-same, some-more}
 use Rattle.rules.proofs.Scopes.{host-in}
 use Rattle.plan.specs.Passes.{stateSlots}
-use Rattle.plan.proofs.FieldLaws.{track-count}
 use Rattle.plan.proofs.Hosting.{host-none}
 use Rattle.ledger.specs.Words.{trackOf}
 use Rattle.ledger.proofs.ReadTracks.{empty-count}
 use Rattle.lookup.specs.Checked.{Accepts}
-use Rattle.lookup.specs.Figures.{Figures}
-use Rattle.lookup.specs.Marks.{openMarks}
-use Rattle.lookup.proofs.Facts.{plan-facts, few-tracks, host-is, host-low}
-use Rattle.lookup.proofs.Marks.{length-open, open-scopes}
+use Rattle.lookup.proofs.Facts.{host-is, host-low}
 use Rattle.soundness.specs.Parts.{Scoped, Marked, soundScope}
 use Rattle.soundness.proofs.Clauses.{not-some}
-
--- who has an open scope
-pub opens-told : (bs : List ℕ) (c : Counts) (l : Ledger) (os : List Bool) → Accepts bs c → os ≡ openMarks (planOf bs c) l (c .tracks)
-    → Figures false os (c .tracks) (hasOpenScope (planOf bs c) l)
-opens-told bs c l os a e =
-    let f : os ≡ openMarks (planOf bs c) l (trackCount (planOf bs c)) = e ∙ ap (openMarks (planOf bs c) l) (sym (track-count bs c)) in
-    record {
-      size = ap length f ∙ length-open (planOf bs c) (plan-facts bs c a) (few-tracks bs c a) l (trackCount (planOf bs c));
-      at = λ t b.
-          ap (λ x. getD x t false) f
-          ∙ open-scopes (planOf bs c) (plan-facts bs c a) (few-tracks bs c a) l t (omega (arith, track-count bs c));
-    }
 
 -- a host's mark is among those that there are
 pub slot : (bs : List ℕ) (c : Counts) (t h : ℕ) → Accepts bs c → h ≡ hostWord (planOf bs c) t → (h ≡ noState → ⊥) → h < stateSlots

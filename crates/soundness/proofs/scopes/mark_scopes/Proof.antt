@@ -6,7 +6,7 @@ use native.Mathlib.Omega.{arith}
 use Rattle.rules.specs.Plan.{noState, planOf}
 use Rattle.lookup.specs.Checked.{ledgerOf}
 use Rattle.soundness.specs.Parts.{Marked}
-use Rattle.soundness.proofs.Marks.{opens-told, slot, marked-none, marked-root, marked-hosted}
+use Rattle.soundness.proofs.Marks.{slot, marked-none, marked-root, marked-hosted}
 use borrow.Author.Needs.{needs}
 use Rattle.soundness.proofs.scopes.mark_scopes.Statement.{statement}
 use Rattle.soundness.proofs.scopes.mark_scopes.Tie as tie
@@ -33,7 +33,7 @@ loop-again c =
     let e = c .before .host-word .ensures in (
       search needs,
       elim (c .if1 .came) [
-        | inl w ↦ rw (w .5, w .6, w .7, w .8) (marked-hosted _ _ _ inv e (w .0 .taken) (slot _ _ _ _ acc e (w .0 .taken)) (w .1 .ensures) (w .2 .ensures) (w .3 .ensures) (w .4 .ensures) (opens-told _ _ _ _ acc (c .before .before .before .before .open-scopes .ensures) .at _ (search needs)))
+        | inl w ↦ rw (w .5, w .6, w .7, w .8) (marked-hosted _ _ _ inv e (w .0 .taken) (slot _ _ _ _ acc e (w .0 .taken)) (w .1 .ensures) (w .2 .ensures) (w .3 .ensures) (w .4 .ensures) (c .before .before .before .before .open-scopes .ensures .at _ (search needs)))
         | inr w ↦ rw (w .1, w .2, w .3, w .4) (marked-root _ _ _ inv e (w .0 .left))
       ],
     )
