@@ -38,7 +38,7 @@ fn kept_open(plan: &[u8], c: Counts, ledger: &[u16], taken: &[u16; 32], t: usize
     requires { ⌜ Going (now plan) c (now ledger) × InRange c (now taken) × (t < c .tracks) ⌝ }
     ensures { λ r. ⌜ Only (c .tracks)
         (λ u. isHostedBy (planOf (now (plan .entry)) c) u t && (isAwake (ledgerOf c (now (ledger .entry)) t .mode)
-            && not (endsNext (planOf (now (plan .entry)) c) (ledgerOf c (now (ledger .entry))) (movesOf (now (taken .entry)) (c .tracks)) t))) r ⌝ }
+        && not (endsNext (planOf (now (plan .entry)) c) (ledgerOf c (now (ledger .entry))) (movesOf (now (taken .entry)) (c .tracks)) t))) r ⌝ }
 {
     let k = reading::track(c, ledger, t);
     let m = k.mode;
@@ -52,7 +52,13 @@ fn kept_open(plan: &[u8], c: Counts, ledger: &[u16], taken: &[u16; 32], t: usize
 }
 
 // The tracks whose open scope closes, given which have one and what each takes.
-pub fn closing_scopes(plan: &[u8], c: Counts, ledger: &[u16], opens: [bool; 32], taken: &[u16; 32]) -> [bool; 32]
+pub fn closing_scopes(
+    plan: &[u8],
+    c: Counts,
+    ledger: &[u16],
+    opens: [bool; 32],
+    taken: &[u16; 32],
+) -> [bool; 32]
     requires { ⌜ Going (now plan) c (now ledger) × InRange c (now taken)
         × Figures false opens (c .tracks) (hasOpenScope (planOf (now plan) c) (ledgerOf c (now ledger))) ⌝ }
     ensures { λ r. ⌜ Figures false r (c .tracks)

@@ -103,7 +103,13 @@ pub struct Verdict {
 }
 
 // The verdict on the moves and the closings.
-pub fn judge(plan: &[u8], c: Counts, ledger: &[u16], taken: &[u16; 32], closing: &[bool; 32]) -> Verdict
+pub fn judge(
+    plan: &[u8],
+    c: Counts,
+    ledger: &[u16],
+    taken: &[u16; 32],
+    closing: &[bool; 32],
+) -> Verdict
     requires { ⌜ Going (now plan) c (now ledger) × InRange c (now taken)
         × Figures false (now closing) (c .tracks) (closesNext (planOf (now plan) c) (ledgerOf c (now ledger)) (movesOf (now taken) (c .tracks))) ⌝ }
     ensures { λ r. ⌜ Judged (planOf (now (plan .entry)) c) (ledgerOf c (now (ledger .entry))) (movesOf (now (taken .entry)) (c .tracks)) (c .tracks) r ⌝ }

@@ -2,6 +2,7 @@
 pub mod closing;
 pub mod judging;
 pub mod moving;
+
 use lookup::opens;
 use rules::Counts;
 ghost use mathlib.Core.Path.{_≡_};

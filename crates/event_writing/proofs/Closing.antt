@@ -111,7 +111,7 @@ module _ (bs : List ℕ) (c : Counts) (acc : Accepts bs c) (ws : List ℕ) (o : 
         let s = k .state i (low b) (sym (marked b) ∙ y) in (
           omega (arith, ap (λ (x : Configuration). x .state) as-it-was),
           λ z.
-          let q = ap (λ (x : Configuration). replacement p (x .state)) as-it-was in
-          let r = spare b y (ap not (ne-eqb (replacement p (l i .state)) 0 (λ f. z (q ∙ f)))) in
-          omega (arith, ap (λ (x : Configuration). length (x .held)) as-it-was),
+              let q = ap (λ (x : Configuration). replacement p (x .state)) as-it-was in
+              let r = spare b y (ap not (ne-eqb (replacement p (l i .state)) 0 (λ f. z (q ∙ f)))) in
+              omega (arith, ap (λ (x : Configuration). length (x .held)) as-it-was),
         )

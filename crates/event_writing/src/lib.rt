@@ -92,7 +92,7 @@ fn is_closed(plan: &[u8], c: Counts, closing: &[bool; 32], m: Mode, t: usize) ->
 fn close_track(plan: &[u8], c: Counts, ledger: &mut [u16], closing: &[bool; 32], t: usize)
     requires { ⌜ Accepts (now plan) c × Tidy (now ledger) (c .tracks) × (t < c .tracks)
         × (getD (now closing) t false ≡ true → (ledgerOf c (now ledger) t .state < c .states)
-            × ((replacement (planOf (now plan) c) (ledgerOf c (now ledger) t .state) ≡ 0 → ⊥) → length (ledgerOf c (now ledger) t .held) < entryLimit)) ⌝ }
+        × ((replacement (planOf (now plan) c) (ledgerOf c (now ledger) t .state) ≡ 0 → ⊥) → length (ledgerOf c (now ledger) t .held) < entryLimit)) ⌝ }
     ensures { λ _. ⌜ now (ledger .exit)
         ≡ withConfiguration c (now (ledger .entry)) t
         (closedBy (planOf (now (plan .entry)) c) (now (closing .entry)) t (ledgerOf c (now (ledger .entry)) t)) ⌝ }

@@ -46,7 +46,7 @@ returns-2 c =
     let d = destination-low _ _ (a .0) (a .3 n) (c .destination-of .ensures) in
     let s = a .0 .holds .states in (
       installs _ _ n (c .before .before .before .before .before .before .code-of .ensures) (c .before .before .before .before .before .deviation-of .ensures) _ _ _
-      (c .before .before .before .give .ensures),
+          (c .before .before .before .give .ensures),
       enters-some _ _ n (c .destination-of .ensures) (omega arith),
     )
 

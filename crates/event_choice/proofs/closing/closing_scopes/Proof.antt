@@ -33,7 +33,7 @@ module _ (bs : List ℕ) (c : Counts) (l : Ledger) (goes : ℕ → Option ℕ) {
   at-last e m = rw (e ∙ sym (track-count bs c)) at m
 
 abbrev Inv-loop : tie.InvT-loop
-Inv-loop plan c ledger taken closing₀ tracks t₀ closing t =     (t ≤ c .tracks) × Figures false closing (c .tracks) (closesAmong (planOf plan c) (ledgerOf c ledger) (movesOf taken (c .tracks)) t)
+Inv-loop plan c ledger taken closing₀ tracks t₀ closing t = (t ≤ c .tracks) × Figures false closing (c .tracks) (closesAmong (planOf plan c) (ledgerOf c ledger) (movesOf taken (c .tracks)) t)
 
 abbrev μ-loop : tie.MeasureT-loop
 μ-loop plan c ledger taken closing₀ tracks t₀ closing t = c .tracks - t

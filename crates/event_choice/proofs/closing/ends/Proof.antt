@@ -22,7 +22,7 @@ is-final-requires c κs = search needs
 
 returns-2 : tie.Need-returns-2
 unfolding endsBy noState
-returns-2 c =     and-goes (c .before .before .before .is-forward .ensures) (c .before .before .if1 .left) (next-still _ _ (c .before .if2 .taken) (c .is-final .ensures))
+returns-2 c = and-goes (c .before .before .before .is-forward .ensures) (c .before .before .if1 .left) (next-still _ _ (c .before .if2 .taken) (c .is-final .ensures))
 
 destination-of-requires : tie.Need-destination-of-requires
 unfolding noState

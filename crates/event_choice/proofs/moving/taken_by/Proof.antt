@@ -22,7 +22,7 @@ abbrev μ-loop : tie.MeasureT-loop
 
 loop-holds : tie.Need-loop-holds Inv-loop μ-loop
 unfolding noState
-loop-holds c = 
+loop-holds c =
     let a = c .before .before .args in
     (omega arith, numbers-none (c .before .before .pre .0 .checked .lent .room .few) (λ t. found-none (planOf (now (a .plan)) (a .c)) (ledgerOf (a .c) (now (a .ledger))) _ t))
 

@@ -84,7 +84,7 @@ loop-again c =
     )
 
 returns : tie.Need-returns Inv-loop μ-loop
-returns c = 
+returns c =
     let a = c .before .before .before .before .args in
     all-inside (now (a .plan)) (a .c) (ledgerOf (a .c) (now (a .ledger))) (omega arith) (c .before .loop .inv .1)
 
