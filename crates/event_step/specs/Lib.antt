@@ -1,3 +1,2 @@
--- What an event will do, worked out on the ledger before the call.
-pub mod Next
+-- What an event answers and leaves.
 pub mod Outcome

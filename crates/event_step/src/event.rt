@@ -1,8 +1,4 @@
 // An event: its refusals, judged before a word is written, then its step and its figures.
-use event_choice::closing;
-use event_choice::judging;
-use event_choice::moving;
-use lookup::opens;
 use lookup::reading;
 use rules::Counts;
 use rules::EventAnswer;
@@ -18,20 +14,16 @@ fn go_on(plan: &[u8], c: Counts, ledger: &mut [u16], event: u16) -> EventAnswer
     requires { ⌜ Going (now plan) c (now ledger) ⌝ }
     ensures { λ r. ⌜ Meets (goingOutcome (planOf (now (plan .entry)) c) (now (ledger .entry)) event) (eventTold r) (now (ledger .exit)) ⌝ }
 {
-    let scopes = opens::open_scopes(plan, c, &ledger[..]);
-    let taken = moving::choose(plan, c, &ledger[..], event, scopes);
-    let moved = judging::moves(c, taken);
+    let choice = event_choice::choose(plan, c, &ledger[..], event);
+    if choice.full {
+        return EventAnswer::Refused(21);
+    }
+    let moved = choice.moved;
     if moved == 0 {
         return EventAnswer::Moved(0, 0);
     }
-    let closing = closing::closing_scopes(plan, c, &ledger[..], scopes, taken);
-    let codes = judging::codes_given(plan, c, &ledger[..], taken, closing);
-    if judging::is_full(c, &ledger[..], codes) {
-        return EventAnswer::Refused(21);
-    }
-    let finishing = judging::finishes(plan, c, &ledger[..], taken);
-    let closed = judging::closings(c, closing);
-    event_writing::settle(plan, c, &mut ledger[..], finishing, taken, closing, codes);
+    let closed = choice.closed;
+    event_writing::write(plan, c, &mut ledger[..], choice);
     EventAnswer::Moved(moved, closed)
 }
 
