@@ -1,12 +1,11 @@
-//! Times of single calls.
+//! Times of single calls, by each side on the same ledgers.
 
-use std::hint::black_box;
 use std::time::Instant;
 
-use retraction::raw;
-use second::manager;
+use bench::sides::{self, Call, Side};
 
-use crate::cases::{median, Call, Given, Size};
+use crate::cases::Case;
+use crate::rounds::Rounds;
 
 /// Rounds of each side.
 const ROUNDS: usize = 201;
@@ -14,56 +13,69 @@ const ROUNDS: usize = 201;
 /// Ledgers of a round, each called on once.
 const LEDGERS: usize = 32;
 
-/// Makes the call by the proved library.
-fn proved(plan: &[u8], given: &mut Given, call: Call) {
-    let Given { words, argument } = given;
-    match call {
-        Call::Begin => drop(black_box(raw::begin(plan, words))),
-        Call::Event => drop(black_box(raw::event(plan, words, *argument))),
-        Call::Signal => drop(black_box(raw::signal(plan, words))),
-        Call::Fire => drop(black_box(raw::fire(plan, words, *argument))),
-        Call::Ready => drop(black_box(raw::ready(plan, words))),
-    }
+const SIDES: [Side; 3] = [sides::proved, sides::second, sides::fast];
+
+/// A ledger and the call on it.
+#[derive(Clone, Debug)]
+pub struct Given {
+    pub words: Vec<u16>,
+    pub call: Call,
 }
 
-/// Makes the call by the second program.
-fn second(plan: &[u8], given: &mut Given, call: Call) {
-    let Given { words, argument } = given;
-    match call {
-        Call::Begin => drop(black_box(manager::begin(plan, words))),
-        Call::Event => drop(black_box(manager::event(plan, words, *argument))),
-        Call::Signal => drop(black_box(manager::signal(plan, words))),
-        Call::Fire => drop(black_box(manager::fire(plan, words, *argument))),
-        Call::Ready => drop(black_box(manager::ready(plan, words))),
-    }
-}
-
-/// Nanoseconds a call over copies of the ledgers, made beforehand.
-fn round(plan: &[u8], given: &[Given], call: Call, make: fn(&[u8], &mut Given, Call)) -> f64 {
+/// Nanoseconds a call over copies of the ledgers, made beforehand, and the sum
+/// of the answers.
+fn round(plan: &[u8], given: &[Given], side: Side) -> (f64, u64) {
     let mut copies: Vec<Given> = given.iter().cycle().take(LEDGERS).cloned().collect();
+    let mut sum = 0u64;
     let start = Instant::now();
     for copy in &mut copies {
-        make(black_box(plan), copy, call);
+        sum = sum.wrapping_add(side(plan, &mut copy.words, copy.call));
     }
-    start.elapsed().as_nanos() as f64 / LEDGERS as f64
+    (start.elapsed().as_nanos() as f64 / LEDGERS as f64, sum)
 }
 
-/// The medians of both sides.
-pub fn times(size: &Size, call: Call) -> (f64, f64) {
-    let given = size.given(call, LEDGERS);
-    let (mut first, mut other) = (Vec::new(), Vec::new());
-    for _ in 0..ROUNDS {
-        first.push(round(&size.plan, &given, call, proved));
-        other.push(round(&size.plan, &given, call, second));
-    }
-    (median(first), median(other))
+/// The medians of the three sides, in nanoseconds.
+///
+/// # Panics
+/// If the sides give different answers.
+pub fn times(rounds: &mut Rounds, plan: &[u8], given: &[Given]) -> [f64; 3] {
+    let expected = round(plan, given, sides::second).1;
+    rounds.medians(ROUNDS, |number| {
+        let (time, sum) = round(plan, given, SIDES[number]);
+        assert_eq!(sum, expected, "the sides give different answers");
+        time
+    })
 }
+
+/// The table of all plans and calls.
+pub fn print(rounds: &mut Rounds, cases: &[Case]) {
+    println!("## Calls\n");
+    println!(
+        "| Plan | Call | Proved, ns | Second, ns | Fast, ns | Proved to second | Proved to fast |"
+    );
+    println!("|---|---|---:|---:|---:|---:|---:|");
+    for case in cases {
+        for name in CALLS {
+            let given = case.given(name, LEDGERS);
+            if given.is_empty() {
+                continue;
+            }
+            let [proved, second, fast] = times(rounds, &case.plan, &given);
+            let (label, to_second, to_fast) = (case.label(), proved / second, proved / fast);
+            println!(
+                "| {label} | {name} | {proved:.0} | {second:.0} | {fast:.0} | {to_second:.2} | \
+                {to_fast:.2} |"
+            );
+        }
+    }
+}
+
+/// The names of the calls timed.
+pub const CALLS: [&str; 6] = ["begin", "event", "signal", "fire", "ready", "entries"];
 
 /// One round of the proved calls alone.
-pub fn one(sizes: &[Size], name: &str, call: &str) {
-    for size in sizes.iter().filter(|size| size.name == name) {
-        for call in Call::ALL.into_iter().filter(|c| c.name() == call) {
-            round(&size.plan, &size.given(call, LEDGERS), call, proved);
-        }
+pub fn one(cases: &[Case], plan: &str, call: &str) {
+    for case in cases.iter().filter(|case| case.name == plan) {
+        round(&case.plan, &case.given(call, LEDGERS), sides::proved);
     }
 }

@@ -1,91 +1,106 @@
-//! What is timed: plans of three sizes, and ledgers that a history really
-//! left, with a call that does something on each.
+//! What is timed: plan P, the samples and random plans of three sizes, with
+//! ledgers that a history left, on each of which a call does something.
 
-use second::journal::{self, Record};
+use std::fs;
+use std::io;
+use std::path::Path;
+
+use bench::sides::Call;
+use second::journal::{self, Record, MAX_BYTES};
 use second::ledger::Ledger;
 use second::plan::{self, members, Plan};
 use second::rules;
 use testing::generate::rng::Rng;
 use testing::generate::{journals, plans};
+use testing::samples;
 
-/// The calls timed.
-#[derive(Clone, Copy, Debug, PartialEq, Eq)]
-pub enum Call {
-    Begin,
-    Event,
-    Signal,
-    Fire,
-    Ready,
-}
+use crate::calls::{Given, CALLS};
 
-impl Call {
-    pub const ALL: [Call; 5] = [
-        Call::Begin,
-        Call::Event,
-        Call::Signal,
-        Call::Fire,
-        Call::Ready,
-    ];
+/// The folder of the samples.
+const SAMPLES: &str = concat!(env!("CARGO_MANIFEST_DIR"), "/../samples");
 
-    pub fn name(self) -> &'static str {
-        match self {
-            Call::Begin => "begin",
-            Call::Event => "event",
-            Call::Signal => "signal",
-            Call::Fire => "fire",
-            Call::Ready => "ready",
-        }
-    }
-}
-
-/// A ledger and the argument of the call on it.
-#[derive(Clone, Debug)]
-pub struct Given {
-    pub words: Vec<u16>,
-    pub argument: u16,
-}
-
-/// A plan with ledgers for each call.
-pub struct Size {
-    pub name: &'static str,
+/// A plan with a journal for it.
+pub struct Case {
+    pub name: String,
     pub plan: Vec<u8>,
+    pub journal: Vec<u8>,
     read: Plan,
 }
 
-impl Size {
-    /// The sizes, made from a fixed seed.
-    pub fn all() -> Vec<Size> {
-        vec![
-            Size::found("small", (3, 3), (6, 9), (5, 10)),
-            Size::found("middle", (12, 14), (40, 60), (70, 110)),
-            Size::found("largest", (32, 32), (128, 128), (256, 256)),
-        ]
+impl Case {
+    /// All plans; the random ones are made from a fixed seed.
+    pub fn all() -> io::Result<Vec<Case>> {
+        let mut cases = vec![Case::sample_plan()];
+        cases.extend(Case::samples(Path::new(SAMPLES))?);
+        cases.push(Case::found("small", (3, 3), (6, 9), (5, 10)));
+        cases.push(Case::found("middle", (12, 14), (40, 60), (70, 110)));
+        cases.push(Case::found("largest", (32, 32), (128, 128), (256, 256)));
+        Ok(cases)
+    }
+
+    fn new(name: &str, plan: Vec<u8>, journal: Vec<u8>) -> Option<Case> {
+        let read = plan::read(&plan).ok()?;
+        let name = name.to_string();
+        Some(Case {
+            name,
+            plan,
+            journal,
+            read,
+        })
+    }
+
+    /// Plan P with the paper's journal.
+    fn sample_plan() -> Case {
+        let mut records = [10, 11, 12].map(Record::Event).to_vec();
+        records.push(Record::Signal);
+        records.extend([Record::FireLowest; 4]);
+        let journal = samples::journal(&records);
+        Case::new("P", samples::sample(), journal).expect("P is accepted")
+    }
+
+    /// The samples with their own journals, by name.
+    fn samples(folder: &Path) -> io::Result<Vec<Case>> {
+        let mut folders: Vec<_> = fs::read_dir(folder)?
+            .filter_map(|entry| entry.ok().map(|entry| entry.path()))
+            .filter(|path| path.join("plan.bin").is_file())
+            .collect();
+        folders.sort();
+        let sample = |path: &Path| {
+            let name = path
+                .file_name()
+                .map_or_else(String::new, |name| name.to_string_lossy().replace('_', " "));
+            let plan = fs::read(path.join("plan.bin"))?;
+            let journal = fs::read(path.join("journal.bin"))?;
+            Ok(Case::new(&name, plan, journal))
+        };
+        let cases: io::Result<Vec<_>> = folders.iter().map(|path| sample(path)).collect();
+        Ok(cases?.into_iter().flatten().collect())
     }
 
     /// The first generated plan whose counts of tracks, states and
     /// transitions lie in the ranges, whose histories do all the calls, and
-    /// that does not run dry.
+    /// that does not run dry; with a journal as long as may be.
     fn found(
-        name: &'static str,
+        name: &str,
         tracks: (usize, usize),
         states: (usize, usize),
         transitions: (usize, usize),
-    ) -> Size {
+    ) -> Case {
         let within = |n: usize, (low, high): (usize, usize)| low <= n && n <= high;
-        let made = (0..).map(|index| plans::bytes(&mut Rng::for_case(1, 21, index), 32));
-        let sizes = made.filter_map(|plan| {
-            let read = plan::read(&plan).ok()?;
-            Some(Size { name, plan, read })
-        });
-        let fits = |size: &Size| {
-            within(size.read.track_count(), tracks)
-                && within(size.read.state_count(), states)
-                && within(size.read.transition_count(), transitions)
-                && Call::ALL.iter().all(|&call| size.given(call, 4).len() == 4)
-                && size.stays_lively()
+        let fits = |case: &Case| {
+            within(case.read.track_count(), tracks)
+                && within(case.read.state_count(), states)
+                && within(case.read.transition_count(), transitions)
+                && CALLS.iter().all(|call| case.given(call, 4).len() == 4)
+                && case.stays_lively()
         };
-        let mut fitting = sizes.filter(fits);
-        fitting.next().expect("plans go on for ever")
+        let made = (0..).map(|index| plans::bytes(&mut Rng::for_case(1, 21, index), 32));
+        let mut found = made
+            .filter_map(|plan| Case::new(name, plan, Vec::new()))
+            .find(fits)
+            .expect("plans go on for ever");
+        found.journal = found.lively_journal(MAX_BYTES);
+        found
     }
 
     /// The name, with tracks, states and transitions.
@@ -97,16 +112,16 @@ impl Size {
 
     /// Ledgers on which the call is accepted and does something; at most so
     /// many, fewer where few histories lead to one.
-    pub fn given(&self, call: Call, count: usize) -> Vec<Given> {
+    pub fn given(&self, call: &str, count: usize) -> Vec<Given> {
         let mut given = Vec::new();
         for index in 0..40 {
             let mut rng = Rng::for_case(1, 22, index);
             let (records, _) = journals::history(&mut rng, &self.read);
             let mut ledger = rules::begin(&self.read);
             for record in records {
-                if let Some(argument) = self.argument(call, &ledger, record) {
+                if let Some(call) = self.call(call, &ledger, record) {
                     let words = ledger.words();
-                    given.push(Given { words, argument });
+                    given.push(Given { words, call });
                 }
                 if given.len() == count {
                     return given;
@@ -117,28 +132,31 @@ impl Size {
         given
     }
 
-    /// The argument of a call worth timing here: an event that moves, a
-    /// signal that turns, a firing that is allowed.
-    fn argument(&self, call: Call, ledger: &Ledger, record: Record) -> Option<u16> {
+    /// The call, if it is worth timing here: an event that moves, a signal
+    /// that turns, a firing that is allowed, entries that are held.
+    fn call(&self, name: &str, ledger: &Ledger, record: Record) -> Option<Call> {
         if ledger.is_over() {
             return None;
         }
         let ready = || members(rules::ready(&self.read, ledger)).next();
-        match (call, record) {
-            (Call::Event, Record::Event(event)) => {
+        let holding = || ledger.tracks.iter().position(|track| track.held() > 0);
+        match (name, record) {
+            ("begin", _) => Some(Call::Begin),
+            ("event", Record::Event(event)) => {
                 let moves = rules::chosen_moves(&self.read, ledger, event);
-                (!moves.is_empty()).then_some(event)
+                (!moves.is_empty()).then_some(Call::Event(event))
             }
-            (Call::Signal, Record::Signal) => Some(0),
-            (Call::Fire, _) => ready().map(|track| track as u16),
-            (Call::Begin | Call::Ready, _) => Some(0),
+            ("signal", Record::Signal) => Some(Call::Signal),
+            ("fire", _) => ready().map(|track| Call::Fire(track as u16)),
+            ("ready", _) => Some(Call::Ready),
+            ("entries", _) => holding().map(|track| Call::Entries(track as u16)),
             _ => None,
         }
     }
 
     /// A journal of so many bytes: events for three quarters of it, a signal,
     /// and then firings of the lowest ready track.
-    pub fn journal(&self, bytes: usize) -> Vec<u8> {
+    fn lively_journal(&self, bytes: usize) -> Vec<u8> {
         let mut journal = Vec::new();
         let mut ledger = rules::begin(&self.read);
         let mut rng = Rng::for_case(1, 23, 0);
@@ -184,9 +202,4 @@ impl Size {
         let light = rng.pick(&light).filter(|_| rng.chance(95));
         light.or_else(|| rng.pick(&events)).unwrap_or(1)
     }
-}
-
-pub fn median(mut figures: Vec<f64>) -> f64 {
-    figures.sort_by(f64::total_cmp);
-    figures[figures.len() / 2]
 }

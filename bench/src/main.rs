@@ -1,54 +1,60 @@
-//! Prints a table: for plans of three sizes, nanoseconds a call of the proved
-//! library and of the second program, and their ratio. Both make the same
-//! checks on each call. Rounds are interleaved; each figure is the median.
+//! Prints tables of times: the proved calls beside the second program's and
+//! the fast one's, whole runs, and how each call grows. The sides make the
+//! same checks on each call; rounds alternate between them, and each figure is
+//! a median.
 //!
-//! `bench [PROVED SECOND]`: with two programs `unwind`, a table of whole runs
-//! on the longest journal follows. `bench one SIZE CALL` makes one round of
-//! the proved calls alone, for a profiler.
+//! `bench calls | scaling`, `bench runs PROVED SECOND FAST` with three programs
+//! `unwind`, `bench all PROVED SECOND FAST` print tables, and in the last line
+//! whether the machine was disturbed. For a profiler: `bench one PLAN CALL`
+//! makes one round of the proved calls alone, `bench write PLAN FOLDER` writes
+//! the plan and its journal.
 
 mod calls;
 mod cases;
+mod rounds;
 mod runs;
+mod scaling;
+mod shapes;
 
+use std::io;
 use std::path::Path;
 
-use cases::{Call, Size};
+use cases::Case;
+use rounds::Rounds;
 
-fn print_calls(sizes: &[Size]) {
-    println!("| Plan | Call | Proved, ns | Second program, ns | Ratio |");
-    println!("|---|---|---:|---:|---:|");
-    for size in sizes {
-        for call in Call::ALL {
-            let (first, other) = calls::times(size, call);
-            let (label, name) = (size.label(), call.name());
-            let ratio = first / other;
-            println!("| {label} | {name} | {first:.0} | {other:.0} | {ratio:.2} |");
-        }
-    }
-}
+const USAGE: &str = "usage: bench calls | scaling | runs PROVED SECOND FAST | \
+    all PROVED SECOND FAST | one PLAN CALL | write PLAN FOLDER";
 
-fn print_runs(sizes: &[Size], proved: &Path, second: &Path) -> std::io::Result<()> {
-    println!("\n| Plan | Whole run | Proved, µs | Second program, µs | Ratio |");
-    println!("|---|---|---:|---:|---:|");
-    for size in sizes {
-        let (first, other) = runs::times(size, proved, second)?;
-        let (label, ratio) = (size.label(), first / other);
-        println!("| {label} | 32,768 bytes | {first:.0} | {other:.0} | {ratio:.2} |");
-    }
-    Ok(())
-}
-
-fn main() -> std::io::Result<()> {
+fn main() -> io::Result<()> {
     let words: Vec<String> = std::env::args().skip(1).collect();
     let words: Vec<&str> = words.iter().map(String::as_str).collect();
-    let sizes = Size::all();
+    let cases = Case::all()?;
+    let mut rounds = Rounds::new();
     match words[..] {
-        ["one", size, call] => calls::one(&sizes, size, call),
-        [proved, second] => {
-            print_calls(&sizes);
-            print_runs(&sizes, Path::new(proved), Path::new(second))?;
+        ["calls"] => calls::print(&mut rounds, &cases),
+        ["scaling"] => scaling::print(&mut rounds),
+        ["runs", proved, second, fast] => {
+            runs::print(&mut rounds, &cases, [proved, second, fast])?;
         }
-        _ => print_calls(&sizes),
+        ["all", proved, second, fast] => {
+            calls::print(&mut rounds, &cases);
+            println!();
+            runs::print(&mut rounds, &cases, [proved, second, fast])?;
+            println!();
+            scaling::print(&mut rounds);
+        }
+        ["one", plan, call] => {
+            calls::one(&cases, plan, call);
+            return Ok(());
+        }
+        ["write", plan, folder] => {
+            return match cases.iter().find(|case| case.name == plan) {
+                Some(case) => runs::write(case, Path::new(folder)),
+                None => Err(io::Error::new(io::ErrorKind::Other, "no such plan")),
+            }
+        }
+        _ => return Err(io::Error::new(io::ErrorKind::Other, USAGE)),
     }
+    println!("\n## The machine\n\n{}", rounds.verdict());
     Ok(())
 }

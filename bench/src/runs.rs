@@ -1,45 +1,71 @@
-//! Times of whole runs of `unwind` on the longest journal.
+//! Times of whole runs: the program `unwind` and both opponents', each from
+//! its start to its end.
 
 use std::fs::{self, File};
 use std::io;
-use std::path::Path;
+use std::path::{Path, PathBuf};
 use std::process::{Command, Stdio};
 use std::time::Instant;
 
-use second::journal::MAX_BYTES;
-
-use crate::cases::{median, Size};
+use crate::cases::Case;
+use crate::rounds::Rounds;
 
 /// Runs of each side.
 const ROUNDS: usize = 101;
 
-/// The medians of both programs, in microseconds, from start to end.
-pub fn times(size: &Size, proved: &Path, second: &Path) -> io::Result<(f64, f64)> {
+/// The table of all plans, with the programs proved, second and fast.
+pub fn print(rounds: &mut Rounds, cases: &[Case], programs: [&str; 3]) -> io::Result<()> {
+    let [proved, second, fast] = programs.map(fs::canonicalize);
+    let programs = [proved?, second?, fast?];
+    println!("## Whole runs\n");
+    println!(
+        "| Plan | Journal, bytes | Proved, µs | Second, µs | Fast, µs | Proved to second | Proved to fast |"
+    );
+    println!("|---|---:|---:|---:|---:|---:|---:|");
+    for case in cases {
+        let [proved, second, fast] = times(rounds, case, &programs)?;
+        let (label, bytes) = (case.label(), case.journal.len());
+        let (to_second, to_fast) = (proved / second, proved / fast);
+        println!(
+            "| {label} | {bytes} | {proved:.0} | {second:.0} | {fast:.0} | {to_second:.2} | {to_fast:.2} |"
+        );
+    }
+    Ok(())
+}
+
+/// Writes the plan and the journal into a folder.
+pub fn write(case: &Case, folder: &Path) -> io::Result<()> {
+    fs::create_dir_all(folder)?;
+    fs::write(folder.join("plan.bin"), &case.plan)?;
+    fs::write(folder.join("journal.bin"), &case.journal)
+}
+
+/// The medians of the programs, in microseconds.
+fn times(rounds: &mut Rounds, case: &Case, programs: &[PathBuf; 3]) -> io::Result<[f64; 3]> {
     let folder = std::env::temp_dir().join(format!("bench-{}", std::process::id()));
-    fs::create_dir_all(&folder)?;
-    fs::write(folder.join("plan.bin"), &size.plan)?;
-    fs::write(folder.join("journal"), size.journal(MAX_BYTES))?;
-    let (mut first, mut other) = (Vec::new(), Vec::new());
-    let (proved, second) = (fs::canonicalize(proved)?, fs::canonicalize(second)?);
-    let agree = output(&proved, &folder)? == output(&second, &folder)?;
-    for _ in 0..ROUNDS {
-        first.push(time(&proved, &folder)?);
-        other.push(time(&second, &folder)?);
+    write(case, &folder)?;
+    let text = output(&programs[0], &folder)?;
+    for program in &programs[1..] {
+        if output(program, &folder)? != text {
+            let differ = "the programs print different texts";
+            return Err(io::Error::new(io::ErrorKind::Other, differ));
+        }
     }
+    let mut failed = Ok(());
+    let medians = rounds.medians(ROUNDS, |number| {
+        time(&programs[number], &folder).unwrap_or_else(|error| {
+            failed = Err(error);
+            0.0
+        })
+    });
     fs::remove_dir_all(&folder)?;
-    match agree {
-        true => Ok((median(first), median(other))),
-        false => Err(io::Error::new(
-            io::ErrorKind::Other,
-            "the programs print different texts",
-        )),
-    }
+    failed.map(|()| medians)
 }
 
 fn command(program: &Path, folder: &Path) -> io::Result<Command> {
     let mut command = Command::new(program);
     command.current_dir(folder);
-    command.stdin(File::open(folder.join("journal"))?);
+    command.stdin(File::open(folder.join("journal.bin"))?);
     Ok(command)
 }
 

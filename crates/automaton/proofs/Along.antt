@@ -19,7 +19,7 @@ use Rattle.rules.proofs.Tests.{look, clash}
 use Rattle.rules.proofs.Acceptance.{Accepted, accepts}
 use Rattle.rules.proofs.Scopes.{root-of}
 use Rattle.rules.proofs.Abandoning.{undoing-awake}
-use Rattle.theory.proofs.Modes.{is-undoing}
+use Rattle.rules.proofs.Modes.{is-undoing}
 use Rattle.theory.proofs.Nesting.{Awake, Nested}
 use Rattle.theory.proofs.SoundBegin.{begun-sound}
 use Rattle.theory.proofs.SoundEvent.{bare-of}
@@ -38,7 +38,7 @@ use Rattle.automaton.proofs.Listings.{run-then, run-same}
 use Rattle.automaton.proofs.Frames.{top-parts}
 use Rattle.automaton.proofs.Entered.{begin-init}
 use Rattle.automaton.proofs.Terminated.{view-compensated, compensated-of}
-use Rattle.automaton.proofs.Calls.{stepwise}
+use Rattle.automaton.proofs.CallSteps.{stepwise}
 use Rattle.automaton.proofs.Faithful.{over-unlike}
 use Rattle.automaton.proofs.Exactly.{exactly}
 use Rattle.automaton.proofs.SelfCancelling.{corollary1}
@@ -184,7 +184,7 @@ module _ (ρ : FailReading) (limit : ℕ) (bs : List ℕ) (k : Counts) (read : r
       go (inl o) zero e = absurd (over-refused limit p l (over-is p l o) c e)
       go (inr s) zero e =
           subst (λ m. Answered p ρ (callOutcome limit bs ws c .answer) c (view p ρ l) d ↔ (d ≡ view p ρ m)) (sym (next-accepted limit p l c e))
-          (subst (λ a. Answered p ρ a c (view p ρ l) d ↔ (d ≡ view p ρ (after limit p l c)))
+          (subst (λ a. Answered p ρ a c (view p ρ l) d ↔ (d ≡ view p ρ (after p l c)))
           (sym (ap (λ o. o .answer) (call-accepted limit bs k read ws l h c e)))
           (unfold Answered in exactly p ρ ok limit l s c e .ends d))
       go w (suc r) e =

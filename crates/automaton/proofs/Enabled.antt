@@ -24,7 +24,7 @@ use Rattle.rules.proofs.Tests.{look, look-option, clash, refuted, and-both}
 use Rattle.rules.proofs.Folds.{first-none, some-at, every-at}
 use Rattle.rules.proofs.Acceptance.{Passed, Accepted, accepted-facts, sane}
 use Rattle.rules.proofs.Abandoning.{hosts-higher}
-use Rattle.theory.proofs.Modes.{forward-awake}
+use Rattle.rules.proofs.Modes.{forward-awake}
 use Rattle.theory.proofs.Nesting.{Awake, Nested}
 use Rattle.theory.proofs.Entries.{Good}
 use Rattle.automaton.specs.Listing.{listedFrom, listed}
@@ -35,10 +35,10 @@ use Rattle.restoration.proofs.Theorems01.{move-takes, mover-awake, fire-accepte
 use Rattle.automaton.specs.Enabled.{Allows, StepFor}
 use Rattle.automaton.proofs.Settled.{view-settled}
 use Rattle.automaton.proofs.Frames.{down, frame, frames, instead-some, within-parts, top-parts, shown-free, shown-busy, view-frame, view-frames, view-law, frame-law, replaced}
-use Rattle.automaton.proofs.Moving.{moves-some, on-event, takes, arrival}
-use Rattle.automaton.proofs.Turning.{going-forward, going-of, fails}
-use Rattle.automaton.proofs.Firing.{comp-step}
-use Rattle.automaton.proofs.Calls.{over-view}
+use Rattle.automaton.proofs.MovingSteps.{moves-some, on-event, takes, arrival}
+use Rattle.automaton.proofs.TurningSteps.{going-forward, going-of, fails}
+use Rattle.automaton.proofs.FiringSteps.{comp-step}
+use Rattle.automaton.proofs.CallSteps.{over-view}
 
 way-forward : (m : Mode) → forward ≡ directionOf (isForward m) → isForward m ≡ true
 unfolding directionOf isForward isForwards

@@ -20,9 +20,9 @@ use Rattle.rules.proofs.Folds.{some-same}
 use Rattle.rules.proofs.Acceptance.{Accepted}
 use Rattle.rules.proofs.Scopes.{in-host, host-in, by-host, host-by, root-none}
 use Rattle.rules.proofs.Opening.{wakes-entered, wakes-woken, enter-to, enter-woken, roots-to, begun-root}
-use Rattle.theory.proofs.Modes.{forward-awake, is-forward}
+use Rattle.rules.proofs.Modes.{forward-awake, is-forward}
 use Rattle.theory.proofs.Nesting.{Awake, Nested, state-of}
-use Rattle.theory.proofs.Entering.{Enterable, fresh-awake, woken-asleep, awake-or, enter-nested}
+use Rattle.theory.proofs.EnteringNested.{Enterable, fresh-awake, woken-asleep, awake-or, enter-nested}
 use Rattle.theory.proofs.SoundBegin.{all-asleep, asleep-formed, roots-free}
 use Rattle.automaton.specs.Listing.{listed}
 use Rattle.automaton.specs.Configuration.{forward, Stack, Basic, Nest, Vect, initBy, gotoTo, goto, init}

@@ -30,10 +30,10 @@ use Rattle.automaton.specs.StepTests.{isNestsuc, isFail, numberOf, devia
 use Rattle.automaton.specs.BigSteps.{has, isOnceEach, actsIn, OnEvent, OnSignal, OnFiring, Big}
 use Rattle.automaton.specs.Exactly.{toldBy, Exactly}
 use Rattle.automaton.proofs.Listings.{listed-length}
-use Rattle.automaton.proofs.Moving.{moves-some}
-use Rattle.automaton.proofs.Closing.{closings-counted}
+use Rattle.automaton.proofs.MovingSteps.{moves-some}
+use Rattle.automaton.proofs.ClosingSteps.{closings-counted}
 use Rattle.automaton.proofs.Figures.{all-listed, none-down}
-use Rattle.automaton.proofs.Calls.{stepwise}
+use Rattle.automaton.proofs.CallSteps.{stepwise}
 use Rattle.automaton.proofs.Enabled.{comp-newest}
 use Rattle.automaton.proofs.OnePlace.{comp-unique, view-once}
 use Rattle.automaton.proofs.SettlingSteps.{same-steps}
@@ -162,7 +162,7 @@ module _ (p : Plan) (ρ : FailReading) (ok : Accepted p) (limit : ℕ) (l : Ledg
   n = s .formed .nested
 
   event-told : (a : EventArguments) (d : Conf) (x : OnEvent p ρ (a .event) (view p ρ l) d)
-      → figures limit p l (event a) ≡ length (x .order) ∷ numberOf isNestsuc (actsIn p ρ (x .settling .0)) ∷ []
+      → figures p l (event a) ≡ length (x .order) ∷ numberOf isNestsuc (actsIn p ρ (x .settling .0)) ∷ []
   unfolding figures closers
   event-told a d x =
       let e = a .event in
@@ -177,7 +177,7 @@ module _ (p : Plan) (ρ : FailReading) (ok : Accepted p) (limit : ℕ) (l : Ledg
       ∙ sym (same-steps p ρ isNestsuc ok (event-between p ρ ok limit l s e d x) (x .settling .0) (x .settling .1) (event-settling p ρ ok limit l s e .0) (event-settling p ρ ok limit l s e .1)))
 
   fire-told : (a : FireArguments) → callRefusal limit p l (fire a) ≡ 0 → (k : ℕ) (d : Conf) (x : OnFiring p ρ (a .track) k (view p ρ l) d)
-      → figures limit p l (fire a) ≡ k ∷ deviationIn (actsIn p ρ (x .settling .0)) ∷ []
+      → figures p l (fire a) ≡ k ∷ deviationIn (actsIn p ρ (x .settling .0)) ∷ []
   unfolding figures firingActs abandonings
   fire-told a h k d x =
       let t = a .track in
@@ -189,7 +189,7 @@ module _ (p : Plan) (ρ : FailReading) (ok : Accepted p) (limit : ℕ) (l : Ledg
       (none-down isDev (leavesScope p (fired p l t)) (leaveAt ρ) (leave-dev ρ) (trackCount p))
       (none-down (isDevElsewhere (newest (l t .held) .deviation)) (leavesScope p (fired p l t)) (leaveAt ρ) (leave-elsewhere (newest (l t .held) .deviation) ρ) (trackCount p))))
 
-  tells : (c : Call) → callRefusal limit p l c ≡ 0 → (d : Conf) (x : Big p ρ c (view p ρ l) d) → figures limit p l c ≡ toldBy p ρ l c (view p ρ l) d x
+  tells : (c : Call) → callRefusal limit p l c ≡ 0 → (d : Conf) (x : Big p ρ c (view p ρ l) d) → figures p l c ≡ toldBy p ρ l c (view p ρ l) d x
   unfolding Big toldBy
   tells (event a) h d x = event-told a d x
   tells (signal a) h d x = turned-counted p ρ ok l n (x .between) (x .turning .0) (x .turning .1) limit a

@@ -21,7 +21,7 @@ use Rattle.automaton.specs.CountedSteps.{isTurnedEarly}
 use Rattle.automaton.specs.StepTests.{isFail, numberOf}
 use Rattle.automaton.specs.BigSteps.{Steps, stay, more, actsIn, Exhausted}
 use Rattle.automaton.proofs.Figures.{all-down, forward-split}
-use Rattle.automaton.proofs.Turning.{turning-run}
+use Rattle.automaton.proofs.TurningSteps.{turning-run}
 use Rattle.automaton.proofs.Confluence.{Still, first-still, later-still, run-steps, run-acts}
 use Rattle.automaton.proofs.BigSteps.{turners-fail, none-going}
 
@@ -129,12 +129,12 @@ module _ (p : Plan) (ρ : FailReading) (ok : Accepted p) (l : Ledger) (n : Neste
 
   -- turned is the number of FAIL in any big step, and of the hosts that turn early
   pub turned-counted : (d : Conf) (s : Steps p ρ isFail (view p ρ l) d) → Exhausted p ρ isFail d → (limit : ℕ) (a : SignalArguments)
-      → figures limit p l (signal a) ≡ (numberOf isFail (actsIn p ρ s) + countBelow (trackCount p) (isTurnedEarly p ρ l)) ∷ []
+      → figures p l (signal a) ≡ (numberOf isFail (actsIn p ρ s) + countBelow (trackCount p) (isTurnedEarly p ρ l)) ∷ []
   unfolding figures
   turned-counted d s h limit a = ap (λ x. x ∷ []) (forward-split p l ρ ∙ ap (λ x. x + countBelow (trackCount p) (isTurnedEarly p ρ l)) (sym (fails-counted d s h)))
 
 -- where FAIL turns nested configurations too, the number of FAIL alone
 pub turned-fails : (p : Plan) → Accepted p → (l : Ledger) → Nested p l → (d : Conf) (s : Steps p nestedToo isFail (view p nestedToo l) d) → Exhausted p nestedToo isFail d
-    → (limit : ℕ) (a : SignalArguments) → figures limit p l (signal a) ≡ numberOf isFail (actsIn p nestedToo s) ∷ []
+    → (limit : ℕ) (a : SignalArguments) → figures p l (signal a) ≡ numberOf isFail (actsIn p nestedToo s) ∷ []
 unfolding figures turnings isGoing
 turned-fails p ok l n d s h limit a = ap (λ x. x ∷ []) (sym (fails-counted p nestedToo ok l n d s h))

@@ -19,7 +19,7 @@ use Rattle.rules.proofs.Tests.{look, look-option, clash, strong}
 use Rattle.rules.proofs.Acceptance.{Accepted}
 use Rattle.rules.proofs.Scopes.{by-host, host-by, open-find, busy-find}
 use Rattle.theory.proofs.Nesting.{Awake, Nested, host-awake, host-busy}
-use Rattle.theory.proofs.Soundness.{RootsAwake}
+use Rattle.theory.proofs.SoundParts.{RootsAwake}
 use Rattle.restoration.proofs.Theorems01.{Sound, Kept}
 use Rattle.automaton.specs.Listing.{listedFrom, listed, someOf}
 use Rattle.automaton.specs.Configuration.{Direction, Dev, Stack, NConf, Basic, Nest, Conf, Vect, members, pushComp, pushDev}
@@ -28,7 +28,7 @@ use Rattle.automaton.specs.View.{stackOf, directionOf, isWithin, basic, 
 use Rattle.automaton.proofs.Listings.{alike, listed-some}
 use Rattle.automaton.proofs.Frames.{down, within-parts, within-of, top-parts, top-of, shown-free, shown-busy, view-law}
 use Rattle.automaton.proofs.Terminated.{members-vect, busy-open}
-use Rattle.automaton.proofs.Calls.{over-view}
+use Rattle.automaton.proofs.CallSteps.{over-view}
 
 -- Stacks tell the entries held.
 optional-same : (a b : ℕ) → optional a ≡ optional b → a ≡ b

@@ -27,8 +27,8 @@ use Rattle.automaton.specs.View.{leavesScope, isGoing, leaveAt, abandoni
 use Rattle.automaton.specs.CountedSteps.{isTurnedEarly, countedSteps}
 use Rattle.automaton.specs.StepTests.{isSuc, isNestsuc, isFail, numberOf, codeIn, codesIn, deviationIn}
 use Rattle.automaton.proofs.Listings.{listed-length}
-use Rattle.automaton.proofs.Closing.{closings-counted}
-use Rattle.automaton.proofs.Turning.{going-forward}
+use Rattle.automaton.proofs.ClosingSteps.{closings-counted}
+use Rattle.automaton.proofs.TurningSteps.{going-forward}
 
 -- Steps of joined lists, of a list all of one rule, and of one with none of it.
 number-joined : (f : Act → Bool) (v w : List Act) → numberOf f (v ++ w) ≡ numberOf f v + numberOf f w
@@ -151,7 +151,7 @@ module _ (p : Plan) (ρ : FailReading) (ok : Accepted p) (l : Ledger) (n : Neste
   left-none a b c e f = omega arith
 
   -- moved and closed are the numbers of SUC and NESTSUC, turned that of FAIL and of the hosts that turn early; a firing tells its COMP and its DEV
-  pub figures-counted : (limit : ℕ) (c : Call) → figures limit p l c ≡ countedSteps p ρ l c
+  pub figures-counted : (limit : ℕ) (c : Call) → figures p l c ≡ countedSteps p ρ l c
   unfolding figures countedSteps actsOf movings closers turners abandonings
   figures-counted limit (event a) =
       let m = moved p l (a .event) in

@@ -34,7 +34,7 @@ use Rattle.automaton.specs.View.{leavesScope, isGoing, leaveAt, abandoni
 use Rattle.automaton.specs.Along.{made, actsFrom, actsAfter}
 use Rattle.automaton.specs.SelfCancelling.{Symbol, activity, symbol, projected, leftAfter, leftOf, onto, cancOut, Perfect, Tagged}
 use Rattle.automaton.proofs.CancOut.{left-joined}
-use Rattle.automaton.proofs.Moving.{moves-some, some-moves, on-event}
+use Rattle.automaton.proofs.MovingSteps.{moves-some, some-moves, on-event}
 use Rattle.automaton.proofs.StringBooks.{isCodeOf, adds, takes, adds-here, takes-here, takes-other, other-code, taken-idle, stringBooks}
 use Rattle.automaton.proofs.OwnCodes.{newest-own, reached-own}
 

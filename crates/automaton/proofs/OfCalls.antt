@@ -29,7 +29,7 @@ use Rattle.property3.proofs.Readings.{event-meets, signal-meets, fire-meets}
 use Rattle.automaton.specs.Semantics.{FailReading}
 use Rattle.automaton.specs.View.{view}
 use Rattle.automaton.specs.Enabled.{StepFor}
-use Rattle.automaton.proofs.Words.{ExactlyWords, words-exactly, refused-still, words-refused}
+use Rattle.automaton.proofs.CallsOnWords.{ExactlyWords, words-exactly, refused-still, words-refused}
 
 -- What is said of a call that was made: accepted, it is exactly the automaton's; refused, it leaves every word, and where the refusal is
 -- 19, 20 or 22 the automaton has no step for it.

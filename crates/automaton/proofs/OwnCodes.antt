@@ -23,9 +23,9 @@ use Rattle.rules.proofs.Acceptance.{Accepted}
 use Rattle.rules.proofs.Closing.{closed-asleep, closed-replaced, closed-kept}
 use Rattle.rules.proofs.Abandoning.{left-asleep, left-kept}
 use Rattle.theory.proofs.Nesting.{Nested}
-use Rattle.theory.proofs.Entering.{Fate, enters, wakens, stays, fate, fresh-held}
-use Rattle.theory.proofs.Firing.{fired-is, removed-here, removed-other}
-use Rattle.theory.proofs.Soundness.{sleeping-held}
+use Rattle.theory.proofs.EnteringNested.{Fate, enters, wakens, stays, fate, fresh-held}
+use Rattle.theory.proofs.FiringNested.{fired-is, removed-here, removed-other}
+use Rattle.theory.proofs.SoundParts.{sleeping-held}
 use Rattle.theory.proofs.SoundBegin.{all-asleep}
 use Rattle.restoration.proofs.Theorems01.{move-takes, installed-held, by-none, by-some, turned-held, work, next-cases, next-refused, reached-kept, over-refused, recorded, goes, moved-is, mover-is, Kept, over-is}
 use Rattle.automaton.specs.SelfCancelling.{Perfect}
@@ -106,7 +106,7 @@ module _ (p : Plan) where
             | inr c ↦ ap (λ (k : Configuration). own t (k .held)) (left-kept p ok l t c) ∙ h t
           ]
 
-      removed-own : (l : Ledger) (t : ℕ) → ((u : ℕ) → own u (l u .held) ≡ true) → (u : ℕ) → own u (removed p l t u .held) ≡ true
+      removed-own : (l : Ledger) (t : ℕ) → ((u : ℕ) → own u (l u .held) ≡ true) → (u : ℕ) → own u (removed l t u .held) ≡ true
       removed-own l t h u =
           elim (look (eqb u t)) [
             | inl e ↦ ap (own u) (removed-here p l t u e) ∙ older-own u (l u .held) (h u)
@@ -118,7 +118,7 @@ module _ (p : Plan) where
       work-own l n (signal a) h = left-own (turned l) (λ t. ap (own t) (turned-held p ok a l t) ∙ h t)
       work-own l n (fire a) h =
           left-own (fired p l (a .track))
-          (λ u. ap (λ m. own u (m u .held)) (fired-is p l (a .track)) ∙ enter-own (removed p l (a .track)) (deviatesTo p l (a .track)) (removed-own l (a .track) h) u)
+          (λ u. ap (λ m. own u (m u .held)) (fired-is p l (a .track)) ∙ enter-own (removed l (a .track)) (deviatesTo l (a .track)) (removed-own l (a .track) h) u)
 
       module _ (limit : ℕ) where
         next-own : (l : Ledger) → Kept limit p l → (c : Call) → ((t : ℕ) → own t (l t .held) ≡ true) → (t : ℕ) → own t (next limit p l c t .held) ≡ true

@@ -66,7 +66,7 @@ unfolding computing listedFrom listed listedDown isWithin leavesScope isGoing le
 turned-acts = refl
 
 -- but three tracks turn: the root too, which has no step of its own yet. So turned is not the number of FAIL
-pub turned-told : figures entryLimit P (ledger (e 10 ∷ e 11 ∷ e 12 ∷ [])) s ≡ 3 ∷ []
+pub turned-told : figures P (ledger (e 10 ∷ e 11 ∷ e 12 ∷ [])) s ≡ 3 ∷ []
 unfolding computing
 turned-told = refl
 

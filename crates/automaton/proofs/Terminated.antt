@@ -20,9 +20,9 @@ use Rattle.rules.proofs.Acceptance.{Accepted}
 use Rattle.rules.proofs.Scopes.{by-host, host-by, open-at, open-find, busy-find}
 use Rattle.rules.proofs.Closing.{closing-final}
 use Rattle.rules.proofs.Abandoning.{bare-parts}
-use Rattle.theory.proofs.Modes.{undoing-forward}
+use Rattle.rules.proofs.Modes.{undoing-forward}
 use Rattle.theory.proofs.Nesting.{Awake, Nested, open-host}
-use Rattle.theory.proofs.Closing.{closing-of, final-free}
+use Rattle.theory.proofs.ClosingNested.{closing-of, final-free}
 use Rattle.theory.proofs.SoundBegin.{abandoning-bare}
 use Rattle.theory.proofs.SoundEvent.{abandoning-of}
 use Rattle.automaton.specs.Listing.{listed, someOf, everyOf}

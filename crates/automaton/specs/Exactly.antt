@@ -32,12 +32,12 @@ module _ (p : Plan) (ρ : FailReading) (limit : ℕ) (l : Ledger) (c : Call) whe
     pub run : Run p ρ (view p ρ l) (actsOf p ρ l c) reached
     -- no silent rule applies afterwards
     pub settled : Settled p ρ reached
-    pub left : view p ρ (after limit p l c) ≡ afterFinish p c reached
-    pub told : figures limit p l c ≡ countedSteps p ρ l c
+    pub left : view p ρ (after p l c) ≡ afterFinish p c reached
+    pub told : figures p l c ≡ countedSteps p ρ l c
 
   -- and both ways: the automaton's big steps, which speak of no ledger, end in the view afterwards and nowhere else
   pub record Exactly : Type 0 where
     pub steps : Stepwise
-    pub ends : (d : Conf) → Ends p ρ c (view p ρ l) d ↔ (d ≡ view p ρ (after limit p l c))
+    pub ends : (d : Conf) → Ends p ρ c (view p ρ l) d ↔ (d ≡ view p ρ (after p l c))
     -- and each tells the call's figures
-    pub tells : (d : Conf) (x : Big p ρ c (view p ρ l) d) → figures limit p l c ≡ toldBy p ρ l c (view p ρ l) d x
+    pub tells : (d : Conf) (x : Big p ρ c (view p ρ l) d) → figures p l c ≡ toldBy p ρ l c (view p ρ l) d x

@@ -33,7 +33,7 @@ use Rattle.event_choice.proofs.Visits.{word-some, moves-at}
 use Rattle.event_choice.proofs.Moved.{mover-facts, closes-before, closings-before, finishes-before, full-before}
 use Rattle.event_choice.proofs.Still.{no-moves, still-closes, still-closings, still-finish, still-full}
 
-is-move : (p : Plan) (w : ℕ) → not (eqb w noState) ≡ isMove p (optional w)
+is-move : (p : Plan) (w : ℕ) → not (eqb w noState) ≡ isMove (optional w)
 unfolding optional isMove
 is-move p w = elim (look (eqb w noState)) [ inl q ↦ rw (q, isMove) | inr q ↦ rw (q, isMove) ]
 
@@ -79,7 +79,7 @@ module _ (bs : List ℕ) (c : Counts) (ws : List ℕ) (g : Going bs c ws) (event
   unfolding moves
   count-all e =
       e ∙ ap (λ k. countBelow k (λ t. not (eqb (getD ts t 0) noState))) (sym (track-count bs c))
-      ∙ count-same (trackCount p) _ _ (λ t b. is-move p (getD ts t 0) ∙ ap (isMove p) (taken-all .at t b))
+      ∙ count-same (trackCount p) _ _ (λ t b. is-move p (getD ts t 0) ∙ ap (isMove) (taken-all .at t b))
 
   module _ {n : ℕ} (count : n ≡ countBelow (c .tracks) (λ t. not (eqb (getD ts t 0) noState))) where
     -- no track moves

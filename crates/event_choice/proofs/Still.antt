@@ -41,7 +41,7 @@ unfolding countBelow
 count-none zero f h = refl
 count-none (suc n) f h = let a = count-none n f h in let b : _≡_ {A = ℕ} (cond (f n) 1 0) 0 = rw (h n) in omega arith
 
-no-move : (p : Plan) (o : Option ℕ) → isMove p o ≡ false → o ≡ none
+no-move : (p : Plan) (o : Option ℕ) → isMove o ≡ false → o ≡ none
 unfolding isMove
 no-move p none h = refl
 no-move p (some x) h = clash refl h

@@ -39,7 +39,7 @@ module _ (bs : List ℕ) (c : Counts) (ws : List ℕ) (g : Going bs c ws) (e : �
   outcome : Ledger → Outcome
   outcome x =
       refusedOr ws
-      (record { answer = done (figures entryLimit p x (event (record { event = e }))); words = written entryLimit (trackCount p) (afterEvent p x e) ws })
+      (record { answer = done (figures p x (event (record { event = e }))); words = written entryLimit (trackCount p) (afterEvent p x e) ws })
       (firstRefusal ((21, isFull p entryLimit x e) ∷ []))
 
   as-read : goingOutcome p ws e ≡ outcome l
@@ -93,7 +93,7 @@ module _ (bs : List ℕ) (c : Counts) (ws : List ℕ) (h : Checked bs c ws) (e :
   checked : eventOutcome entryLimit bs ws (record { event = e })
       ≡ refusedOr ws
       (record {
-        answer = done (figures entryLimit (planOf bs c) (ledgerAt entryLimit ws (trackCount (planOf bs c))) (event (record { event = e })));
+        answer = done (figures (planOf bs c) (ledgerAt entryLimit ws (trackCount (planOf bs c))) (event (record { event = e })));
         words = written entryLimit (trackCount (planOf bs c)) (afterEvent (planOf bs c) (ledgerAt entryLimit ws (trackCount (planOf bs c))) e) ws;
       })
       (cond (eqb e 0) 19

@@ -13,7 +13,7 @@ unfoldable pub goingOutcome : Plan → List ℕ → ℕ → Outcome
 goingOutcome p ws e =
     refusedOr ws
     (record {
-      answer = done (figures entryLimit p (ledgerAt entryLimit ws (trackCount p)) (event (record { event = e })));
+      answer = done (figures p (ledgerAt entryLimit ws (trackCount p)) (event (record { event = e })));
       words = written entryLimit (trackCount p) (afterEvent p (ledgerAt entryLimit ws (trackCount p)) e) ws;
     })
     (firstRefusal ((21, isFull p entryLimit (ledgerAt entryLimit ws (trackCount p)) e) ∷ []))

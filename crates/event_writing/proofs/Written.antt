@@ -160,7 +160,7 @@ module _ (bs : List ℕ) (c : Counts) (ws : List ℕ) (g : Going bs c ws) (r : C
               ∙ written-same entryLimit (c .tracks) _ _ ws
               (λ t b.
               let h : t < trackCount p = omega (arith, track-count bs c) in
-              (λ i. entered p (same t i) (fresh p t) (goes-to t h i) (wakes-same p ok (statesOf ts) to goes-to t i)))
+              (λ i. entered (same t i) (fresh p t) (goes-to t h i) (wakes-same p ok (statesOf ts) to goes-to t i)))
 
           stores-second : Storable entryLimit (c .tracks) m
           unfolding moved enter

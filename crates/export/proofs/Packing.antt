@@ -18,7 +18,7 @@ use Rattle.rules.specs.Soundness.{areTidy, isSound}
 use Rattle.rules.specs.Call.{Answer, Outcome, Meets, tooShort, ledgerRefusals, heldPart, entriesPart}
 use Rattle.rules.proofs.Tests.{and-true}
 use Rattle.plan.proofs.FieldLaws.{track-count}
-use Rattle.plan.proofs.Reader.{accepted-holds}
+use Rattle.plan_reader.proofs.Reader.{accepted-holds}
 use Rattle.ledger.proofs.ReadTracks.{count-within}
 use Rattle.export.specs.Packed.{bit16, packedPart, Returns}
 

@@ -62,7 +62,7 @@ fn counted(plan: &[u8], c: Counts) -> u64
 pub extern "C" fn retraction_read(plan: &[u8]) -> u64
     ensures { λ r. ⌜ r ≡ packedReading (readPlan (now (plan .entry))) ⌝ }
 {
-    let answer = plan::read_plan(plan);
+    let answer = plan_reader::read_plan(plan);
     match answer {
         PlanAnswer::Refused(n) => at_bit0(n),
         PlanAnswer::Accepted(c) => counted(plan, c),

@@ -2,7 +2,5 @@
 pub mod Decimal
 pub mod Written
 pub mod LineText
-pub mod Entering
-pub mod Replaying
-pub mod Ready
-pub mod Running
+pub mod Records
+pub mod OfLedger

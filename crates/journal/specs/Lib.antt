@@ -1,5 +1,4 @@
 -- What the contracts of this crate speak of beside the rules.
 pub mod Writing
-pub mod Entered
+pub mod Records
 pub mod Tallied
-pub mod Replayed

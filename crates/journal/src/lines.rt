@@ -92,22 +92,6 @@ pub fn refusal_line(out: &mut [u8], at: usize, number: u8) -> usize
     put_one(out, at, b"R", number as u64)
 }
 
-// `E` event moved closed.
-fn moved_line(out: &mut [u8], at: usize, name: u16, moved: u16, closed: u16) -> usize
-    requires { ⌜ at + lineRoom ≤ length (now out) ⌝ }
-    ensures { λ r. ⌜ Lined (now (out .entry)) at (doneLine (event (record { event = name })) (moved ∷ closed ∷ [])) (now (out .exit)) r ⌝ }
-{
-    put_three(out, at, b"E", name as u64, moved as u64, closed as u64)
-}
-
-// `S` turned.
-fn turned_line(out: &mut [u8], at: usize, turned: u16) -> usize
-    requires { ⌜ at + lineRoom ≤ length (now out) ⌝ }
-    ensures { λ r. ⌜ Lined (now (out .entry)) at (doneLine (signal nothing) (turned ∷ [])) (now (out .exit)) r ⌝ }
-{
-    put_one(out, at, b"S", turned as u64)
-}
-
 // `F` track code deviation.
 fn fired_line(out: &mut [u8], at: usize, track: u16, code: u16, deviation: u16) -> usize
     requires { ⌜ at + lineRoom ≤ length (now out) ⌝ }
@@ -119,29 +103,36 @@ fn fired_line(out: &mut [u8], at: usize, track: u16, code: u16, deviation: u16) 
     put_byte(out, end, NEWLINE)
 }
 
-// The line of an event, refused or not.
+// The line of an event, `E` event moved closed, or its refusal's.
 pub fn event_line(out: &mut [u8], at: usize, name: u16, answer: EventAnswer) -> usize
     requires { ⌜ at + lineRoom ≤ length (now out) ⌝ }
     ensures { λ r. ⌜ Lined (now (out .entry)) at (callLine (event (record { event = name })) (eventTold answer)) (now (out .exit)) r ⌝ }
 {
     match answer {
-        EventAnswer::Moved(moved, closed) => moved_line(out, at, name, moved, closed),
+        EventAnswer::Moved(moved, closed) => put_three(
+            out,
+            at,
+            b"E",
+            name as u64,
+            moved as u64,
+            closed as u64,
+        ),
         EventAnswer::Refused(number) => refusal_line(out, at, number),
     }
 }
 
-// The line of a signal, refused or not.
+// The line of a signal, `S` turned, or its refusal's.
 pub fn signal_line(out: &mut [u8], at: usize, answer: SignalAnswer) -> usize
     requires { ⌜ at + lineRoom ≤ length (now out) ⌝ }
     ensures { λ r. ⌜ Lined (now (out .entry)) at (callLine (signal nothing) (signalTold answer)) (now (out .exit)) r ⌝ }
 {
     match answer {
-        SignalAnswer::Turned(turned) => turned_line(out, at, turned),
+        SignalAnswer::Turned(turned) => put_one(out, at, b"S", turned as u64),
         SignalAnswer::Refused(number) => refusal_line(out, at, number),
     }
 }
 
-// The line of a firing, refused or not.
+// The line of a firing, or its refusal's.
 pub fn fire_line(out: &mut [u8], at: usize, track: u16, answer: FireAnswer) -> usize
     requires { ⌜ at + lineRoom ≤ length (now out) ⌝ }
     ensures { λ r. ⌜ Lined (now (out .entry)) at (callLine (fire (record { track = track })) (fireTold answer)) (now (out .exit)) r ⌝ }

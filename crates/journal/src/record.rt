@@ -5,7 +5,7 @@ ghost use Prim.Native.Nat.{_+_, _≤_};
 ghost use lib.ListN.{length};
 ghost use Rattle.rules.specs.Record.{word};
 ghost use Rattle.rules.specs.Journal.{journalLength, recordOf, enteredAt};
-ghost use Rattle.journal.specs.Entered.{entered, sizeOf};
+ghost use Rattle.journal.specs.Records.{recordTold, sizeOf};
 
 // The journal's kinds.
 const EVENT: u16 = 16;
@@ -62,7 +62,7 @@ fn length_of(kind: u16) -> usize
 // The record at a place where one of a known kind stands whole.
 fn whole_at(journal: &[u8], at: usize, kind: u16) -> Record
     requires { ⌜ at + journalLength kind ≤ length (now journal) ⌝ }
-    ensures { λ r. ⌜ entered r ≡ recordOf kind (word (now (journal .entry)) (at + 4)) ⌝ }
+    ensures { λ r. ⌜ recordTold r ≡ recordOf kind (word (now (journal .entry)) (at + 4)) ⌝ }
 {
     if kind == EVENT {
         return Record::Event(word_at(journal, at + BARE));
@@ -78,7 +78,7 @@ fn whole_at(journal: &[u8], at: usize, kind: u16) -> Record
 
 // What stands at a place of the journal.
 pub fn record_at(journal: &[u8], at: usize) -> Record
-    ensures { λ r. ⌜ entered r ≡ enteredAt (now (journal .entry)) at ⌝ }
+    ensures { λ r. ⌜ recordTold r ≡ enteredAt (now (journal .entry)) at ⌝ }
 {
     if journal.len() <= at {
         return Record::Ended;
@@ -104,7 +104,7 @@ pub fn record_at(journal: &[u8], at: usize) -> Record
 
 // How many bytes a record has.
 pub fn size_of(found: Record) -> usize
-    ensures { λ r. ⌜ r ≡ sizeOf (entered found) ⌝ }
+    ensures { λ r. ⌜ r ≡ sizeOf (recordTold found) ⌝ }
 {
     match found {
         Record::Ended => 0,

@@ -6,59 +6,26 @@ use crate::layout::ENTRY_WIDTH;
 use crate::layout::HEAD_WORDS;
 use crate::layout::TRACK_WIDTH;
 ghost use mathlib.Core.Path.{_≡_};
-ghost use Prim.Native.Nat.{_+_, _≤_, _<_};
+ghost use Prim.Native.Nat.{_+_, _≤_};
+ghost use lib.Dec.{eqb};
 ghost use lib.ListN.{length, getD};
+ghost use Rattle.rules.specs.Fold.{everyBelow};
 ghost use Rattle.rules.specs.Layout.{entryLimit, trackWidth};
-ghost use Rattle.rules.specs.Soundness.{goodMode, goodCount, unusedZero, asleepZero, isTidy, areTidy};
+ghost use Rattle.rules.specs.Soundness.{isTidy, areTidy};
 ghost use Rattle.ledger.specs.Words.{Room};
 
-// "mode (0 asleep, 1 forward, 2 undoing)"
-fn good_mode(ledger: &[u16], at: usize) -> bool
-    requires { ⌜ at + trackWidth entryLimit ≤ length (now ledger) ⌝ }
-    ensures { λ r. ⌜ r ≡ goodMode entryLimit (now (ledger .entry)) at ⌝ }
+// Whether so many words from a place on are zero. All are read, so that the processor takes many at a time.
+fn are_zero(ledger: &[u16], from: usize, count: usize) -> bool
+    requires { ⌜ from + count ≤ length (now ledger) ⌝ }
+    ensures { λ r. ⌜ r ≡ everyBelow count (λ j. eqb (getD (now (ledger .entry)) (from + j) 0) 0) ⌝ }
 {
-    ledger[at] <= 2
-}
-
-// "count of entries held (0 to 32)"
-fn good_count(ledger: &[u16], at: usize) -> bool
-    requires { ⌜ at + trackWidth entryLimit ≤ length (now ledger) ⌝ }
-    ensures { λ r. ⌜ r ≡ goodCount entryLimit (now (ledger .entry)) at ⌝ }
-{
-    layout::wide(ledger[at + COUNT_WORD]) <= ENTRY_LIMIT
-}
-
-// "unused pairs zero"
-fn unused_zero(ledger: &[u16], at: usize) -> bool
-    requires { ⌜ (at + trackWidth entryLimit ≤ length (now ledger)) × (getD (now ledger) (at + 2) 0 ≤ entryLimit) ⌝ }
-    ensures { λ r. ⌜ r ≡ unusedZero entryLimit (now (ledger .entry)) at ⌝ }
-{
-    let mut j = ENTRY_WIDTH * layout::wide(ledger[at + COUNT_WORD]);
-    while j < ENTRY_WIDTH * ENTRY_LIMIT {
-        if ledger[at + HEAD_WORDS + j] != 0 {
-            return false;
-        }
-        j += 1;
-    }
-    true
-}
-
-// "An asleep track is all zeros."
-fn asleep_zero(ledger: &[u16], at: usize) -> bool
-    requires { ⌜ at + trackWidth entryLimit ≤ length (now ledger) ⌝ }
-    ensures { λ r. ⌜ r ≡ asleepZero entryLimit (now (ledger .entry)) at ⌝ }
-{
-    if ledger[at] != 0 {
-        return true;
-    }
+    let mut bits: u16 = 0;
     let mut j: usize = 0;
-    while j < TRACK_WIDTH {
-        if ledger[at + j] != 0 {
-            return false;
-        }
+    while j < count {
+        bits |= ledger[from + j];
         j += 1;
     }
-    true
+    bits == 0
 }
 
 // Whether the words of the track at a place are as the layout has them.
@@ -66,16 +33,23 @@ fn is_tidy(ledger: &[u16], at: usize) -> bool
     requires { ⌜ at + trackWidth entryLimit ≤ length (now ledger) ⌝ }
     ensures { λ r. ⌜ r ≡ isTidy entryLimit (now (ledger .entry)) at ⌝ }
 {
-    if !good_mode(ledger, at) {
+    let mode = ledger[at];
+    if mode == 0 {
+        return are_zero(ledger, at, TRACK_WIDTH);
+    }
+    if 2 < mode {
         return false;
     }
-    if !good_count(ledger, at) {
+    let count = layout::wide(ledger[at + COUNT_WORD]);
+    if ENTRY_LIMIT < count {
         return false;
     }
-    if !unused_zero(ledger, at) {
-        return false;
-    }
-    asleep_zero(ledger, at)
+    let held = ENTRY_WIDTH * count;
+    are_zero(
+        ledger,
+        at + HEAD_WORDS + held,
+        ENTRY_WIDTH * ENTRY_LIMIT - held,
+    )
 }
 
 // Whether those of every track are.
@@ -83,12 +57,12 @@ pub fn are_tidy(ledger: &[u16], tracks: usize) -> bool
     requires { ⌜ Room (now ledger) tracks ⌝ }
     ensures { λ r. ⌜ r ≡ areTidy entryLimit (now (ledger .entry)) tracks ⌝ }
 {
+    let mut all = true;
     let mut t: usize = 0;
     while t < tracks {
-        if !is_tidy(ledger, layout::track_place(t)) {
-            return false;
-        }
+        let tidy = is_tidy(ledger, layout::track_place(t));
+        all = all & tidy;
         t += 1;
     }
-    true
+    all
 }

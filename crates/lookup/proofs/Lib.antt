@@ -2,4 +2,3 @@
 pub mod Facts
 pub mod FiguresLaws
 pub mod OneTrackLaws
-pub mod Setting

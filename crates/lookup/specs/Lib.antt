@@ -1,5 +1,4 @@
 -- Where a step starts, the figures that it keeps for each track, and one track replaced.
 pub mod Checked
 pub mod Figures
-pub mod Marks
 pub mod OneTrack

@@ -2,4 +2,3 @@
 pub mod opens;
 pub mod reading;
 pub mod ready;
-pub mod scopes;

@@ -20,7 +20,7 @@ use Rattle.rules.specs.Fire.{ready}
 use Rattle.rules.specs.Soundness.{areTidy, isSound}
 use Rattle.rules.specs.Call.{Answer, refusal, done, Outcome, refusedOr, underPlan, tooShort, ledgerRefusals, beginOutcome, readyOutcome, heldPart, entriesPart, HandsBack, Meets}
 use Rattle.plan.proofs.FieldLaws.{track-count}
-use Rattle.plan.proofs.Reader.{accepted-holds}
+use Rattle.plan_reader.proofs.Reader.{accepted-holds}
 use Rattle.rules.proofs.Tests.{look, and-true}
 use Rattle.ledger.proofs.Words.{in-room}
 use Rattle.ledger.proofs.ReadTracks.{count-within}

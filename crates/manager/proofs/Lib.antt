@@ -1,4 +1,4 @@
 -- Laws of the calls.
 pub mod Checks
 pub mod BitLaws
-pub mod Calls
+pub mod CallChecks

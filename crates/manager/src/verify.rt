@@ -10,7 +10,7 @@ ghost use Rattle.manager.specs.Checked.{lent, checked};
 pub fn read_lent(plan: &[u8], ledger: &[u16]) -> PlanAnswer
     ensures { λ r. ⌜ planTold r ≡ lent (now (plan .entry)) (now (ledger .entry)) ⌝ }
 {
-    let answer = plan::read_plan(plan);
+    let answer = plan_reader::read_plan(plan);
     match answer {
         PlanAnswer::Refused(n) => PlanAnswer::Refused(n),
         PlanAnswer::Accepted(c) => {

@@ -85,4 +85,4 @@ module _ (bs : List ℕ) (c : Counts) (a : Accepts bs c) (ws : List ℕ) (r : Ro
         ∙ written-same entryLimit (c .tracks) _ _ ws
         (λ t b.
         let h : t < trackCount p = omega (arith, track-count bs c) in
-        (λ i. entered p (all-asleep i t) (fresh p t) (roots-enter t h i) (wakes-same p (plan-facts bs c a) (statesOf to) (rootsFirst p) roots-enter t i)))
+        (λ i. entered (all-asleep i t) (fresh p t) (roots-enter t h i) (wakes-same p (plan-facts bs c a) (statesOf to) (rootsFirst p) roots-enter t i)))

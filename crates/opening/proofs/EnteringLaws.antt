@@ -44,7 +44,7 @@ module _ (c : Counts) (ws : List ℕ) (o : Tidy ws (c .tracks)) (t s : ℕ) (w :
 
 -- the same as the rules have it
 enters : (p : Plan) (s : ℕ) (w : Bool) (first t : ℕ) (x : Configuration) → first ≡ firstState p t
-    → enteredBy s w first x ≡ entered p x (fresh p t) (optional s) w
+    → enteredBy s w first x ≡ entered x (fresh p t) (optional s) w
 unfolding enteredBy entered optional fresh
 enters p s w first t x e =
     elim (look (eqb s noState)) [
@@ -53,7 +53,7 @@ enters p s w first t x e =
     ]
 
 -- what is entered or woken holds no more than before
-pub entered-stores : (limit : ℕ) (p : Plan) (x : Configuration) (t : ℕ) (o : Option ℕ) (w : Bool) → Stores limit x → Stores limit (entered p x (fresh p t) o w)
+pub entered-stores : (limit : ℕ) (p : Plan) (x : Configuration) (t : ℕ) (o : Option ℕ) (w : Bool) → Stores limit x → Stores limit (entered x (fresh p t) o w)
 unfolding entered fresh isAwake
 entered-stores limit p x t none true s = record { fits = omega arith; blank = λ a. clash refl a }
 entered-stores limit p x t none false s = s
@@ -104,4 +104,4 @@ module _ (c : Counts) (ws : List ℕ) (o : Tidy ws (c .tracks)) (p : Plan) (to :
         ∙ written-same entryLimit (c .tracks) _ _ ws
         (λ t b.
         enters p (getD to t 0) (getD woken t false) (getD firsts t 0) t (ledgerOf c ws t) (f .at t b)
-        ∙ ap (entered p (ledgerOf c ws t) (fresh p t) (optional (getD to t 0))) (m .at t b))
+        ∙ ap (entered (ledgerOf c ws t) (fresh p t) (optional (getD to t 0))) (m .at t b))

@@ -13,7 +13,7 @@ use Rattle.rules.proofs.Folds.{some-none, length-tabulate}
 use Rattle.rules.proofs.Acceptance.{passed-all, read-passed}
 use Rattle.plan.specs.Passes.{slots, firstAmong, firstMarks}
 use Rattle.plan.proofs.FieldLaws.{state-count}
-use Rattle.plan.proofs.PassTurns.{first-read}
+use Rattle.plan.proofs.PassedLaws.{first-read}
 use Rattle.lookup.specs.Checked.{Accepts}
 use Rattle.lookup.specs.Figures.{Figures}
 

@@ -33,7 +33,7 @@ module _ (bs : List ℕ) (c : Counts) (acc : Accepts bs c) (to : List ℕ) (t h 
     host-lower : u < t
     host-lower = rw o (plan-facts bs c acc .lower t h (host-is p t h e n))
 
-    at-host : wakes p (statesOf to) t ≡ wakesIn p (firstState p u) (optional (getD to u 0)) h (wakes p (statesOf to) u)
+    at-host : wakes p (statesOf to) t ≡ wakesIn (firstState p u) (optional (getD to u 0)) h (wakes p (statesOf to) u)
     unfolding statesOf
     at-host = rw o (wakes-host p (plan-facts bs c acc) (statesOf to) t h (host-is p t h e n))
 

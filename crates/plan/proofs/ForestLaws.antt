@@ -2,14 +2,14 @@
 -- its own track, and a walk along the chains has a track's height and a state's reach. Assumes nothing.
 use mathlib.Core.Path.{_≡_, refl, sym, ap, _∙_}
 use mathlib.Core.Logic.{_⊎_, inl, inr}
-use mathlib.Core.Bool.{Bool, true, false, cond, _&&_, and-false}
+use mathlib.Core.Bool.{Bool, true, false, cond, not, _&&_, and-false}
 use mathlib.Core.List.{List}
 use Prim.Native.Nat.{ℕ, zero, suc, _+_, _-_, _<_, _≤_}
 use native.Mathlib.Numerals.{add-one}
 use native.Mathlib.Omega.{arith}
-use lib.Dec.{ltb}
+use lib.Dec.{eqb, ltb}
 use lib.ListN.{length, getD, set, replicate, length-set, length-replicate}
-use borrow.Author.Tests.{eqb-true, eq-eqb}
+use borrow.Author.Tests.{ne-eqb, eqb-true, eq-eqb}
 use Rattle.rules.specs.declared.Counts.{Counts}
 use Rattle.rules.specs.Fold.{someBelow, greatestBelow}
 use Rattle.rules.specs.Plan.{Plan, planOf, trackCount, stateCount, noState, hostWord, owner, isIn, isStateOf, isHosting, reachBy, heightTo}
@@ -22,7 +22,7 @@ use Rattle.plan.specs.Holds.{Holds}
 use Rattle.plan.proofs.FieldLaws.{track-count, state-count}
 use Rattle.plan.proofs.Hosting.{in-root, in-hosted, within}
 use Rattle.plan.proofs.Members.{ofMember, Walk, walk-end, chains-none, chains-add, chains-pass}
-use Rattle.plan.proofs.PassTurns.{host-low}
+use Rattle.plan.proofs.PassedLaws.{host-low}
 
 -- chains in arrays of so many owners and members
 pub record Chained (isOf : ℕ → ℕ → Bool) (owners n m : ℕ) (last before : List ℕ) : Type 0 where
@@ -79,6 +79,10 @@ module _ (p : Plan) where
   some-scope n s zero e w z = absurd (z refl)
   some-scope n s (suc t) e w z =
       let l = w .within in rw (← e) (some-at n (isIn p s) t (omega arith) (w .passes t refl))
+
+  pub by-scope : (n s y : ℕ) → n ≡ trackCount p → Last n (isIn p s) y → not (eqb y 0) ≡ isHosting p s
+  by-scope n s zero e w = sym (empty-scope n s 0 e w refl)
+  by-scope n s (suc t) e w = let h : suc t ≡ 0 → ⊥ = λ z. absurd (omega arith) in rw (ne-eqb (suc t) 0 h) (sym (some-scope n s (suc t) e w h))
 
   pub no-host : (s : ℕ) → isHosting p s ≡ false → (t : ℕ) → isHostOf p t s ≡ false
   unfolding isHostOf

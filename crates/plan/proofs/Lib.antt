@@ -1,16 +1,10 @@
--- Laws of the plan reader.
-pub mod ChainLaws
+-- Laws of a plan's fields and of the passes over its records.
 pub mod FieldLaws
+pub mod ChainLaws
 pub mod Searches
 pub mod Members
 pub mod ForestLaws
 pub mod Hosting
-pub mod Judging
+pub mod RefusalTests
 pub mod PassLaws
-pub mod PassTurns
-pub mod KindTables
-pub mod MarkLaws
-pub mod Reader
-pub mod RecordTable
-pub mod Runs
-pub mod Scanning
+pub mod PassedLaws

@@ -109,29 +109,3 @@ module _ (p : Plan) where
         ap (λ v. set v t s) e
         ∙ figures-set slots (firstAmong p s) (firstAmong p (s + 1)) t s lt
         (among-here s t m (sym figure ∙ n) (within p t s l ∙ eq-eqb (owner p s) t (sym o))) others
-
-  -- Hosting states: for each state whether it hosts a track below n
-  unfoldable pub hostingMarks : ℕ → List Bool
-  hostingMarks n = tabulate stateSlots (λ s. someBelow n (isIn p s))
-
-  pub hosting-done : (n : ℕ) → n ≡ trackCount p → hostingMarks n ≡ tabulate stateSlots (isHosting p)
-  unfolding hostingMarks isHosting
-  hosting-done n e = ap (λ m. tabulate stateSlots (λ s. someBelow m (isIn p s))) e
-
-  -- a track's visit
-  module _ (t h : ℕ) (ms : List Bool) (e : ms ≡ hostingMarks t) (w : h ≡ hostWord p t) where
-    unhosted : (s : ℕ) → isIn p s t ≡ false → someBelow t (isIn p s) ≡ someBelow (t + 1) (isIn p s)
-    unhosted s i = sym (some-more t (isIn p s) ∙ rw i (or-false (someBelow t (isIn p s))))
-
-    pub hosting-kept : h ≡ noState → ms ≡ hostingMarks (t + 1)
-    unfolding hostingMarks
-    hosting-kept n = e ∙ figures-same stateSlots _ _ (λ s k. unhosted s (in-root p s t (sym w ∙ n)))
-
-    pub hosting-set : h < stateSlots → (h ≡ noState → ⊥) → set ms h true ≡ hostingMarks (t + 1)
-    unfolding hostingMarks
-    hosting-set l n =
-        let hosted : (s : ℕ) → isIn p s t ≡ eqb (hostWord p t) s = λ s. in-hosted p s t (λ q. n (w ∙ q)) in
-        ap (λ v. set v h true) e
-        ∙ figures-set stateSlots _ _ h true l
-        (sym (some-more t (isIn p h) ∙ or-right (someBelow t (isIn p h)) (isIn p h t) (hosted h ∙ eq-eqb (hostWord p t) h (sym w))))
-        (λ s k z. unhosted s (hosted s ∙ ne-eqb (hostWord p t) s (λ q. z (sym (w ∙ q)))))

@@ -2,7 +2,7 @@
 use mathlib.Core.Path.{_≡_}
 use mathlib.Core.Bool.{Bool, cond}
 use mathlib.Core.List.{List}
-use Prim.Native.Nat.{ℕ, zero, suc, _+_, _*_, _/_, _%_, _<_}
+use Prim.Native.Nat.{ℕ, zero, suc, _+_, _*_, _%_, _<_}
 use lib.ListN.{length, getD}
 use lib.Dec.{eqb}
 use Rattle.rules.specs.Plan.{Plan, transition}
@@ -32,9 +32,6 @@ pub record Heads (key : ℕ → ℕ) (n x : ℕ) (head next : List ℕ) : Type 0
   pub last : (k : ℕ) → k < n → getD head k 0 ≡ lastBelow x (has key k)
   pub chained : Chained key x next
 
--- the keys of transitions, given by source and event: a number below 256, and one below 2048 where there are 128 sources
+-- a key of transitions, given by source and event: a number below 256
 unfoldable pub cell : Plan → ℕ → ℕ
 cell p x = (2 * transition p x .source + transition p x .event) % 256
-
-unfoldable pub group : Plan → ℕ → ℕ
-group p x = 16 * transition p x .source + transition p x .event / 4096

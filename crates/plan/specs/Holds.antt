@@ -1,26 +1,11 @@
--- Bytes that hold so many records of each kind and an end record, within the limits of the paper; and a plan in which no refusal 8 to 12
--- applies. Assumes nothing.
-use mathlib.Core.Path.{_≡_}
-use mathlib.Core.Bool.{false}
+-- Bytes that hold so many records of each kind and an end record, within the limits of the paper. Assumes nothing.
 use mathlib.Core.List.{List}
 use Prim.Native.Nat.{ℕ, _+_, _*_, _≤_}
 use lib.ListN.{length}
 use Rattle.rules.specs.declared.Counts.{Counts}
-use Rattle.rules.specs.Fold.{someBelow}
-use Rattle.rules.specs.Plan.{planOf}
-use Rattle.rules.specs.Acceptance.{noTrack, badState, badHost, badFirst, badHosting}
 
 pub record Holds (bs : List ℕ) (c : Counts) : Type 0 where
   pub tracks : c .tracks ≤ 32
   pub states : c .states ≤ 128
   pub transitions : c .transitions ≤ 256
   pub room : 6 * c .tracks + 10 * c .states + 14 * c .transitions + 4 ≤ length bs
-
--- no refusal so far, before the transitions are judged
-pub record TracksPass (bs : List ℕ) (c : Counts) : Type 0 where
-  pub holds : Holds bs c
-  pub some-track : noTrack (planOf bs c) ≡ false
-  pub states : someBelow (c .states) (badState (planOf bs c)) ≡ false
-  pub hosts : someBelow (c .tracks) (badHost (planOf bs c)) ≡ false
-  pub firsts : someBelow (c .tracks) (badFirst (planOf bs c)) ≡ false
-  pub hostings : someBelow (c .states) (badHosting (planOf bs c)) ≡ false

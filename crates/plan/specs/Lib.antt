@@ -1,5 +1,4 @@
--- What the reader's contracts speak of beside the rules.
+-- What the contracts of fields and passes speak of beside the rules.
 pub mod Holds
-pub mod Scanned
 pub mod Chain
 pub mod Passes

@@ -55,8 +55,8 @@ module _ (limit : ℕ) (bs : List ℕ) (k : Counts) (read : readPlan bs ≡ acce
       let p : Plan = planOf bs k in
       let l : Ledger = ledgerAt limit ws (trackCount p) in
       rw (read, callOutcome, underPlan)
-      (or-not-0 ws (record { answer = done (figures limit p l c); words = written limit (trackCount p) (after limit p l c) ws })
-      (figures limit p l c) refl (firstRefusal (ledgerRefusals limit p ws ++ callRefusals limit p l c)))
+      (or-not-0 ws (record { answer = done (figures p l c); words = written limit (trackCount p) (after p l c) ws })
+      (figures p l c) refl (firstRefusal (ledgerRefusals limit p ws ++ callRefusals limit p l c)))
 
   pub answers-back : (cs : List Call) (ws rest : List ℕ)
       → decodedAnswers cs (encodedAnswers (answersFrom limit bs ws cs) ++ rest) ≡ answersFrom limit bs ws cs

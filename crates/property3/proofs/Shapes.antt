@@ -14,7 +14,7 @@ pub data Shaped (c : Call) : Answer → Type 0 where
   figured : (x y : ℕ) → Shaped c (done (decodedFigures c x y))
 
 module _ (limit : ℕ) where
-  figures-shaped : (p : Plan) (l : Ledger) (c : Call) → Shaped c (done (figures limit p l c))
+  figures-shaped : (p : Plan) (l : Ledger) (c : Call) → Shaped c (done (figures p l c))
   unfolding figures decodedFigures
   figures-shaped p l (event a) = figured _ _
   figures-shaped p l (signal a) = figured _ 0
@@ -35,5 +35,5 @@ module _ (limit : ℕ) where
           let p : Plan = planOf bs k in
           let l : Ledger = ledgerAt limit ws (trackCount p) in
           rw (e, callOutcome, underPlan)
-          (or-shaped ws (record { answer = done (figures limit p l c); words = written limit (trackCount p) (after limit p l c) ws }) c
+          (or-shaped ws (record { answer = done (figures p l c); words = written limit (trackCount p) (after p l c) ws }) c
           (figures-shaped p l c) (firstRefusal (ledgerRefusals limit p ws ++ callRefusals limit p l c)))

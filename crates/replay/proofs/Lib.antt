@@ -1,8 +1,6 @@
 -- Laws for the proofs of this crate.
 pub mod Keeping
 pub mod SameText
-pub mod Turning
+pub mod CarriedOut
 pub mod Underway
 pub mod WholeText
-pub mod JournalCalls
-pub mod ReferenceRun

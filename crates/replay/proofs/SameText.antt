@@ -31,11 +31,11 @@ module _ (bs js : List ℕ) (c : Counts) (read : readPlan bs ≡ accepted c) whe
             ap (λ (o : Outcome). o .answer) (call-refused entryLimit bs c read ws l h d r e)
             ∙ sym (ap (λ (o : Outcome). o .answer) (call-refused entryLimit bs c read ws′ l h′ d r e))
 
-    ledger-same : ledgerOf bs js (planOf bs c) ws ≡ ledgerOf bs js (planOf bs c) ws′
+    ledger-same : ledgerOf (planOf bs c) ws ≡ ledgerOf (planOf bs c) ws′
     unfolding ledgerOf
     ledger-same = h .reads ∙ sym (h′ .reads)
 
-    last-same : (fired : ℕ) → lastLine bs js (planOf bs c) ws fired ≡ lastLine bs js (planOf bs c) ws′ fired
+    last-same : (fired : ℕ) → lastLine (planOf bs c) ws fired ≡ lastLine (planOf bs c) ws′ fired
     unfolding lastLine
     last-same fired = ap (λ (x : Ledger). tallyLine (heldTotal (planOf bs c) x) fired) ledger-same
 
@@ -71,7 +71,7 @@ module _ (bs js : List ℕ) (c : Counts) (read : readPlan bs ≡ accepted c) whe
       go again broken e = rw (e, replay) (ap (λ (t : List ℕ). refusalLine 23 ++ t) (last-same ws ws′ l h h′ fired))
       go again fireLowest e =
           rw (e, replay)
-          (rest again (fireLowestCall (planOf bs c) (ledgerOf bs js (planOf bs c) ws))
+          (rest again (fireLowestCall (planOf bs c) (ledgerOf (planOf bs c) ws))
           ∙ ap (λ (x : Ledger). callText bs js (planOf bs c) (replay bs js (planOf bs c) n (at + sizeAt js at)) ws′ fired (fireLowestCall (planOf bs c) x))
           (ledger-same ws ws′ l h h′))
       go again (called d) e = rw (e, replay) (rest again d)

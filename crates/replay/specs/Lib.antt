@@ -1,4 +1,4 @@
 -- What the contracts of this crate speak of beside the rules.
 pub mod Left
-pub mod Turned
+pub mod CarriedOut
 pub mod Runs

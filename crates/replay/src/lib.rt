@@ -1,6 +1,6 @@
 // Runs a journal under a plan, and writes the program's text into a lent output.
+pub mod carry_out;
 pub mod records;
-pub mod turns;
 
 use crate::records::run_records;
 use journal::lines::plan_line;
@@ -51,7 +51,8 @@ pub fn text_room(journal: &[u8]) -> usize
 // Begins, and writes the lines of an accepted plan. Answers how many bytes were written.
 fn run_plan(plan: &[u8], c: Counts, journal: &[u8], ledger: &mut [u16], output: &mut [u8]) -> usize
     requires { ⌜ Lent (now plan) c (now ledger) × (length (now journal) ≤ mostBytes) × (6 * length (now journal) + 72 ≤ length (now output)) ⌝ }
-    ensures { λ r. ⌜ RanPlan (now (plan .entry)) (now (journal .entry)) c (now (ledger .entry)) (now (output .entry)) (now (ledger .exit)) (now (output .exit)) r ⌝ }
+    ensures { λ r. ⌜ RanPlan (now (plan .entry)) (now (journal .entry)) c
+        (now (ledger .entry)) (now (output .entry)) (now (ledger .exit)) (now (output .exit)) r ⌝ }
 {
     let start = plan_line(&mut output[..], 0, c);
     opening::begin::begin_all(plan, c, &mut ledger[..]);
@@ -60,7 +61,8 @@ fn run_plan(plan: &[u8], c: Counts, journal: &[u8], ledger: &mut [u16], output: 
 
 // Writes the text of a plan and a journal into the output. Where the output or the ledger is too small, nothing is written.
 pub fn run(plan: &[u8], journal: &[u8], ledger: &mut [u16], output: &mut [u8]) -> RunAnswer
-    ensures { λ r. ⌜ Ran (runOutcome (now (plan .entry)) (now (journal .entry)) (now (ledger .entry)) (now (output .entry))) r (now (ledger .exit)) (now (output .exit)) ⌝ }
+    ensures { λ r. ⌜ Ran (runOutcome (now (plan .entry)) (now (journal .entry)) (now (ledger .entry)) (now (output .entry))) r
+        (now (ledger .exit)) (now (output .exit)) ⌝ }
 {
     let room = text_room(journal);
     if output.len() < room {
@@ -75,7 +77,7 @@ pub fn run(plan: &[u8], journal: &[u8], ledger: &mut [u16], output: &mut [u8]) -
     if MOST_BYTES < journal.len() {
         return RunAnswer::Written(refusal_line(&mut output[..], 0, 1));
     }
-    let answer = plan::read_plan(plan);
+    let answer = plan_reader::read_plan(plan);
     match answer {
         PlanAnswer::Refused(n) => RunAnswer::Written(refusal_line(&mut output[..], 0, n)),
         PlanAnswer::Accepted(c) => {

@@ -1,6 +1,6 @@
 // The records of a journal, one after the other.
-use crate::turns::Progress;
-use crate::turns::turn;
+use crate::carry_out::Progress;
+use crate::carry_out::carry_out;
 use journal::held;
 use journal::lines::refusal_line;
 use journal::lines::tally_line;
@@ -14,13 +14,13 @@ ghost use Prim.Native.Nat.{_+_, _*_, _≤_};
 ghost use lib.ListN.{length};
 ghost use Rattle.rules.specs.Transcript.{mostBytes};
 ghost use Rattle.lookup.specs.Checked.{Checked};
-ghost use Rattle.journal.specs.Entered.{entered};
+ghost use Rattle.journal.specs.Records.{recordTold};
 ghost use Rattle.journal.specs.Writing.{lineRoom};
 ghost use Rattle.replay.specs.Runs.{RanRecords};
-ghost use Rattle.replay.specs.Turned.{isBrokenRecord, Closed};
+ghost use Rattle.replay.specs.CarriedOut.{isBrokenRecord, Closed};
 
 fn is_broken(found: Record) -> bool
-    ensures { λ r. ⌜ r ≡ isBrokenRecord (entered found) ⌝ }
+    ensures { λ r. ⌜ r ≡ isBrokenRecord (recordTold found) ⌝ }
 {
     match found {
         Record::Ended => false,
@@ -35,7 +35,7 @@ fn is_broken(found: Record) -> bool
 // The refusal of a broken record, where the reading ended at one, and the last line.
 fn close(found: Record, output: &mut [u8], from: Progress) -> usize
     requires { ⌜ from .place + 2 * lineRoom ≤ length (now output) ⌝ }
-    ensures { λ r. ⌜ Closed (entered found) (now (output .entry)) from (now (output .exit)) r ⌝ }
+    ensures { λ r. ⌜ Closed (recordTold found) (now (output .entry)) from (now (output .exit)) r ⌝ }
 {
     let last = from.tally;
     if is_broken(found) {
@@ -55,7 +55,8 @@ pub fn run_records(
     start: usize,
 ) -> usize
     requires { ⌜ Checked (now plan) c (now ledger) × (length (now journal) ≤ mostBytes) × (start + 6 * length (now journal) + 2 * lineRoom ≤ length (now output)) ⌝ }
-    ensures { λ r. ⌜ RanRecords (now (plan .entry)) (now (journal .entry)) c (now (ledger .entry)) (now (output .entry)) start (now (ledger .exit)) (now (output .exit)) r ⌝ }
+    ensures { λ r. ⌜ RanRecords (now (plan .entry)) (now (journal .entry)) c
+        (now (ledger .entry)) (now (output .entry)) start (now (ledger .exit)) (now (output .exit)) r ⌝ }
 {
     let held = held::held_total(c, &ledger[..]);
     let tally = Tally {
@@ -73,7 +74,7 @@ pub fn run_records(
         if size == 0 {
             return close(found, &mut output[..], so_far);
         }
-        let next = turn(plan, c, &mut ledger[..], &mut output[..], so_far, found);
+        let next = carry_out(plan, c, &mut ledger[..], &mut output[..], so_far, found);
         so_far = next;
         at += size;
     }

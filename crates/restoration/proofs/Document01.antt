@@ -36,8 +36,8 @@ use Rattle.theory.specs.Seams.{Seams, CallOf, event, signal, fire, isEvent, ins
 use Rattle.theory.proofs.Composition.{when, join}
 use Rattle.theory.proofs.Nesting.{Nested, root-above}
 use Rattle.theory.proofs.Entries.{deviates}
-use Rattle.theory.proofs.Firing.{fired-is, removed-mode, deviates-here, deviates-not, fired-still}
-use Rattle.theory.proofs.Soundness.{Sound}
+use Rattle.theory.proofs.FiringNested.{fired-is, removed-mode, deviates-here, deviates-not, fired-still}
+use Rattle.theory.proofs.SoundParts.{Sound}
 use Rattle.theory.proofs.Laws.{Takes, ended, Settled, Spare, Laws, Unfinished}
 use Rattle.theory.proofs.SoundRetraction.{track-untouched, fired-awake, fired-root}
 
@@ -171,7 +171,7 @@ finish-cases p l =
 
 -- Settling and refusals.
 module _ (limit : ℕ) (p : Plan) (l : Ledger) where
-  pub next-accepted : (c : call.Call) → callRefusal limit p l c ≡ 0 → next limit p l c ≡ after limit p l c
+  pub next-accepted : (c : call.Call) → callRefusal limit p l c ≡ 0 → next limit p l c ≡ after p l c
   unfolding next
   next-accepted c h = rw h
 
@@ -269,7 +269,7 @@ module _ (limit : ℕ) (p : Plan) (ok : Accepted p) (l : Ledger) (s : Sound docu
             let st : abandoned p X t .state ≡ d .0 =
             ap (λ (c : Configuration). c .state)
             (fired-root laws01 limit p ok l s t may t e ∙ ap (λ m. m t) (fired-is p l t)
-            ∙ enter-to p ok (deviatesTo p l t) (removed p l t) t (d .0) (deviates-here p l t ∙ d .1)) in
+            ∙ enter-to p ok (deviatesTo l t) (removed l t) t (d .0) (deviates-here p l t ∙ d .1)) in
             not-ended p (abandoned p X) t b e
             (rw (ap (isFinal p) st ∙ f, and-false (isForward (abandoned p X t .mode))))
         | inl d ↦

@@ -17,7 +17,7 @@ use Rattle.rules.proofs.Tests.{clash}
 use Rattle.rules.proofs.Acceptance.{Accepted}
 use Rattle.theory.specs.Seams as seam
 use Rattle.theory.proofs.Composition.{Word}
-use Rattle.theory.proofs.Soundness.{Sound}
+use Rattle.theory.proofs.SoundParts.{Sound}
 use Rattle.theory.proofs.ForwardScopes.{closing-forward, event-forward, signal-forward, fire-forward}
 use Rattle.theory.proofs.ScopeRuns as theorem
 use Rattle.restoration.proofs.Document01.{document01, laws01, unfinished01}

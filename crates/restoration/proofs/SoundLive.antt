@@ -23,7 +23,7 @@ use Rattle.rules.proofs.Soundness.{Live, live-facts, live-of}
 use Rattle.rules.proofs.Stored.{Storable, read-written, tidy-written, storable-read}
 use Rattle.theory.proofs.Nesting.{Awake, Nested}
 use Rattle.theory.proofs.Entries.{Good, may-deviate}
-use Rattle.theory.proofs.Soundness.{Formed, Sound, Over, sleeping-asleep, sleeping-held, sleeping-few, sleeping-good}
+use Rattle.theory.proofs.SoundParts.{Formed, Sound, Over, sleeping-asleep, sleeping-held, sleeping-few, sleeping-good}
 use Rattle.theory.proofs.SoundKept as theory
 use Rattle.theory.proofs.SoundKept.{Kept, over-is}
 use Rattle.theory.proofs.Histories.{kept-progress}

@@ -76,19 +76,19 @@ module _ (limit : ℕ) (bs : List ℕ) (k : Counts) (read : readPlan bs ≡ acce
       → firstRefusal (ledgerRefusals limit thePlan ws ++ callRefusals limit thePlan (theLedger ws) c) ≡ r
       → callOutcome limit bs ws c
       ≡ refusedOr ws
-      (record { answer = done (figures limit thePlan (theLedger ws) c); words = written limit n (after limit thePlan (theLedger ws) c) ws }) r
+      (record { answer = done (figures thePlan (theLedger ws) c); words = written limit n (after thePlan (theLedger ws) c) ws }) r
   unfolding callOutcome
   outcome ws c r h = under ws _ ∙ (rw h)
 
   -- what a call answers to words that hold a ledger, and what it leaves
   pub call-accepted : (ws : List ℕ) (l : Ledger) → Holds ws l → (c : Call) → callRefusal limit thePlan l c ≡ 0
-      → callOutcome limit bs ws c ≡ record { answer = done (figures limit thePlan l c); words = written limit n (after limit thePlan l c) ws }
+      → callOutcome limit bs ws c ≡ record { answer = done (figures thePlan l c); words = written limit n (after thePlan l c) ws }
   unfolding refusedOr
   call-accepted ws l h c a =
       let e = h .reads in
       let z : callRefusal limit thePlan (theLedger ws) c ≡ 0 = ap (λ x. callRefusal limit thePlan x c) e ∙ a in
       outcome ws c 0 (refusals ws c (h .long) (h .sound) ∙ z)
-      ∙ ap (λ x. record { answer = done (figures limit thePlan x c); words = written limit n (after limit thePlan x c) ws }) e
+      ∙ ap (λ x. record { answer = done (figures thePlan x c); words = written limit n (after thePlan x c) ws }) e
 
   pub call-refused : (ws : List ℕ) (l : Ledger) → Holds ws l → (c : Call) (r : ℕ) → callRefusal limit thePlan l c ≡ suc r
       → callOutcome limit bs ws c ≡ record { answer = refusal (suc r); words = ws }
@@ -104,8 +104,8 @@ module _ (limit : ℕ) (bs : List ℕ) (k : Counts) (read : readPlan bs ≡ acce
       go : (r : ℕ) → callRefusal limit thePlan l c ≡ r → Holds (callOutcome limit bs ws c .words) (next limit thePlan l c)
       go zero e =
           rw (call-accepted ws l h c e)
-          (subst (Holds (written limit n (after limit thePlan l c) ws)) (sym (next-accepted limit thePlan l c e))
-          (written-holds (after limit thePlan l c) ws (h .long)
+          (subst (Holds (written limit n (after thePlan l c) ws)) (sym (next-accepted limit thePlan l c e))
+          (written-holds (after thePlan l c) ws (h .long)
           (subst (Kept document01 limit thePlan) (next-accepted limit thePlan l c e) (kept-next limit thePlan ok l (h .kept) c))))
       go (suc r) e =
           rw (call-refused ws l h c r e)

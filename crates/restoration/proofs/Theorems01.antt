@@ -22,14 +22,14 @@ use Rattle.rules.proofs.Acceptance.{Accepted}
 use Rattle.rules.proofs.Ready as fireable
 use Rattle.theory.specs.Seams as seam
 use Rattle.theory.proofs.Nesting.{Awake, Nested}
-use Rattle.theory.proofs.Entering.{Enterable}
-use Rattle.theory.proofs.Soundness as theory
-use Rattle.theory.proofs.Soundness.{Formed, RootsAwake}
+use Rattle.theory.proofs.EnteringNested.{Enterable}
+use Rattle.theory.proofs.SoundParts as theory
+use Rattle.theory.proofs.SoundParts.{Formed, RootsAwake}
 use Rattle.theory.proofs.Settling as settling
 use Rattle.theory.proofs.Turning as turning
-use Rattle.theory.proofs.Moving as moving
-use Rattle.theory.proofs.Closing as closing
-use Rattle.theory.proofs.Leaving as leaving
+use Rattle.theory.proofs.MovingNested as moving
+use Rattle.theory.proofs.ClosingNested as closing
+use Rattle.theory.proofs.SignalNested as leaving
 use Rattle.theory.proofs.SoundEvent as sound-event
 use Rattle.theory.proofs.SoundRetraction as sound-retraction
 use Rattle.theory.proofs.SoundKept as kept
@@ -38,8 +38,8 @@ use Rattle.theory.proofs.Effects as effects
 use Rattle.theory.proofs.Effects.{Effect}
 use Rattle.restoration.proofs.Runs01.{same-act, from-reached, from-finished}
 use Rattle.restoration.proofs.Document01.{document01, asTheory, there-and-back, same-by, laws01, unfinished01}
-pub use Rattle.theory.proofs.Soundness.{Over, sleeping-asleep}
-pub use Rattle.theory.proofs.Moving.{to-none, to-destination, to-some, has-code}
+pub use Rattle.theory.proofs.SoundParts.{Over, sleeping-asleep}
+pub use Rattle.theory.proofs.MovingNested.{to-none, to-destination, to-some, has-code}
 pub use Rattle.theory.proofs.SoundKept.{over-is}
 pub use Rattle.restoration.proofs.Document01.{move-takes, next-accepted, next-refused, event-accepted, signal-accepted, fire-accepted}
 

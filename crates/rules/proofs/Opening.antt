@@ -20,12 +20,12 @@ module _ (p : Plan) (ok : Accepted p) where
   module _ (to : ℕ → Option ℕ) where
     pub wakes-root : (t : ℕ) → host p t ≡ none → wakes p to t ≡ false
     unfolding wakes
-    wakes-root t e = climb-root p ok (λ t h r. wakesIn p (firstState p (owner p h)) (to (owner p h)) h r) t e
+    wakes-root t e = climb-root p ok (λ t h r. wakesIn (firstState p (owner p h)) (to (owner p h)) h r) t e
 
     pub wakes-host : (t h : ℕ) → host p t ≡ some h
-        → wakes p to t ≡ wakesIn p (firstState p (owner p h)) (to (owner p h)) h (wakes p to (owner p h))
+        → wakes p to t ≡ wakesIn (firstState p (owner p h)) (to (owner p h)) h (wakes p to (owner p h))
     unfolding wakes
-    wakes-host t h e = climb-host p ok (λ t h r. wakesIn p (firstState p (owner p h)) (to (owner p h)) h r) t h e
+    wakes-host t h e = climb-host p ok (λ t h r. wakesIn (firstState p (owner p h)) (to (owner p h)) h r) t h e
 
     -- the tracks of a scope wake together
     pub wakes-together : (t u h : ℕ) → host p t ≡ some h → host p u ≡ some h → wakes p to t ≡ wakes p to u
@@ -80,7 +80,7 @@ module _ (p : Plan) (ok : Accepted p) where
         | inr e ↦
             let u = owner p (e .0) in
             wakes-host to t (e .0) (e .1)
-            ∙ ap₂ (λ x y. wakesIn p (firstState p u) x (e .0) y) (h u (ok .owned (e .0) (ok .host-state t (e .0) (e .1)))) (ih u (ok .lower t (e .0) (e .1)))
+            ∙ ap₂ (λ x y. wakesIn (firstState p u) x (e .0) y) (h u (ok .owned (e .0) (ok .host-state t (e .0) (e .1)))) (ih u (ok .lower t (e .0) (e .1)))
             ∙ sym (wakes-host at t (e .0) (e .1))
       ])
 

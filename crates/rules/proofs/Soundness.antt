@@ -24,7 +24,7 @@ pub record Live (p : Plan) (l : Ledger) : Type 0 where
   pub roots : (t : ℕ) → t < trackCount p → host p t ≡ none → isAwake (l t .mode) ≡ true
   pub own : (t : ℕ) → t < trackCount p → isAwake (l t .mode) ≡ true → isStateOf p t (l t .state) ≡ true
   pub codes : (t : ℕ) → t < trackCount p → everyHeld (λ e. not (eqb (e .code) 0)) (l t .held) ≡ true
-  pub deviations : (t : ℕ) → t < trackCount p → everyHeld (λ e. goodDeviation p l t (e .deviation)) (l t .held) ≡ true
+  pub deviations : (t : ℕ) → t < trackCount p → everyHeld (λ e. goodDeviation p t (e .deviation)) (l t .held) ≡ true
   pub whole : (s t u : ℕ) → host p t ≡ some s → host p u ≡ some s → isAwake (l t .mode) ≡ true → isAwake (l u .mode) ≡ true
   pub up : (t h : ℕ) → host p t ≡ some h → isAwake (l t .mode) ≡ true → (l (owner p h) .state ≡ h) × (l (owner p h) .mode ≡ l t .mode)
   pub closing : (s : ℕ) → isClosing p l s ≡ false
@@ -96,7 +96,7 @@ module _ (p : Plan) (ok : Accepted p) (l : Ledger) where
         every-of (trackCount p) (λ t. not (isRoot p t) || isAwake (l t .mode)) (λ t b. implied (isRoot p t) (isAwake (l t .mode)) (λ r. w .roots t b (root-none p t r))),
         every-of (trackCount p) (λ t. not (isAwake (l t .mode)) || isStateOf p t (l t .state)) (λ t b. implied (isAwake (l t .mode)) (isStateOf p t (l t .state)) (w .own t b)),
         every-of (trackCount p) (λ t. everyHeld (λ e. not (eqb (e .code) 0)) (l t .held)) (w .codes),
-        every-of (trackCount p) (λ t. everyHeld (λ e. goodDeviation p l t (e .deviation)) (l t .held)) (w .deviations),
+        every-of (trackCount p) (λ t. everyHeld (λ e. goodDeviation p t (e .deviation)) (l t .held)) (w .deviations),
         every-of (stateCount p) (isWhole p l) (λ s b. whole-of s),
         every-of (trackCount p) (isHostedWell p l) (λ t b. up-of t (host p t) refl),
         some-none (stateCount p) (isClosing p l) (λ s b. w .closing s),

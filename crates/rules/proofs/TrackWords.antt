@@ -260,7 +260,7 @@ module _ (limit : ℕ) where
       every-of (trackWidth limit) _
       (λ j l. eq-eqb _ _ (s j l ∙ ap (λ (x : Configuration). getD (configurationWords limit x) j 0) b ∙ sleeping-word j)))
 
-  mode-stands : (ws : List ℕ) (at : ℕ) (c : Configuration) → Stands ws at c → goodMode limit ws at ≡ true
+  mode-stands : (ws : List ℕ) (at : ℕ) (c : Configuration) → Stands ws at c → goodMode ws at ≡ true
   unfolding goodMode configurationWords trackWidth headWords
   mode-stands ws at c s =
       let m : getD ws at 0 ≡ modeWord (c .mode) = ap (λ (i : ℕ). getD ws i 0) (omega arith) ∙ s 0 (omega arith) in
@@ -279,12 +279,12 @@ module _ (limit : ℕ) where
 
   -- What tidy words tell.
   module _ (ws : List ℕ) (at : ℕ) (h : isTidy limit ws at ≡ true) where
-    tidy-parts : (goodMode limit ws at ≡ true) × (goodCount limit ws at ≡ true) × (unusedZero limit ws at ≡ true) × (asleepZero limit ws at ≡ true)
+    tidy-parts : (goodMode ws at ≡ true) × (goodCount limit ws at ≡ true) × (unusedZero limit ws at ≡ true) × (asleepZero limit ws at ≡ true)
     unfolding isTidy
     tidy-parts =
-        let (a, d) = and-true (goodMode limit ws at && goodCount limit ws at && unusedZero limit ws at) (asleepZero limit ws at) h in
-        let (a, c) = and-true (goodMode limit ws at && goodCount limit ws at) (unusedZero limit ws at) a in
-        let (a, b) = and-true (goodMode limit ws at) (goodCount limit ws at) a in
+        let (a, d) = and-true (goodMode ws at && goodCount limit ws at && unusedZero limit ws at) (asleepZero limit ws at) h in
+        let (a, c) = and-true (goodMode ws at && goodCount limit ws at) (unusedZero limit ws at) a in
+        let (a, b) = and-true (goodMode ws at) (goodCount limit ws at) a in
         (a, b, c, d)
 
     pub tidy-mode : getD ws at 0 ≤ 2

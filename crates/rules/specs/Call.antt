@@ -53,6 +53,18 @@ unfoldable pub underPlan : Bytes → Words → (Plan → Outcome) → Outcome
 underPlan bs ws f =
     elim (readPlan bs) [ turnedBack r ↦ record { answer = refusal r; words = ws } | accepted c ↦ f (planOf bs c) ]
 
+-- "Answer: tracks moved, scopes closed"; "how many turned"; "code and deviation"
+unfoldable pub figures : Plan → Ledger → Call → List ℕ
+figures p l (event a) = countBelow (trackCount p) (moves p l (a .event)) ∷ closings p (moved p l (a .event)) ∷ []
+figures p l (signal a) = turnings p l ∷ []
+figures p l (fire a) = newest (l (a .track) .held) .code ∷ newest (l (a .track) .held) .deviation ∷ []
+
+-- the ledger after an accepted call
+unfoldable pub after : Plan → Ledger → Call → Ledger
+after p l (event a) = afterEvent p l (a .event)
+after p l (signal a) = afterSignal p l
+after p l (fire a) = afterFire p l (a .track)
+
 -- `limit` is the most entries that a track holds
 module _ (limit : ℕ) where
   -- 17 "The ledger has too few words."
@@ -73,18 +85,6 @@ module _ (limit : ℕ) where
   -- the first of them that applies to the ledger, 0 where the call is accepted
   unfoldable pub callRefusal : Plan → Ledger → Call → Refusal
   callRefusal p l c = firstRefusal (callRefusals p l c)
-
-  -- "Answer: tracks moved, scopes closed"; "how many turned"; "code and deviation"
-  unfoldable pub figures : Plan → Ledger → Call → List ℕ
-  figures p l (event a) = countBelow (trackCount p) (moves p l (a .event)) ∷ closings p (moved p l (a .event)) ∷ []
-  figures p l (signal a) = turnings p l ∷ []
-  figures p l (fire a) = newest (l (a .track) .held) .code ∷ newest (l (a .track) .held) .deviation ∷ []
-
-  -- the ledger after an accepted call
-  unfoldable pub after : Plan → Ledger → Call → Ledger
-  after p l (event a) = afterEvent p l (a .event)
-  after p l (signal a) = afterSignal p l
-  after p l (fire a) = afterFire p l (a .track)
 
   -- the ledger after a call, a refused one too
   unfoldable pub next : Plan → Ledger → Call → Ledger

@@ -20,6 +20,10 @@ install code deviation held = cond (eqb code 0) held (record { code = code; devi
 unfoldable pub installed : Code → StateNumber → Configuration → Configuration
 installed code deviation c = record { mode = c .mode; state = c .state; held = install code deviation (c .held) }
 
+unfoldable pub isMove : Option TransitionNumber → Bool
+isMove none = false
+isMove (some x) = true
+
 module _ (p : Plan) where
   unfoldable pub destinationOf : Option TransitionNumber → Option StateNumber
   destinationOf none = none
@@ -34,10 +38,6 @@ module _ (p : Plan) where
   unfoldable pub hasCode : Option TransitionNumber → Bool
   hasCode none = false
   hasCode (some x) = not (eqb (transition p x .code) 0)
-
-  unfoldable pub isMove : Option TransitionNumber → Bool
-  isMove none = false
-  isMove (some x) = true
 
   module _ (l : Ledger) where
     -- "each forward track without an open scope takes its state's transition for that event, if it has one"

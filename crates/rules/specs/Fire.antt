@@ -20,22 +20,22 @@ unfoldable pub older : List Entry → List Entry
 older [] = []
 older (e ∷ es) = es
 
+-- "Its newest entry is removed."
+unfoldable pub removed : Ledger → TrackNumber → Ledger
+removed l t u = cond (eqb u t) (record { mode = l u .mode; state = l u .state; held = older (l u .held) }) (l u)
+
+-- the state that the fired track deviates to, if it does
+unfoldable pub deviatesTo : Ledger → TrackNumber → TrackNumber → Option StateNumber
+deviatesTo l t u = cond (eqb u t) (optional (newest (l t .held) .deviation)) none
+
 module _ (p : Plan) (l : Ledger) where
   -- "it must be undoing, hold an entry and have no open scope"
   unfoldable pub mayFire : TrackNumber → Bool
   mayFire t = ltb t (trackCount p) && isUndoing (l t .mode) && not (isEmpty (l t .held)) && not (hasOpenScope p l t)
 
-  -- "Its newest entry is removed."
-  unfoldable pub removed : TrackNumber → Ledger
-  removed t u = cond (eqb u t) (record { mode = l u .mode; state = l u .state; held = older (l u .held) }) (l u)
-
-  -- the state that the fired track deviates to, if it does
-  unfoldable pub deviatesTo : TrackNumber → TrackNumber → Option StateNumber
-  deviatesTo t u = cond (eqb u t) (optional (newest (l t .held) .deviation)) none
-
   -- "With a deviation other than 65535, the track goes forward in that state, entering it as above."
   unfoldable pub fired : TrackNumber → Ledger
-  fired t = enter p (deviatesTo t) (removed t)
+  fired t = enter p (deviatesTo l t) (removed l t)
 
   -- "a 32-bit number with bit n set exactly if track n may be fired"
   unfoldable pub ready : ℕ

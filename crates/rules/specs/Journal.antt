@@ -22,9 +22,6 @@ signalKind = 17
 abbrev pub fireKind : Kind
 fireKind = 18
 
-abbrev pub fireLowestKind : Kind
-fireLowestKind = 19
-
 -- "16 event (length 6, event), 17 signal (length 4), 18 fire (length 6, track), 19 fire the lowest ready track (length 4)";
 -- 0 where there is no such kind
 unfoldable pub journalLength : Kind → ℕ

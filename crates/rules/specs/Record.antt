@@ -75,7 +75,7 @@ pub data Scan : Type 0 where
   refused : ℕ → Scan
   counted : Counts → Scan
 
--- the records from a place on, up to the end record. A record has 4 bytes or more, so as many turns as bytes never run out
+-- the records from a place on, up to the end record. A record has 4 bytes or more, so as many steps as bytes never run out
 unfoldable pub scanFrom : ℕ → Bytes → Place → Kind → Counts → Scan
 scanFrom zero bs at last c = refused 2
 scanFrom (suc n) bs at last c =

@@ -17,11 +17,11 @@ use Rattle.rules.specs.Event.{isClosing, isFinishing}
 use Rattle.rules.specs.Signal.{isAbandoning}
 
 -- "its words are as just described", of the track whose words start at a place
-module _ (limit : ℕ) (ws : Words) (at : Place) where
-  -- "mode (0 asleep, 1 forward, 2 undoing)"
-  unfoldable pub goodMode : Bool
-  goodMode = leb (getD ws at 0) 2
+-- "mode (0 asleep, 1 forward, 2 undoing)"
+unfoldable pub goodMode : Words → Place → Bool
+goodMode ws at = leb (getD ws at 0) 2
 
+module _ (limit : ℕ) (ws : Words) (at : Place) where
   -- "count of entries held (0 to 32)"
   unfoldable pub goodCount : Bool
   goodCount = leb (getD ws (countPlace at) 0) limit
@@ -37,7 +37,7 @@ module _ (limit : ℕ) (ws : Words) (at : Place) where
   asleepZero = not (eqb (getD ws at 0) 0) || everyBelow (trackWidth limit) (λ j. eqb (getD ws (at + j) 0) 0)
 
   unfoldable pub isTidy : Bool
-  isTidy = goodMode && goodCount && unusedZero && asleepZero
+  isTidy = goodMode ws at && goodCount && unusedZero && asleepZero
 
 unfoldable pub areTidy : ℕ → Words → ℕ → Bool
 areTidy limit ws tracks = everyBelow tracks (λ t. isTidy limit ws (trackPlace limit t))
@@ -50,6 +50,10 @@ unfoldable pub sameMode : Mode → Mode → Bool
 sameMode Asleep m = not (isAwake m)
 sameMode Forward m = isForward m
 sameMode Undoing m = isUndoing m
+
+-- "a deviation held is 65535, or, in a root, a non-final state of that root"
+unfoldable pub goodDeviation : Plan → TrackNumber → StateNumber → Bool
+goodDeviation p t d = eqb d noState || (isRoot p t && isStateOf p t d && not (isFinal p d))
 
 module _ (p : Plan) (l : Ledger) where
   -- "every root is awake"
@@ -64,12 +68,8 @@ module _ (p : Plan) (l : Ledger) where
   unfoldable pub codesReal : Bool
   codesReal = everyBelow (trackCount p) (λ t. everyHeld (λ e. not (eqb (e .code) 0)) (l t .held))
 
-  -- "a deviation held is 65535, or, in a root, a non-final state of that root"
-  unfoldable pub goodDeviation : TrackNumber → StateNumber → Bool
-  goodDeviation t d = eqb d noState || (isRoot p t && isStateOf p t d && not (isFinal p d))
-
   unfoldable pub deviationsGood : Bool
-  deviationsGood = everyBelow (trackCount p) (λ t. everyHeld (λ e. goodDeviation t (e .deviation)) (l t .held))
+  deviationsGood = everyBelow (trackCount p) (λ t. everyHeld (λ e. goodDeviation p t (e .deviation)) (l t .held))
 
   -- "a scope is awake as a whole or asleep as a whole"
   unfoldable pub isWhole : StateNumber → Bool

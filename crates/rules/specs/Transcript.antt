@@ -54,13 +54,13 @@ firingsOf (fire a) (done figures) = 1
 unfoldable pub heldTotal : Plan → Ledger → ℕ
 heldTotal p l = sumBelow (trackCount p) (λ t. length (l t .held))
 
+unfoldable pub ledgerOf : Plan → Words → Ledger
+ledgerOf p ws = ledgerAt entryLimit ws (trackCount p)
+
+unfoldable pub lastLine : Plan → Words → ℕ → Bytes
+lastLine p ws fired = tallyLine (heldTotal p (ledgerOf p ws)) fired
+
 module _ (bs js : Bytes) (p : Plan) where
-  unfoldable pub ledgerOf : Words → Ledger
-  ledgerOf ws = ledgerAt entryLimit ws (trackCount p)
-
-  unfoldable pub lastLine : Words → ℕ → Bytes
-  lastLine ws fired = tallyLine (heldTotal p (ledgerOf ws)) fired
-
   -- the line of a call, and what `rest` prints from the words and the firings after it
   unfoldable pub callText : (Words → ℕ → Bytes) → Words → ℕ → Call → Bytes
   callText rest ws fired c =
@@ -68,15 +68,15 @@ module _ (bs js : Bytes) (p : Plan) where
       callLine c (o .answer) ++ rest (o .words) (fired + firingsOf c (o .answer))
 
   -- The lines of the records from a place on, with the ledger's words and the firings done so far. A record has 4 bytes or more, so as
-  -- many turns as bytes, and one for the end, never run out.
+  -- many steps as bytes, and one for the end, never run out.
   -- "23 prints its `R` line and ends the reading, then `H` follows."
   unfoldable pub replay : ℕ → Place → Words → ℕ → Bytes
   replay zero at ws fired = []
   replay (suc n) at ws fired =
       elim (enteredAt js at) [
-        | ended ↦ lastLine ws fired
-        | broken ↦ refusalLine 23 ++ lastLine ws fired
-        | fireLowest ↦ callText (replay n (at + sizeAt js at)) ws fired (fireLowestCall p (ledgerOf ws))
+        | ended ↦ lastLine p ws fired
+        | broken ↦ refusalLine 23 ++ lastLine p ws fired
+        | fireLowest ↦ callText (replay n (at + sizeAt js at)) ws fired (fireLowestCall p (ledgerOf p ws))
         | called c ↦ callText (replay n (at + sizeAt js at)) ws fired c
       ]
 

@@ -1,4 +1,4 @@
--- Laws of the clauses of soundness.
+-- Laws of the parts of soundness.
+pub mod Clauses
 pub mod Asking
-pub mod Scoping
-pub mod Judging
+pub mod Marks

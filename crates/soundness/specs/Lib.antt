@@ -1,2 +1,2 @@
--- What the clauses of soundness ask of each track and each open scope.
-pub mod Asked
+-- What soundness asks of one entry, one track and one scope.
+pub mod Parts

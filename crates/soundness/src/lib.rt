@@ -1,6 +1,5 @@
-// Whether a lent ledger is sound: one function for each clause of the rules, in a constant number of passes over the tracks and their
-// entries.
-pub mod clauses;
+// Whether a lent ledger is sound: the clauses on tracks and their entries in one pass over the tracks, those on scopes in one over the tracks
+// and one over the states.
 pub mod entries;
 pub mod scopes;
 pub mod sound;

@@ -1,53 +1,86 @@
-// What soundness asks of open scopes, each by a mark of the state whose scope it is.
+// What soundness asks of scopes, by marks that one pass over the tracks sets for the states that host them.
+use crate::tracks;
+use ledger::track as words;
+use lookup::opens;
 use lookup::reading;
 use plan::fields;
 use plan::fields::NO_STATE;
 use rules::Counts;
+use rules::Track;
 ghost use mathlib.Core.Path.{_≡_};
-ghost use Prim.Native.Nat.{_<_};
+ghost use mathlib.Core.Bool.{not, _&&_};
+ghost use lib.Dec.{eqb};
 ghost use Rattle.rules.specs.Fold.{everyBelow};
 ghost use Rattle.rules.specs.Plan.{planOf};
+ghost use Rattle.rules.specs.Ledger.{isUndoing};
 ghost use Rattle.lookup.specs.Checked.{ledgerOf, Lent};
-ghost use Rattle.soundness.specs.Asked.{scopeIs};
+ghost use Rattle.soundness.specs.Parts.{Marked, soundScope};
 
-// Whether the scope that a track is in, if the track is hosted and awake, is marked, or is not, as wanted.
-fn scope_is(
-    plan: &[u8],
-    c: Counts,
-    ledger: &[u16],
-    scopes: [bool; 128],
-    wanted: bool,
-    t: usize,
-) -> bool
-    requires { ⌜ Lent (now plan) c (now ledger) × (t < c .tracks) ⌝ }
-    ensures { λ r. ⌜ r ≡ scopeIs (planOf (now (plan .entry)) c) (ledgerOf c (now (ledger .entry))) scopes wanted t ⌝ }
-{
-    if !reading::is_awake(c, ledger, t) {
-        return true;
-    }
-    let h = fields::host_word(plan, c, t);
-    if h == NO_STATE {
-        return true;
-    }
-    let marked = scopes[h as usize];
-    if wanted {
-        return marked;
-    }
-    !marked
+// For each state whether some track in its scope is awake, asleep, not forward in a final state, not bare.
+pub struct ScopeMarks {
+    pub awake: [bool; 128],
+    pub asleep: [bool; 128],
+    pub unfinished: [bool; 128],
+    pub busy: [bool; 128],
 }
 
-// Whether every open scope is marked, or none is, as wanted.
-pub fn every_open(plan: &[u8], c: Counts, ledger: &[u16], scopes: [bool; 128], wanted: bool) -> bool
-    requires { ⌜ Lent (now plan) c (now ledger) ⌝ }
-    ensures { λ r. ⌜ r ≡ everyBelow (c .tracks) (scopeIs (planOf (now (plan .entry)) c) (ledgerOf c (now (ledger .entry))) scopes wanted) ⌝ }
+// Whether a track is bare: undoing, holding nothing and without an open scope, as `inner` tells.
+fn is_bare(k: Track, inner: bool) -> bool
+    ensures { λ r. ⌜ r ≡ (isUndoing (k .mode) && eqb (k .count) 0 && not inner) ⌝ }
 {
+    let m = k.mode;
+    let undoing = words::is_undoing(m);
+    let empty = k.count == 0;
+    undoing & empty & !inner
+}
+
+// The marks of every scope.
+fn mark_scopes(plan: &[u8], c: Counts, ledger: &[u16]) -> ScopeMarks
+    requires { ⌜ Lent (now plan) c (now ledger) ⌝ }
+    ensures { λ r. ⌜ Marked (planOf (now (plan .entry)) c) (ledgerOf c (now (ledger .entry))) (c .tracks) (r .awake) (r .asleep) (r .unfinished) (r .busy) ⌝ }
+{
+    let mut awake = [false; 128];
+    let mut asleep = [false; 128];
+    let mut unfinished = [false; 128];
+    let mut busy = [false; 128];
+    let opens = opens::open_scopes(plan, c, ledger);
     let tracks = c.tracks;
     let mut t: usize = 0;
     while t < tracks {
-        if !scope_is(plan, c, ledger, scopes, wanted, t) {
-            return false;
+        let h = fields::host_word(plan, c, t);
+        if h != NO_STATE {
+            let s = h as usize;
+            let k = reading::track(c, ledger, t);
+            let m = k.mode;
+            let is_awake = words::is_awake(m);
+            let done = tracks::is_done(plan, c, k);
+            let bare = is_bare(k, opens[t]);
+            awake[s] = awake[s] | is_awake;
+            asleep[s] = asleep[s] | !is_awake;
+            unfinished[s] = unfinished[s] | !done;
+            busy[s] = busy[s] | !bare;
         }
         t += 1;
     }
-    true
+    ScopeMarks {
+        awake: awake,
+        asleep: asleep,
+        unfinished: unfinished,
+        busy: busy,
+    }
+}
+
+// Whether every scope is as the clauses on scopes have it. One that is not open is.
+pub fn are_sound(plan: &[u8], c: Counts, ledger: &[u16]) -> bool
+    requires { ⌜ Lent (now plan) c (now ledger) ⌝ }
+    ensures { λ r. ⌜ r ≡ everyBelow (c .states) (soundScope (planOf (now (plan .entry)) c) (ledgerOf c (now (ledger .entry)))) ⌝ }
+{
+    let marks = mark_scopes(plan, c, ledger);
+    let mut all = true;
+    let mut s: usize = 0;
+    while s < c.states {
+        all = all & (!marks.awake[s] | (!marks.asleep[s] & marks.unfinished[s] & marks.busy[s]));
+        s += 1;
+    }
+    all
 }

@@ -1,5 +1,6 @@
 // A sound ledger: tidy words, and over or all clauses.
-use crate::clauses;
+use crate::scopes;
+use crate::tracks;
 use ledger::tidy;
 use lookup::reading;
 use rules::Counts;
@@ -15,31 +16,10 @@ fn is_live(plan: &[u8], c: Counts, ledger: &[u16]) -> bool
     requires { ⌜ Lent (now plan) c (now ledger) × (areTidy entryLimit (now ledger) (c .tracks) ≡ true) ⌝ }
     ensures { λ r. ⌜ r ≡ isLive (planOf (now (plan .entry)) c) (ledgerOf c (now (ledger .entry))) ⌝ }
 {
-    if !clauses::roots_awake(plan, c, ledger) {
-        return false;
-    }
-    if !clauses::states_own(plan, c, ledger) {
-        return false;
-    }
-    if !clauses::codes_real(plan, c, ledger) {
-        return false;
-    }
-    if !clauses::deviations_good(plan, c, ledger) {
-        return false;
-    }
-    if !clauses::scopes_whole(plan, c, ledger) {
-        return false;
-    }
-    if !clauses::hosts_awake(plan, c, ledger) {
-        return false;
-    }
-    if !clauses::closing_done(plan, c, ledger) {
-        return false;
-    }
-    if !clauses::finish_done(plan, c, ledger) {
-        return false;
-    }
-    clauses::abandoning_done(plan, c, ledger)
+    let tracks = tracks::are_sound(plan, c, ledger);
+    let finishing = tracks::is_finishing(plan, c, ledger);
+    let scopes = scopes::are_sound(plan, c, ledger);
+    tracks & !finishing & scopes
 }
 
 // Whether a ledger that has room is sound.

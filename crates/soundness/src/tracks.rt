@@ -1,195 +1,100 @@
-// What soundness asks of a track: a test for each clause on tracks, and for each kind of track that a clause on scopes looks for.
+// What soundness asks of a track.
 use crate::entries;
-use ledger::layout;
 use ledger::track as words;
 use lookup::reading;
 use plan::fields;
 use plan::fields::NO_STATE;
 use rules::Counts;
 use rules::Mode;
+use rules::Track;
 ghost use mathlib.Core.Path.{_≡_};
-ghost use mathlib.Core.Bool.{_&&_};
+ghost use mathlib.Core.Bool.{true, _&&_};
 ghost use Prim.Native.Nat.{_<_};
-ghost use lib.Dec.{eqb};
+ghost use Rattle.rules.specs.Layout.{entryLimit};
 ghost use Rattle.rules.specs.Fold.{everyBelow};
-ghost use Rattle.rules.specs.Plan.{planOf, owner};
-ghost use Rattle.rules.specs.Ledger.{isUndoing, isEmpty};
-ghost use Rattle.rules.specs.Soundness.{sameMode};
-ghost use Rattle.ledger.specs.Words.{Room};
+ghost use Rattle.rules.specs.Plan.{planOf, isFinal};
+ghost use Rattle.rules.specs.Ledger.{isAwake, isForward};
+ghost use Rattle.rules.specs.Event.{isFinishing};
+ghost use Rattle.rules.specs.Soundness.{areTidy, isHostedWell};
+ghost use Rattle.plan.specs.Holds.{Holds};
 ghost use Rattle.lookup.specs.Checked.{ledgerOf, Lent};
-ghost use Rattle.soundness.specs.Asked.{Askable, passes, failMark, failMarks};
+ghost use Rattle.soundness.specs.Parts.{soundTrack};
 
-// The tests; `passes` says which function answers each.
-pub enum Test {
-    RootAwake,
-    StateOwn,
-    CodesReal,
-    DeviationsGood,
-    HostedWell,
-    RootDone,
-    Awake,
-    Done,
-    Emptied,
-}
-
-// Whether a track, if it is a root, is awake.
-fn root_awake(plan: &[u8], c: Counts, ledger: &[u16], t: usize) -> bool
-    requires { ⌜ Lent (now plan) c (now ledger) × (t < c .tracks) ⌝ }
-    ensures { λ r. ⌜ r ≡ passes (planOf (now (plan .entry)) c) (ledgerOf c (now (ledger .entry))) Test.RootAwake t ⌝ }
-{
-    if !fields::is_root(plan, c, t) {
-        return true;
-    }
-    reading::is_awake(c, ledger, t)
-}
-
-// Whether a track, if it is awake, is in a state of its own.
-fn state_own(plan: &[u8], c: Counts, ledger: &[u16], t: usize) -> bool
-    requires { ⌜ Lent (now plan) c (now ledger) × (t < c .tracks) ⌝ }
-    ensures { λ r. ⌜ r ≡ passes (planOf (now (plan .entry)) c) (ledgerOf c (now (ledger .entry))) Test.StateOwn t ⌝ }
-{
-    let k = reading::track(c, ledger, t);
-    let m = k.mode;
-    if !words::is_awake(m) {
-        return true;
-    }
-    fields::is_state_of(plan, c, t, layout::wide(k.state))
-}
-
-// Whether the track of the state `h` is in it, and in the given mode.
-fn host_is(plan: &[u8], c: Counts, ledger: &[u16], h: usize, m: Mode) -> bool
-    requires { ⌜ Lent (now plan) c (now ledger) × (h < c .states) ⌝ }
-    ensures { λ r. ⌜ r ≡ (eqb (ledgerOf c (now (ledger .entry)) (owner (planOf (now (plan .entry)) c) h) .state) h && sameMode (ledgerOf c (now (ledger .entry)) (owner (planOf (now (plan .entry)) c) h) .mode) m) ⌝ }
-{
-    let o = layout::wide(fields::track_of(plan, c, h));
-    let k = reading::track(c, ledger, o);
-    let n = k.mode;
-    if layout::wide(k.state) != h {
-        return false;
-    }
-    words::same_mode(n, m)
-}
-
-// Whether a track, if it is hosted and awake, has its host awake in the hosting state and in the same mode.
-fn hosted_well(plan: &[u8], c: Counts, ledger: &[u16], t: usize) -> bool
-    requires { ⌜ Lent (now plan) c (now ledger) × (t < c .tracks) ⌝ }
-    ensures { λ r. ⌜ r ≡ passes (planOf (now (plan .entry)) c) (ledgerOf c (now (ledger .entry))) Test.HostedWell t ⌝ }
+// Whether an awake track in mode `m`, if it is hosted, has its host awake in the hosting state and in the same mode.
+fn hosted_well(plan: &[u8], c: Counts, ledger: &[u16], t: usize, m: Mode) -> bool
+    requires { ⌜ Lent (now plan) c (now ledger) × (t < c .tracks) × (m ≡ ledgerOf c (now ledger) t .mode) × (isAwake m ≡ true) ⌝ }
+    ensures { λ r. ⌜ r ≡ isHostedWell (planOf (now (plan .entry)) c) (ledgerOf c (now (ledger .entry))) t ⌝ }
 {
     let h = fields::host_word(plan, c, t);
     if h == NO_STATE {
         return true;
     }
+    let o = fields::track_of(plan, c, h as usize) as usize;
+    let k = reading::track(c, ledger, o);
+    let n = k.mode;
+    let there = k.state == h;
+    let same = words::same_mode(n, m);
+    there & same
+}
+
+// Whether a track is as the clauses on tracks and entries have it. One that is asleep is, unless it is a root.
+fn is_sound(plan: &[u8], c: Counts, ledger: &[u16], t: usize) -> bool
+    requires { ⌜ Lent (now plan) c (now ledger) × (t < c .tracks) × (areTidy entryLimit (now ledger) (c .tracks) ≡ true) ⌝ }
+    ensures { λ r. ⌜ r ≡ soundTrack (planOf (now (plan .entry)) c) (ledgerOf c (now (ledger .entry))) t ⌝ }
+{
     let k = reading::track(c, ledger, t);
     let m = k.mode;
     if !words::is_awake(m) {
-        return true;
+        return !fields::is_root(plan, c, t);
     }
-    host_is(plan, c, ledger, layout::wide(h), m)
+    let own = fields::is_state_of(plan, c, t, k.state as usize);
+    let good = entries::good_entries(plan, c, ledger, t, k.count);
+    let hosted = hosted_well(plan, c, ledger, t, m);
+    own & good & hosted
+}
+
+// Whether every track is.
+pub fn are_sound(plan: &[u8], c: Counts, ledger: &[u16]) -> bool
+    requires { ⌜ Lent (now plan) c (now ledger) × (areTidy entryLimit (now ledger) (c .tracks) ≡ true) ⌝ }
+    ensures { λ r. ⌜ r ≡ everyBelow (c .tracks) (soundTrack (planOf (now (plan .entry)) c) (ledgerOf c (now (ledger .entry)))) ⌝ }
+{
+    let mut all = true;
+    let tracks = c.tracks;
+    let mut t: usize = 0;
+    while t < tracks {
+        let sound = is_sound(plan, c, ledger, t);
+        all = all & sound;
+        t += 1;
+    }
+    all
 }
 
 // Whether a track is forward in a final state.
-fn is_done(plan: &[u8], c: Counts, ledger: &[u16], t: usize) -> bool
-    requires { ⌜ Lent (now plan) c (now ledger) × (t < c .tracks) ⌝ }
-    ensures { λ r. ⌜ r ≡ passes (planOf (now (plan .entry)) c) (ledgerOf c (now (ledger .entry))) Test.Done t ⌝ }
+pub fn is_done(plan: &[u8], c: Counts, k: Track) -> bool
+    requires { ⌜ Holds (now plan) c ⌝ }
+    ensures { λ r. ⌜ r ≡ (isForward (k .mode) && isFinal (planOf (now (plan .entry)) c) (k .state)) ⌝ }
 {
-    let k = reading::track(c, ledger, t);
     let m = k.mode;
     if !words::is_forward(m) {
         return false;
     }
-    entries::is_final(plan, c, layout::wide(k.state))
+    entries::is_final(plan, c, k.state as usize)
 }
 
-// Whether a track, if it is a root, is forward in a final state.
-fn root_done(plan: &[u8], c: Counts, ledger: &[u16], t: usize) -> bool
-    requires { ⌜ Lent (now plan) c (now ledger) × (t < c .tracks) ⌝ }
-    ensures { λ r. ⌜ r ≡ passes (planOf (now (plan .entry)) c) (ledgerOf c (now (ledger .entry))) Test.RootDone t ⌝ }
-{
-    if !fields::is_root(plan, c, t) {
-        return true;
-    }
-    is_done(plan, c, ledger, t)
-}
-
-// Whether a track is undoing and holds nothing.
-fn is_emptied(c: Counts, ledger: &[u16], t: usize) -> bool
-    requires { ⌜ Room (now ledger) (c .tracks) × (t < c .tracks) ⌝ }
-    ensures { λ r. ⌜ r ≡ (isUndoing (ledgerOf c (now (ledger .entry)) t .mode) && isEmpty (ledgerOf c (now (ledger .entry)) t .held)) ⌝ }
-{
-    let k = reading::track(c, ledger, t);
-    let m = k.mode;
-    if !words::is_undoing(m) {
-        return false;
-    }
-    k.count == 0
-}
-
-// Whether a track passes a test.
-fn passes(plan: &[u8], c: Counts, ledger: &[u16], test: Test, t: usize) -> bool
-    requires { ⌜ Askable (now plan) c (now ledger) test × (t < c .tracks) ⌝ }
-    ensures { λ r. ⌜ r ≡ passes (planOf (now (plan .entry)) c) (ledgerOf c (now (ledger .entry))) test t ⌝ }
-{
-    match test {
-        Test::RootAwake => root_awake(plan, c, ledger, t),
-        Test::StateOwn => state_own(plan, c, ledger, t),
-        Test::CodesReal => entries::codes_real_of(c, ledger, t),
-        Test::DeviationsGood => entries::deviations_good_of(plan, c, ledger, t),
-        Test::HostedWell => hosted_well(plan, c, ledger, t),
-        Test::RootDone => root_done(plan, c, ledger, t),
-        Test::Awake => reading::is_awake(c, ledger, t),
-        Test::Done => is_done(plan, c, ledger, t),
-        Test::Emptied => is_emptied(c, ledger, t),
-    }
-}
-
-// Whether every track passes a test.
-pub fn every_track(plan: &[u8], c: Counts, ledger: &[u16], test: Test) -> bool
-    requires { ⌜ Askable (now plan) c (now ledger) test ⌝ }
-    ensures { λ r. ⌜ r ≡ everyBelow (c .tracks) (passes (planOf (now (plan .entry)) c) (ledgerOf c (now (ledger .entry))) test) ⌝ }
+// "if all roots are forward in final states"
+pub fn is_finishing(plan: &[u8], c: Counts, ledger: &[u16]) -> bool
+    requires { ⌜ Lent (now plan) c (now ledger) ⌝ }
+    ensures { λ r. ⌜ r ≡ isFinishing (planOf (now (plan .entry)) c) (ledgerOf c (now (ledger .entry))) ⌝ }
 {
     let tracks = c.tracks;
     let mut t: usize = 0;
     while t < tracks {
-        if !passes(plan, c, ledger, test, t) {
+        let root = fields::is_root(plan, c, t);
+        let done = is_done(plan, c, reading::track(c, ledger, t));
+        if root & !done {
             return false;
         }
         t += 1;
     }
     true
-}
-
-// A track's turn: it is marked if it fails the test.
-fn mark_failing(
-    plan: &[u8],
-    c: Counts,
-    ledger: &[u16],
-    test: Test,
-    marks: [bool; 32],
-    t: usize,
-) -> [bool; 32]
-    requires { ⌜ Askable (now plan) c (now ledger) test × (t < c .tracks) ⌝ }
-    ensures { λ r. ⌜ r ≡ failMark (planOf (now (plan .entry)) c) (ledgerOf c (now (ledger .entry))) test t marks ⌝ }
-{
-    if passes(plan, c, ledger, test, t) {
-        return marks;
-    }
-    let mut next = marks;
-    next[t] = true;
-    next
-}
-
-// Marks, and those of the tracks that fail a test.
-pub fn failing(plan: &[u8], c: Counts, ledger: &[u16], test: Test, marks: [bool; 32]) -> [bool; 32]
-    requires { ⌜ Askable (now plan) c (now ledger) test ⌝ }
-    ensures { λ r. ⌜ r ≡ failMarks (planOf (now (plan .entry)) c) (ledgerOf c (now (ledger .entry))) test marks (c .tracks) ⌝ }
-{
-    let mut all = marks;
-    let tracks = c.tracks;
-    let mut t: usize = 0;
-    while t < tracks {
-        let next = mark_failing(plan, c, ledger, test, all, t);
-        all = next;
-        t += 1;
-    }
-    all
 }

@@ -20,11 +20,11 @@ use Rattle.theory.specs.Seams.{Seams, signal, fire, changeOf}
 use Rattle.theory.specs.Runs as run
 use Rattle.theory.specs.Runs.{act, Running, by-begin, by-call, over-event, over-signal, over-fire, Finished}
 use Rattle.theory.proofs.Composition.{when, act-append, join-still, join-alone}
-use Rattle.theory.proofs.Entering.{fresh-state}
-use Rattle.theory.proofs.Soundness.{Sound}
+use Rattle.theory.proofs.EnteringNested.{fresh-state}
+use Rattle.theory.proofs.SoundParts.{Sound}
 use Rattle.theory.proofs.Laws.{Laws, Unfinished}
 use Rattle.theory.proofs.Settling.{over-refused}
-use Rattle.theory.proofs.Moving.{mover-is, moved-nested}
+use Rattle.theory.proofs.MovingNested.{mover-is, moved-nested}
 use Rattle.theory.proofs.SoundBegin.{begun-sound, begun-fresh}
 use Rattle.theory.proofs.SoundKept.{Kept, over-is}
 use Rattle.theory.proofs.Histories.{reached-kept}

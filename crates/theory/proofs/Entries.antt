@@ -30,7 +30,7 @@ module _ (p : Plan) where
     pub codes : everyHeld isReal es ≡ true
     pub deviations : everyHeld (λ e. mayDeviate t (e .deviation)) es ≡ true
 
-  pub may-deviate : (l : Ledger) (t : ℕ) (es : List Entry) → everyHeld (λ e. goodDeviation p l t (e .deviation)) es ≡ everyHeld (λ e. mayDeviate t (e .deviation)) es
+  pub may-deviate : (l : Ledger) (t : ℕ) (es : List Entry) → everyHeld (λ e. goodDeviation p t (e .deviation)) es ≡ everyHeld (λ e. mayDeviate t (e .deviation)) es
   unfolding goodDeviation mayDeviate
   may-deviate l t es = refl
 

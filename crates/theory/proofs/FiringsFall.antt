@@ -23,10 +23,10 @@ use Rattle.rules.proofs.Abandoning.{left-asleep, left-kept}
 use Rattle.rules.proofs.Ready.{may-fire}
 use Rattle.theory.specs.Seams.{Seams, Call, event, signal, fire, isEvent, firingsOf, turned, work}
 use Rattle.theory.specs.Runs.{firingsFrom, isEventless}
-use Rattle.theory.proofs.Entering.{Fate, enters, wakens, stays, fate, fresh-held}
+use Rattle.theory.proofs.EnteringNested.{Fate, enters, wakens, stays, fate, fresh-held}
 use Rattle.theory.proofs.Entries.{older-length, older-less}
-use Rattle.theory.proofs.Firing.{fired-is, removed-here, removed-other}
-use Rattle.theory.proofs.Soundness.{sleeping-held}
+use Rattle.theory.proofs.FiringNested.{fired-is, removed-here, removed-other}
+use Rattle.theory.proofs.SoundParts.{sleeping-held}
 use Rattle.theory.proofs.Laws.{Laws}
 use Rattle.theory.proofs.Settling.{next-cases}
 use Rattle.theory.proofs.Turning.{turned-held}
@@ -65,17 +65,17 @@ module _ (p : Plan) (ok : Accepted p) (l : Ledger) where
         | inr c ↦ rw (left-kept p ok l t c) (omega arith)
       ]
 
-  removed-fewer : (t u : ℕ) → length (removed p l t u .held) ≤ length (l u .held)
+  removed-fewer : (t u : ℕ) → length (removed l t u .held) ≤ length (l u .held)
   removed-fewer t u =
       elim (look (eqb u t)) [
         | inl e ↦ rw (removed-here p l t u e) (older-length (l u .held))
         | inr e ↦ rw (removed-other p l t u e) (omega arith)
       ]
 
-  fired-fewer : (t u : ℕ) → length (fired p l t u .held) ≤ length (removed p l t u .held)
-  fired-fewer t u = rw (fired-is p l t) (go (fate p ok (removed p l t) (deviatesTo p l t) u))
+  fired-fewer : (t u : ℕ) → length (fired p l t u .held) ≤ length (removed l t u .held)
+  fired-fewer t u = rw (fired-is p l t) (go (fate p ok (removed l t) (deviatesTo l t) u))
     where
-      go : Fate p ok (removed p l t) (deviatesTo p l t) u → length (enter p (deviatesTo p l t) (removed p l t) u .held) ≤ length (removed p l t u .held)
+      go : Fate p ok (removed l t) (deviatesTo l t) u → length (enter p (deviatesTo l t) (removed l t) u .held) ≤ length (removed l t u .held)
       go (enters d k q) = rw q (omega arith)
       go (wakens k w q) = rw (q, fresh-held p u) (omega arith)
       go (stays k w q) = rw q (omega arith)
@@ -100,7 +100,7 @@ module _ {σ : Seams} (ω : Laws σ) (limit : ℕ) (p : Plan) (ok : Accepted p) 
       let z = removed-fewer p ok l t u in omega arith)
       (let x = abandoned-fewer p ok (fired p l t) t in
       let y = fired-fewer p ok l t t in
-      let z : length (removed p l t t .held) ≡ length (older (l t .held)) = ap length (removed-here p l t t (eq-eqb t t refl)) in
+      let z : length (removed l t t .held) ≡ length (older (l t .held)) = ap length (removed-here p l t t (eq-eqb t t refl)) in
       let w = older-less (l t .held) e in omega arith)
 
   -- settling adds nothing

@@ -12,12 +12,12 @@ use Rattle.rules.proofs.Tests.{look}
 use Rattle.rules.proofs.Acceptance.{Accepted}
 use Rattle.rules.proofs.Abandoning.{left-asleep, left-kept}
 use Rattle.theory.specs.Seams.{Seams, turned}
-use Rattle.theory.proofs.Entering.{Enterable, Fate, enters, wakens, stays, fate, fresh-held, enter-nested}
+use Rattle.theory.proofs.EnteringNested.{Enterable, Fate, enters, wakens, stays, fate, fresh-held, enter-nested}
 use Rattle.theory.proofs.Entries.{Good}
-use Rattle.theory.proofs.Soundness.{Formed, sleeping-held, sleeping-few, sleeping-good}
+use Rattle.theory.proofs.SoundParts.{Formed, sleeping-held, sleeping-few, sleeping-good}
 use Rattle.theory.proofs.Laws.{Laws}
 use Rattle.theory.proofs.Turning.{turned-held}
-use Rattle.theory.proofs.Leaving.{turned-nested, abandoned-nested}
+use Rattle.theory.proofs.SignalNested.{turned-nested, abandoned-nested}
 
 module _ (limit : ℕ) (p : Plan) (ok : Accepted p) (l : Ledger) (f : Formed limit p l) where
   pub enter-formed : (to : ℕ → Option ℕ) → Enterable p l to → Formed limit p (enter p to l)

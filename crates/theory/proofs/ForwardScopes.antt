@@ -17,12 +17,12 @@ use Rattle.rules.proofs.Abandoning.{awake-kept}
 use Rattle.rules.proofs.Ready.{may-fire}
 use Rattle.theory.specs.Seams.{Seams, turned}
 use Rattle.theory.proofs.Nesting.{Nested, open-host}
-use Rattle.theory.proofs.Firing.{removed-mode, fired-busy}
-use Rattle.theory.proofs.Soundness.{Sound}
+use Rattle.theory.proofs.FiringNested.{removed-mode, fired-busy}
+use Rattle.theory.proofs.SoundParts.{Sound}
 use Rattle.theory.proofs.Laws.{Laws}
 use Rattle.theory.proofs.Turning.{unturned}
-use Rattle.theory.proofs.Moving.{moved-nested, moved-busy}
-use Rattle.theory.proofs.Closing.{closing-open, closed-awake, closed-alike}
+use Rattle.theory.proofs.MovingNested.{moved-nested, moved-busy}
+use Rattle.theory.proofs.ClosingNested.{closing-open, closed-awake, closed-alike}
 use Rattle.theory.proofs.SoundRetraction.{fired-awake}
 
 module _ {σ : Seams} (ω : Laws σ) (limit : ℕ) (p : Plan) (ok : Accepted p) (l : Ledger) (s : Sound σ limit p l) (z : ℕ) (o : isOpen p l z ≡ true) where

@@ -17,7 +17,7 @@ use Rattle.rules.proofs.Acceptance.{Accepted}
 use Rattle.theory.specs.Seams.{Seams, Call}
 use Rattle.theory.specs.Runs as run
 use Rattle.theory.specs.Runs.{Reached, Books, ledgerFrom, booked, booksFrom}
-use Rattle.theory.proofs.Soundness.{sleeping-asleep}
+use Rattle.theory.proofs.SoundParts.{sleeping-asleep}
 use Rattle.theory.proofs.Laws.{Laws, Unfinished}
 use Rattle.theory.proofs.SoundBegin.{begun-sound}
 use Rattle.theory.proofs.SoundKept.{Kept, kept-next}

@@ -20,8 +20,8 @@ use Rattle.theory.specs.Seams.{Seams}
 use Rattle.theory.specs.Runs.{act, Books}
 use Rattle.theory.proofs.Composition.{when, join, All, none, all-append, all-map, Same, Swap, Commute, swap-words, swap-nil, join-nil}
 use Rattle.theory.proofs.Nesting.{Sleeps, Nested, free-below, shut-inside, open-host}
-use Rattle.theory.proofs.Entering.{Enterable, Fate, enters, wakens, stays, fate, fresh-held, woken-asleep, kept-busy}
-use Rattle.theory.proofs.Soundness.{sleeping-held}
+use Rattle.theory.proofs.EnteringNested.{Enterable, Fate, enters, wakens, stays, fate, fresh-held, woken-asleep, kept-busy}
+use Rattle.theory.proofs.SoundParts.{sleeping-held}
 
 module _ {σ : Seams} (limit : ℕ) (p : Plan) (ok : Accepted p) (k : Books σ p limit) where
   open Seams σ using (Event, Change, change, Retraction, retraction)

@@ -25,14 +25,14 @@ use Rattle.theory.specs.Runs.{act, replacementOf, Reached, Running, by-b
 use Rattle.theory.proofs.Composition as all
 use Rattle.theory.proofs.Composition.{when, join, when-nil, join-nil}
 use Rattle.theory.proofs.Nesting.{Nested, hosted-asleep}
-use Rattle.theory.proofs.Entering.{fresh-held}
-use Rattle.theory.proofs.Soundness.{Sound, Over, sleeping-asleep, sleeping-held}
+use Rattle.theory.proofs.EnteringNested.{fresh-held}
+use Rattle.theory.proofs.SoundParts.{Sound, Over, sleeping-asleep, sleeping-held}
 use Rattle.theory.proofs.Laws.{Laws, Unfinished}
 use Rattle.theory.proofs.Settling.{next-cases, over-refused}
 use Rattle.theory.proofs.Turning.{turned-awake, scope-untouched}
-use Rattle.theory.proofs.Moving.{moved-nested}
-use Rattle.theory.proofs.Closing.{closing-open}
-use Rattle.theory.proofs.Leaving.{turned-nested}
+use Rattle.theory.proofs.MovingNested.{moved-nested}
+use Rattle.theory.proofs.ClosingNested.{closing-open}
+use Rattle.theory.proofs.SignalNested.{turned-nested}
 use Rattle.theory.proofs.SoundBegin.{root-zero, begun-sound, begun-fresh}
 use Rattle.theory.proofs.SoundEvent.{was-open}
 use Rattle.theory.proofs.SoundRetraction.{fired-formed}

@@ -22,10 +22,10 @@ use Rattle.theory.specs.Seams.{Seams}
 use Rattle.theory.specs.Runs.{act, replacementOf, Books}
 use Rattle.theory.proofs.Composition.{when, join, All, all-when, Same, Swap, when-nil, join-same, join-nil, swap-when, swap-nil, nil-swap, same-join, put-behind-of, gather}
 use Rattle.theory.proofs.Nesting.{Nested, state-of, open-host}
-use Rattle.theory.proofs.Soundness.{sleeping-held}
+use Rattle.theory.proofs.SoundParts.{sleeping-held}
 use Rattle.theory.proofs.Laws.{Laws}
 use Rattle.theory.proofs.Installing.{installed-held}
-use Rattle.theory.proofs.Closing.{closing-open, closed-in, closes-known, closed-alike, closed-awake, closed-free, closed-was-awake, closed-closes, closing-open-track, closing-direct, closed-host-stays}
+use Rattle.theory.proofs.ClosingNested.{closing-open, closed-in, closes-known, closed-alike, closed-awake, closed-free, closed-was-awake, closed-closes, closing-open-track, closing-direct, closed-host-stays}
 use Rattle.theory.proofs.Invariant.{Undoes, Below, Held, inner, Blocks, quiet, word-below, swap-below, swap-free}
 use Rattle.theory.proofs.InvariantMoving.{keep, keep-all, keep-same, held-install}
 

@@ -23,7 +23,7 @@ use Rattle.theory.proofs.Composition.{when, join, All, all-append, all-
 use Rattle.theory.proofs.Nesting.{Nested, open-same}
 use Rattle.theory.proofs.Laws.{Laws}
 use Rattle.theory.proofs.Installing.{install-none, install-one, by-none, by-some}
-use Rattle.theory.proofs.Moving.{moved-is, recorded-mode, recorded-awake, mover-is, recorded-nested, goes-free}
+use Rattle.theory.proofs.MovingNested.{moved-is, recorded-mode, recorded-awake, mover-is, recorded-nested, goes-free}
 use Rattle.theory.proofs.Invariant.{Undoes, Below, below, Held, Blocks, swap-free, enter-blocks}
 
 -- a word that a code other than 0 undoes

@@ -24,12 +24,12 @@ use Rattle.theory.specs.Seams.{Seams, turned}
 use Rattle.theory.specs.Runs.{act, Books}
 use Rattle.theory.proofs.Composition.{when, join, All, Swap, nil-swap, join-same, join-single, put-behind}
 use Rattle.theory.proofs.Nesting.{Awake, Nested, open-same, mode-inside}
-use Rattle.theory.proofs.Firing.{fired-is, removed-mode, removed-awake, removed-here, removed-other, removed-nested, deviates-free}
-use Rattle.theory.proofs.Soundness.{Sound, sleeping-held}
+use Rattle.theory.proofs.FiringNested.{fired-is, removed-mode, removed-awake, removed-here, removed-other, removed-nested, deviates-free}
+use Rattle.theory.proofs.SoundParts.{Sound, sleeping-held}
 use Rattle.theory.proofs.Entries.{empty-nil}
 use Rattle.theory.proofs.Laws.{Laws}
 use Rattle.theory.proofs.Turning.{turned-awake, turned-held, scope-untouched}
-use Rattle.theory.proofs.Leaving.{left-awake, left-host-stays}
+use Rattle.theory.proofs.SignalNested.{left-awake, left-host-stays}
 use Rattle.theory.proofs.SoundRetraction.{fired-awake}
 use Rattle.theory.proofs.Invariant.{Undoes, Below, Held, inner, Blocks, swap-free, enter-blocks}
 
@@ -149,7 +149,7 @@ module _ {σ : Seams} (ω : Laws σ) (limit : ℕ) (p : Plan) (ok : Accepted p) 
           join-single N t last (n .below t awake) (λ u c d. rw (ne-eqb u t d))
           ∙ (rw (eq-eqb t t refl))
 
-  removed-blocks : Blocks limit p ok k (removed p l t) shorter R
+  removed-blocks : Blocks limit p ok k (removed l t) shorter R
   removed-blocks =
       record {
         held =
@@ -162,7 +162,7 @@ module _ {σ : Seams} (ω : Laws σ) (limit : ℕ) (p : Plan) (ok : Accepted p) 
             ];
         runs =
             λ z o f.
-            let o′ = sym (open-same p (removed p l t) l (removed-awake p l t) z) ∙ o in
+            let o′ = sym (open-same p (removed l t) l (removed-awake p l t) z) ∙ o in
             let f′ = ap isForward (sym (removed-mode p l t (owner p z))) ∙ f in
             let (a, q) = g .runs z o′ f′ in
             (a, λ b. q b ∙ ap (λ w. act (k .changed) w b) (inner-same z f′));
@@ -187,7 +187,7 @@ module _ {σ : Seams} (ω : Laws σ) (limit : ℕ) (p : Plan) (ok : Accepted p) 
   pub fired-blocks : Blocks limit p ok k (fired p l t) shorter (λ z. when (isOpen p l z) (R z))
   fired-blocks =
       subst (λ m. Blocks limit p ok k m shorter (λ z. when (isOpen p l z) (R z))) (sym (fired-is p l t))
-      (subst (λ r. Blocks limit p ok k (enter p (deviatesTo p l t) (removed p l t)) shorter r)
-      (fun-ext (λ z. ap (λ b. when b (R z)) (open-same p (removed p l t) l (removed-awake p l t) z)))
-      (enter-blocks limit p ok k (removed p l t) (removed-nested p l t ok n (s .formed .good t) free awake) shorter R removed-blocks
-      (deviatesTo p l t) (deviates-free p l t ok n (s .formed .good t) free awake)))
+      (subst (λ r. Blocks limit p ok k (enter p (deviatesTo l t) (removed l t)) shorter r)
+      (fun-ext (λ z. ap (λ b. when b (R z)) (open-same p (removed l t) l (removed-awake p l t) z)))
+      (enter-blocks limit p ok k (removed l t) (removed-nested p l t ok n (s .formed .good t) free awake) shorter R removed-blocks
+      (deviatesTo l t) (deviates-free p l t ok n (s .formed .good t) free awake)))

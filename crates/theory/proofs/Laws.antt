@@ -16,7 +16,7 @@ use Rattle.rules.specs.Fire.{mayFire}
 use Rattle.rules.proofs.Acceptance.{Accepted}
 use Rattle.theory.specs.Seams.{Seams, Call, event, signal, fire, installed, recorded, goes, changeOf, work}
 use Rattle.theory.proofs.Composition.{when, join}
-use Rattle.theory.proofs.Soundness.{Sound, Over}
+use Rattle.theory.proofs.SoundParts.{Sound, Over}
 
 -- a forward track without an open scope takes a transition of its state
 pub record Takes (p : Plan) (l : Ledger) (t x : ℕ) : Type 0 where

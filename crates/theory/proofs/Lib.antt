@@ -1,21 +1,20 @@
 -- Property 3's mathematics, over the seams: theorems that know of the rules of calls only the laws of Laws.antt.
 -- Changes composed; ledgers nested, and what they hold; the laws.
 pub mod Composition
-pub mod Modes
 pub mod Roots
 pub mod Nesting
-pub mod Entering
+pub mod EnteringNested
 pub mod Entries
-pub mod Firing
-pub mod Soundness
+pub mod FiringNested
+pub mod SoundParts
 pub mod Laws
 -- What the laws give: each part of a call keeps a ledger nested and formed.
 pub mod Settling
 pub mod Installing
 pub mod Turning
-pub mod Moving
-pub mod Closing
-pub mod Leaving
+pub mod MovingNested
+pub mod ClosingNested
+pub mod SignalNested
 pub mod Forming
 -- Soundness is kept by every call; progress; firings fall.
 pub mod SoundBegin

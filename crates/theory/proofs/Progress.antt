@@ -20,7 +20,7 @@ use Rattle.rules.proofs.Abandoning.{undoing-awake}
 use Rattle.rules.proofs.Ready.{fire-may}
 use Rattle.theory.specs.Seams.{Seams}
 use Rattle.theory.proofs.Nesting.{Awake, Nested}
-use Rattle.theory.proofs.Soundness.{Sound}
+use Rattle.theory.proofs.SoundParts.{Sound}
 use Rattle.theory.proofs.SoundEvent.{bare-of, abandoning-of}
 
 module _ {σ : Seams} (limit : ℕ) (p : Plan) (ok : Accepted p) (l : Ledger) (s : Sound σ limit p l) where

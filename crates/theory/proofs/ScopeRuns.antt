@@ -23,14 +23,14 @@ use Rattle.theory.specs.Seams.{Seams, Call, event, signal, fire, isEvent
 use Rattle.theory.specs.Runs as run
 use Rattle.theory.specs.Runs.{Reached, Running, by-begin, by-call, over-event, over-signal, over-fire}
 use Rattle.theory.proofs.Nesting.{Awake, Sleeps, Nested}
-use Rattle.theory.proofs.Entering.{fresh-state}
-use Rattle.theory.proofs.Firing.{fired-new}
-use Rattle.theory.proofs.Soundness.{Sound, sleeping-asleep}
+use Rattle.theory.proofs.EnteringNested.{fresh-state}
+use Rattle.theory.proofs.FiringNested.{fired-new}
+use Rattle.theory.proofs.SoundParts.{Sound, sleeping-asleep}
 use Rattle.theory.proofs.Laws.{Laws, Unfinished}
 use Rattle.theory.proofs.Settling.{next-cases}
 use Rattle.theory.proofs.Turning.{turned-awake, turned-state}
-use Rattle.theory.proofs.Moving.{to-destination, moved-is, moved-still, moved-new}
-use Rattle.theory.proofs.Closing.{closed-alike, closed-awake}
+use Rattle.theory.proofs.MovingNested.{to-destination, moved-is, moved-still, moved-new}
+use Rattle.theory.proofs.ClosingNested.{closed-alike, closed-awake}
 use Rattle.theory.proofs.SoundRetraction.{fired-awake, hosted-kept}
 use Rattle.theory.proofs.SoundKept.{Kept, kept-next}
 use Rattle.theory.proofs.Histories.{reached-kept}

@@ -8,7 +8,7 @@ use Rattle.rules.specs.Ledger.{Ledger}
 use Rattle.rules.specs.Scope.{isOver}
 use Rattle.rules.proofs.Tests.{clash}
 use Rattle.theory.specs.Seams.{Seams, Call, event, signal, fire, work}
-use Rattle.theory.proofs.Soundness.{Over}
+use Rattle.theory.proofs.SoundParts.{Over}
 use Rattle.theory.proofs.Laws.{Laws}
 
 module _ {σ : Seams} (ω : Laws σ) (limit : ℕ) (p : Plan) (h : σ .Head) (l : Ledger) where

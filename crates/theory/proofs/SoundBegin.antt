@@ -22,10 +22,10 @@ use Rattle.rules.proofs.Abandoning.{bare-parts}
 use Rattle.rules.proofs.Opening.{begun-root, begun-woken, begun-asleep}
 use Rattle.theory.specs.Seams.{Seams}
 use Rattle.theory.proofs.Nesting.{Awake}
-use Rattle.theory.proofs.Entering.{Enterable, fresh-awake, fresh-mode, fresh-state}
-use Rattle.theory.proofs.Soundness.{Formed, RootsAwake, Sound, sleeping-held, sleeping-few, sleeping-good, sleeping-asleep}
+use Rattle.theory.proofs.EnteringNested.{Enterable, fresh-awake, fresh-mode, fresh-state}
+use Rattle.theory.proofs.SoundParts.{Formed, RootsAwake, Sound, sleeping-held, sleeping-few, sleeping-good, sleeping-asleep}
 use Rattle.theory.proofs.Laws.{Laws, ended}
-use Rattle.theory.proofs.Closing.{closing-open}
+use Rattle.theory.proofs.ClosingNested.{closing-open}
 use Rattle.theory.proofs.Forming.{enter-formed}
 
 -- abandoning is due: the scope is open, and each of its tracks is bare

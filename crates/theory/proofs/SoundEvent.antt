@@ -20,13 +20,13 @@ use Rattle.rules.proofs.Closing.{closing-final, closed-root}
 use Rattle.rules.proofs.Abandoning.{bare-parts}
 use Rattle.theory.specs.Seams.{Seams, installed, recorded, goes}
 use Rattle.theory.proofs.Nesting.{Awake, Nested, state-of, open-host}
-use Rattle.theory.proofs.Entering.{Fate, enters, wakens, stays, fate, arrived-awake, fresh-awake, fresh-state}
+use Rattle.theory.proofs.EnteringNested.{Fate, enters, wakens, stays, fate, arrived-awake, fresh-awake, fresh-state}
 use Rattle.theory.proofs.Entries.{Good, may-none, may-own}
-use Rattle.theory.proofs.Soundness.{Formed, RootsAwake, sleeping-held, sleeping-few, sleeping-good}
+use Rattle.theory.proofs.SoundParts.{Formed, RootsAwake, sleeping-held, sleeping-few, sleeping-good}
 use Rattle.theory.proofs.Laws.{Laws, Spare}
 use Rattle.theory.proofs.Installing.{installed-held, by-none, by-some, install-fits, good-install}
-use Rattle.theory.proofs.Moving.{moved-is, recorded-awake, mover-awake, mover-is, recorded-nested, goes-free, moved-nested, moved-busy, moved-undoing, moved-undoing-back, moved-new, has-code}
-use Rattle.theory.proofs.Closing.{closing-open, closes-known, closed-nested, closed-undoing, closed-undoing-back, closed-alike}
+use Rattle.theory.proofs.MovingNested.{moved-is, recorded-awake, mover-awake, mover-is, recorded-nested, goes-free, moved-nested, moved-busy, moved-undoing, moved-undoing-back, moved-new, has-code}
+use Rattle.theory.proofs.ClosingNested.{closing-open, closes-known, closed-nested, closed-undoing, closed-undoing-back, closed-alike}
 use Rattle.theory.proofs.Forming.{enter-formed}
 use Rattle.theory.proofs.SoundBegin.{abandoning-open, abandoning-bare}
 

@@ -13,10 +13,10 @@ use Rattle.rules.proofs.Tests.{look, clash, refuted}
 use Rattle.rules.proofs.Folds.{every-at, every-of}
 use Rattle.rules.proofs.Acceptance.{Accepted}
 use Rattle.theory.specs.Seams.{Seams, Call, event, signal, fire, work}
-use Rattle.theory.proofs.Soundness.{Sound, Over, sleeping-asleep}
+use Rattle.theory.proofs.SoundParts.{Sound, Over, sleeping-asleep}
 use Rattle.theory.proofs.Laws.{Laws, Unfinished}
 use Rattle.theory.proofs.Settling.{over-refused}
-use Rattle.theory.proofs.Closing.{closed-done}
+use Rattle.theory.proofs.ClosingNested.{closed-done}
 use Rattle.theory.proofs.SoundBegin.{root-zero}
 use Rattle.theory.proofs.SoundEvent.{event-formed, event-roots, event-abandoning}
 use Rattle.theory.proofs.SoundRetraction.{signal-sound, fire-sound}

@@ -24,14 +24,14 @@ use Rattle.rules.proofs.Abandoning.{undoing-awake, awake-kept, left-kept, aband
 use Rattle.rules.proofs.Ready.{may-fire}
 use Rattle.theory.specs.Seams.{Seams, turned}
 use Rattle.theory.proofs.Nesting.{Awake, Nested}
-use Rattle.theory.proofs.Entering.{Fate, enters, wakens, stays, fate, arrived-awake, fresh-awake, fresh-state}
+use Rattle.theory.proofs.EnteringNested.{Fate, enters, wakens, stays, fate, arrived-awake, fresh-awake, fresh-state}
 use Rattle.theory.proofs.Entries.{Good, good-older, older-length}
-use Rattle.theory.proofs.Firing.{fired-is, removed-mode, removed-state, removed-here, removed-other, removed-awake, deviates-hosted, deviates-free, removed-nested, fired-still, fired-new}
-use Rattle.theory.proofs.Soundness.{Formed, Sound}
+use Rattle.theory.proofs.FiringNested.{fired-is, removed-mode, removed-state, removed-here, removed-other, removed-awake, deviates-hosted, deviates-free, removed-nested, fired-still, fired-new}
+use Rattle.theory.proofs.SoundParts.{Formed, Sound}
 use Rattle.theory.proofs.Laws.{Laws}
 use Rattle.theory.proofs.Turning.{turned-awake, unturned}
-use Rattle.theory.proofs.Closing.{closing-open, closing-of}
-use Rattle.theory.proofs.Leaving.{left-together, left-awake, left-root}
+use Rattle.theory.proofs.ClosingNested.{closing-open, closing-of}
+use Rattle.theory.proofs.SignalNested.{left-together, left-awake, left-root}
 use Rattle.theory.proofs.Forming.{enter-formed, turned-formed, abandoned-formed}
 
 module _ {σ : Seams} (ω : Laws σ) (limit : ℕ) (p : Plan) (ok : Accepted p) (l : Ledger) (s : Sound σ limit p l) where
@@ -88,14 +88,14 @@ module _ {σ : Seams} (ω : Laws σ) (limit : ℕ) (p : Plan) (ok : Accepted p) 
     good : Good p t (l t .held)
     good = s .formed .good t
 
-    removed-few : (u : ℕ) → length (removed p l t u .held) ≤ limit
+    removed-few : (u : ℕ) → length (removed l t u .held) ≤ limit
     removed-few u =
         elim (look (eqb u t)) [
           | inl e ↦ rw (removed-here p l t u e) (let a = older-length (l u .held) in let b = s .formed .few u in omega arith)
           | inr e ↦ subst (λ (c : Configuration). length (c .held) ≤ limit) (sym (removed-other p l t u e)) (s .formed .few u)
         ]
 
-    removed-good : (u : ℕ) → Good p u (removed p l t u .held)
+    removed-good : (u : ℕ) → Good p u (removed l t u .held)
     removed-good u =
         elim (look (eqb u t)) [
           | inl e ↦ rw (removed-here p l t u e) (good-older p u (l u .held) (s .formed .good u))
@@ -105,8 +105,8 @@ module _ {σ : Seams} (ω : Laws σ) (limit : ℕ) (p : Plan) (ok : Accepted p) 
     pub fired-formed : Formed limit p (fired p l t)
     fired-formed =
         subst (Formed limit p) (sym (fired-is p l t))
-        (enter-formed limit p ok (removed p l t)
-        (record { nested = removed-nested p l t ok n good free fired-awake; few = removed-few; good = removed-good }) (deviatesTo p l t)
+        (enter-formed limit p ok (removed l t)
+        (record { nested = removed-nested p l t ok n good free fired-awake; few = removed-few; good = removed-good }) (deviatesTo l t)
         (deviates-free p l t ok n good free fired-awake))
 
     abbrev X : Ledger
@@ -119,10 +119,10 @@ module _ {σ : Seams} (ω : Laws σ) (limit : ℕ) (p : Plan) (ok : Accepted p) 
     fired-root u e = left-root p ok X (fired-formed .nested) u e
 
     fired-roots : (u : ℕ) → Awake l u → Awake X u
-    fired-roots u a = ap (λ m. isAwake (m u .mode)) (fired-is p l t) ∙ go (fate p ok (removed p l t) (deviatesTo p l t) u)
+    fired-roots u a = ap (λ m. isAwake (m u .mode)) (fired-is p l t) ∙ go (fate p ok (removed l t) (deviatesTo l t) u)
       where
-        go : Fate p ok (removed p l t) (deviatesTo p l t) u → isAwake (enter p (deviatesTo p l t) (removed p l t) u .mode) ≡ true
-        go (enters d k q) = ap (λ c. isAwake (c .mode)) q ∙ arrived-awake d (removed p l t u)
+        go : Fate p ok (removed l t) (deviatesTo l t) u → isAwake (enter p (deviatesTo l t) (removed l t) u .mode) ≡ true
+        go (enters d k q) = ap (λ c. isAwake (c .mode)) q ∙ arrived-awake d (removed l t u)
         go (wakens k w q) = ap (λ c. isAwake (c .mode)) q ∙ fresh-awake p u
         go (stays k w q) = ap (λ c. isAwake (c .mode)) q ∙ removed-awake p l t u ∙ a
 

@@ -60,7 +60,7 @@ module _ (bs : List ℕ) (c : Counts) (acc : Accepts bs c) (t : ℕ) (b : t < c 
   deviating-done ws d =
       d
       ∙ written-same entryLimit (c .tracks) _ _ ws
-      (λ u h. let k = track-count bs c in ap₂ (entered p (ledgerOf c ws u) (fresh p u)) (alone u (omega arith)) (woken u))
+      (λ u h. let k = track-count bs c in ap₂ (entered (ledgerOf c ws u) (fresh p u)) (alone u (omega arith)) (woken u))
 
 -- a firing without a deviation enters nothing, and opens nothing
 pub deviates-not : (bs : List ℕ) (c : Counts) → Accepts bs c → (t s : ℕ) (ws : List ℕ) → Tidy ws (c .tracks) → s ≡ noState

@@ -1,12 +1,12 @@
 -- Laws of the backward steps.
 pub mod Counted
 pub mod Climbing
-pub mod Turning
-pub mod Firing
-pub mod Nesting
+pub mod SignalLaws
+pub mod FireLaws
+pub mod ScopesNested
 pub mod Storing
-pub mod Tracks
-pub mod Leaving
+pub mod TrackVisits
+pub mod AbandoningLaws
 pub mod Outcomes
 pub mod DeviatingLaws
-pub mod Fired
+pub mod FiredWords

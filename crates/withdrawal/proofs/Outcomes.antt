@@ -21,7 +21,7 @@ use Rattle.lookup.specs.Checked.{Checked, Going, ledgerOf}
 use Rattle.lookup.proofs.Facts.{tidy-words, live-of-going}
 use Rattle.lookup.proofs.OneTrackLaws.{holds, read-back, orderly-after, then}
 use Rattle.withdrawal.specs.Scopes.{Nested}
-use Rattle.withdrawal.proofs.Nesting.{nested-turned}
+use Rattle.withdrawal.proofs.ScopesNested.{nested-turned}
 use Rattle.withdrawal.proofs.Storing.{storable-turned}
 
 module _ (bs : List ℕ) (c : Counts) (ws : List ℕ) (g : Checked bs c ws) where
@@ -33,8 +33,8 @@ module _ (bs : List ℕ) (c : Counts) (ws : List ℕ) (g : Checked bs c ws) wher
   answered k n r =
       refusedOr ws
       (record {
-        answer = done (figures entryLimit p (ledgerAt entryLimit ws n) k);
-        words = written entryLimit n (after entryLimit p (ledgerAt entryLimit ws n) k) ws;
+        answer = done (figures p (ledgerAt entryLimit ws n) k);
+        words = written entryLimit n (after p (ledgerAt entryLimit ws n) k) ws;
       })
       r
 
@@ -75,8 +75,8 @@ module _ (bs : List ℕ) (c : Counts) (ws : List ℕ) (g : Checked bs c ws) wher
       let e = outcome k ∙ ap (answered k (c .tracks)) q in
       record { answered = sym (ap (λ (x : Outcome). x .answer) e); left = sym (ap (λ (x : Outcome). x .words) e) }
 
-  pub done-call : (k : Call) → callRefusal entryLimit p (ledgerOf c ws) k ≡ 0 → {fs vs : List ℕ} → fs ≡ figures entryLimit p (ledgerOf c ws) k
-      → vs ≡ written entryLimit (c .tracks) (after entryLimit p (ledgerOf c ws) k) ws → Meets (callOutcome entryLimit bs ws k) (done fs) vs
+  pub done-call : (k : Call) → callRefusal entryLimit p (ledgerOf c ws) k ≡ 0 → {fs vs : List ℕ} → fs ≡ figures p (ledgerOf c ws) k
+      → vs ≡ written entryLimit (c .tracks) (after p (ledgerOf c ws) k) ws → Meets (callOutcome entryLimit bs ws k) (done fs) vs
   unfolding refusedOr ledgerOf
   done-call k q f w =
       let e = outcome k ∙ ap (answered k (c .tracks)) q in

@@ -5,7 +5,7 @@ use Rattle.rules.specs.Ledger.{Configuration, Ledger}
 use Rattle.rules.specs.Signal.{turnedTrack, turned}
 use Rattle.rules.proofs.Stored.{Storable}
 use Rattle.lookup.proofs.OneTrackLaws.{Stores, stores-at, storable-of}
-use Rattle.withdrawal.proofs.Turning.{turned-awake, turned-held, turned-sleeping}
+use Rattle.withdrawal.proofs.SignalLaws.{turned-awake, turned-held, turned-sleeping}
 
 module _ (limit n : ℕ) where
   -- turning

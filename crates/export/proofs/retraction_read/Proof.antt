@@ -1,7 +1,7 @@
 -- The plan reader's own promise, its answer packed case by case. Assumes nothing.
 use mathlib.Core.Path.{sym, ap, _∙_}
 use Rattle.rules.specs.Answers.{planTold}
-use Rattle.plan.proofs.Reader.{accepted-holds}
+use Rattle.plan_reader.proofs.Reader.{accepted-holds}
 use Rattle.export.specs.Packed.{packedReading}
 use borrow.Author.Needs.{needs}
 use Rattle.export.proofs.retraction_read.Statement.{statement}

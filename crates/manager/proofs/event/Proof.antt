@@ -3,7 +3,7 @@ use mathlib.Core.Path.{sym, ap, _∙_, refl}
 use Rattle.rules.specs.Call.{event, eventOutcome}
 use Rattle.rules.specs.Answers.{planTold, eventTold}
 use Rattle.manager.proofs.Checks.{meets}
-use Rattle.manager.proofs.Calls.{call-refused, call-checked}
+use Rattle.manager.proofs.CallChecks.{call-refused, call-checked}
 use borrow.Author.Needs.{needs}
 use Rattle.manager.proofs.event.Statement.{statement}
 use Rattle.manager.proofs.event.Tie as tie

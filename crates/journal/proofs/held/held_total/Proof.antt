@@ -1,6 +1,6 @@
 -- The sum after t tracks is the definition's at t; a count is a 16-bit number, so the sum fits. Assumes nothing.
 use Rattle.ledger.proofs.ReadTracks.{count-as}
-use Rattle.journal.proofs.Ready.{summed}
+use Rattle.journal.proofs.OfLedger.{summed}
 use borrow.Author.Needs.{needs}
 use mathlib.Core.Path.{_≡_, refl}
 use Prim.Native.Nat.{_≤_, _-_, _*_}

@@ -1,15 +1,27 @@
--- By the answer's case. Assumes nothing.
-use borrow.Author.Needs.{needs}
-use Rattle.rules.specs.Transcript.{callLine}
+-- By the answer's case: a line of three numbers, or the refusal's. Assumes nothing.
+use native.Mathlib.Omega.{arith}
+use Rattle.rules.specs.Text.{ascii, decimal}
+use Rattle.rules.specs.Transcript.{callLine, doneLine}
 use Rattle.rules.specs.Answers.{eventTold}
+use Rattle.journal.proofs.LineText.{lined-three, digits-word}
+use borrow.Author.Needs.{needs}
 use Rattle.journal.proofs.lines.event_line.Statement.{statement}
 use Rattle.journal.proofs.lines.event_line.Tie as tie
 
 enum-known-answer : tie.Need-enum-known-answer
 enum-known-answer c = search needs
 
-moved-line-requires : tie.Need-moved-line-requires
-moved-line-requires c κs = search needs
+slice-aggregate-put-three : tie.Need-slice-aggregate-put-three
+slice-aggregate-put-three c = search needs
+
+cast-put-three : tie.Need-cast-put-three
+cast-put-three c = search needs
+
+cast-put-three-2 : tie.Need-cast-put-three-2
+cast-put-three-2 c = search needs
+
+put-three-requires : tie.Need-put-three-requires
+put-three-requires c κs = omega (arith, digits-word (c .before .before .before .before .before .before .args .name) (c .before .before .before .before .before .before .fits .name .fits), digits-word (c .before .before .before .answer .given .0 .0) (search needs), digits-word (c .before .before .before .answer .given .0 .1 .0) (search needs))
 
 enum-known-answer-2 : tie.Need-enum-known-answer-2
 enum-known-answer-2 c = search needs
@@ -21,8 +33,8 @@ same-length : tie.Need-same-length
 same-length c = search needs
 
 returns : tie.Need-returns
-unfolding callLine eventTold
-returns c = rw (c .before .before .before .before .before .answer .given .1) (c .before .before .moved-line .ensures)
+unfolding callLine eventTold doneLine ascii
+returns c = rw (c .before .before .before .before .before .before .answer .given .1) (lined-three (ascii "E") (decimal (c .before .before .before .before .before .before .before .before .before .args .name)) (decimal (c .before .before .before .before .before .before .answer .given .0 .0)) (decimal (c .before .before .before .before .before .before .answer .given .0 .1 .0)) (c .before .before .put-three .ensures) (omega (arith, digits-word (c .before .before .before .before .before .before .before .before .before .args .name) (c .before .before .before .before .before .before .before .before .before .fits .name .fits), digits-word (c .before .before .before .before .before .before .answer .given .0 .0) (search needs), digits-word (c .before .before .before .before .before .before .answer .given .0 .1 .0) (search needs))))
 
 same-length-2 : tie.Need-same-length-2
 same-length-2 c = search needs
@@ -36,7 +48,10 @@ event-line-spec =
     tie.close
     (tie.spec
     enum-known-answer
-    moved-line-requires
+    slice-aggregate-put-three
+    cast-put-three
+    cast-put-three-2
+    put-three-requires
     enum-known-answer-2
     refusal-line-requires
     same-length

@@ -1,6 +1,6 @@
+-- The head, two more fields, and the newline. Assumes nothing.
 use Rattle.journal.proofs.LineText.{lined-three}
 use Rattle.rules.specs.Text.{decimal}
--- The head, two more fields, and the newline. Assumes nothing.
 use native.Mathlib.Omega.{arith}
 use borrow.Author.Needs.{needs}
 use Rattle.journal.proofs.Written.{retold, wrote-then}

@@ -1,6 +1,6 @@
+-- A line of three numbers. Assumes nothing.
 use Rattle.journal.proofs.LineText.{lined-three}
 use Rattle.rules.specs.Text.{decimal}
--- A line of three numbers. Assumes nothing.
 use native.Mathlib.Omega.{arith}
 use borrow.Author.Needs.{needs}
 use Rattle.rules.specs.Text.{ascii}

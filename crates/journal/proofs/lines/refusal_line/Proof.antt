@@ -1,6 +1,6 @@
+-- A line of one number. Assumes nothing.
 use Rattle.journal.proofs.LineText.{lined-one}
 use Rattle.rules.specs.Text.{decimal}
--- A line of one number. Assumes nothing.
 use native.Mathlib.Omega.{arith}
 use borrow.Author.Needs.{needs}
 use Rattle.rules.specs.Text.{ascii}

@@ -1,15 +1,24 @@
--- By the answer's case. Assumes nothing.
-use borrow.Author.Needs.{needs}
-use Rattle.rules.specs.Transcript.{callLine}
+-- By the answer's case: a line of one number, or the refusal's. Assumes nothing.
+use native.Mathlib.Omega.{arith}
+use Rattle.rules.specs.Text.{ascii, decimal}
+use Rattle.rules.specs.Transcript.{callLine, doneLine}
 use Rattle.rules.specs.Answers.{signalTold}
+use Rattle.journal.proofs.LineText.{lined-one, digits-word}
+use borrow.Author.Needs.{needs}
 use Rattle.journal.proofs.lines.signal_line.Statement.{statement}
 use Rattle.journal.proofs.lines.signal_line.Tie as tie
 
 enum-known-answer : tie.Need-enum-known-answer
 enum-known-answer c = search needs
 
-turned-line-requires : tie.Need-turned-line-requires
-turned-line-requires c κs = search needs
+slice-aggregate-put-one : tie.Need-slice-aggregate-put-one
+slice-aggregate-put-one c = search needs
+
+cast-put-one : tie.Need-cast-put-one
+cast-put-one c = search needs
+
+put-one-requires : tie.Need-put-one-requires
+put-one-requires c κs = omega (arith, digits-word (c .before .before .before .answer .given .0 .0) (search needs))
 
 enum-known-answer-2 : tie.Need-enum-known-answer-2
 enum-known-answer-2 c = search needs
@@ -21,8 +30,8 @@ same-length : tie.Need-same-length
 same-length c = search needs
 
 returns : tie.Need-returns
-unfolding callLine signalTold
-returns c = rw (c .before .before .before .before .before .answer .given .1) (c .before .before .turned-line .ensures)
+unfolding callLine signalTold doneLine ascii
+returns c = rw (c .before .before .before .before .before .before .answer .given .1) (lined-one (ascii "S") (decimal (c .before .before .before .before .before .before .answer .given .0 .0)) (c .before .before .put-one .ensures) (omega (arith, digits-word (c .before .before .before .before .before .before .answer .given .0 .0) (search needs))))
 
 same-length-2 : tie.Need-same-length-2
 same-length-2 c = search needs
@@ -36,7 +45,9 @@ signal-line-spec =
     tie.close
     (tie.spec
     enum-known-answer
-    turned-line-requires
+    slice-aggregate-put-one
+    cast-put-one
+    put-one-requires
     enum-known-answer-2
     refusal-line-requires
     same-length

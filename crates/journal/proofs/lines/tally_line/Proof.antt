@@ -1,6 +1,6 @@
+-- The head, one more field, and the newline. Assumes nothing.
 use Rattle.journal.proofs.LineText.{lined-two}
 use Rattle.rules.specs.Text.{decimal}
--- The head, one more field, and the newline. Assumes nothing.
 use native.Mathlib.Omega.{arith}
 use borrow.Author.Needs.{needs}
 use Rattle.journal.proofs.Written.{retold, wrote-then}

@@ -1,21 +1,17 @@
-use mathlib.Core.Path.{refl}
 -- One law for each way out. Assumes nothing.
-use mathlib.Core.Path.{sym, _∙_}
-use Rattle.journal.specs.Entered.{entered}
-use Rattle.journal.proofs.Entering.{at-end, too-short, unknown, wrong, cut, whole}
+use mathlib.Core.Path.{refl, sym, _∙_}
+use Rattle.journal.proofs.Records.{at-end, too-short, unknown, wrong, cut, whole}
 use borrow.Author.Needs.{needs}
 use Rattle.journal.proofs.record.record_at.Statement.{statement}
 use Rattle.journal.proofs.record.record_at.Tie as tie
 
 returns : tie.Need-returns
-unfolding entered
 returns c = sym (at-end _ _ (c .if1 .taken))
 
 sub-left : tie.Need-sub-left
 sub-left c = search needs
 
 returns-2 : tie.Need-returns-2
-unfolding entered
 returns-2 c = sym (too-short _ _ (c .before .if1 .left) (c .if2 .taken))
 
 add-word-at : tie.Need-add-word-at
@@ -28,8 +24,7 @@ length-of-requires : tie.Need-length-of-requires
 length-of-requires c κs = search needs
 
 returns-3 : tie.Need-returns-3
-unfolding entered
-returns-3 c = sym (unknown _ _ _ _ _ (c .before .before .word-at .ensures) (c .before .length-of .ensures) refl (c .before .before .before .before .if1 .left) (c .if3 .taken))
+returns-3 c = sym (unknown _ _ _ _ _ (c .before .before .word-at .ensures) (c .before .length-of .ensures) refl (c .before .before .before .if2 .left) (c .if3 .taken))
 
 word-at-requires-2 : tie.Need-word-at-requires-2
 word-at-requires-2 c κs = search needs
@@ -38,12 +33,10 @@ wide-requires : tie.Need-wide-requires
 wide-requires c κs = search needs
 
 returns-4 : tie.Need-returns-4
-unfolding entered
-returns-4 c = sym (wrong _ _ _ _ _ (c .before .before .before .before .before .word-at .ensures) (c .before .before .before .before .length-of .ensures) (c .before .wide .ensures ∙ c .before .before .word-at2 .ensures) (c .before .before .before .before .before .before .before .if1 .left) (c .if4 .taken))
+returns-4 c = sym (wrong _ _ _ _ _ (c .before .before .before .before .before .word-at .ensures) (c .before .before .before .before .length-of .ensures) (c .before .wide .ensures ∙ c .before .before .word-at2 .ensures) (c .before .before .before .before .before .before .if2 .left) (c .before .before .before .if3 .left) (c .if4 .taken))
 
 returns-5 : tie.Need-returns-5
-unfolding entered
-returns-5 c = sym (cut _ _ _ _ _ (c .before .before .before .before .before .before .word-at .ensures) (c .before .before .before .before .before .length-of .ensures) (c .before .before .wide .ensures ∙ c .before .before .before .word-at2 .ensures) (c .before .before .before .before .before .before .before .before .if1 .left) (c .before .if4 .left) (c .if5 .taken))
+returns-5 c = sym (cut _ _ _ _ _ (c .before .before .before .before .before .before .word-at .ensures) (c .before .before .before .before .before .length-of .ensures) (c .before .before .wide .ensures ∙ c .before .before .before .word-at2 .ensures) (c .before .before .before .before .before .before .before .if2 .left) (c .before .before .before .before .if3 .left) (c .before .if4 .left) (c .if5 .taken))
 
 whole-at-requires : tie.Need-whole-at-requires
 whole-at-requires c κs = search needs

@@ -1,7 +1,9 @@
 -- By the kind; a record with a field has six bytes. Assumes nothing.
 use native.Mathlib.Omega.{arith}
 use borrow.Author.Needs.{needs}
-use Rattle.journal.proofs.Entering.{length-16, length-18, whole-event, whole-signal, whole-fire, whole-lowest}
+use mathlib.Core.Path.{_≡_}
+use borrow.Author.Tests.{ne-eqb}
+use Rattle.rules.specs.Journal.{journalLength, recordOf}
 use Rattle.journal.proofs.record.whole_at.Statement.{statement}
 use Rattle.journal.proofs.record.whole_at.Tie as tie
 
@@ -9,25 +11,31 @@ add-word-at : tie.Need-add-word-at
 add-word-at c = search needs
 
 word-at-requires : tie.Need-word-at-requires
-word-at-requires c κs = omega (arith, length-16 (c .before .before .args .kind) (c .if1 .taken))
+unfolding journalLength
+word-at-requires c κs = let e : journalLength (c .before .before .args .kind) ≡ 6 = rw (c .if1 .taken) in omega arith
 
 returns : tie.Need-returns
-returns c = whole-event _ _ _ (c .before .if1 .taken) (c .word-at .ensures)
+unfolding recordOf
+returns c = rw (c .before .if1 .taken, c .word-at .ensures)
 
 returns-2 : tie.Need-returns-2
-returns-2 c = whole-signal _ _ (c .if2 .taken)
+unfolding recordOf
+returns-2 c = rw (c .if2 .taken)
 
 add-word-at-2 : tie.Need-add-word-at-2
 add-word-at-2 c = search needs
 
 word-at-requires-2 : tie.Need-word-at-requires-2
-word-at-requires-2 c κs = omega (arith, length-18 (c .before .before .before .before .args .kind) (c .if3 .taken))
+unfolding journalLength
+word-at-requires-2 c κs = let e : journalLength (c .before .before .before .before .args .kind) ≡ 6 = rw (c .if3 .taken) in omega arith
 
 returns-3 : tie.Need-returns-3
-returns-3 c = whole-fire _ _ _ (c .before .if3 .taken) (c .word-at2 .ensures)
+unfolding recordOf
+returns-3 c = rw (c .before .if3 .taken, c .word-at2 .ensures)
 
 returns-4 : tie.Need-returns-4
-returns-4 c = whole-lowest _ _ (c .before .before .if1 .left) (c .before .if2 .left) (c .if3 .left)
+unfolding recordOf
+returns-4 c = rw (ne-eqb _ 16 (c .before .before .if1 .left), ne-eqb _ 17 (c .before .if2 .left), ne-eqb _ 18 (c .if3 .left))
 
 pub whole-at-spec : {M : Type 1} → statement M
 whole-at-spec =

@@ -25,105 +25,40 @@ abbrev put-number-below : ℕ → In 1 put-number-kinds.ps
 put-number-below t =
     and 1 put-number-kinds.ps (falls 1 put-number-kinds.ps _<_ μ-put-number t) put-number.Pre
 
-put-number-digit-requires : (t : ℕ) → put-number-lts.Need-digit-requires (
-  digit-reads.Asked,
-  digit-reads.Learnt,
-  put-byte-reads.Asked,
-  put-byte-reads.Learnt,
-  put-number-below t,
-  put-number.Post,
-) (put-number-at t) put-number.Post
-put-number-digit-requires t c κs = search needs
+module _ (t : ℕ) where
+  -- what the callees promise
+  abbrev claims : put-number-lts.Claims
+  claims = (digit-reads.Asked, digit-reads.Learnt, put-byte-reads.Asked, put-byte-reads.Learnt, put-number-below t, put-number.Post)
 
-put-number-put-byte-requires : (t : ℕ) → put-number-lts.Need-put-byte-requires (
-  digit-reads.Asked,
-  digit-reads.Learnt,
-  put-byte-reads.Asked,
-  put-byte-reads.Learnt,
-  put-number-below t,
-  put-number.Post,
-) (put-number-at t) put-number.Post
-put-number-put-byte-requires t c κs = omega (arith, digits-some (c .before .before .before .before .args .n))
+  put-number-digit-requires : put-number-lts.Need-digit-requires claims (put-number-at t) put-number.Post
+  put-number-digit-requires c κs = search needs
 
-put-number-same-length : (t : ℕ) → put-number-lts.Need-same-length (
-  digit-reads.Asked,
-  digit-reads.Learnt,
-  put-byte-reads.Asked,
-  put-byte-reads.Learnt,
-  put-number-below t,
-  put-number.Post,
-) (put-number-at t) put-number.Post
-put-number-same-length t c = search needs
+  put-number-put-byte-requires : put-number-lts.Need-put-byte-requires claims (put-number-at t) put-number.Post
+  put-number-put-byte-requires c κs = omega (arith, digits-some (c .before .before .before .before .args .n))
 
-put-number-returns : (t : ℕ) → put-number-lts.Need-returns (
-  digit-reads.Asked,
-  digit-reads.Learnt,
-  put-byte-reads.Asked,
-  put-byte-reads.Learnt,
-  put-number-below t,
-  put-number.Post,
-) (put-number-at t) put-number.Post
-put-number-returns t c = wrote-digit _ _ (c .before .before .before .before .before .before .before .args .n) _ _ _ (search needs) (c .before .before .before .digit .ensures) (c .before .before .put-byte .ensures)
+  put-number-same-length : put-number-lts.Need-same-length claims (put-number-at t) put-number.Post
+  put-number-same-length c = search needs
 
-put-number-put-number-requires : (t : ℕ) → put-number-lts.Need-put-number-requires (
-  digit-reads.Asked,
-  digit-reads.Learnt,
-  put-byte-reads.Asked,
-  put-byte-reads.Learnt,
-  put-number-below t,
-  put-number.Post,
-) (put-number-at t) put-number.Post
-put-number-put-number-requires t c κs = (search needs, omega (arith, digits-tenth (c .before .before .before .args .n) (search needs)))
+  put-number-returns : put-number-lts.Need-returns claims (put-number-at t) put-number.Post
+  put-number-returns c = wrote-digit _ _ (c .before .before .before .before .before .before .before .args .n) _ _ _ (search needs) (c .before .before .before .digit .ensures) (c .before .before .put-byte .ensures)
 
-put-number-digit-requires-2 : (t : ℕ) → put-number-lts.Need-digit-requires-2 (
-  digit-reads.Asked,
-  digit-reads.Learnt,
-  put-byte-reads.Asked,
-  put-byte-reads.Learnt,
-  put-number-below t,
-  put-number.Post,
-) (put-number-at t) put-number.Post
-put-number-digit-requires-2 t c κs = search needs
+  put-number-put-number-requires : put-number-lts.Need-put-number-requires claims (put-number-at t) put-number.Post
+  put-number-put-number-requires c κs = (search needs, omega (arith, digits-tenth (c .before .before .before .args .n) (search needs)))
 
-put-number-put-byte-requires-2 : (t : ℕ) → put-number-lts.Need-put-byte-requires-2 (
-  digit-reads.Asked,
-  digit-reads.Learnt,
-  put-byte-reads.Asked,
-  put-byte-reads.Learnt,
-  put-number-below t,
-  put-number.Post,
-) (put-number-at t) put-number.Post
-put-number-put-byte-requires-2 t c κs = omega (arith, digits-tenth (c .before .before .before .before .before .before .before .before .args .n) (search needs), c .before .before .before .before .put-number .ensures .place, c .before .before .before .before .put-number .kept .0)
+  put-number-digit-requires-2 : put-number-lts.Need-digit-requires-2 claims (put-number-at t) put-number.Post
+  put-number-digit-requires-2 c κs = search needs
 
-put-number-same-length-2 : (t : ℕ) → put-number-lts.Need-same-length-2 (
-  digit-reads.Asked,
-  digit-reads.Learnt,
-  put-byte-reads.Asked,
-  put-byte-reads.Learnt,
-  put-number-below t,
-  put-number.Post,
-) (put-number-at t) put-number.Post
-put-number-same-length-2 t c = search needs
+  put-number-put-byte-requires-2 : put-number-lts.Need-put-byte-requires-2 claims (put-number-at t) put-number.Post
+  put-number-put-byte-requires-2 c κs = omega (arith, digits-tenth (c .before .before .before .before .before .before .before .before .args .n) (search needs), c .before .before .before .before .put-number .ensures .place, c .before .before .before .before .put-number .kept .0)
 
-put-number-returns-2 : (t : ℕ) → put-number-lts.Need-returns-2 (
-  digit-reads.Asked,
-  digit-reads.Learnt,
-  put-byte-reads.Asked,
-  put-byte-reads.Learnt,
-  put-number-below t,
-  put-number.Post,
-) (put-number-at t) put-number.Post
-put-number-returns-2 t c = wrote-tenth _ _ (c .before .before .before .before .before .before .before .before .before .before .before .args .n) _ _ _ _ _ (search needs) (search needs) (c .before .before .before .before .before .before .before .put-number .ensures) (c .before .before .before .digit2 .ensures) (c .before .before .put-byte2 .ensures)
+  put-number-same-length-2 : put-number-lts.Need-same-length-2 claims (put-number-at t) put-number.Post
+  put-number-same-length-2 c = search needs
+
+  put-number-returns-2 : put-number-lts.Need-returns-2 claims (put-number-at t) put-number.Post
+  put-number-returns-2 c = wrote-tenth _ _ (c .before .before .before .before .before .before .before .before .before .before .before .args .n) _ _ _ _ _ (search needs) (search needs) (c .before .before .before .before .before .before .before .put-number .ensures) (c .before .before .before .digit2 .ensures) (c .before .before .put-byte2 .ensures)
 
 pub +put-number-spec : {M : Type 1} → statement M
-+put-number-spec = close μ-put-number λ t. put-number-lts.spec (
-  digit-reads.Asked,
-  digit-reads.Learnt,
-  put-byte-reads.Asked,
-  put-byte-reads.Learnt,
-  put-number-below t,
-  put-number.Post,
-)
++put-number-spec = close μ-put-number λ t. put-number-lts.spec (claims t)
     (put-number-at t)
     put-number.Post
     (put-number-digit-requires t)

@@ -4,12 +4,9 @@ use borrow.Author.Needs.{needs}
 use Rattle.ledger.proofs.layout.has_room.Statement.{statement}
 use Rattle.ledger.proofs.layout.has_room.Tie as tie
 
-track-place-requires : tie.Need-track-place-requires
-track-place-requires c κs = search needs
-
 returns : tie.Need-returns
 unfolding wordCount
 returns c = rw (c .track-place .ensures)
 
 pub has-room-spec : {M : Type 1} → statement M
-has-room-spec = tie.close (tie.spec track-place-requires returns)
+has-room-spec = tie.close (tie.spec (λ c κs. search needs) returns)

@@ -4,15 +4,6 @@ use borrow.Author.Needs.{needs}
 use Rattle.ledger.proofs.layout.track_place.Statement.{statement}
 use Rattle.ledger.proofs.layout.track_place.Tie as tie
 
-mul-result : tie.Need-mul-result
-mul-result c = search needs
-
-add-result : tie.Need-add-result
-add-result c = search needs
-
-returns : tie.Need-returns
-unfolding trackPlace trackWidth headWords entryWidth entryLimit leadingWords
-returns c = search needs
-
 pub track-place-spec : {M : Type 1} → statement M
-track-place-spec = tie.close (tie.spec mul-result add-result returns)
+unfolding trackPlace trackWidth headWords entryWidth entryLimit leadingWords
+track-place-spec = tie.close (tie.spec (λ c. search needs) (λ c. search needs) (λ c. search needs))

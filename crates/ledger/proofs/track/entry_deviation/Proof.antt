@@ -6,26 +6,12 @@ use borrow.Author.Needs.{needs}
 use Rattle.ledger.proofs.track.entry_deviation.Statement.{statement}
 use Rattle.ledger.proofs.track.entry_deviation.Tie as tie
 
-entry-place-requires : tie.Need-entry-place-requires
-entry-place-requires c κs = search needs
-
-add-result : tie.Need-add-result
-unfolding entriesPlace trackWidth headWords entryWidth entryLimit
-add-result c = search needs
-
-mul-result : tie.Need-mul-result
-unfolding entriesPlace trackWidth headWords entryWidth entryLimit
-mul-result c = search needs
-
-shared-slice-read-result : tie.Need-shared-slice-read-result
-unfolding entriesPlace trackWidth headWords entryWidth entryLimit
-shared-slice-read-result c = search needs
-
 returns : tie.Need-returns
 unfolding entryAt entryPlace
 returns c = rw (c .before .entry-place .ensures)
 
 pub entry-deviation-spec : {M : Type 1} → statement M
+unfolding entriesPlace trackWidth headWords entryWidth entryLimit
 entry-deviation-spec =
     tie.close
-    (tie.spec entry-place-requires add-result mul-result shared-slice-read-result returns)
+    (tie.spec (λ c κs. search needs) (λ c. search needs) (λ c. search needs) (λ c. search needs) returns)

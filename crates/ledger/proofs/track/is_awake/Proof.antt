@@ -4,26 +4,6 @@ use borrow.Author.Needs.{needs}
 use Rattle.ledger.proofs.track.is_awake.Statement.{statement}
 use Rattle.ledger.proofs.track.is_awake.Tie as tie
 
-enum-told : tie.Need-enum-told
-enum-told c = search needs
-
-enum-told-2 : tie.Need-enum-told-2
-enum-told-2 c = search needs
-
-enum-told-3 : tie.Need-enum-told-3
-enum-told-3 c = search needs
-
-returns : tie.Need-returns
-unfolding isAwake
-returns c = search needs
-
-returns-2 : tie.Need-returns-2
-unfolding isAwake
-returns-2 c = search needs
-
-returns-3 : tie.Need-returns-3
-unfolding isAwake
-returns-3 c = search needs
-
 pub is-awake-spec : {M : Type 1} → statement M
-is-awake-spec = tie.close (tie.spec enum-told enum-told-2 enum-told-3 returns returns-2 returns-3)
+unfolding isAwake
+is-awake-spec = tie.close (tie.spec (λ c. search needs) (λ c. search needs) (λ c. search needs) (λ c. search needs) (λ c. search needs) (λ c. search needs))

@@ -1,7 +1,7 @@
 -- The reading of the plan, and 17 where it is accepted. Assumes nothing.
 use mathlib.Core.Path.{sym, ap, _∙_}
 use Rattle.rules.specs.Answers.{planTold}
-use Rattle.plan.proofs.Reader.{accepted-holds}
+use Rattle.plan_reader.proofs.Reader.{accepted-holds}
 use Rattle.manager.proofs.Checks.{short, roomy, lent-refused, lent-short, lent-accepted}
 use borrow.Author.Needs.{needs}
 use Rattle.manager.proofs.verify.read_lent.Statement.{statement}

@@ -19,7 +19,7 @@ abbrev μ-loop : tie.MeasureT-loop
 μ-loop plan c scopes last₀ before₀ states s₀ last before s = c .states - s
 
 loop-holds : tie.Need-loop-holds Inv-loop μ-loop
-loop-holds c = (search needs, chained-none _ 32 128)
+loop-holds c = let q = c .before .pre in (search needs, rw (q .3, q .4) (chained-none _ 32 128))
 
 element-copy-out-if1 : tie.Need-element-copy-out-if1 Inv-loop μ-loop
 element-copy-out-if1 c = search needs
@@ -30,11 +30,11 @@ track-of-requires c κs = search needs
 cast-t : tie.Need-cast-t Inv-loop μ-loop
 cast-t c = search needs
 
-array-read-before : tie.Need-array-read-before Inv-loop μ-loop
-array-read-before c = let q = host-within _ _ (c .before .before .before .before .before .before .pre .0) (c .before .before .before .before .before .before .pre .1) _ (some-scope _ _ _ _ (sym (track-count _ _)) (c .before .before .before .before .before .before .pre .2 .at _ (search needs)) (c .before .if1 .taken)) in let e = c .track-of .ensures in omega arith
+element-copy-out-before : tie.Need-element-copy-out-before Inv-loop μ-loop
+element-copy-out-before c = let q = host-within _ _ (c .before .before .before .before .before .before .pre .0) (c .before .before .before .before .before .before .pre .1) _ (some-scope _ _ _ _ (sym (track-count _ _)) (c .before .before .before .before .before .before .pre .2 .at _ (search needs)) (c .before .if1 .taken)) in let e = c .track-of .ensures in omega arith
 
-array-write-before : tie.Need-array-write-before Inv-loop μ-loop
-array-write-before c = search needs
+element-write-before : tie.Need-element-write-before Inv-loop μ-loop
+element-write-before c = search needs
 
 add-last : tie.Need-add-last Inv-loop μ-loop
 add-last c = search needs
@@ -42,8 +42,8 @@ add-last c = search needs
 cast-last : tie.Need-cast-last Inv-loop μ-loop
 cast-last c = search needs
 
-array-write-last : tie.Need-array-write-last Inv-loop μ-loop
-array-write-last c = let q = host-within _ _ (c .before .before .before .before .before .before .pre .0) (c .before .before .before .before .before .before .pre .1) _ (some-scope _ _ _ _ (sym (track-count _ _)) (c .before .before .before .before .before .before .pre .2 .at _ (search needs)) (c .before .if1 .taken)) in let e = c .track-of .ensures in omega arith
+element-write-last : tie.Need-element-write-last Inv-loop μ-loop
+element-write-last c = let q = host-within _ _ (c .before .before .before .before .before .before .before .pre .0) (c .before .before .before .before .before .before .before .pre .1) _ (some-scope _ _ _ _ (sym (track-count _ _)) (c .before .before .before .before .before .before .before .pre .2 .at _ (search needs)) (c .before .before .if1 .taken)) in let e = c .before .track-of .ensures in omega arith
 
 add-s : tie.Need-add-s Inv-loop μ-loop
 add-s c = search needs
@@ -58,7 +58,7 @@ loop-again c =
     let end = pre .2 .at (c .before .before .before .loop .s) (search needs) in (
       search needs,
       elim (c .if1 .came) [
-        | inl w ↦ rw (w .2, w .3) (visit-hosting _ _ (pre .0) (pre .1) _ _ _ _ (search needs) (w .1 .ensures) (some-scope _ _ _ _ (sym (track-count _ _)) end (w .0 .taken)) inv)
+        | inl w ↦ rw (w .3, w .4) (visit-hosting _ _ (pre .0) (pre .1) _ _ _ _ (search needs) (w .1 .ensures) (some-scope _ _ _ _ (sym (track-count _ _)) end (w .0 .taken)) inv)
         | inr w ↦ rw (w .1, w .2) (chained-pass _ _ _ _ _ _ (no-host _ _ (empty-scope _ _ _ _ (sym (track-count _ _)) end (w .0 .left))) inv)
       ],
     )
@@ -76,11 +76,11 @@ chain-states-spec =
     element-copy-out-if1
     track-of-requires
     cast-t
-    array-read-before
-    array-write-before
+    element-copy-out-before
+    element-write-before
     add-last
     cast-last
-    array-write-last
+    element-write-last
     add-s
     loop-less
     loop-again

@@ -1,5 +1,5 @@
 -- The tracks visited so far are chained by their hosts. Assumes nothing.
-use Rattle.plan.proofs.PassTurns.{host-low}
+use Rattle.plan.proofs.PassedLaws.{host-low}
 use Rattle.plan.proofs.ForestLaws.{chained-none, chained-pass, root-alone, visit-hosted, Chained}
 use Rattle.rules.proofs.Folds.{some-not}
 use Rattle.rules.specs.Plan.{noState, planOf, isIn}
@@ -18,7 +18,7 @@ abbrev μ-loop : tie.MeasureT-loop
 μ-loop plan c last₀ before₀ tracks t₀ last before t = c .tracks - t
 
 loop-holds : tie.Need-loop-holds Inv-loop μ-loop
-loop-holds c = (search needs, chained-none _ 128 32)
+loop-holds c = let q = c .before .pre in (search needs, rw (q .2, q .3) (chained-none _ 128 32))
 
 host-word-requires : tie.Need-host-word-requires Inv-loop μ-loop
 host-word-requires c κs = search needs
@@ -26,12 +26,12 @@ host-word-requires c κs = search needs
 cast-s : tie.Need-cast-s Inv-loop μ-loop
 cast-s c = search needs
 
-array-read-before : tie.Need-array-read-before Inv-loop μ-loop
+element-copy-out-before : tie.Need-element-copy-out-before Inv-loop μ-loop
 unfolding noState
-array-read-before c = host-low _ _ (c .before .before .before .before .before .pre .0) _ _ (search needs) (c .before .host-word .ensures) (c .if1 .taken) (some-not _ _ (c .before .before .before .before .before .pre .1) _ (search needs)) .1
+element-copy-out-before c = host-low _ _ (c .before .before .before .before .before .pre .0) _ _ (search needs) (c .before .host-word .ensures) (c .if1 .taken) (some-not _ _ (c .before .before .before .before .before .pre .1) _ (search needs)) .1
 
-array-write-before : tie.Need-array-write-before Inv-loop μ-loop
-array-write-before c = search needs
+element-write-before : tie.Need-element-write-before Inv-loop μ-loop
+element-write-before c = search needs
 
 add-last : tie.Need-add-last Inv-loop μ-loop
 add-last c = search needs
@@ -39,9 +39,9 @@ add-last c = search needs
 cast-last : tie.Need-cast-last Inv-loop μ-loop
 cast-last c = search needs
 
-array-write-last : tie.Need-array-write-last Inv-loop μ-loop
+element-write-last : tie.Need-element-write-last Inv-loop μ-loop
 unfolding noState
-array-write-last c = host-low _ _ (c .before .before .before .before .before .pre .0) _ _ (search needs) (c .before .host-word .ensures) (c .if1 .taken) (some-not _ _ (c .before .before .before .before .before .pre .1) _ (search needs)) .1
+element-write-last c = host-low _ _ (c .before .before .before .before .before .before .pre .0) _ _ (search needs) (c .before .before .host-word .ensures) (c .before .if1 .taken) (some-not _ _ (c .before .before .before .before .before .before .pre .1) _ (search needs)) .1
 
 add-t : tie.Need-add-t Inv-loop μ-loop
 add-t c = search needs
@@ -56,7 +56,7 @@ loop-again c =
     let inv = c .before .before .before .loop .inv .1 in (
       search needs,
       elim (c .if1 .came) [
-        | inl w ↦ rw (w .1, w .2) (visit-hosted _ _ (pre .0) (pre .1) _ _ _ _ (search needs) (c .before .host-word .ensures) (w .0 .taken) inv)
+        | inl w ↦ rw (w .2, w .3) (visit-hosted _ _ (pre .0) (pre .1) _ _ _ _ (search needs) (c .before .host-word .ensures) (w .0 .taken) inv)
         | inr w ↦ rw (w .1, w .2) (chained-pass _ _ _ _ _ _ (root-alone _ _ _ (c .before .host-word .ensures) (w .0 .left)) inv)
       ],
     )
@@ -73,11 +73,11 @@ chain-tracks-spec =
     loop-holds
     host-word-requires
     cast-s
-    array-read-before
-    array-write-before
+    element-copy-out-before
+    element-write-before
     add-last
     cast-last
-    array-write-last
+    element-write-last
     add-t
     loop-less
     loop-again

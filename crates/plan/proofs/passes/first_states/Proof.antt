@@ -8,7 +8,7 @@ use Rattle.rules.specs.Plan.{planOf, noState}
 use Rattle.plan.specs.Passes.{firstAmong, firstMarks}
 use Rattle.plan.proofs.FieldLaws.{state-count}
 use Rattle.plan.proofs.PassLaws.{first-kept, first-set}
-use Rattle.plan.proofs.PassTurns.{owner-low}
+use Rattle.plan.proofs.PassedLaws.{owner-low}
 use borrow.Author.Needs.{needs}
 use Rattle.plan.proofs.passes.first_states.Statement.{statement}
 use Rattle.plan.proofs.passes.first_states.Tie as tie

@@ -1,5 +1,5 @@
 -- The refusal first where the record is broken, and the last line. Assumes nothing.
-use Rattle.replay.proofs.Turning.{closed-broken, closed-whole}
+use Rattle.replay.proofs.CarriedOut.{closed-broken, closed-whole}
 use borrow.Author.Needs.{needs}
 use Rattle.replay.proofs.records.close.Statement.{statement}
 use Rattle.replay.proofs.records.close.Tie as tie

@@ -8,11 +8,5 @@ use Rattle.soundness.proofs.entries.is_final.Tie as tie
 returns : tie.Need-returns
 returns c = final-beyond _ _ (rw state-count (c .if1 .taken))
 
-is-final-requires : tie.Need-is-final-requires
-is-final-requires c κs = search needs
-
-returns-2 : tie.Need-returns-2
-returns-2 c = search needs
-
 pub is-final-spec : {M : Type 1} → statement M
-is-final-spec = tie.close (tie.spec returns is-final-requires returns-2)
+is-final-spec = tie.close (tie.spec returns (λ c κs. search needs) (λ c. search needs))

@@ -1,6 +1,6 @@
 -- The words, then over, then the clauses. Assumes nothing.
 use Rattle.ledger.proofs.Branches.{holds}
-use Rattle.soundness.proofs.Judging.{untidy, sound-over, sound-live}
+use Rattle.soundness.proofs.Clauses.{untidy, sound-over, sound-live}
 use borrow.Author.Needs.{needs}
 use Rattle.soundness.proofs.sound.is_sound.Statement.{statement}
 use Rattle.soundness.proofs.sound.is_sound.Tie as tie
@@ -10,9 +10,6 @@ are-tidy-requires c κs = c .before .before .pre .room
 
 returns : tie.Need-returns
 returns c = untidy _ _ _ (c .before .are-tidy .ensures) (c .if1 .taken)
-
-is-over-requires : tie.Need-is-over-requires
-is-over-requires c κs = search needs
 
 returns-2 : tie.Need-returns-2
 returns-2 c = sound-over _ _ _ (c .before .before .before .are-tidy .ensures) (c .before .before .if1 .left) (c .before .is-over .ensures) (c .if2 .taken)
@@ -26,4 +23,4 @@ returns-3 c = sound-live _ _ _ (c .before .before .before .before .are-tidy .ens
 pub is-sound-spec : {M : Type 1} → statement M
 is-sound-spec =
     tie.close
-    (tie.spec are-tidy-requires returns is-over-requires returns-2 is-live-requires returns-3)
+    (tie.spec are-tidy-requires returns (λ c κs. search needs) returns-2 is-live-requires returns-3)

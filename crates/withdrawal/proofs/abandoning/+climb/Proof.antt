@@ -9,7 +9,7 @@ use borrow.Fn.PlainCycle.{Measures, is, falls, and}
 use Rattle.rules.specs.Plan.{noState}
 use Rattle.lookup.proofs.Facts.{host-track-low}
 use Rattle.lookup.proofs.reading.host_track.Reads as host-track-reads
-use Rattle.withdrawal.proofs.Leaving.{climb-low, climb-busy, climb-root, climb-lower, climb-some, climb-more, climb-due, climb-on}
+use Rattle.withdrawal.proofs.AbandoningLaws.{climb-low, climb-busy, climb-root, climb-lower, climb-some, climb-more, climb-due, climb-on}
 use Rattle.withdrawal.proofs.abandoning.climb.Reads as climb
 use Rattle.withdrawal.proofs.abandoning.climb.Kinds as climb-kinds
 use Rattle.withdrawal.proofs.abandoning.+climb.Lts-climb as climb-lts

@@ -9,7 +9,7 @@ use Rattle.rules.specs.Ledger.{written}
 use Rattle.rules.proofs.Passes.{upTo}
 use Rattle.lookup.specs.Checked.{ledgerOf}
 use Rattle.withdrawal.specs.Scopes.{keptBy}
-use Rattle.withdrawal.proofs.Leaving.{leaving-start, leaving-orderly, leaving-length, leaving-more, leaving-end}
+use Rattle.withdrawal.proofs.AbandoningLaws.{leaving-start, leaving-orderly, leaving-length, leaving-more, leaving-end}
 use Rattle.withdrawal.proofs.abandoning.abandon.Statement.{statement}
 use Rattle.withdrawal.proofs.abandoning.abandon.Tie as tie
 

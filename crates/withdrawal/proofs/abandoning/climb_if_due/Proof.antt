@@ -1,6 +1,6 @@
 -- No open scope, one with a busy track, or one that is due: the three cases of a track's visit. Assumes nothing.
 use borrow.Author.Needs.{needs}
-use Rattle.withdrawal.proofs.Leaving.{visit-shut, visit-busy, visit-due, visit-climb}
+use Rattle.withdrawal.proofs.AbandoningLaws.{visit-shut, visit-busy, visit-due, visit-climb}
 use Rattle.withdrawal.proofs.abandoning.climb_if_due.Statement.{statement}
 use Rattle.withdrawal.proofs.abandoning.climb_if_due.Tie as tie
 

@@ -4,7 +4,7 @@ use borrow.Author.Needs.{needs}
 use Rattle.rules.specs.Plan.{noState}
 use Rattle.ledger.proofs.Words.{in-room}
 use Rattle.lookup.proofs.Facts.{host-track-low}
-use Rattle.withdrawal.proofs.Leaving.{leave-asleep, leave-root, leave-not, leave-done}
+use Rattle.withdrawal.proofs.AbandoningLaws.{leave-asleep, leave-root, leave-not, leave-done}
 use Rattle.withdrawal.proofs.abandoning.leave_track.Statement.{statement}
 use Rattle.withdrawal.proofs.abandoning.leave_track.Tie as tie
 

@@ -5,7 +5,7 @@ use borrow.Author.Needs.{needs}
 use Rattle.rules.specs.Plan.{planOf}
 use Rattle.lookup.specs.Checked.{ledgerOf}
 use Rattle.withdrawal.specs.Scopes.{Cleared}
-use Rattle.withdrawal.proofs.Leaving.{visit-start, visit-end}
+use Rattle.withdrawal.proofs.AbandoningLaws.{visit-start, visit-end}
 use Rattle.withdrawal.proofs.abandoning.left_open.Statement.{statement}
 use Rattle.withdrawal.proofs.abandoning.left_open.Tie as tie
 

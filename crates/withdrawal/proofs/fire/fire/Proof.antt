@@ -3,7 +3,7 @@
 use native.Mathlib.Omega.{arith}
 use borrow.Author.Needs.{needs}
 use Rattle.rules.specs.Answers.{fireTold}
-use Rattle.withdrawal.proofs.Fired.{fire-over, fire-not, fireable, low, counted, within-words, removable, removed-words, code-is, deviation-is, removed-orderly, sleepers, fired-orderly, fired-nested, fire-done}
+use Rattle.withdrawal.proofs.FiredWords.{fire-over, fire-not, fireable, low, counted, within-words, removable, removed-words, code-is, deviation-is, removed-orderly, sleepers, fired-orderly, fired-nested, fire-done}
 use Rattle.withdrawal.proofs.fire.fire.Statement.{statement}
 use Rattle.withdrawal.proofs.fire.fire.Tie as tie
 

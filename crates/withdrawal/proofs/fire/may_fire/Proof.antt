@@ -1,6 +1,6 @@
 -- A track beyond the plan's may not be fired; of another, its words and the mark of its open scope decide. Assumes nothing.
 use native.Mathlib.Omega.{arith}
-use Rattle.withdrawal.proofs.Fired.{may-beyond}
+use Rattle.withdrawal.proofs.FiredWords.{may-beyond}
 use borrow.Author.Needs.{needs}
 use Rattle.withdrawal.proofs.fire.may_fire.Statement.{statement}
 use Rattle.withdrawal.proofs.fire.may_fire.Tie as tie

@@ -1,5 +1,5 @@
 -- A track that is not forward is left as it is; a forward one is undoing in its state. Assumes nothing.
-use Rattle.withdrawal.proofs.Tracks.{turn-not, turn-done}
+use Rattle.withdrawal.proofs.TrackVisits.{turn-not, turn-done}
 use borrow.Author.Needs.{needs}
 use Rattle.withdrawal.proofs.signal.turn_track.Statement.{statement}
 use Rattle.withdrawal.proofs.signal.turn_track.Tie as tie

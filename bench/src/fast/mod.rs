@@ -1,0 +1,100 @@
+//! The paper's calls, written for speed: no heap, one visit to each record of
+//! the plan and to each word of the ledger, sets of tracks as bits, and
+//! transitions in a table of places by source and event, which both number 15
+//! and an event look up. The answers and every word of the ledger are the
+//! second program's, as a test holds them to be.
+//!
+//! - [`plan`]: the plan reader, refusals 2 to 16.
+//! - [`ledger`]: whether the words are sound, and the tracks as sets.
+//! - [`steps`]: what the calls do, on an accepted plan and a sound ledger.
+//! - [`run`]: the program `unwind` as a function of bytes.
+
+pub mod ledger;
+pub mod plan;
+pub mod run;
+pub mod steps;
+
+use ledger::{Sets, PAIRS, TRACK_WORDS};
+use plan::Plan;
+
+/// The paper's number of a refusal.
+#[derive(Clone, Copy, Debug, PartialEq, Eq)]
+pub struct Refused(pub u16);
+
+/// Event's figures: tracks moved, scopes closed.
+#[derive(Clone, Copy, Debug, PartialEq, Eq)]
+pub struct Moved {
+    pub moved: u16,
+    pub closed: u16,
+}
+
+/// A retraction code and its deviation state.
+#[derive(Clone, Copy, Debug, PartialEq, Eq)]
+pub struct Entry {
+    pub code: u16,
+    pub deviation: u16,
+}
+
+/// Begin overwrites the ledger.
+pub fn begin(bytes: &[u8], words: &mut [u16]) -> Result<(), Refused> {
+    let mut plan = Plan::unread();
+    accept(&mut plan, bytes, words)?;
+    steps::begin(&plan, words);
+    Ok(())
+}
+
+/// Event: tracks moved, scopes closed.
+pub fn event(bytes: &[u8], words: &mut [u16], event: u16) -> Result<Moved, Refused> {
+    let mut plan = Plan::unread();
+    let mut sets = check(&mut plan, bytes, words)?;
+    steps::event(&plan, words, &mut sets, event)
+}
+
+/// Signal: tracks turned.
+pub fn signal(bytes: &[u8], words: &mut [u16]) -> Result<u16, Refused> {
+    let mut plan = Plan::unread();
+    let mut sets = check(&mut plan, bytes, words)?;
+    steps::signal(&plan, words, &mut sets)
+}
+
+/// Fire a named track: code and deviation.
+pub fn fire(bytes: &[u8], words: &mut [u16], track: u16) -> Result<Entry, Refused> {
+    let mut plan = Plan::unread();
+    let mut sets = check(&mut plan, bytes, words)?;
+    steps::fire(&plan, words, &mut sets, track)
+}
+
+/// Ready: bit n set exactly if track n may be fired.
+pub fn ready(bytes: &[u8], words: &[u16]) -> Result<u32, Refused> {
+    let sets = check(&mut Plan::unread(), bytes, words)?;
+    Ok(sets.ready())
+}
+
+/// Entries: the part of the ledger that holds one track's pairs, those held
+/// and no unused ones; the empty part on refusal.
+pub fn entries<'a>(bytes: &[u8], words: &'a [u16], track: u16) -> &'a [u16] {
+    let mut plan = Plan::unread();
+    let track = usize::from(track);
+    if check(&mut plan, bytes, words).is_err() || track >= plan.tracks {
+        return &[];
+    }
+    let own = &words[track * TRACK_WORDS..][..TRACK_WORDS];
+    &own[PAIRS..][..2 * usize::from(own[2])]
+}
+
+/// 2 to 17: an accepted plan, and enough words for it.
+#[inline(always)]
+fn accept<'a>(plan: &mut Plan<'a>, bytes: &'a [u8], words: &[u16]) -> Result<(), Refused> {
+    plan.read(bytes)?;
+    match words.len() < plan.tracks * TRACK_WORDS {
+        true => Err(Refused(17)),
+        false => Ok(()),
+    }
+}
+
+/// 2 to 18: an accepted plan and a sound ledger, whose sets are the answer.
+#[inline(always)]
+fn check<'a>(plan: &mut Plan<'a>, bytes: &'a [u8], words: &[u16]) -> Result<Sets, Refused> {
+    accept(plan, bytes, words)?;
+    Sets::of(plan, words).ok_or(Refused(18))
+}

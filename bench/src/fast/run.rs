@@ -1,0 +1,132 @@
+//! The program `unwind` as a function of plan bytes and journal bytes. The
+//! plan is read once, and the sets go on from record to record.
+
+use super::ledger::{Sets, TRACK_WORDS};
+use super::plan::{Plan, NONE};
+use super::steps;
+use super::Refused;
+
+/// The most bytes a plan file or a journal may have.
+pub const MAX_BYTES: usize = 32_768;
+
+/// Record kinds of a journal.
+const EVENT: u16 = 16;
+const SIGNAL: u16 = 17;
+const FIRE: u16 = 18;
+const FIRE_LOWEST: u16 = 19;
+
+/// The whole output of `unwind`.
+pub fn unwind(plan: &[u8], journal: &[u8]) -> Vec<u8> {
+    let mut text = Text(Vec::with_capacity(2 * MAX_BYTES));
+    let mut read = Plan::unread();
+    let accepted = match plan.len().max(journal.len()) <= MAX_BYTES {
+        true => read.read(plan),
+        false => Err(Refused(1)),
+    };
+    match accepted {
+        Ok(()) => run(&read, journal, &mut text),
+        Err(Refused(number)) => text.line("R", &[number]),
+    }
+    text.0
+}
+
+/// Begins, then does the records in order.
+fn run(plan: &Plan, journal: &[u8], text: &mut Text) {
+    let mut words = [0; 32 * TRACK_WORDS];
+    let mut sets = steps::begin(plan, &mut words);
+    let mut firings = 0;
+    let mut rest = journal;
+    let [tracks, states, transitions] = [plan.tracks, plan.states, plan.transition_count()];
+    text.line("PLAN", &[tracks as u16, states as u16, transitions as u16]);
+    while !rest.is_empty() {
+        let done = next(&mut rest).and_then(|(kind, argument)| match kind {
+            EVENT => steps::event(plan, &mut words, &mut sets, argument)
+                .map(|figures| text.line("E", &[argument, figures.moved, figures.closed])),
+            SIGNAL => {
+                steps::signal(plan, &mut words, &mut sets).map(|turned| text.line("S", &[turned]))
+            }
+            _ => {
+                let track = fired(kind, argument, &sets);
+                let entry = steps::fire(plan, &mut words, &mut sets, track)?;
+                firings += 1;
+                text.firing(track, entry.code, entry.deviation);
+                Ok(())
+            }
+        });
+        if let Err(Refused(number)) = done {
+            text.line("R", &[number]);
+        }
+    }
+    let held = words.chunks_exact(TRACK_WORDS).map(|own| own[2]).sum();
+    text.line("H", &[held, firings]);
+}
+
+/// The track named, or the lowest ready one; with none, one that no plan has.
+fn fired(kind: u16, argument: u16, sets: &Sets) -> u16 {
+    match kind {
+        FIRE_LOWEST => sets.ready().trailing_zeros() as u16,
+        _ => argument,
+    }
+}
+
+/// Takes a record from the front: its kind and its argument, if it has one. A
+/// broken one, 23, ends the reading.
+fn next(rest: &mut &[u8]) -> Result<(u16, u16), Refused> {
+    let bytes = *rest;
+    let word = |at: usize| match bytes.get(at..at + 2) {
+        Some(bytes) => u16::from_le_bytes([bytes[0], bytes[1]]),
+        None => 0,
+    };
+    *rest = &[];
+    let (kind, argument) = (word(2), word(4));
+    let length = match kind {
+        EVENT | FIRE => 6,
+        SIGNAL | FIRE_LOWEST => 4,
+        _ => return Err(Refused(23)),
+    };
+    if usize::from(word(0)) != length || bytes.len() < length {
+        return Err(Refused(23));
+    }
+    *rest = &bytes[length..];
+    Ok((kind, argument))
+}
+
+/// Lines of text.
+struct Text(Vec<u8>);
+
+impl Text {
+    fn line(&mut self, name: &str, figures: &[u16]) {
+        self.0.extend_from_slice(name.as_bytes());
+        for &figure in figures {
+            self.figure(figure);
+        }
+        self.0.push(b'\n');
+    }
+
+    fn firing(&mut self, track: u16, code: u16, deviation: u16) {
+        match deviation {
+            NONE => {
+                self.0.push(b'F');
+                self.figure(track);
+                self.figure(code);
+                self.0.extend_from_slice(b" -\n");
+            }
+            _ => self.line("F", &[track, code, deviation]),
+        }
+    }
+
+    /// A space and a number.
+    fn figure(&mut self, mut number: u16) {
+        let mut digits = [b' '; 6];
+        let mut at = digits.len();
+        loop {
+            at -= 1;
+            digits[at] = b'0' + (number % 10) as u8;
+            number /= 10;
+            if number == 0 {
+                break;
+            }
+        }
+        self.0.extend_from_slice(&digits[at - 1..]);
+    }
+}

@@ -1,0 +1,272 @@
+//! What the calls do, on an accepted plan and a sound ledger, whose sets they
+//! bring up to date with its words.
+
+use super::ledger::{members, open_scope, Sets, CAPACITY, FORWARD, PAIRS, TRACK_WORDS, UNDOING};
+use super::plan::{Plan, NONE};
+use super::{Entry, Moved, Refused};
+
+/// Begin: roots forward in their first states, others asleep.
+#[inline(always)]
+pub fn begin(plan: &Plan, words: &mut [u16]) -> Sets {
+    let mut sets = Sets::default();
+    words[..plan.tracks * TRACK_WORDS].fill(0);
+    wake(plan, words, &mut sets, plan.roots);
+    sets
+}
+
+/// Wakes sleeping tracks forward in their first states, with the scopes of
+/// these.
+fn wake(plan: &Plan, words: &mut [u16], sets: &mut Sets, tracks: u32) {
+    sets.awake |= tracks;
+    sets.forward |= tracks;
+    for track in members(tracks) {
+        let state = plan.first[track];
+        words[track * TRACK_WORDS] = FORWARD;
+        words[track * TRACK_WORDS + 1] = state;
+        enter(plan, words, sets, track, state);
+    }
+}
+
+/// Opens the scope of a state that a track has entered, if it hosts.
+#[inline(always)]
+fn enter(plan: &Plan, words: &mut [u16], sets: &mut Sets, track: usize, state: u16) {
+    let scope = plan.scope(state);
+    if scope != 0 {
+        sets.open |= 1 << track;
+        wake(plan, words, sets, scope);
+    }
+}
+
+/// Puts the tracks of a track's open scope to sleep.
+#[inline(always)]
+fn close(words: &mut [u16], sets: &mut Sets, host: usize, scope: u32) {
+    for track in members(scope) {
+        let own = &mut words[track * TRACK_WORDS..][..TRACK_WORDS];
+        let used = PAIRS + 2 * usize::from(own[2]);
+        own[..used].fill(0);
+    }
+    sets.awake &= !scope;
+    sets.forward &= !scope;
+    sets.holding &= !scope;
+    sets.last &= !scope;
+    sets.open &= !(1 << host);
+}
+
+/// Installs a code other than 0 in a track that is not full.
+#[inline(always)]
+fn install(words: &mut [u16], sets: &mut Sets, track: usize, entry: Entry) {
+    if entry.code != 0 {
+        let own = &mut words[track * TRACK_WORDS..][..TRACK_WORDS];
+        let at = PAIRS + 2 * usize::from(own[2]);
+        own[at] = entry.code;
+        own[at + 1] = entry.deviation;
+        own[2] += 1;
+        sets.holding |= 1 << track;
+    }
+}
+
+/// Whether installing the code would be the 33rd entry.
+#[inline(always)]
+fn overfills(words: &[u16], track: usize, code: u16) -> bool {
+    code != 0 && words[track * TRACK_WORDS + 2] == CAPACITY
+}
+
+/// What an event will do, chosen on the ledger before the call. The scopes that
+/// will close are known then, too: a scope that opens has no track in a final
+/// state, and a host whose scope closes is in none.
+struct Chosen {
+    /// The tracks that move, and each one's transition.
+    moved: u32,
+    moves: [u16; 32],
+    /// The tracks in a final state after the moves.
+    last: u32,
+    /// The tracks whose open scope closes.
+    closing: u32,
+}
+
+/// Event: tracks moved, scopes closed.
+#[inline(always)]
+pub fn event(
+    plan: &Plan,
+    words: &mut [u16],
+    sets: &mut Sets,
+    event: u16,
+) -> Result<Moved, Refused> {
+    if event == 0 {
+        return Err(Refused(19));
+    }
+    if sets.awake == 0 {
+        return Err(Refused(20));
+    }
+    let mut chosen = Chosen {
+        moved: 0,
+        moves: [0; 32],
+        last: sets.last,
+        closing: 0,
+    };
+    chosen.choose_moves(plan, words, sets, event)?;
+    let done = sets.forward & chosen.last;
+    chosen.choose_closing(plan, words, sets, done)?;
+    if plan.roots & !done == 0 {
+        words[..plan.tracks * TRACK_WORDS].fill(0);
+        *sets = Sets::default();
+    } else {
+        chosen.write(plan, words, sets);
+    }
+    Ok(Moved {
+        moved: chosen.moved.count_ones() as u16,
+        closed: chosen.closing.count_ones() as u16,
+    })
+}
+
+impl Chosen {
+    /// The moves; 21 where one would install a 33rd entry.
+    #[inline(always)]
+    fn choose_moves(
+        &mut self,
+        plan: &Plan,
+        words: &[u16],
+        sets: &Sets,
+        event: u16,
+    ) -> Result<(), Refused> {
+        for track in members(sets.may_move()) {
+            let number = plan.transition_number(words[track * TRACK_WORDS + 1], event);
+            if number == 0 {
+                continue;
+            }
+            let transition = plan.transition(number);
+            if overfills(words, track, transition.code) {
+                return Err(Refused(21));
+            }
+            let last = u32::from(plan.is_last(transition.destination));
+            self.last = self.last & !(1 << track) | last << track;
+            self.moves[track] = number;
+            self.moved |= 1 << track;
+        }
+        Ok(())
+    }
+
+    /// The scopes whose tracks are all done after the moves; 21 where a host
+    /// would install a 33rd entry.
+    #[inline(always)]
+    fn choose_closing(
+        &mut self,
+        plan: &Plan,
+        words: &[u16],
+        sets: &Sets,
+        done: u32,
+    ) -> Result<(), Refused> {
+        for host in members(sets.open) {
+            let state = words[host * TRACK_WORDS + 1];
+            if plan.scope(state) & !done != 0 {
+                continue;
+            }
+            if overfills(words, host, plan.state(state).replacement) {
+                return Err(Refused(21));
+            }
+            self.closing |= 1 << host;
+        }
+        Ok(())
+    }
+
+    #[inline(always)]
+    fn write(&self, plan: &Plan, words: &mut [u16], sets: &mut Sets) {
+        sets.last = self.last;
+        for track in members(self.moved) {
+            let transition = plan.transition(self.moves[track]);
+            let entry = Entry {
+                code: transition.code,
+                deviation: transition.deviation,
+            };
+            install(words, sets, track, entry);
+            words[track * TRACK_WORDS + 1] = transition.destination;
+            enter(plan, words, sets, track, transition.destination);
+        }
+        for host in members(self.closing) {
+            let state = words[host * TRACK_WORDS + 1];
+            let entry = Entry {
+                code: plan.state(state).replacement,
+                deviation: NONE,
+            };
+            close(words, sets, host, plan.scope(state));
+            install(words, sets, host, entry);
+        }
+    }
+}
+
+/// Signal: every forward track turns; then abandoning, inner scopes first,
+/// whose hosts have the higher numbers. Answers how many turned.
+#[inline(always)]
+pub fn signal(plan: &Plan, words: &mut [u16], sets: &mut Sets) -> Result<u16, Refused> {
+    if sets.awake == 0 {
+        return Err(Refused(20));
+    }
+    let turned = sets.forward;
+    for track in members(turned) {
+        words[track * TRACK_WORDS] = UNDOING;
+    }
+    sets.forward = 0;
+    let mut open = sets.open;
+    while open != 0 {
+        let host = 31 - open.leading_zeros() as usize;
+        open &= !(1 << host);
+        abandon(plan, words, sets, host);
+    }
+    Ok(turned.count_ones() as u16)
+}
+
+/// Puts a track's open scope to sleep if it is spent; whether it was.
+#[inline(always)]
+fn abandon(plan: &Plan, words: &mut [u16], sets: &mut Sets, host: usize) -> bool {
+    let scope = open_scope(plan, words, host);
+    let spent = scope & !sets.spent() == 0;
+    if spent {
+        close(words, sets, host, scope);
+    }
+    spent
+}
+
+/// Fire: the newest entry is removed; a deviation turns the track forward, and
+/// the last entry abandons its scope, and so on up. Answers the entry.
+#[inline(always)]
+pub fn fire(plan: &Plan, words: &mut [u16], sets: &mut Sets, track: u16) -> Result<Entry, Refused> {
+    if sets.awake == 0 {
+        return Err(Refused(20));
+    }
+    if track >= 32 || sets.ready() >> track & 1 == 0 {
+        return Err(Refused(22));
+    }
+    let track = usize::from(track);
+    let entry = remove(words, track);
+    if words[track * TRACK_WORDS + 2] == 0 {
+        sets.holding &= !(1 << track);
+    }
+    if entry.deviation != NONE {
+        words[track * TRACK_WORDS] = FORWARD;
+        words[track * TRACK_WORDS + 1] = entry.deviation;
+        sets.forward |= 1 << track;
+        sets.last &= !(1 << track);
+        enter(plan, words, sets, track, entry.deviation);
+        return Ok(entry);
+    }
+    let mut inner = track;
+    while plan.host[inner] != NONE && abandon(plan, words, sets, usize::from(plan.above[inner])) {
+        inner = usize::from(plan.above[inner]);
+    }
+    Ok(entry)
+}
+
+/// Removes the newest entry of a track that holds one.
+#[inline(always)]
+fn remove(words: &mut [u16], track: usize) -> Entry {
+    let own = &mut words[track * TRACK_WORDS..][..TRACK_WORDS];
+    own[2] -= 1;
+    let at = PAIRS + 2 * usize::from(own[2]);
+    let pair = &mut own[at..at + 2];
+    let entry = Entry {
+        code: pair[0],
+        deviation: pair[1],
+    };
+    pair.fill(0);
+    entry
+}

@@ -1,0 +1,210 @@
+//! Tables in which one thing grows and all else stays, so that the growth of
+//! each call shows.
+
+use bench::sides::Call;
+use second::ledger::Ledger;
+use second::plan::{self, Plan, Records};
+use second::rules;
+
+use crate::calls::{self, Given, CALLS};
+use crate::rounds::Rounds;
+use crate::shapes::{self, Order};
+
+/// What grows, with rows of points.
+struct Table {
+    what: &'static str,
+    /// One more of it.
+    unit: &'static str,
+    sizes: Vec<usize>,
+    rows: Vec<Row>,
+}
+
+/// A call on a plan of each size.
+struct Row {
+    name: String,
+    points: Vec<(Vec<u8>, Given)>,
+}
+
+/// Prints all tables.
+pub fn print(rounds: &mut Rounds) {
+    println!("## Growth\n\nNanoseconds a call, by the size named in the heading of the column.");
+    for table in [tracks(), states(), transitions(), steps(), entries()] {
+        table.print(rounds);
+    }
+}
+
+impl Table {
+    fn print(&self, rounds: &mut Rounds) {
+        self.print_heading();
+        for row in &self.rows {
+            let times: Vec<[f64; 3]> = (row.points.iter())
+                .map(|(plan, given)| calls::times(rounds, plan, std::slice::from_ref(given)))
+                .collect();
+            for (number, side) in ["proved", "second", "fast"].iter().enumerate() {
+                let times: Vec<f64> = times.iter().map(|sides| sides[number]).collect();
+                println!("| {} | {side} | {} |", row.name, self.cells(&times));
+            }
+        }
+    }
+
+    fn print_heading(&self) {
+        let sizes: Vec<String> = self.sizes.iter().map(usize::to_string).collect();
+        let (low, [middle, high]) = (&sizes[0], self.upper().map(|place| &sizes[place]));
+        let (what, unit, columns) = (self.what, self.unit, sizes.join(" | "));
+        println!("\n### {what}\n");
+        println!("| Call | By | {columns} | ns {unit}, {low} to {middle} | {middle} to {high} |");
+        println!("|---|---|{}", "---:|".repeat(sizes.len() + 2));
+    }
+
+    /// The times, and nanoseconds for one more of what grows: up to the last
+    /// size but one, and from there on.
+    fn cells(&self, times: &[f64]) -> String {
+        let each = |from: usize, to: usize| {
+            let time = (times[to] - times[from]) / (self.sizes[to] - self.sizes[from]) as f64;
+            format!("{time:.1}")
+        };
+        let [middle, high] = self.upper();
+        let mut cells: Vec<String> = times.iter().map(|time| format!("{time:.0}")).collect();
+        cells.extend([each(0, middle), each(middle, high)]);
+        cells.join(" | ")
+    }
+
+    /// The last two places.
+    fn upper(&self) -> [usize; 2] {
+        let high = self.sizes.len() - 1;
+        [high - 1, high]
+    }
+}
+
+/// Rows of all calls on plans of growing size, after so many events 1.
+fn rows(plans: &[(Records, usize)]) -> Vec<Row> {
+    let point = |name: &str, (records, events): &(Records, usize)| {
+        let bytes = records.encode();
+        let plan = plan::read(&bytes).expect("accepted");
+        let given = given(name, &plan, *events);
+        (bytes, given)
+    };
+    let row = |name: &&str| Row {
+        name: name.to_string(),
+        points: plans.iter().map(|plan| point(name, plan)).collect(),
+    };
+    CALLS.iter().map(row).collect()
+}
+
+/// A ledger after so many events 1, undoing for a firing, and the call on it.
+fn given(name: &str, plan: &Plan, events: usize) -> Given {
+    let mut ledger = rules::begin(plan);
+    for _ in 0..events {
+        let moved = rules::event(plan, &mut ledger, 1).map(|figures| figures.moved);
+        assert!(moved != Ok(0), "an event that moves");
+    }
+    let call = match name {
+        "begin" => Call::Begin,
+        "event" => Call::Event(1),
+        "signal" => Call::Signal,
+        "fire" => {
+            rules::signal(plan, &mut ledger).expect("not over");
+            Call::Fire(lowest_ready(plan, &ledger))
+        }
+        "ready" => Call::Ready,
+        _ => Call::Entries(plan.track_count() as u16 - 1),
+    };
+    let words = ledger.words();
+    Given { words, call }
+}
+
+fn lowest_ready(plan: &Plan, ledger: &Ledger) -> u16 {
+    rules::ready(plan, ledger).trailing_zeros() as u16
+}
+
+fn tracks() -> Table {
+    let sizes = vec![1, 2, 4, 8, 16, 32];
+    let plan = |&tracks: &usize| (shapes::tree(tracks, 128, 256), 2);
+    let rows = rows(&sizes.iter().map(plan).collect::<Vec<_>>());
+    Table {
+        what: "Tracks, a tree of them; 128 states, 256 transitions",
+        unit: "a track",
+        sizes,
+        rows,
+    }
+}
+
+fn states() -> Table {
+    let sizes = vec![16, 32, 64, 128];
+    let plan = |&states: &usize| (shapes::tree(4, states, 24), 2);
+    let rows = rows(&sizes.iter().map(plan).collect::<Vec<_>>());
+    Table {
+        what: "States; 4 tracks, 24 transitions",
+        unit: "a state",
+        sizes,
+        rows,
+    }
+}
+
+fn transitions() -> Table {
+    let sizes = vec![8, 16, 32, 64, 128, 256];
+    let plan = |&transitions: &usize| (shapes::tree(1, 128, transitions), 2);
+    let rows = rows(&sizes.iter().map(plan).collect::<Vec<_>>());
+    Table {
+        what: "Transitions, of many states; 1 track, 128 states",
+        unit: "a transition",
+        sizes,
+        rows,
+    }
+}
+
+/// All calls with the steps in the order of their events; begin and event in
+/// other orders, and begin where the last step repeats the first one's event.
+fn steps() -> Table {
+    let sizes = vec![8, 16, 32, 64, 128, 256];
+    let plans = |order: Order| -> Vec<(Records, usize)> {
+        let plan = |&steps: &usize| (shapes::fan(steps, order), 2);
+        sizes.iter().map(plan).collect()
+    };
+    let mut all = rows(&plans(Order::Rising));
+    for (order, name) in [(Order::Falling, "falling"), (Order::Shuffled, "shuffled")] {
+        for mut row in rows(&plans(order)).into_iter().take(2) {
+            row.name = format!("{}, {name}", row.name);
+            all.push(row);
+        }
+    }
+    for (order, name) in Order::ALL {
+        all.push(refused(&plans(order), name));
+    }
+    Table {
+        what: "Steps out of one state, their events rising unless said; 1 track, 2 states",
+        unit: "a step",
+        sizes,
+        rows: all,
+    }
+}
+
+/// Begin on plans whose last step repeats the first one's event.
+fn refused(plans: &[(Records, usize)], order: &str) -> Row {
+    let point = |(records, _): &(Records, usize)| {
+        let mut records = records.clone();
+        let event = records.transitions[0].event;
+        if let Some(last) = records.transitions.last_mut() {
+            last.event = event;
+        }
+        let words = vec![0; 67];
+        let call = Call::Begin;
+        (records.encode(), Given { words, call })
+    };
+    Row {
+        name: format!("begin, {order}, refused as 15"),
+        points: plans.iter().map(point).collect(),
+    }
+}
+
+fn entries() -> Table {
+    let events = [1, 2, 4, 8, 16, 31];
+    let plan = |&events: &usize| (shapes::roots(32, 128, 256), events);
+    let rows = rows(&events.iter().map(plan).collect::<Vec<_>>());
+    Table {
+        what: "Entries held; 32 tracks, all roots, 128 states, 256 transitions",
+        unit: "an entry",
+        sizes: events.map(|held| 32 * held).to_vec(),
+        rows,
+    }
+}

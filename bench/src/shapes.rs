@@ -1,0 +1,69 @@
+//! Plans of a chosen size.
+
+use second::plan::{Records, Transition, NONE};
+use testing::generate::rng::Rng;
+use testing::samples::{state, step, track};
+
+/// In which order the steps out of one state stand in the plan.
+#[derive(Clone, Copy, Debug, PartialEq, Eq)]
+pub enum Order {
+    Rising,
+    Falling,
+    Shuffled,
+}
+
+impl Order {
+    pub const ALL: [(Order, &'static str); 3] = [
+        (Order::Rising, "rising"),
+        (Order::Falling, "falling"),
+        (Order::Shuffled, "shuffled"),
+    ];
+}
+
+/// A tree of tracks, two hosted by each first state, with so many states and
+/// transitions in all.
+pub fn tree(tracks: usize, states: usize, transitions: usize) -> Records {
+    let mut plan = roots(tracks, states, transitions);
+    for number in 1..tracks {
+        let host = (number - 1) / 2 * (states / tracks);
+        plan.tracks[number] = track(host as u16);
+    }
+    plan
+}
+
+/// Roots, each with as many states, the last of them final, and with as many
+/// transitions: on event 1 from each state to the next one and back to the
+/// first, then the same on event 2, and so on.
+pub fn roots(tracks: usize, states: usize, transitions: usize) -> Records {
+    let (own, steps) = (states / tracks, transitions / tracks);
+    let mut plan = Records::default();
+    for number in 0..tracks {
+        let first = number * own;
+        plan.tracks.push(track(NONE));
+        for place in 0..own {
+            let last = u16::from(place == own - 1);
+            plan.states.push(state(number as u16, last, 0));
+        }
+        let around = |place: usize| (first + place % (own - 1)) as u16;
+        plan.transitions.extend((0..steps).map(|place| {
+            let event = 1 + place / (own - 1);
+            step(around(place), event as u16, 7, around(place + 1))
+        }));
+    }
+    plan
+}
+
+/// A root with so many steps out of its first state and back to it.
+pub fn fan(steps: usize, order: Order) -> Records {
+    let mut transitions: Vec<Transition> = (1..=steps as u16).map(|e| step(0, e, 7, 0)).collect();
+    match order {
+        Order::Rising => {}
+        Order::Falling => transitions.reverse(),
+        Order::Shuffled => Rng::new(1).shuffle(&mut transitions),
+    }
+    Records {
+        tracks: vec![track(NONE)],
+        states: vec![state(0, 0, 0), state(0, 1, 0)],
+        transitions,
+    }
+}

@@ -1,0 +1,109 @@
+//! A call by the proved library, by the second program and by the fast one,
+//! each answer packed into one number, as the calls for C have it.
+
+use retraction::{raw, NONE};
+use second::manager::{self, Answer};
+
+use crate::fast::{self, Refused};
+
+/// A call on lent words.
+#[derive(Clone, Copy, Debug, PartialEq, Eq)]
+pub enum Call {
+    Begin,
+    Event(u16),
+    Signal,
+    Fire(u16),
+    Ready,
+    Entries(u16),
+}
+
+/// Who makes a call: on the plan's bytes and the words lent.
+pub type Side = fn(&[u8], &mut [u16], Call) -> u64;
+
+/// The call by the proved library.
+pub fn proved(plan: &[u8], words: &mut [u16], call: Call) -> u64 {
+    let refused = |refusal: retraction::Refusal| refusal.number();
+    match call {
+        Call::Begin => number(raw::begin(plan, words).map_err(refused), |()| 0),
+        Call::Event(event) => {
+            let done = raw::event(plan, words, event).map_err(refused);
+            number(done, |figures| pair(figures.moved, figures.closed))
+        }
+        Call::Signal => number(raw::signal(plan, words).map_err(refused), |n| pair(n, 0)),
+        Call::Fire(track) => {
+            let done = raw::fire(plan, words, track).map_err(refused);
+            number(done, |e| pair(e.code, e.deviation.unwrap_or(NONE)))
+        }
+        Call::Ready => number(raw::ready(plan, words).map_err(refused), bits),
+        Call::Entries(track) => part(words, raw::entries(plan, words, track)),
+    }
+}
+
+/// The call by the second program.
+pub fn second(plan: &[u8], words: &mut [u16], call: Call) -> u64 {
+    match call {
+        Call::Begin => number(result(manager::begin(plan, words)), |()| 0),
+        Call::Event(event) => {
+            let done = result(manager::event(plan, words, event));
+            number(done, |figures| pair(figures.moved, figures.closed))
+        }
+        Call::Signal => number(result(manager::signal(plan, words)), |n| pair(n, 0)),
+        Call::Fire(track) => {
+            let done = result(manager::fire(plan, words, track));
+            number(done, |entry| pair(entry.code, entry.deviation))
+        }
+        Call::Ready => number(result(manager::ready(plan, words)), bits),
+        Call::Entries(track) => part(words, manager::entries(plan, words, track)),
+    }
+}
+
+/// The call by the fast program.
+pub fn fast(plan: &[u8], words: &mut [u16], call: Call) -> u64 {
+    let refused = |Refused(number)| number;
+    match call {
+        Call::Begin => number(fast::begin(plan, words).map_err(refused), |()| 0),
+        Call::Event(event) => {
+            let done = fast::event(plan, words, event).map_err(refused);
+            number(done, |figures| pair(figures.moved, figures.closed))
+        }
+        Call::Signal => number(fast::signal(plan, words).map_err(refused), |n| pair(n, 0)),
+        Call::Fire(track) => {
+            let done = fast::fire(plan, words, track).map_err(refused);
+            number(done, |entry| pair(entry.code, entry.deviation))
+        }
+        Call::Ready => number(fast::ready(plan, words).map_err(refused), bits),
+        Call::Entries(track) => part(words, fast::entries(plan, words, track)),
+    }
+}
+
+/// The second program's answer, its refusal by number.
+fn result<Figures>(answer: Answer<Figures>) -> Result<Figures, u16> {
+    match answer {
+        Answer::Done(figures) => Ok(figures),
+        Answer::Refused(refusal) => Err(u16::from(refusal.number())),
+    }
+}
+
+/// Bits 0 to 15 a refusal; else the figures.
+fn number<Figures>(done: Result<Figures, u16>, figures: impl FnOnce(Figures) -> u64) -> u64 {
+    done.map_or_else(u64::from, figures)
+}
+
+/// Bits 16 to 31 and 32 to 47.
+fn pair(first: u16, second: u16) -> u64 {
+    u64::from(first) << 16 | u64::from(second) << 32
+}
+
+/// Bits 32 to 63.
+fn bits(tracks: u32) -> u64 {
+    u64::from(tracks) << 32
+}
+
+/// Bits 0 to 15 the count of words, the others the index of the first one.
+fn part(words: &[u16], part: &[u16]) -> u64 {
+    if part.is_empty() {
+        return 0;
+    }
+    let bytes = part.as_ptr() as usize - words.as_ptr() as usize;
+    part.len() as u64 | (bytes as u64 / 2) << 16
+}

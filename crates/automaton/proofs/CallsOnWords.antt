@@ -1,0 +1,142 @@
+-- The calls on words, as their contracts speak of them: what is said of ledgers, of the ledger that the words hold. For a call with
+-- `Meets (callOutcome limit bs ws c) told words`, `told` is the answer and `words` the words below. Assumes nothing.
+use mathlib.Core.Path.{_≡_, refl, sym, ap, _∙_, subst}
+use mathlib.Core.Logic.{_↔_, inl, inr}
+use mathlib.Core.List.{List, [], _++_}
+use Prim.Native.Nat.{ℕ, zero, suc, _<_}
+use native.Mathlib.Omega.{arith}
+use Rattle.rules.specs.declared.Counts.{Counts}
+use Rattle.rules.specs.Fold.{firstRefusal}
+use Rattle.rules.specs.Plan.{Plan, trackCount, planOf, isRoot}
+use Rattle.rules.specs.Acceptance.{accepted, readPlan}
+use Rattle.rules.specs.Ledger.{Ledger, ledgerAt}
+use Rattle.rules.specs.Soundness.{isSound}
+use Rattle.rules.specs.Call.{refusal, done, Call, refusedOr, tooShort, ledgerRefusals, callRefusals, callRefusal, figures, after, callOutcome, beginOutcome}
+use Rattle.rules.proofs.Tests.{look}
+use Rattle.rules.proofs.Acceptance.{passed-all, read-passed, Accepted, accepts}
+use Rattle.restoration.proofs.SoundWords.{Holds, outcome, not-refused, passed-ledger, sound-holds, begin-holds, call-holds, call-accepted, call-refused}
+use Rattle.restoration.proofs.Theorems01.{over-refused, next-accepted, Sound, Kept, over-is}
+use Rattle.automaton.specs.Configuration.{Conf, init}
+use Rattle.automaton.specs.Semantics.{FailReading}
+use Rattle.automaton.specs.View.{view}
+use Rattle.automaton.specs.CountedSteps.{countedSteps}
+use Rattle.automaton.specs.Exactly.{toldBy, Exactly}
+use Rattle.automaton.specs.Enabled.{StepFor}
+use Rattle.automaton.specs.BigSteps.{Big, Ends}
+use Rattle.automaton.proofs.Entered.{begin-init}
+use Rattle.automaton.proofs.Enabled.{refused-none}
+use Rattle.automaton.proofs.Faithful.{kept-faithful}
+use Rattle.automaton.proofs.Exactly.{exactly}
+
+done-same : (u v : List ℕ) → done u ≡ done v → u ≡ v
+done-same u v e = cc
+
+refusal-same : (r s : ℕ) → refusal r ≡ refusal s → r ≡ s
+refusal-same r s e = cc
+
+not-both : (u : List ℕ) (r : ℕ) → done u ≡ refusal r → ⊥
+not-both u r e = let z : _≡_ {A = ℕ} 0 1 = cc in absurd (omega arith)
+
+module _ (ρ : FailReading) (limit : ℕ) (bs : List ℕ) (k : Counts) (read : readPlan bs ≡ accepted k) where
+  abbrev p : Plan
+  p = planOf bs k
+
+  ok : Accepted p
+  ok = accepts bs k read
+
+  abbrev theLedger : List ℕ → Ledger
+  theLedger ws = ledgerAt limit ws (trackCount p)
+
+  -- begin leads to init
+  pub begin-words : (ws : List ℕ) → beginOutcome limit bs ws .answer ≡ done [] → view p ρ (theLedger (beginOutcome limit bs ws .words)) ≡ init p (isRoot p)
+  begin-words ws h = ap (view p ρ) (begin-holds limit bs k read ws h .reads) ∙ begin-init p ok ρ
+
+  -- what an accepted call was made on, and what it leaves
+  record Made (ws : List ℕ) (c : Call) (told : List ℕ) : Type 0 where
+    sound : Sound limit p (theLedger ws)
+    taken : callRefusal limit p (theLedger ws) c ≡ 0
+    leaves : theLedger (callOutcome limit bs ws c .words) ≡ after p (theLedger ws) c
+    kept : Kept limit p (theLedger (callOutcome limit bs ws c .words))
+    holds : Holds limit bs k read ws (theLedger ws)
+
+  made : (ws : List ℕ) (c : Call) (told : List ℕ) → callOutcome limit bs ws c .answer ≡ done told → Made ws c told
+  made ws c told h =
+      let (b, s) = passed-ledger limit bs k read ws c (not-refused limit bs k read ws c told h _ refl) in
+      go (sound-holds limit bs k read ws b s) (callRefusal limit p (theLedger ws) c) refl
+    where
+      go : Holds limit bs k read ws (theLedger ws) → (r : ℕ) → callRefusal limit p (theLedger ws) c ≡ r → Made ws c told
+      go w (suc r) e = absurd (not-both told (suc r) (sym h ∙ ap (λ o. o .answer) (call-refused limit bs k read ws (theLedger ws) w c r e)))
+      go w zero e =
+          elim (w .kept) [
+            | inl o ↦ absurd (over-refused limit p (theLedger ws) (over-is p (theLedger ws) o) c e)
+            | inr v ↦
+                let x = call-holds limit bs k read ws (theLedger ws) w c in
+                record {
+                  sound = v;
+                  taken = e;
+                  leaves = x .reads ∙ next-accepted limit p (theLedger ws) c e;
+                  kept = subst (Kept limit p) (sym (x .reads)) (x .kept);
+                  holds = w;
+                }
+          ]
+
+  -- an accepted call that told these figures and left these words
+  pub record ExactlyWords (ws : List ℕ) (c : Call) (told left : List ℕ) : Type 0 where
+    -- it is so of the ledger that the words hold, and the words afterwards hold the ledger afterwards
+    pub before : Exactly p ρ limit (theLedger ws) c
+    pub afterwards : theLedger left ≡ after p (theLedger ws) c
+    -- the figures are those of its steps, and of each of its big steps
+    pub figures : told ≡ countedSteps p ρ (theLedger ws) c
+    pub tells : (d : Conf) (x : Big p ρ c (view p ρ (theLedger ws)) d) → told ≡ toldBy p ρ (theLedger ws) c (view p ρ (theLedger ws)) d x
+    -- the view of the words afterwards is where the automaton's big steps end, and they end nowhere else
+    pub ends : (d : Conf) → Ends p ρ c (view p ρ (theLedger ws)) d ↔ (d ≡ view p ρ (theLedger left))
+    -- and no other sound ledger is shown so
+    pub only : (m : Ledger) → Kept limit p m → Ends p ρ c (view p ρ (theLedger ws)) (view p ρ m) → m ≡ theLedger left
+
+  pub words-exactly : (ws : List ℕ) (c : Call) (told : List ℕ) → callOutcome limit bs ws c .answer ≡ done told → ExactlyWords ws c told (callOutcome limit bs ws c .words)
+  words-exactly ws c told h =
+      let m = made ws c told h in
+      let x = exactly p ρ ok limit (theLedger ws) (m .sound) c (m .taken) in
+      let q = done-same told (figures p (theLedger ws) c) (sym h ∙ ap (λ o. o .answer) (call-accepted limit bs k read ws (theLedger ws) (m .holds) c (m .taken))) in
+      record {
+        before = x;
+        afterwards = m .leaves;
+        figures = q ∙ x .steps .told;
+        tells = λ d y. q ∙ x .tells d y;
+        ends = λ d. (λ y. x .ends d .0 y ∙ ap (view p ρ) (sym (m .leaves)), λ y. x .ends d .1 (y ∙ ap (view p ρ) (m .leaves)));
+        only =
+            λ l s y.
+            kept-faithful p ρ ok limit l (theLedger (callOutcome limit bs ws c .words)) s (m .kept) (x .ends (view p ρ l) .0 y ∙ ap (view p ρ) (sym (m .leaves)));
+      }
+
+  -- a refused call leaves every word, and so the view
+  pub refused-still : (ws : List ℕ) (c : Call) (r : ℕ) → callOutcome limit bs ws c .answer ≡ refusal r → callOutcome limit bs ws c .words ≡ ws
+  unfolding refusedOr
+  refused-still ws c r h = go _ refl
+    where
+      go : (x : ℕ) → firstRefusal (ledgerRefusals limit p ws ++ callRefusals limit p (theLedger ws) c) ≡ x → callOutcome limit bs ws c .words ≡ ws
+      go zero e = absurd (not-both _ r (sym (ap (λ o. o .answer) (outcome limit bs k read ws c 0 e)) ∙ h))
+      go (suc x) e = ap (λ o. o .words) (outcome limit bs k read ws c (suc x) e)
+
+  -- one refused as 19, 20 or 22: no step that it asks for applies
+  pub words-refused : (ws : List ℕ) (c : Call) (r : ℕ) → callOutcome limit bs ws c .answer ≡ refusal r → 18 < r → (r ≡ 21 → ⊥)
+      → StepFor p ρ c (view p ρ (theLedger ws)) → ⊥
+  unfolding refusedOr ledgerRefusals firstRefusal
+  words-refused ws c r h above full v =
+      elim (look (tooShort limit p ws)) [
+        | inl e ↦ let z = told 16 (rw e) in omega arith
+        | inr e ↦
+            elim (look (isSound limit p ws)) [
+              | inr f ↦ let z = told 17 (rw (e, f)) in omega arith
+              | inl f ↦ go (sound-holds limit bs k read ws e f) (callRefusal limit p (theLedger ws) c) refl
+            ]
+      ]
+    where
+      told : (x : ℕ) → firstRefusal (ledgerRefusals limit p ws ++ callRefusals limit p (theLedger ws) c) ≡ suc x → r ≡ suc x
+      told x e = refusal-same r (suc x) (sym h ∙ ap (λ o. o .answer) (outcome limit bs k read ws c (suc x) e))
+
+      go : Holds limit bs k read ws (theLedger ws) → (x : ℕ) → callRefusal limit p (theLedger ws) c ≡ x → ⊥
+      go w zero e = not-both _ r (sym (ap (λ o. o .answer) (call-accepted limit bs k read ws (theLedger ws) w c e)) ∙ h)
+      go w (suc x) e =
+          let q : r ≡ suc x = refusal-same r (suc x) (sym h ∙ ap (λ o. o .answer) (call-refused limit bs k read ws (theLedger ws) w c x e)) in
+          refused-none p (passed-all p (read-passed bs k read)) ρ limit (theLedger ws) (w .kept) c x e (λ z. full (q ∙ z)) v

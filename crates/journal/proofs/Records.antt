@@ -1,0 +1,123 @@
+-- Laws of what stands at a place of the journal: one for each way that the reader goes, and the bytes that a whole record takes up.
+-- Assumes nothing.
+use mathlib.Core.Path.{_≡_, refl, sym, ap, subst, _∙_}
+use mathlib.Core.Logic.{inl, inr}
+use mathlib.Core.Bool.{true, false, not, _||_}
+use mathlib.Core.List.{List, [], _∷_}
+use Prim.Native.Nat.{ℕ, _+_, _-_, _<_, _≤_}
+use native.Mathlib.Omega.{arith}
+use lib.Dec.{leb, ltb, eqb}
+use lib.ListN.{length, List·getD-eq-default}
+use borrow.Author.Tests.{le-leb, lt-leb, lt-ltb, le-ltb, eq-eqb, ne-eqb, leb-true, leb-false, ltb-false, eqb-true, eqb-false, not-false}
+use Rattle.rules.specs.Record.{word, sizeAt, kindAt}
+use Rattle.rules.specs.Journal.{Entered, ended, broken, journalLength, isBroken, recordOf, enteredAt}
+use Rattle.rules.proofs.Tests.{look, or-false}
+use Rattle.journal.specs.Records.{sizeOf}
+
+pub length-none : (k : ℕ) → (k ≡ 16 → ⊥) → (k ≡ 17 → ⊥) → (k ≡ 18 → ⊥) → (k ≡ 19 → ⊥) → journalLength k ≡ 0
+unfolding journalLength
+length-none k a b c d =
+    elim (look (ltb k 16)) [
+      | inl e ↦ rw e
+      | inr e ↦ let l : 16 ≤ k = ltb-false k 16 e in rw e (List·getD-eq-default (6 ∷ 4 ∷ 6 ∷ 4 ∷ []) 0 {n = k - 16} (omega arith))
+    ]
+
+module _ (js : List ℕ) (at : ℕ) where
+  pub at-end : length js ≤ at → enteredAt js at ≡ ended
+  unfolding enteredAt
+  at-end h = rw (le-leb (length js) at h)
+
+  at-broken : at < length js → isBroken js at ≡ true → enteredAt js at ≡ broken
+  unfolding enteredAt
+  at-broken h e = rw (lt-leb (length js) at h, e)
+
+  at-whole : at < length js → isBroken js at ≡ false → enteredAt js at ≡ recordOf (kindAt js at) (word js (at + 4))
+  unfolding enteredAt
+  at-whole h e = rw (lt-leb (length js) at h, e)
+
+  pub too-short : at < length js → length js - at < 4 → enteredAt js at ≡ broken
+  unfolding isBroken
+  too-short h l = at-broken h (rw (lt-ltb (length js) (at + 4) (omega arith)))
+
+  -- four bytes are left, the kind is k, whose records have n bytes, and the size is s
+  module _ (k n s : ℕ) (kind : k ≡ word js (at + 2)) (long : n ≡ journalLength k) (size : s ≡ word js at) (left : 4 ≤ length js - at) where
+    tests : (ltb (length js) (at + 4) || eqb n 0 || not (eqb s n) || ltb (length js) (at + s)) ≡ isBroken js at
+    unfolding isBroken kindAt sizeAt
+    tests = rw (← kind, ← size, ← long)
+
+    fits : ltb (length js) (at + 4) ≡ false
+    fits = le-ltb (length js) (at + 4) (omega arith)
+
+    pub unknown : n ≡ 0 → enteredAt js at ≡ broken
+    unknown e = at-broken (omega arith) (sym tests ∙ rw (fits, eq-eqb n 0 e))
+
+    module _ (known : n ≡ 0 → ⊥) where
+      pub wrong : (s ≡ n → ⊥) → enteredAt js at ≡ broken
+      wrong e = at-broken (omega arith) (sym tests ∙ rw (fits, ne-eqb n 0 known, ne-eqb s n e))
+
+      pub cut : s ≡ n → length js - at < n → enteredAt js at ≡ broken
+      cut e l = at-broken (omega arith) (sym tests ∙ rw (fits, ne-eqb n 0 known, eq-eqb s n e, lt-ltb (length js) (at + s) (omega arith)))
+
+      pub whole : s ≡ n → n ≤ length js - at → enteredAt js at ≡ recordOf k (word js (at + 4))
+      unfolding kindAt
+      whole e l =
+          at-whole (omega arith) (sym tests ∙ rw (fits, ne-eqb n 0 known, eq-eqb s n e, le-ltb (length js) (at + s) (omega arith)))
+          ∙ ap (λ (x : ℕ). recordOf x (word js (at + 4))) (sym kind)
+
+-- what stands whole at a place has the size that it tells, and ends within the bytes
+size-of-kind : (k field : ℕ) → (journalLength k ≡ 0 → ⊥) → sizeOf (recordOf k field) ≡ journalLength k
+unfolding journalLength recordOf
+size-of-kind k field h =
+    elim (look (eqb k 16)) [
+      | inl a ↦ rw (eqb-true k 16 a)
+      | inr a ↦
+          elim (look (eqb k 17)) [
+            | inl b ↦ rw (eqb-true k 17 b)
+            | inr b ↦
+                elim (look (eqb k 18)) [
+                  | inl d ↦ rw (eqb-true k 18 d)
+                  | inr d ↦
+                      elim (look (eqb k 19)) [
+                        | inl e ↦ rw (eqb-true k 19 e)
+                        | inr e ↦ absurd (h (length-none k (eqb-false k 16 a) (eqb-false k 17 b) (eqb-false k 18 d) (eqb-false k 19 e)))
+                      ]
+                ]
+          ]
+    ]
+
+nothing-left : (x y : Entered) → y ≡ x → sizeOf y ≡ 0 → 0 < sizeOf x → ⊥
+nothing-left x y e z l = let s : sizeOf y ≡ sizeOf x = ap sizeOf e in omega arith
+
+pub record Stands (js : List ℕ) (at : ℕ) (x : Entered) : Type 0 where
+  pub size : sizeOf x ≡ sizeAt js at
+  pub within : at + sizeOf x ≤ length js
+
+module _ (js : List ℕ) (at : ℕ) where
+  abbrev kind : ℕ
+  kind = kindAt js at
+
+  abbrev size : ℕ
+  size = sizeAt js at
+
+  unbroken : isBroken js at ≡ false → Stands js at (recordOf kind (word js (at + 4)))
+  unfolding isBroken
+  unbroken e =
+      let (p, d) = or-false (ltb (length js) (at + 4) || eqb (journalLength kind) 0 || not (eqb size (journalLength kind))) (ltb (length js) (at + size)) e in
+      let (q, c) = or-false (ltb (length js) (at + 4) || eqb (journalLength kind) 0) (not (eqb size (journalLength kind))) p in
+      let (a, b) = or-false (ltb (length js) (at + 4)) (eqb (journalLength kind) 0) q in
+      let s : sizeOf (recordOf kind (word js (at + 4))) ≡ journalLength kind = size-of-kind kind (word js (at + 4)) (eqb-false (journalLength kind) 0 b) in
+      let t : size ≡ journalLength kind = eqb-true size (journalLength kind) (not-false _ c) in
+      let u : at + size ≤ length js = ltb-false (length js) (at + size) d in
+      record { size = s ∙ sym t; within = omega arith }
+
+  pub stands : (x : Entered) → enteredAt js at ≡ x → 0 < sizeOf x → Stands js at x
+  unfolding enteredAt
+  stands x e l =
+      elim (look (leb (length js) at)) [
+        | inl a ↦ let z : ended ≡ x = sym (at-end js at (leb-true (length js) at a)) ∙ e in absurd (nothing-left x ended z refl l)
+        | inr a ↦
+            elim (look (isBroken js at)) [
+              | inl b ↦ let z : broken ≡ x = sym (at-broken js at (leb-false (length js) at a) b) ∙ e in absurd (nothing-left x broken z refl l)
+              | inr b ↦ subst (λ (y : Entered). Stands js at y) (sym (at-whole js at (leb-false (length js) at a) b) ∙ e) (unbroken b)
+            ]
+      ]

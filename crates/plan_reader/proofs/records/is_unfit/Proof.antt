@@ -1,0 +1,17 @@
+-- A kind has no length exactly if it is not 1 to 4. Assumes nothing.
+use Rattle.plan_reader.proofs.RecordTable.{unfit-none, unfit-falls}
+use borrow.Author.Needs.{needs}
+use Rattle.plan_reader.proofs.records.is_unfit.Statement.{statement}
+use Rattle.plan_reader.proofs.records.is_unfit.Tie as tie
+
+length-of-requires : tie.Need-length-of-requires
+length-of-requires c κs = search needs
+
+returns : tie.Need-returns
+returns c = unfit-none _ _ _ (c .before .length-of .ensures) (search needs)
+
+returns-2 : tie.Need-returns-2
+returns-2 c = unfit-falls _ _ _ (c .before .length-of .ensures) (c .if1 .left)
+
+pub is-unfit-spec : {M : Type 1} → statement M
+is-unfit-spec = tie.close (tie.spec length-of-requires returns returns-2)

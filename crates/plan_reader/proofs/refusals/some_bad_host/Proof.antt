@@ -1,0 +1,54 @@
+-- The invariant: no record looked at so far meets the test. The measure is the records left. Assumes nothing.
+use mathlib.Core.Path.{_≡_, refl, sym, _∙_}
+use mathlib.Core.Bool.{false}
+use Prim.Native.Nat.{_≤_, _-_}
+use Rattle.rules.specs.Fold.{someBelow}
+use Rattle.rules.specs.Plan.{planOf}
+use Rattle.rules.proofs.Folds.{some-at}
+use Rattle.plan.proofs.Searches.{none-more, none-all}
+use Rattle.rules.specs.Acceptance.{badHost}
+use borrow.Author.Needs.{needs}
+use Rattle.plan_reader.proofs.refusals.some_bad_host.Statement.{statement}
+use Rattle.plan_reader.proofs.refusals.some_bad_host.Tie as tie
+
+abbrev Inv-loop : tie.InvT-loop
+Inv-loop plan c tracks t₀ t = (t ≤ tracks) × (someBelow t (badHost (planOf plan c)) ≡ false)
+
+abbrev μ-loop : tie.MeasureT-loop
+μ-loop plan c tracks t₀ t = tracks - t
+
+loop-holds : tie.Need-loop-holds Inv-loop μ-loop
+unfolding someBelow
+loop-holds c = (search needs, refl)
+
+bad-host-requires : tie.Need-bad-host-requires Inv-loop μ-loop
+bad-host-requires c κs = search needs
+
+returns : tie.Need-returns Inv-loop μ-loop
+returns c = sym (some-at _ _ (c .before .before .before .loop .t) (search needs) (sym (c .before .bad-host .ensures) ∙ c .if1 .taken))
+
+add-t : tie.Need-add-t Inv-loop μ-loop
+add-t c = search needs
+
+loop-less : tie.Need-loop-less Inv-loop μ-loop
+loop-less c = search needs
+
+loop-again : tie.Need-loop-again Inv-loop μ-loop
+loop-again c = (search needs, none-more _ _ (c .before .before .before .loop .inv .1) (sym (c .before .bad-host .ensures) ∙ c .if1 .left))
+
+returns-2 : tie.Need-returns-2 Inv-loop μ-loop
+returns-2 c = sym (none-all _ _ _ (search needs) (search needs) (c .before .loop .inv .1))
+
+pub some-bad-host-spec : {M : Type 1} → statement M
+some-bad-host-spec =
+    tie.close
+    (tie.spec
+    Inv-loop
+    μ-loop
+    loop-holds
+    bad-host-requires
+    returns
+    add-t
+    loop-less
+    loop-again
+    returns-2)

@@ -1,0 +1,54 @@
+-- The invariant: no record looked at so far meets the test. The measure is the records left. Assumes nothing.
+use mathlib.Core.Path.{_≡_, refl, sym, _∙_}
+use mathlib.Core.Bool.{false}
+use Prim.Native.Nat.{_≤_, _-_}
+use Rattle.rules.specs.Fold.{someBelow}
+use Rattle.rules.specs.Plan.{planOf}
+use Rattle.rules.proofs.Folds.{some-at}
+use Rattle.plan.proofs.Searches.{none-more, none-all}
+use Rattle.rules.specs.Acceptance.{badState}
+use borrow.Author.Needs.{needs}
+use Rattle.plan_reader.proofs.refusals.some_bad_state.Statement.{statement}
+use Rattle.plan_reader.proofs.refusals.some_bad_state.Tie as tie
+
+abbrev Inv-loop : tie.InvT-loop
+Inv-loop plan c states s₀ s = (s ≤ states) × (someBelow s (badState (planOf plan c)) ≡ false)
+
+abbrev μ-loop : tie.MeasureT-loop
+μ-loop plan c states s₀ s = states - s
+
+loop-holds : tie.Need-loop-holds Inv-loop μ-loop
+unfolding someBelow
+loop-holds c = (search needs, refl)
+
+bad-state-requires : tie.Need-bad-state-requires Inv-loop μ-loop
+bad-state-requires c κs = search needs
+
+returns : tie.Need-returns Inv-loop μ-loop
+returns c = sym (some-at _ _ (c .before .before .before .loop .s) (search needs) (sym (c .before .bad-state .ensures) ∙ c .if1 .taken))
+
+add-s : tie.Need-add-s Inv-loop μ-loop
+add-s c = search needs
+
+loop-less : tie.Need-loop-less Inv-loop μ-loop
+loop-less c = search needs
+
+loop-again : tie.Need-loop-again Inv-loop μ-loop
+loop-again c = (search needs, none-more _ _ (c .before .before .before .loop .inv .1) (sym (c .before .bad-state .ensures) ∙ c .if1 .left))
+
+returns-2 : tie.Need-returns-2 Inv-loop μ-loop
+returns-2 c = sym (none-all _ _ _ (search needs) (search needs) (c .before .loop .inv .1))
+
+pub some-bad-state-spec : {M : Type 1} → statement M
+some-bad-state-spec =
+    tie.close
+    (tie.spec
+    Inv-loop
+    μ-loop
+    loop-holds
+    bad-state-requires
+    returns
+    add-s
+    loop-less
+    loop-again
+    returns-2)

@@ -1,0 +1,36 @@
+-- The step's promise, the line's and the tally's are the record's. Assumes nothing.
+use Rattle.rules.specs.Call.{event, eventOutcome}
+use Rattle.replay.proofs.CarriedOut.{carried-out, event-fires}
+use borrow.Author.Needs.{needs}
+use Rattle.replay.proofs.carry_out.carry_out_event.Statement.{statement}
+use Rattle.replay.proofs.carry_out.carry_out_event.Tie as tie
+
+event-requires : tie.Need-event-requires
+event-requires c κs = search needs
+
+event-line-requires : tie.Need-event-line-requires
+event-line-requires c κs = search needs
+
+come-to-requires : tie.Need-come-to-requires
+come-to-requires c κs = search needs
+
+same-length : tie.Need-same-length
+same-length c = search needs
+
+same-length-2 : tie.Need-same-length-2
+same-length-2 c = search needs
+
+returns : tie.Need-returns
+unfolding eventOutcome
+returns c = carried-out _ _ (event (record { event = _ })) _ _ _ _ _ _ _ _ _ (c .before .before .before .before .before .before .before .before .event .ensures) (c .before .before .before .before .event-line .ensures) (event-fires _ _) (c .come-to .ensures)
+
+pub carry-out-event-spec : {M : Type 1} → statement M
+carry-out-event-spec =
+    tie.close
+    (tie.spec
+    event-requires
+    event-line-requires
+    come-to-requires
+    same-length
+    same-length-2
+    returns)

@@ -1,0 +1,54 @@
+-- What one record does: its call's words, its line, its figures in the tally. Assumes nothing.
+use mathlib.Core.Path.{_≡_}
+use mathlib.Core.Bool.{Bool, true, false, cond}
+use mathlib.Core.List.{List, _++_}
+use Prim.Native.Nat.{ℕ, _+_, _*_, _<_, _≤_, _^_}
+use lib.ListN.{length}
+use Rattle.rules.specs.declared.Counts.{Counts}
+use Rattle.rules.specs.Fold.{sumBelow}
+use Rattle.rules.specs.Plan.{planOf}
+use Rattle.rules.specs.Layout.{entryLimit}
+use Rattle.rules.specs.Call.{Call, callOutcome}
+use Rattle.rules.specs.Journal.{Entered, ended, broken, fireLowest, called}
+use Rattle.rules.specs.Transcript.{refusalLine, callLine, firingsOf, heldTotal, tallyLine}
+use Rattle.lookup.specs.Checked.{Checked, ledgerOf}
+use Rattle.journal.specs.Records.{callOf}
+use Rattle.journal.specs.Writing.{Wrote, Lined, lineRoom}
+use Rattle.replay.specs.declared.carry_out.Progress.{Progress}
+
+-- the call that a record asks for on the ledger that the words hold
+abbrev pub callAt : List ℕ → Counts → List ℕ → Entered → Call
+callAt bs c ws x = callOf (planOf bs c) (ledgerOf c ws) x
+
+-- There is room for a line, and for one firing more in the tally.
+pub record Prepared (bs : List ℕ) (c : Counts) (ws out : List ℕ) (from : Progress) : Type 0 where
+  pub checked : Checked bs c ws
+  pub room : from .place + lineRoom ≤ length out
+  pub few : from .tally .fired + 1 < 2 ^ 32
+
+-- The place is reached, and the tally has n firings more and the ledger's entries.
+pub record CameTo (c : Counts) (ws : List ℕ) (from : Progress) (end n : ℕ) (next : Progress) : Type 0 where
+  pub place : next .place ≡ end
+  pub fired : next .tally .fired ≡ from .tally .fired + n
+  pub held : next .tally .held ≡ sumBelow (c .tracks) (λ t. length (ledgerOf c ws t .held))
+
+-- The call was made, and its line written.
+pub record CarriedOut (bs : List ℕ) (c : Counts) (d : Call) (ws out : List ℕ) (from : Progress) (ws′ out′ : List ℕ) (next : Progress) : Type 0 where
+  pub words : ws′ ≡ callOutcome entryLimit bs ws d .words
+  pub line : Lined out (from .place) (callLine d (callOutcome entryLimit bs ws d .answer)) out′ (next .place)
+  pub fired : next .tally .fired ≡ from .tally .fired + firingsOf d (callOutcome entryLimit bs ws d .answer)
+  pub held : next .tally .held ≡ heldTotal (planOf bs c) (ledgerOf c ws′)
+
+-- whether the reading ends at a broken record
+abbrev pub isBrokenRecord : Entered → Bool
+isBrokenRecord ended = false
+isBrokenRecord broken = true
+isBrokenRecord fireLowest = false
+isBrokenRecord (called c) = false
+
+-- The last lines were written.
+pub record Closed (x : Entered) (out : List ℕ) (from : Progress) (out′ : List ℕ) (end : ℕ) : Type 0 where
+  pub wrote : Wrote out (from .place)
+      (cond (isBrokenRecord x) (refusalLine 23 ++ tallyLine (from .tally .held) (from .tally .fired)) (tallyLine (from .tally .held) (from .tally .fired)))
+      out′ end
+  pub short : end ≤ from .place + 2 * lineRoom

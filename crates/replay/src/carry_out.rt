@@ -1,0 +1,137 @@
+// One record of the journal: its call, its line, its figures in the tally.
+use journal::held;
+use journal::lines;
+use journal::record::Record;
+use journal::tally;
+use journal::tally::Tally;
+use rules::Counts;
+ghost use Prim.Native.Nat.{_+_, _<_, _^_};
+ghost use Rattle.rules.specs.Call.{event, signal, fire, nothing};
+ghost use Rattle.rules.specs.Journal.{fireLowest};
+ghost use Rattle.ledger.specs.Words.{Room};
+ghost use Rattle.journal.specs.Records.{recordTold, sizeOf};
+ghost use Rattle.replay.specs.CarriedOut.{callAt, Prepared, CameTo, CarriedOut};
+
+// How far a run has come: the place in the output, and the tally.
+pub struct Progress {
+    pub place: usize,
+    pub tally: Tally,
+}
+
+// How far a run has come after a record that left this ledger, wrote its line up to the place and did so many firings.
+fn come_to(c: Counts, ledger: &[u16], from: Progress, place: usize, fired: u32) -> Progress
+    requires { ⌜ Room (now ledger) (c .tracks) × (from .tally .fired + fired < 2 ^ 32) ⌝ }
+    ensures { λ r. ⌜ CameTo c (now (ledger .entry)) from place fired r ⌝ }
+{
+    let held = held::held_total(c, ledger);
+    let before = from.tally;
+    let after = tally::advanced(before, held, fired);
+    Progress {
+        place: place,
+        tally: after,
+    }
+}
+
+fn carry_out_event(
+    plan: &[u8],
+    c: Counts,
+    ledger: &mut [u16],
+    output: &mut [u8],
+    from: Progress,
+    name: u16,
+) -> Progress
+    requires { ⌜ Prepared (now plan) c (now ledger) (now output) from ⌝ }
+    ensures { λ r. ⌜ CarriedOut (now (plan .entry)) c (event (record { event = name }))
+        (now (ledger .entry)) (now (output .entry)) from (now (ledger .exit)) (now (output .exit)) r ⌝ }
+{
+    let answer = event_step::event::event(plan, c, &mut ledger[..], name);
+    let place = lines::event_line(&mut output[..], from.place, name, answer);
+    come_to(c, &ledger[..], from, place, 0)
+}
+
+fn carry_out_signal(
+    plan: &[u8],
+    c: Counts,
+    ledger: &mut [u16],
+    output: &mut [u8],
+    from: Progress,
+) -> Progress
+    requires { ⌜ Prepared (now plan) c (now ledger) (now output) from ⌝ }
+    ensures { λ r. ⌜ CarriedOut (now (plan .entry)) c (signal nothing)
+        (now (ledger .entry)) (now (output .entry)) from (now (ledger .exit)) (now (output .exit)) r ⌝ }
+{
+    let answer = withdrawal::signal::signal(plan, c, &mut ledger[..]);
+    let place = lines::signal_line(&mut output[..], from.place, answer);
+    come_to(c, &ledger[..], from, place, 0)
+}
+
+fn carry_out_fire(
+    plan: &[u8],
+    c: Counts,
+    ledger: &mut [u16],
+    output: &mut [u8],
+    from: Progress,
+    track: u16,
+) -> Progress
+    requires { ⌜ Prepared (now plan) c (now ledger) (now output) from ⌝ }
+    ensures { λ r. ⌜ CarriedOut (now (plan .entry)) c (fire (record { track = track }))
+        (now (ledger .entry)) (now (output .entry)) from (now (ledger .exit)) (now (output .exit)) r ⌝ }
+{
+    let answer = withdrawal::fire::fire(plan, c, &mut ledger[..], track);
+    let place = lines::fire_line(&mut output[..], from.place, track, answer);
+    let fired = tally::firings_of(answer);
+    come_to(c, &ledger[..], from, place, fired)
+}
+
+// Fires the lowest ready track, or a track that does not exist.
+fn carry_out_lowest(
+    plan: &[u8],
+    c: Counts,
+    ledger: &mut [u16],
+    output: &mut [u8],
+    from: Progress,
+) -> Progress
+    requires { ⌜ Prepared (now plan) c (now ledger) (now output) from ⌝ }
+    ensures { λ r. ⌜ CarriedOut (now (plan .entry)) c (callAt (now (plan .entry)) c (now (ledger .entry)) fireLowest)
+        (now (ledger .entry)) (now (output .entry)) from (now (ledger .exit)) (now (output .exit)) r ⌝ }
+{
+    let track = held::lowest_ready(plan, c, &ledger[..]);
+    carry_out_fire(plan, c, &mut ledger[..], &mut output[..], from, track)
+}
+
+// Does what the record asks for.
+pub fn carry_out(
+    plan: &[u8],
+    c: Counts,
+    ledger: &mut [u16],
+    output: &mut [u8],
+    from: Progress,
+    found: Record,
+) -> Progress
+    requires { ⌜ Prepared (now plan) c (now ledger) (now output) from × (0 < sizeOf (recordTold found)) ⌝ }
+    ensures { λ r. ⌜ CarriedOut (now (plan .entry)) c (callAt (now (plan .entry)) c (now (ledger .entry)) (recordTold found))
+        (now (ledger .entry)) (now (output .entry)) from (now (ledger .exit)) (now (output .exit)) r ⌝ }
+{
+    match found {
+        Record::Ended => from,
+        Record::Broken => from,
+        Record::Event(event) => carry_out_event(
+            plan,
+            c,
+            &mut ledger[..],
+            &mut output[..],
+            from,
+            event,
+        ),
+        Record::Signal => carry_out_signal(plan, c, &mut ledger[..], &mut output[..], from),
+        Record::Fire(track) => carry_out_fire(
+            plan,
+            c,
+            &mut ledger[..],
+            &mut output[..],
+            from,
+            track,
+        ),
+        Record::FireLowest => carry_out_lowest(plan, c, &mut ledger[..], &mut output[..], from),
+    }
+}

@@ -1,0 +1,89 @@
+-- One track's visit in a pass, as the code takes it: each branch is a case of the definition. Assumes nothing.
+use mathlib.Core.Path.{_≡_, sym, ap, _∙_}
+use mathlib.Core.Bool.{Bool, true, false, cond, not}
+use mathlib.Core.List.{List}
+use Prim.Native.Nat.{ℕ, _+_, _<_, _≤_}
+use native.Mathlib.Omega.{arith}
+use lib.ListN.{length}
+use borrow.Author.Tests.{not-true, not-false}
+use Rattle.rules.specs.declared.Counts.{Counts}
+use Rattle.rules.specs.declared.Mode.the-variants.{Undoing}
+use Rattle.rules.specs.declared.Track.{Track}
+use Rattle.rules.specs.Fold.{countBelow}
+use Rattle.rules.specs.Layout.{entryLimit}
+use Rattle.rules.specs.Ledger.{Configuration, isForward, written}
+use Rattle.rules.specs.Signal.{turnedTrack, turned}
+use Rattle.rules.proofs.Folds.{count-more}
+use Rattle.rules.proofs.Passes.{upTo}
+use Rattle.ledger.specs.Words.{trackOf, Tidy}
+use Rattle.lookup.specs.Checked.{ledgerOf}
+use Rattle.lookup.specs.OneTrack.{withConfiguration, withMode}
+use Rattle.lookup.proofs.OneTrackLaws.{holds, kept-track, Fitting, pass-start, pass-orderly, pass-length, pass-old, pass-more, pass-end}
+use Rattle.lookup.proofs.OneTrackLaws.{Stores, stores-at}
+use Rattle.withdrawal.proofs.Storing.{stores-turned}
+
+module _ (c : Counts) (ws : List ℕ) (o : Tidy ws (c .tracks)) (t : ℕ) where
+  -- turning: not forward, forward
+  module _ (k : Track) (e : k ≡ trackOf (ledgerOf c ws t)) {r : Bool} (f : r ≡ isForward (k .mode)) where
+    ahead : isForward (ledgerOf c ws t .mode) ≡ r
+    unfolding trackOf
+    ahead = ap (λ (x : Track). isForward (x .mode)) (sym e) ∙ sym f
+
+    pub turn-not : not r ≡ true
+        → (_≡_ {A = ℕ} 0 (cond (isForward (ledgerOf c ws t .mode)) 1 0)) × (ws ≡ withConfiguration c ws t (turnedTrack (ledgerOf c ws t)))
+    unfolding turnedTrack
+    turn-not n =
+        let a : isForward (ledgerOf c ws t .mode) ≡ false = ahead ∙ not-true r n in
+        (rw a, kept-track c ws o t (turnedTrack (ledgerOf c ws t)) (rw a))
+
+    pub turn-done : not r ≡ false → {vs : List ℕ} → vs ≡ withConfiguration c ws t (withMode Undoing (k .state) (ledgerOf c ws t))
+        → (_≡_ {A = ℕ} 1 (cond (isForward (ledgerOf c ws t .mode)) 1 0)) × (vs ≡ withConfiguration c ws t (turnedTrack (ledgerOf c ws t)))
+    unfolding turnedTrack withMode trackOf
+    turn-done n d =
+        let a : isForward (ledgerOf c ws t .mode) ≡ true = ahead ∙ not-false r n in
+        let s : k .state ≡ ledgerOf c ws t .state = ap (λ (x : Track). x .state) e in
+        (rw a, d ∙ ap (λ (z : ℕ). withConfiguration c ws t (record { mode = Undoing; state = z; held = ledgerOf c ws t .held })) s ∙ (rw a))
+
+-- one track turns at most once
+pub one-most : (b : Bool) → cond b 1 0 ≤ 1
+one-most true = omega arith
+one-most false = omega arith
+
+-- the passes write what the words can hold
+module _ (c : Counts) (ws : List ℕ) (o : Tidy ws (c .tracks)) where
+  pub turning-fits : Fitting c ws o (λ t x. turnedTrack x)
+  turning-fits =
+      let s : (t : ℕ) → Stores entryLimit (turnedTrack (ledgerOf c ws t)) = λ t. stores-turned entryLimit (c .tracks) (ledgerOf c ws t) (stores-at entryLimit (c .tracks) (ledgerOf c ws) (holds c ws o) t) in
+      record { fits = λ t b. s t .fits; blank = λ t b. s t .blank }
+
+  pub turning-start : ws ≡ written entryLimit (c .tracks) (upTo (turned (ledgerOf c ws)) (ledgerOf c ws) 0) ws
+  unfolding turned
+  turning-start = pass-start c ws o (λ t x. turnedTrack x)
+
+  module _ (i : ℕ) (b : i ≤ c .tracks) {vs : List ℕ} (e : vs ≡ written entryLimit (c .tracks) (upTo (turned (ledgerOf c ws)) (ledgerOf c ws) i) ws) where
+    pub turning-orderly : Tidy vs (c .tracks)
+    unfolding turned
+    turning-orderly = pass-orderly c ws o (λ t x. turnedTrack x) turning-fits i b e
+
+    pub turning-length : length vs ≡ length ws
+    unfolding turned
+    turning-length = pass-length c ws o (λ t x. turnedTrack x) turning-fits i b e
+
+    pub turning-old : ledgerOf c vs i ≡ ledgerOf c ws i
+    unfolding turned
+    turning-old = pass-old c ws o (λ t x. turnedTrack x) turning-fits i b e i (omega arith)
+
+    pub turning-more : {us : List ℕ} → us ≡ withConfiguration c vs i (turnedTrack (ledgerOf c vs i))
+        → us ≡ written entryLimit (c .tracks) (upTo (turned (ledgerOf c ws)) (ledgerOf c ws) (i + 1)) ws
+    unfolding turned
+    turning-more d = pass-more c ws o (λ t x. turnedTrack x) turning-fits i b e d
+
+    pub turning-end : c .tracks ≤ i → vs ≡ written entryLimit (c .tracks) (turned (ledgerOf c ws)) ws
+    unfolding turned
+    turning-end h = pass-end c ws o (λ t x. turnedTrack x) turning-fits i b e h
+
+  -- one more track counted
+  pub turn-count : (t : ℕ) {n r : ℕ} {x : Configuration} → x ≡ ledgerOf c ws t → n ≡ countBelow t (λ t. isForward (ledgerOf c ws t .mode))
+      → r ≡ cond (isForward (x .mode)) 1 0 → n + r ≡ countBelow (t + 1) (λ t. isForward (ledgerOf c ws t .mode))
+  turn-count t {n} {r} {x} e f g =
+      rw (f, g, e) (sym (count-more t (λ t. isForward (ledgerOf c ws t .mode))))
