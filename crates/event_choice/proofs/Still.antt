@@ -12,10 +12,12 @@ use borrow.Author.Tests.{ltb-true, ltb-false, eqb-true, eqb-false}
 use Rattle.rules.specs.Fold.{countBelow}
 use Rattle.rules.specs.Plan.{Plan, trackCount, stateCount}
 use Rattle.rules.specs.Ledger.{Ledger, isAwake, isForward, sleeping}
+use Rattle.rules.specs.Scope.{isOpen}
 use Rattle.rules.specs.Event.{destinationOf, installedBy, hasCode, isMove, move, moves, moved, isClosing, closesScope, closed, closings, isFinishing, finished, isReplaced, isFull, afterEvent}
-use Rattle.rules.proofs.Tests.{look, clash}
+use Rattle.rules.proofs.Tests.{look, clash, refuted, and-true}
 use Rattle.rules.proofs.Folds.{some-none}
 use Rattle.rules.proofs.Acceptance.{Accepted}
+use Rattle.rules.proofs.Scopes.{open-find}
 use Rattle.rules.proofs.Opening.{enter-none}
 use Rattle.rules.proofs.Closing.{closed-steady}
 use Rattle.rules.proofs.Soundness.{Live}
@@ -41,10 +43,26 @@ unfolding countBelow
 count-none zero f h = refl
 count-none (suc n) f h = let a = count-none n f h in let b : _≡_ {A = ℕ} (cond (f n) 1 0) 0 = rw (h n) in omega arith
 
-no-move : (p : Plan) (o : Option ℕ) → isMove o ≡ false → o ≡ none
+no-move : (o : Option ℕ) → isMove o ≡ false → o ≡ none
 unfolding isMove
-no-move p none h = refl
-no-move p (some x) h = clash refl h
+no-move none h = refl
+no-move (some x) h = clash refl h
+
+-- where no scope is due to close nothing does: a scope of a number that no state has is never open
+pub none-close : (p : Plan) → Accepted p → (l : Ledger) → closings p l ≡ 0 → closed p l ≡ l
+unfolding closings isClosing
+none-close p ok l h =
+    closed-steady p l
+    (λ s.
+    elim (look (ltb s (stateCount p))) [
+      | inl q ↦ count-zero (stateCount p) (isClosing p l) h s (ltb-true s (stateCount p) q)
+      | inr q ↦
+          refuted (isClosing p l s)
+          (λ k.
+          let (t, b, e, a) = open-find p l s (and-true (isOpen p l s) _ k .0) in
+          let z = ok .host-state t s e in
+          absurd (omega (arith, ltb-false s (stateCount p) q)))
+    ])
 
 module _ (p : Plan) (l : Ledger) (e : ℕ) where
   -- none of the plan's tracks moves, so none does: the others sleep
@@ -52,7 +70,7 @@ module _ (p : Plan) (l : Ledger) (e : ℕ) where
   unfolding moves
   no-moves b h t =
       elim (look (ltb t (trackCount p))) [
-        | inl q ↦ no-move p (move p l e t) (count-zero (trackCount p) (moves p l e) h t (ltb-true t (trackCount p) q))
+        | inl q ↦ no-move (move p l e t) (count-zero (trackCount p) (moves p l e) h t (ltb-true t (trackCount p) q))
         | inr q ↦ beyond (b t (ltb-false t (trackCount p) q))
       ]
     where

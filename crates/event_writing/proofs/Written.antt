@@ -37,6 +37,7 @@ use Rattle.event_choice.specs.Chosen.{Chosen}
 use Rattle.event_choice.proofs.Visits.{own-low}
 use Rattle.event_choice.proofs.Takers.{forward-awake}
 use Rattle.event_choice.proofs.Moved.{mover-facts, woken-asleep, moved-kept, moved-own, moved-up, closes-before, closing-still}
+use Rattle.event_choice.proofs.Still.{none-close}
 use Rattle.event_choice.proofs.Choosing as choosing
 use Rattle.event_writing.specs.Writing.{Movers, Closings}
 use Rattle.event_writing.proofs.Installing.{installing-stores}
@@ -194,7 +195,13 @@ module _ (bs : List ℕ) (c : Counts) (ws : List ℕ) (g : Going bs c ws) (r : C
                 hosting = moved-up p ok l live e;
               })
 
-          -- the scopes are closed
+          -- the scopes are closed, if any is due to
+          pub none-closed : r .finishing ≡ false → r .closed ≡ 0 → us ≡ written entryLimit (c .tracks) (afterEvent p l e) ws
+          unfolding afterEvent finished
+          none-closed z n =
+              let k = none-close p ok m (sym (ch .many-closed) ∙ n) in
+              second ∙ written-same entryLimit (c .tracks) _ _ ws (λ t b. sym (rw (sym (ch .finishing) ∙ z) (ap (λ (x : Ledger). x t) k)))
+
           pub all-written : r .finishing ≡ false → {xs : List ℕ} → xs ≡ written entryLimit (c .tracks) (closed p (ledgerOf c us)) us
               → xs ≡ written entryLimit (c .tracks) (afterEvent p l e) ws
           unfolding afterEvent finished

@@ -141,5 +141,8 @@ pub fn write(plan: &[u8], c: Counts, ledger: &mut [u16], choice: Choice)
     let to = install_moves(plan, c, &mut ledger[..], &taken);
     let firsts = firsts::first_states(plan, c);
     entering::enter_all(plan, c, &mut ledger[..], firsts, to);
+    if choice.closed == 0 {
+        return;
+    }
     close_scopes(plan, c, &mut ledger[..], &closing);
 }

@@ -1,38 +1,45 @@
 -- Begin: every track asleep, and the roots enter their first states, as the rules have it. Assumes nothing.
 use mathlib.Core.Path.{_≡_, refl, sym, ap, _∙_}
-use mathlib.Core.Logic.{inl, inr}
-use mathlib.Core.Bool.{Bool, true, false, not}
+use mathlib.Core.Bool.{Bool, true, false, not, and-false}
 use mathlib.Core.List.{List}
-use mathlib.Core.Option.{none, some}
 use Prim.Native.Nat.{ℕ, _<_, _≤_}
 use native.Mathlib.Omega.{arith}
+use lib.Dec.{ltb}
 use lib.ListN.{length}
 use borrow.Author.Tests.{ne-eqb, not-true, not-false, ltb-true}
 use Rattle.rules.specs.declared.Counts.{Counts}
 use Rattle.rules.specs.Layout.{entryLimit}
-use Rattle.rules.specs.Plan.{Plan, planOf, trackCount, stateCount, noState, optional, host, isRoot, isStateOf, firstState}
+use Rattle.rules.specs.Plan.{Plan, planOf, trackCount, stateCount, noState, optional, isRoot, isStateOf, firstState}
 use Rattle.rules.specs.Ledger.{Ledger, sleeping, written}
 use Rattle.rules.specs.Opening.{fresh, entered, enter, rootsFirst, begun}
-use Rattle.rules.proofs.Tests.{look-option, and-true}
-use Rattle.rules.proofs.Opening.{wakes-same, roots-to, hosted-to}
-use Rattle.rules.proofs.Scopes.{root-of, not-root}
+use Rattle.rules.proofs.Tests.{and-true}
+use Rattle.rules.proofs.Opening.{wakes-same, roots-to}
+use Rattle.rules.proofs.Scopes.{root-none}
 use Rattle.rules.proofs.Stored.{Storable, written-same, written-twice, length-written, tidy-written, read-written}
 use Rattle.plan.proofs.FieldLaws.{track-count, state-count}
 use Rattle.ledger.specs.Words.{Room, Tidy}
 use Rattle.lookup.specs.Checked.{Accepts, ledgerOf}
-use Rattle.lookup.specs.Figures.{Figures}
+use Rattle.lookup.specs.Figures.{Numbers}
 use Rattle.lookup.proofs.Facts.{plan-facts}
-use Rattle.opening.specs.Entering.{statesOf, rootWord, Sleepers}
+use Rattle.opening.specs.Entering.{statesOf, Sleepers}
 
 -- a root's word, as the code has it
-module _ (p : Plan) (t : ℕ) {q : Bool} (e : q ≡ isRoot p t) where
-  pub not-rooted : not q ≡ true → noState ≡ rootWord p t
-  unfolding rootWord
-  not-rooted h = rw (sym e ∙ not-true _ h)
+module _ (bs : List ℕ) (c : Counts) (a : Accepts bs c) (t : ℕ) (b : t < c .tracks) {q : Bool} (e : q ≡ isRoot (planOf bs c) t) where
+  abbrev p : Plan
+  p = planOf bs c
 
-  pub rooted : (r : ℕ) → not q ≡ false → r ≡ firstState p t → r ≡ rootWord p t
-  unfolding rootWord
-  rooted r h f = f ∙ rw (sym e ∙ not-false _ h)
+  pub not-rooted : not q ≡ true → optional noState ≡ rootsFirst p t
+  unfolding optional rootsFirst noState
+  not-rooted h = sym (rw (sym e ∙ not-true _ h, and-false (ltb t (trackCount p))))
+
+  pub rooted : {r : ℕ} → not q ≡ false → r ≡ firstState p t → optional r ≡ rootsFirst p t
+  unfolding optional isStateOf noState
+  rooted h f =
+      let d : t < trackCount p = omega (arith, track-count bs c) in
+      let l = ltb-true (firstState p t) (stateCount p) (and-true _ _ (plan-facts bs c a .first-own t d) .0) in
+      ap optional f
+      ∙ (rw (ne-eqb (firstState p t) 65535 (λ (z : firstState p t ≡ 65535). absurd (omega (arith, state-count bs c, a .holds .states)))))
+      ∙ sym (roots-to p (plan-facts bs c a) t d (root-none p t (sym e ∙ not-false _ h)))
 
 -- a ledger all asleep can be stored, and is read back
 abbrev asleep : Ledger
@@ -61,27 +68,10 @@ module _ (bs : List ℕ) (c : Counts) (a : Accepts bs c) (ws : List ℕ) (r : Ro
   pub begin-sleepers : (to : List ℕ) → Sleepers (planOf bs c) (statesOf to) (ledgerOf c vs)
   begin-sleepers to u w = ap (λ (l : Ledger). l u) all-asleep
 
-  first-some : (t : ℕ) → t < trackCount (planOf bs c) → optional (firstState (planOf bs c) t) ≡ some (firstState (planOf bs c) t)
-  unfolding optional isStateOf noState
-  first-some t h =
-      let q = and-true _ _ (plan-facts bs c a .first-own t h) .0 in
-      let l = ltb-true (firstState (planOf bs c) t) (stateCount (planOf bs c)) q in
-      rw (ne-eqb (firstState (planOf bs c) t) 65535 (λ (z : firstState (planOf bs c) t ≡ 65535). absurd (omega (arith, state-count bs c, a .holds .states))))
-
-  no-word : optional noState ≡ none
-  unfolding optional noState
-  no-word = refl
-
-  module _ (to : List ℕ) (m : Figures 0 to (c .tracks) (rootWord (planOf bs c))) where
+  module _ (to : List ℕ) (m : Numbers to (c .tracks) (rootsFirst (planOf bs c))) where
     roots-enter : (t : ℕ) → t < trackCount (planOf bs c) → statesOf to t ≡ rootsFirst (planOf bs c) t
-    unfolding rootWord statesOf
-    roots-enter t h =
-        let p = planOf bs c in
-        ap optional (m .at t (omega (arith, track-count bs c)))
-        ∙ elim (look-option (host p t)) [
-          | inl z ↦ rw (root-of p t z) (first-some t h ∙ sym (roots-to p (plan-facts bs c a) t h z))
-          | inr z ↦ rw (not-root p t (z .0) (z .1)) (no-word ∙ sym (hosted-to p (plan-facts bs c a) t (z .0) (z .1)))
-        ]
+    unfolding statesOf
+    roots-enter t h = m .at t (omega (arith, track-count bs c))
 
     -- the pass after the sleep is begin
     pub begin-done : {us : List ℕ} → us ≡ written entryLimit (c .tracks) (enter (planOf bs c) (statesOf to) (ledgerOf c vs)) vs

@@ -7,17 +7,13 @@ use Prim.Native.Nat.{ℕ}
 use lib.Dec.{eqb}
 use lib.ListN.{getD}
 use Rattle.rules.specs.declared.Mode.the-variants.{Forward}
-use Rattle.rules.specs.Plan.{Plan, noState, optional, isRoot, firstState}
+use Rattle.rules.specs.Plan.{Plan, noState, optional}
 use Rattle.rules.specs.Ledger.{Configuration, Ledger, sleeping}
 use Rattle.rules.specs.Opening.{wakes}
 
 -- a word for each track: the state that it enters, 65535 for none
 unfoldable pub statesOf : List ℕ → ℕ → Option ℕ
 statesOf to t = optional (getD to t 0)
-
--- a root's word is its first state
-unfoldable pub rootWord : Plan → ℕ → ℕ
-rootWord p t = cond (isRoot p t) (firstState p t) noState
 
 -- a track goes forward in a state, 65535 for none, or wakes in its first state, or is left as it is
 unfoldable pub enteredBy : ℕ → Bool → ℕ → Configuration → Configuration

@@ -8,17 +8,16 @@ use rules::Counts;
 ghost use mathlib.Core.Path.{_≡_};
 ghost use Prim.Native.Nat.{_<_};
 ghost use Rattle.rules.specs.Layout.{entryLimit};
-ghost use Rattle.rules.specs.Plan.{planOf, firstState};
+ghost use Rattle.rules.specs.Plan.{planOf, optional, firstState};
 ghost use Rattle.rules.specs.Ledger.{written};
-ghost use Rattle.rules.specs.Opening.{begun};
+ghost use Rattle.rules.specs.Opening.{rootsFirst, begun};
 ghost use Rattle.lookup.specs.Checked.{Accepts, Lent};
-ghost use Rattle.lookup.specs.Figures.{Figures};
-ghost use Rattle.opening.specs.Entering.{rootWord};
+ghost use Rattle.lookup.specs.Figures.{Figures, Numbers};
 
 // The state that a track enters of itself: a root its first state, another track none.
-fn root_word(plan: &[u8], c: Counts, firsts: [u16; 32], t: usize) -> u16
-    requires { ⌜ Accepts (now plan) c × (t < c .tracks) × Figures 0 firsts (c .tracks) (firstState (planOf (now plan) c)) ⌝ }
-    ensures { λ r. ⌜ r ≡ rootWord (planOf (now (plan .entry)) c) t ⌝ }
+fn root_word(plan: &[u8], c: Counts, firsts: &[u16; 32], t: usize) -> u16
+    requires { ⌜ Accepts (now plan) c × (t < c .tracks) × Figures 0 (now firsts) (c .tracks) (firstState (planOf (now plan) c)) ⌝ }
+    ensures { λ r. ⌜ optional r ≡ rootsFirst (planOf (now (plan .entry)) c) t ⌝ }
 {
     if !fields::is_root(plan, c, t) {
         return NO_STATE;
@@ -27,9 +26,9 @@ fn root_word(plan: &[u8], c: Counts, firsts: [u16; 32], t: usize) -> u16
 }
 
 // That state for each track, 65535 for none.
-fn root_words(plan: &[u8], c: Counts, firsts: [u16; 32]) -> [u16; 32]
-    requires { ⌜ Accepts (now plan) c × Figures 0 firsts (c .tracks) (firstState (planOf (now plan) c)) ⌝ }
-    ensures { λ r. ⌜ Figures 0 r (c .tracks) (rootWord (planOf (now (plan .entry)) c)) ⌝ }
+fn root_words(plan: &[u8], c: Counts, firsts: &[u16; 32]) -> [u16; 32]
+    requires { ⌜ Accepts (now plan) c × Figures 0 (now firsts) (c .tracks) (firstState (planOf (now plan) c)) ⌝ }
+    ensures { λ r. ⌜ Numbers r (c .tracks) (rootsFirst (planOf (now (plan .entry)) c)) ⌝ }
 {
     let mut to = [NO_STATE; 32];
     let tracks = c.tracks;
@@ -48,6 +47,6 @@ pub fn begin_all(plan: &[u8], c: Counts, ledger: &mut [u16])
 {
     track::put_all_to_sleep(&mut ledger[..], c.tracks);
     let firsts = firsts::first_states(plan, c);
-    let to = root_words(plan, c, firsts);
+    let to = root_words(plan, c, &firsts);
     entering::enter_all(plan, c, &mut ledger[..], firsts, to);
 }

@@ -39,7 +39,7 @@ pub fn enter_all(plan: &[u8], c: Counts, ledger: &mut [u16], firsts: [u16; 32], 
     ensures { λ _. ⌜ now (ledger .exit)
         ≡ written entryLimit (c .tracks) (enter (planOf (now (plan .entry)) c) (statesOf to) (ledgerOf c (now (ledger .entry)))) (now (ledger .entry)) ⌝ }
 {
-    let woken = waking::woken_by(plan, c, firsts, to);
+    let woken = waking::woken_by(plan, c, &firsts, &to);
     let tracks = c.tracks;
     let mut t: usize = 0;
     while t < tracks {

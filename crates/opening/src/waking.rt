@@ -15,14 +15,14 @@ ghost use Rattle.opening.specs.Entering.{statesOf};
 fn wakes(
     plan: &[u8],
     c: Counts,
-    firsts: [u16; 32],
-    to: [u16; 32],
-    woken: [bool; 32],
+    firsts: &[u16; 32],
+    to: &[u16; 32],
+    woken: &[bool; 32],
     t: usize,
 ) -> bool
-    requires { ⌜ Accepts (now plan) c × Figures 0 firsts (c .tracks) (firstState (planOf (now plan) c)) × (t < c .tracks)
-        × Figures false woken t (wakes (planOf (now plan) c) (statesOf to)) ⌝ }
-    ensures { λ r. ⌜ r ≡ wakes (planOf (now (plan .entry)) c) (statesOf to) t ⌝ }
+    requires { ⌜ Accepts (now plan) c × Figures 0 (now firsts) (c .tracks) (firstState (planOf (now plan) c)) × (t < c .tracks)
+        × Figures false (now woken) t (wakes (planOf (now plan) c) (statesOf (now to))) ⌝ }
+    ensures { λ r. ⌜ r ≡ wakes (planOf (now (plan .entry)) c) (statesOf (now (to .entry))) t ⌝ }
 {
     let h = fields::host_word(plan, c, t);
     if h == NO_STATE {
@@ -40,15 +40,16 @@ fn wakes(
 }
 
 // The tracks that wake where each track with a state in `to`, 65535 for none, enters it, given the first state of each track.
-pub fn woken_by(plan: &[u8], c: Counts, firsts: [u16; 32], to: [u16; 32]) -> [bool; 32]
-    requires { ⌜ Accepts (now plan) c × Figures 0 firsts (c .tracks) (firstState (planOf (now plan) c)) ⌝ }
-    ensures { λ r. ⌜ Figures false r (c .tracks) (wakes (planOf (now (plan .entry)) c) (statesOf to)) ⌝ }
+pub fn woken_by(plan: &[u8], c: Counts, firsts: &[u16; 32], to: &[u16; 32]) -> [bool; 32]
+    requires { ⌜ Accepts (now plan) c × Figures 0 (now firsts) (c .tracks) (firstState (planOf (now plan) c)) ⌝ }
+    ensures { λ r. ⌜ Figures false r (c .tracks) (wakes (planOf (now (plan .entry)) c) (statesOf (now (to .entry)))) ⌝ }
 {
     let mut woken = [false; 32];
     let tracks = c.tracks;
     let mut t: usize = 0;
     while t < tracks {
-        woken[t] = wakes(plan, c, firsts, to, woken, t);
+        let w = wakes(plan, c, firsts, to, &woken, t);
+        woken[t] = w;
         t += 1;
     }
     woken

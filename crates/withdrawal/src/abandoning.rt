@@ -156,7 +156,8 @@ fn left_open(plan: &[u8], c: Counts, ledger: &[u16]) -> [bool; 32]
 // Puts a track to sleep if the scope that it is in is not left open.
 fn leave_track(plan: &[u8], c: Counts, ledger: &mut [u16], opens: [bool; 32], t: usize)
     requires { ⌜ Accepts (now plan) c × Tidy (now ledger) (c .tracks) × (t < c .tracks) ⌝ }
-    ensures { λ _. ⌜ now (ledger .exit) ≡ withConfiguration c (now (ledger .entry)) t (keptBy (planOf (now (plan .entry)) c) opens t (ledgerOf c (now (ledger .entry)) t)) ⌝ }
+    ensures { λ _. ⌜ now (ledger .exit)
+        ≡ withConfiguration c (now (ledger .entry)) t (keptBy (planOf (now (plan .entry)) c) opens t (ledgerOf c (now (ledger .entry)) t)) ⌝ }
 {
     if !reading::is_awake(c, &ledger[..], t) {
         return;
@@ -174,7 +175,8 @@ fn leave_track(plan: &[u8], c: Counts, ledger: &mut [u16], opens: [bool; 32], t:
 // Abandoning, with nothing installed.
 pub fn abandon(plan: &[u8], c: Counts, ledger: &mut [u16])
     requires { ⌜ Accepts (now plan) c × Tidy (now ledger) (c .tracks) × Nested (planOf (now plan) c) (ledgerOf c (now ledger)) ⌝ }
-    ensures { λ _. ⌜ now (ledger .exit) ≡ written entryLimit (c .tracks) (abandoned (planOf (now (plan .entry)) c) (ledgerOf c (now (ledger .entry)))) (now (ledger .entry)) ⌝ }
+    ensures { λ _. ⌜ now (ledger .exit)
+        ≡ written entryLimit (c .tracks) (abandoned (planOf (now (plan .entry)) c) (ledgerOf c (now (ledger .entry)))) (now (ledger .entry)) ⌝ }
 {
     let opens = left_open(plan, c, &ledger[..]);
     let tracks = c.tracks;

@@ -14,21 +14,20 @@ root-words-requires : tie.Need-root-words-requires
 root-words-requires c κs = search needs
 
 enter-all-requires : tie.Need-enter-all-requires
-enter-all-requires c κs = (c .before .before .before .before .before .before .before .before .before .pre .accepts, begin-tidy _ _ (c .before .before .before .before .before .before .before .before .before .pre .accepts) _ (c .before .before .before .before .before .before .before .before .before .pre .room) (c .before .before .before .before .before .put-all-to-sleep .ensures), c .before .before .first-states .ensures, begin-sleepers _ _ (c .before .before .before .before .before .before .before .before .before .pre .accepts) _ (c .before .before .before .before .before .before .before .before .before .pre .room) (c .before .before .before .before .before .put-all-to-sleep .ensures) _)
+enter-all-requires c κs =
+    let a = c .before .before .before .before .before .before .before .before .before .before .pre in
+    let s = c .before .before .before .before .before .before .put-all-to-sleep .ensures in
+    (a .accepts, begin-tidy _ _ (a .accepts) _ (a .room) s, c .before .before .before .first-states .ensures, begin-sleepers _ _ (a .accepts) _ (a .room) s _)
 
 same-length : tie.Need-same-length
 same-length c = search needs
 
 returns : tie.Need-returns
-returns c = begin-done _ _ (c .before .before .before .before .before .before .before .before .before .before .before .before .pre .accepts) _ (c .before .before .before .before .before .before .before .before .before .before .before .before .pre .room) (c .before .before .before .before .before .before .before .before .put-all-to-sleep .ensures) _ (c .before .before .before .before .root-words .ensures) (c .before .before .enter-all .ensures)
+returns c =
+    let a = c .before .before .before .before .before .before .before .before .before .before .before .before .before .pre in
+    begin-done _ _ (a .accepts) _ (a .room) (c .before .before .before .before .before .before .before .before .before .put-all-to-sleep .ensures) _ (c .before .before .before .before .root-words .ensures) (c .before .before .enter-all .ensures)
 
 pub begin-all-spec : {M : Type 1} → statement M
 begin-all-spec =
     tie.close
-    (tie.spec
-    put-all-to-sleep-requires
-    first-states-requires
-    root-words-requires
-    enter-all-requires
-    same-length
-    returns)
+    (tie.spec put-all-to-sleep-requires first-states-requires root-words-requires enter-all-requires same-length returns)

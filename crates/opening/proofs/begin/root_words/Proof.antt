@@ -2,21 +2,21 @@
 use Prim.Native.Nat.{_≤_, _-_}
 use native.Mathlib.Omega.{arith}
 use Rattle.rules.specs.Plan.{planOf}
-use Rattle.lookup.specs.Figures.{Figures}
-use Rattle.lookup.proofs.FiguresLaws.{figure-none, figure-more, figure-all}
-use Rattle.opening.specs.Entering.{rootWord}
+use Rattle.rules.specs.Opening.{rootsFirst}
+use Rattle.lookup.specs.Figures.{Numbers}
+use Rattle.lookup.proofs.FiguresLaws.{numbers-empty, number-more, numbers-all}
 use borrow.Author.Needs.{needs}
 use Rattle.opening.proofs.begin.root_words.Statement.{statement}
 use Rattle.opening.proofs.begin.root_words.Tie as tie
 
 abbrev Inv-loop : tie.InvT-loop
-Inv-loop plan c firsts to₀ tracks t₀ to t = (t ≤ c .tracks) × Figures 0 to t (rootWord (planOf plan c))
+Inv-loop plan c firsts to₀ tracks t₀ to t = (t ≤ c .tracks) × Numbers to t (rootsFirst (planOf plan c))
 
 abbrev μ-loop : tie.MeasureT-loop
 μ-loop plan c firsts to₀ tracks t₀ to t = c .tracks - t
 
 loop-holds : tie.Need-loop-holds Inv-loop μ-loop
-loop-holds c = (omega arith, figure-none _ _ _)
+loop-holds c = (omega arith, numbers-empty _ _)
 
 root-word-requires : tie.Need-root-word-requires Inv-loop μ-loop
 root-word-requires c κs = search needs
@@ -34,22 +34,14 @@ loop-less : tie.Need-loop-less Inv-loop μ-loop
 loop-less c = search needs
 
 loop-again : tie.Need-loop-again Inv-loop μ-loop
-loop-again c = let n = c .before .before .before .before .pre .0 .holds .tracks in (omega arith, figure-more _ _ _ _ _ (c .before .before .loop .inv .1) (omega arith) (c .root-word .ensures))
+loop-again c =
+    let n = c .before .before .before .before .pre .0 .holds .tracks in
+    (omega arith, number-more _ (c .before .before .loop .inv .1) (omega arith) (c .root-word .ensures))
 
 returns : tie.Need-returns Inv-loop μ-loop
-returns c = figure-all _ _ _ _ _ (omega arith) (c .before .loop .inv .1)
+returns c = numbers-all (omega arith) (c .before .loop .inv .1)
 
 pub root-words-spec : {M : Type 1} → statement M
 root-words-spec =
     tie.close
-    (tie.spec
-    Inv-loop
-    μ-loop
-    loop-holds
-    root-word-requires
-    mul-to
-    array-write-to
-    add-t
-    loop-less
-    loop-again
-    returns)
+    (tie.spec Inv-loop μ-loop loop-holds root-word-requires mul-to array-write-to add-t loop-less loop-again returns)

@@ -3,7 +3,7 @@ use native.Mathlib.Omega.{arith}
 use borrow.Author.Tests.{not-true, not-false}
 use Rattle.rules.specs.Plan.{noState}
 use Rattle.lookup.proofs.Facts.{host-low}
-use Rattle.opening.proofs.WakingLaws.{root-asleep, host-slot, wakes-entered, wakes-not, wakes-first}
+use Rattle.opening.proofs.WakingLaws.{host-slot, root-asleep, wakes-entered, wakes-not, wakes-first}
 use borrow.Author.Needs.{needs}
 use Rattle.opening.proofs.waking.wakes.Statement.{statement}
 use Rattle.opening.proofs.waking.wakes.Tie as tie
@@ -20,7 +20,9 @@ cast-track-of c = search needs
 
 track-of-requires : tie.Need-track-of-requires
 unfolding noState
-track-of-requires c κs = (c .before .before .before .pre .0 .holds, host-low _ _ _ _ (c .before .before .before .pre .0) (c .before .host-word .ensures) (c .if1 .left))
+track-of-requires c κs =
+    let a = c .before .before .before .pre .0 in
+    (a .holds, host-low _ _ _ _ a (c .before .host-word .ensures) (c .if1 .left))
 
 cast-u : tie.Need-cast-u
 cast-u c = search needs
@@ -28,47 +30,51 @@ cast-u c = search needs
 mul-s : tie.Need-mul-s
 mul-s c = search needs
 
-array-read-s : tie.Need-array-read-s
+element-copy-out-s : tie.Need-element-copy-out-s
 unfolding noState
-array-read-s c = let b = host-slot _ _ (c .before .before .before .before .pre .0) _ _ (c .before .before .host-word .ensures) (c .before .if1 .left) _ (c .track-of .ensures) in let n = c .before .before .before .before .pre .0 .holds .tracks in omega arith
+element-copy-out-s c =
+    let a = c .before .before .before .before .pre .0 in
+    let b = host-slot _ _ a _ _ (c .before .before .host-word .ensures) (c .before .if1 .left) _ (c .track-of .ensures) in
+    let n = a .holds .tracks in
+    omega arith
 
 returns-2 : tie.Need-returns-2
 unfolding noState
-returns-2 c = wakes-entered _ _ (c .before .before .before .before .before .pre .0) _ _ _ (c .before .before .before .host-word .ensures) (c .before .before .if1 .left) _ (c .before .track-of .ensures) (c .if2 .taken)
+returns-2 c = wakes-entered _ _ (c .before .before .before .before .before .before .pre .0) _ _ _ (c .before .before .before .before .host-word .ensures) (c .before .before .before .if1 .left) _ (c .before .before .track-of .ensures) (c .if2 .taken)
 
-array-read-if3 : tie.Need-array-read-if3
+element-copy-out-if3 : tie.Need-element-copy-out-if3
 unfolding noState
-array-read-if3 c = let b = host-slot _ _ (c .before .before .before .before .before .pre .0) _ _ (c .before .before .before .host-word .ensures) (c .before .before .if1 .left) _ (c .before .track-of .ensures) in let n = c .before .before .before .before .before .pre .0 .holds .tracks in omega arith
+element-copy-out-if3 c =
+    let a = c .before .before .before .before .before .before .pre .0 in
+    let b = host-slot _ _ a _ _ (c .before .before .before .before .host-word .ensures) (c .before .before .before .if1 .left) _ (c .before .before .track-of .ensures) in
+    let n = a .holds .tracks in
+    omega arith
 
 returns-3 : tie.Need-returns-3
 unfolding noState
-returns-3 c = wakes-not _ _ (c .before .before .before .before .before .before .pre .0) _ _ _ (c .before .before .before .before .host-word .ensures) (c .before .before .before .if1 .left) _ (c .before .before .track-of .ensures) (c .before .if2 .left) _ (c .before .before .before .before .before .before .pre .3) (not-true _ (c .if3 .taken))
+returns-3 c =
+    let a = c .before .before .before .before .before .before .before .before .pre in
+    wakes-not _ _ (a .0) _ _ _ (c .before .before .before .before .before .before .host-word .ensures) (c .before .before .before .before .before .if1 .left) _ (c .before .before .before .before .track-of .ensures) (c .before .before .if2 .left) _ (a .3) (not-true _ (c .if3 .taken))
 
 mul-result : tie.Need-mul-result
 mul-result c = search needs
 
-array-read-result : tie.Need-array-read-result
+element-copy-out-result : tie.Need-element-copy-out-result
 unfolding noState
-array-read-result c = let b = host-slot _ _ (c .before .before .before .before .before .before .pre .0) _ _ (c .before .before .before .before .host-word .ensures) (c .before .before .before .if1 .left) _ (c .before .before .track-of .ensures) in let n = c .before .before .before .before .before .before .pre .0 .holds .tracks in omega arith
+element-copy-out-result c =
+    let a = c .before .before .before .before .before .before .before .before .pre .0 in
+    let b = host-slot _ _ a _ _ (c .before .before .before .before .before .before .host-word .ensures) (c .before .before .before .before .before .if1 .left) _ (c .before .before .before .before .track-of .ensures) in
+    let n = a .holds .tracks in
+    omega arith
 
 returns-4 : tie.Need-returns-4
 unfolding noState
-returns-4 c = wakes-first _ _ (c .before .before .before .before .before .before .pre .0) _ _ _ (c .before .before .before .before .host-word .ensures) (c .before .before .before .if1 .left) _ (c .before .before .track-of .ensures) (c .before .if2 .left) _ (c .before .before .before .before .before .before .pre .3) _ (c .before .before .before .before .before .before .pre .1) (not-false _ (c .if3 .left))
+returns-4 c =
+    let a = c .before .before .before .before .before .before .before .before .before .pre in
+    wakes-first _ _ (a .0) _ _ _ (c .before .before .before .before .before .before .before .host-word .ensures) (c .before .before .before .before .before .before .if1 .left) _ (c .before .before .before .before .before .track-of .ensures) (c .before .before .before .if2 .left) _ (a .3) _ (a .1)
+    (not-false _ (c .before .if3 .left))
 
 pub wakes-spec : {M : Type 1} → statement M
 wakes-spec =
     tie.close
-    (tie.spec
-    host-word-requires
-    returns
-    cast-track-of
-    track-of-requires
-    cast-u
-    mul-s
-    array-read-s
-    returns-2
-    array-read-if3
-    returns-3
-    mul-result
-    array-read-result
-    returns-4)
+    (tie.spec host-word-requires returns cast-track-of track-of-requires cast-u mul-s element-copy-out-s returns-2 element-copy-out-if3 returns-3 mul-result element-copy-out-result returns-4)

@@ -1,7 +1,7 @@
 -- The figures of the tracks visited. Assumes nothing.
-use mathlib.Core.Bool.{false}
 use Prim.Native.Nat.{_≤_, _-_}
 use native.Mathlib.Omega.{arith}
+use mathlib.Core.Bool.{false}
 use Rattle.rules.specs.Plan.{planOf}
 use Rattle.rules.specs.Opening.{wakes}
 use Rattle.lookup.specs.Figures.{Figures}
@@ -24,7 +24,7 @@ wakes-requires : tie.Need-wakes-requires Inv-loop μ-loop
 wakes-requires c κs = search needs
 
 array-write-woken : tie.Need-array-write-woken Inv-loop μ-loop
-array-write-woken c = let n = c .before .before .before .before .pre .0 .holds .tracks in omega arith
+array-write-woken c = let n = c .before .before .before .before .before .pre .0 .holds .tracks in omega arith
 
 add-t : tie.Need-add-t Inv-loop μ-loop
 add-t c = search needs
@@ -33,21 +33,12 @@ loop-less : tie.Need-loop-less Inv-loop μ-loop
 loop-less c = search needs
 
 loop-again : tie.Need-loop-again Inv-loop μ-loop
-loop-again c = let n = c .before .before .before .before .pre .0 .holds .tracks in (omega arith, figure-more _ _ _ _ _ (c .before .before .loop .inv .1) (omega arith) (c .wakes .ensures))
+loop-again c =
+    let n = c .before .before .before .before .before .pre .0 .holds .tracks in
+    (omega arith, figure-more _ _ _ _ _ (c .before .before .before .loop .inv .1) (omega arith) (c .wakes .ensures))
 
 returns : tie.Need-returns Inv-loop μ-loop
 returns c = figure-all _ _ _ _ _ (omega arith) (c .before .loop .inv .1)
 
 pub woken-by-spec : {M : Type 1} → statement M
-woken-by-spec =
-    tie.close
-    (tie.spec
-    Inv-loop
-    μ-loop
-    loop-holds
-    wakes-requires
-    array-write-woken
-    add-t
-    loop-less
-    loop-again
-    returns)
+woken-by-spec = tie.close (tie.spec Inv-loop μ-loop loop-holds wakes-requires array-write-woken add-t loop-less loop-again returns)
