@@ -4,15 +4,27 @@ use lookup::reading;
 use opening::firsts;
 use rules::Counts;
 use rules::EventAnswer;
+ghost use mathlib.Core.Path.{_≡_};
 ghost use Rattle.rules.specs.Layout.{entryLimit};
 ghost use Rattle.rules.specs.Plan.{planOf, firstState};
 ghost use Rattle.rules.specs.Call.{Meets, eventOutcome};
 ghost use Rattle.rules.specs.Answers.{eventTold};
-ghost use Rattle.lookup.specs.Checked.{Checked, Going, ledgerOf};
+ghost use Rattle.lookup.specs.Checked.{Accepts, Checked, Going, ledgerOf};
 ghost use Rattle.lookup.specs.Figures.{Figures};
 ghost use Rattle.transition_index.specs.Indexed.{Indexed};
 ghost use Rattle.event_choice.specs.Chosen.{Chosen};
 ghost use Rattle.event_step.specs.Outcome.{goingOutcome};
+
+// The first state of each track, where some track moves.
+fn firsts_where(plan: &[u8], c: Counts, moved: u16) -> [u16; 32]
+    requires { ⌜ Accepts (now plan) c ⌝ }
+    ensures { λ r. ⌜ ((moved ≡ 0 → ⊥) → Figures 0 r (c .tracks) (firstState (planOf (now (plan .entry)) c))) ⌝ }
+{
+    if moved == 0 {
+        return [0; 32];
+    }
+    firsts::first_states(plan, c)
+}
 
 // An event other than 0 on a ledger that is not over, its choice made, given the first state of each track. Where no track moves nothing changes.
 fn go_on(
@@ -23,7 +35,7 @@ fn go_on(
     firsts: &[u16; 32],
 ) -> EventAnswer
     requires { ⌜ Going (now plan) c (now ledger) × Chosen (planOf (now plan) c) (ledgerOf c (now ledger)) choice
-        × Figures 0 (now firsts) (c .tracks) (firstState (planOf (now plan) c)) ⌝ }
+        × ((choice .moved ≡ 0 → ⊥) → Figures 0 (now firsts) (c .tracks) (firstState (planOf (now plan) c))) ⌝ }
     ensures { λ r. ⌜ Meets (goingOutcome (planOf (now (plan .entry)) c) (now (ledger .entry)) (choice .event)) (eventTold r) (now (ledger .exit)) ⌝ }
 {
     if choice.full {
@@ -50,7 +62,7 @@ pub fn event(plan: &[u8], c: Counts, ledger: &mut [u16], event: u16) -> EventAns
         return EventAnswer::Refused(20);
     }
     let choice = event_choice::choose(plan, c, &ledger[..], event);
-    let firsts = firsts::first_states(plan, c);
+    let firsts = firsts_where(plan, c, choice.moved);
     go_on(plan, c, &mut ledger[..], choice, &firsts)
 }
 

@@ -47,7 +47,15 @@ fn carry_out_event(
     ensures { λ r. ⌜ CarriedOut (now (plan .entry)) c (event (record { event = name }))
         (now (ledger .entry)) (now (output .entry)) from (now (ledger .exit)) (now (output .exit)) r ⌝ }
 {
-    let answer = event_step::event::event_indexed(plan, c, &mut ledger[..], name, firsts, head, next);
+    let answer = event_step::event::event_indexed(
+        plan,
+        c,
+        &mut ledger[..],
+        name,
+        firsts,
+        head,
+        next,
+    );
     let place = lines::event_line(&mut output[..], from.place, name, answer);
     come_to(c, &ledger[..], from, place, 0)
 }

@@ -19,11 +19,11 @@ returns-2 c = event-over _ _ _ (c .before .before .before .before .before .befor
 choose-requires : tie.Need-choose-requires
 choose-requires c κs = going-of _ _ _ (c .before .before .before .before .before .before .before .pre) _ (c .before .before .before .before .if1 .left) _ (c .before .before .is-over .ensures) (c .before .if2 .left)
 
-first-states-requires : tie.Need-first-states-requires
-first-states-requires c κs = search needs
+firsts-where-requires : tie.Need-firsts-where-requires
+firsts-where-requires c κs = search needs
 
 go-on-requires : tie.Need-go-on-requires
-go-on-requires c κs = (going-of _ _ _ (c .before .before .before .before .before .before .before .before .before .before .before .pre) _ (c .before .before .before .before .before .before .before .before .if1 .left) _ (c .before .before .before .before .before .before .is-over .ensures) (c .before .before .before .before .before .if2 .left), c .before .before .before .choose .ensures .0, c .before .before .first-states .ensures)
+go-on-requires c κs = (going-of _ _ _ (c .before .before .before .before .before .before .before .before .before .before .before .pre) _ (c .before .before .before .before .before .before .before .before .if1 .left) _ (c .before .before .before .before .before .before .is-over .ensures) (c .before .before .before .before .before .if2 .left), c .before .before .before .choose .ensures .0, c .before .before .firsts-where .ensures)
 
 same-length-2 : tie.Need-same-length-2
 same-length-2 c = search needs
@@ -40,7 +40,7 @@ event-spec =
     same-length
     returns-2
     choose-requires
-    first-states-requires
+    firsts-where-requires
     go-on-requires
     same-length-2
     returns-3)

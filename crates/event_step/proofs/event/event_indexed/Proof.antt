@@ -20,7 +20,7 @@ choose-indexed-requires : tie.Need-choose-indexed-requires
 choose-indexed-requires c κs = (going-of _ _ _ (c .before .before .before .before .before .before .before .pre .0) _ (c .before .before .before .before .if1 .left) _ (c .before .before .is-over .ensures) (c .before .if2 .left), c .before .before .before .before .before .before .before .pre .2)
 
 go-on-requires : tie.Need-go-on-requires
-go-on-requires c κs = (going-of _ _ _ (c .before .before .before .before .before .before .before .before .before .pre .0) _ (c .before .before .before .before .before .before .if1 .left) _ (c .before .before .before .before .is-over .ensures) (c .before .before .before .if2 .left), c .before .choose-indexed .ensures .0, c .before .before .before .before .before .before .before .before .before .pre .1)
+go-on-requires c κs = (going-of _ _ _ (c .before .before .before .before .before .before .before .before .before .pre .0) _ (c .before .before .before .before .before .before .if1 .left) _ (c .before .before .before .before .is-over .ensures) (c .before .before .before .if2 .left), c .before .choose-indexed .ensures .0, λ _. c .before .before .before .before .before .before .before .before .before .pre .1)
 
 same-length-2 : tie.Need-same-length-2
 same-length-2 c = search needs

@@ -12,7 +12,9 @@ returns-2 : tie.Need-returns-2
 returns-2 c = still-met _ _ _ (c .before .before .before .before .pre .0) _ (c .before .before .before .before .pre .1, refl) (c .before .if1 .left) (c .if2 .taken)
 
 write-requires : tie.Need-write-requires
-write-requires c κs = search needs
+write-requires c κs =
+    let a = c .before .before .before .before .before .pre in
+    (a .0, a .1, c .before .before .if1 .left, a .2 (c .before .if2 .left))
 
 same-length : tie.Need-same-length
 same-length c = search needs
