@@ -21,16 +21,13 @@ install-moves-requires c κs =
     let a = c .before .before .before .before .before .before .before .pre in
     (a .0 .checked .lent .accepts, tidy-words _ _ _ (a .0 .checked), in-range _ _ _ (a .0) _ (a .1), movers _ _ _ (a .0) _ (a .1) (a .2))
 
-first-states-requires : tie.Need-first-states-requires
-first-states-requires c κs = search needs
-
 enter-all-requires : tie.Need-enter-all-requires
 enter-all-requires c κs =
     let a = c .before .before .before .before .before .before .before .before .before .before .before .before .pre in
     let m = c .before .before .before .before .install-moves .ensures in (
       a .0 .checked .lent .accepts,
       first-tidy _ _ _ (a .0) _ (a .1) (a .2) (m .0),
-      c .before .first-states .ensures,
+      a .3,
       sleepers _ _ _ (a .0) _ (a .1) (a .2) (m .0) (m .1),
     )
 
@@ -65,4 +62,4 @@ returns-3 c =
 pub write-spec : {M : Type 1} → statement M
 write-spec =
     tie.close
-    (tie.spec put-all-to-sleep-requires same-length returns install-moves-requires first-states-requires enter-all-requires same-length-2 returns-2 close-scopes-requires same-length-3 returns-3)
+    (tie.spec put-all-to-sleep-requires same-length returns install-moves-requires enter-all-requires same-length-2 returns-2 close-scopes-requires same-length-3 returns-3)
