@@ -33,11 +33,6 @@ module _ (p : Plan) where
   unfolding isIn
   in-hosted s t h = rw (host-some t h, isIn)
 
-  -- beyond the last state there is none
-  pub owner-beyond : (s : ℕ) → stateCount p ≤ s → owner p s ≡ noState
-  unfolding owner state stateCount
-  owner-beyond s l = ap (λ (r : State). r .track) (List·getD-eq-default (p .states) _ l)
-
   pub beyond : (t s : ℕ) → stateCount p ≤ s → isStateOf p t s ≡ false
   unfolding isStateOf
   beyond t s l = rw (le-ltb s (stateCount p) l)

@@ -118,10 +118,6 @@ unfolding greatestBelow
 greatest-min m zero f = omega arith
 greatest-min m (suc n) f = let q = greatest-min m n f in omega arith
 
-pub greatest-more : (n : ℕ) (f : ℕ → ℕ) → greatestBelow (n + 1) f ≡ max (greatestBelow n f) (f n)
-unfolding greatestBelow
-greatest-more n f = rw add-one
-
 -- The lowest number below n that passes.
 pub first-found : (n : ℕ) (f : ℕ → Bool) (i : ℕ) → firstBelow n f ≡ some i → (i < n) × (f i ≡ true)
 unfolding firstBelow

@@ -38,13 +38,6 @@ undoing-forward Asleep h = refl
 undoing-forward Forward h = sym h
 undoing-forward Undoing h = refl
 
--- what sleeps is neither
-pub asleep-undoing : (m : Mode) → isAwake m ≡ false → isUndoing m ≡ false
-unfolding isUndoing isAwake
-asleep-undoing Asleep h = refl
-asleep-undoing Forward h = refl
-asleep-undoing Undoing h = h
-
 -- what is awake is one of the two
 pub awake-undoing : (m : Mode) → isAwake m ≡ true → isForward m ≡ false → isUndoing m ≡ true
 unfolding isAwake isForward isUndoing

@@ -46,13 +46,6 @@ module _ (new old : Ledger) where
             ]
       ])
 
-  pub up-fits : (limit i : ℕ) → Fits limit new → Fits limit old → Fits limit (upTo i)
-  up-fits limit i f g t =
-      elim (look (ltb t i)) [
-        | inl l ↦ rw (up-new i t (ltb-true t i l)) (f t)
-        | inr l ↦ rw (up-old i t (ltb-false t i l)) (g t)
-      ]
-
   -- all tracks passed
   pub up-all : (limit n : ℕ) (ws : List ℕ) → written limit n (upTo n) ws ≡ written limit n new ws
   up-all limit n ws = written-same limit n (upTo n) new ws (λ t h. up-new n t h)

@@ -126,20 +126,6 @@ module _ (limit : ℕ) where
         ∙ set-part (written limit n l ws) k (configurationWords limit (l k)) j v before (let w = length-configurationWords limit (l k) (f k) in omega arith)
         ∙ ap (inTrack (written limit n l ws) k) e ∙ put-track n l ws k x f h
 
-    -- the mode
-    pub set-mode : (m : Mode) → set (written limit n l ws) (trackPlace limit k) (modeWord m)
-        ≡ written limit n (updated l k (record { mode = m; state = l k .state; held = l k .held })) ws
-    unfolding configurationWords trackWidth headWords
-    set-mode m =
-        ap (λ (i : ℕ). set (written limit n l ws) i (modeWord m)) (omega arith)
-        ∙ set-track (record { mode = m; state = l k .state; held = l k .held }) 0 (modeWord m) (omega arith) refl
-
-    -- the state
-    pub set-state : (s : ℕ) → set (written limit n l ws) (trackPlace limit k + 1) s
-        ≡ written limit n (updated l k (record { mode = l k .mode; state = s; held = l k .held })) ws
-    unfolding configurationWords trackWidth headWords
-    set-state s = set-track (record { mode = l k .mode; state = s; held = l k .held }) 1 s (omega arith) refl
-
     -- an entry's two words and the count: three words set in the track's own words
     pub set-three : (x : Configuration) (i a j b m c : ℕ) → i < trackWidth limit → j < trackWidth limit → m < trackWidth limit
         → set (set (set (configurationWords limit (l k)) i a) j b) m c ≡ configurationWords limit x
