@@ -5,15 +5,6 @@ use borrow.Author.Needs.{needs}
 use Rattle.event_choice.proofs.choose.Statement.{statement}
 use Rattle.event_choice.proofs.choose.Tie as tie
 
-open-scopes-requires : tie.Need-open-scopes-requires
-open-scopes-requires c κs = search needs
-
-taken-by-requires : tie.Need-taken-by-requires
-taken-by-requires c κs = search needs
-
-moves-requires : tie.Need-moves-requires
-moves-requires c κs = search needs
-
 returns : tie.Need-returns
 returns c =
     let g = c .before .before .before .before .before .before .before .before .pre in
@@ -38,4 +29,4 @@ returns-2 c =
 pub choose-spec : {M : Type 1} → statement M
 choose-spec =
     tie.close
-    (tie.spec open-scopes-requires taken-by-requires moves-requires returns closing-scopes-requires judge-requires returns-2)
+    (tie.spec (λ c κs. search needs) (λ c κs. search needs) (λ c κs. search needs) returns closing-scopes-requires judge-requires returns-2)

@@ -35,9 +35,6 @@ destination-of-requires c κs =
     let a = c .before .before .before .before .before .before .before .before .before .pre in
     (a .0 .holds, a .3 (c .before .before .before .before .before .before .if1 .left))
 
-same-length : tie.Need-same-length
-same-length c = search needs
-
 returns-2 : tie.Need-returns-2
 unfolding noState
 returns-2 c =
@@ -51,6 +48,4 @@ returns-2 c =
     )
 
 pub install-move-spec : {M : Type 1} → statement M
-install-move-spec =
-    tie.close
-    (tie.spec returns code-of-requires deviation-of-requires give-requires destination-of-requires same-length returns-2)
+install-move-spec = tie.close (tie.spec returns code-of-requires deviation-of-requires give-requires destination-of-requires (λ c. search needs) returns-2)

@@ -5,12 +5,6 @@ use borrow.Author.Needs.{needs}
 use Rattle.event_writing.proofs.write.Statement.{statement}
 use Rattle.event_writing.proofs.write.Tie as tie
 
-put-all-to-sleep-requires : tie.Need-put-all-to-sleep-requires
-put-all-to-sleep-requires c κs = search needs
-
-same-length : tie.Need-same-length
-same-length c = search needs
-
 returns : tie.Need-returns
 returns c =
     let a = c .before .before .before .before .before .before .before .pre in
@@ -21,9 +15,6 @@ install-moves-requires c κs =
     let a = c .before .before .before .before .before .before .before .pre in
     (a .0 .checked .lent .accepts, tidy-words _ _ _ (a .0 .checked), in-range _ _ _ (a .0) _ (a .1), movers _ _ _ (a .0) _ (a .1) (a .2))
 
-first-states-requires : tie.Need-first-states-requires
-first-states-requires c κs = search needs
-
 enter-all-requires : tie.Need-enter-all-requires
 enter-all-requires c κs =
     let a = c .before .before .before .before .before .before .before .before .before .before .before .before .pre in
@@ -33,9 +24,6 @@ enter-all-requires c κs =
       c .before .first-states .ensures,
       sleepers _ _ _ (a .0) _ (a .1) (a .2) (m .0) (m .1),
     )
-
-same-length-2 : tie.Need-same-length-2
-same-length-2 c = search needs
 
 returns-2 : tie.Need-returns-2
 returns-2 c =
@@ -53,9 +41,6 @@ close-scopes-requires c κs =
       closings _ _ _ (a .0) _ (a .1) (a .2) (m .0) (m .1) e,
     )
 
-same-length-3 : tie.Need-same-length-3
-same-length-3 c = search needs
-
 returns-3 : tie.Need-returns-3
 returns-3 c =
     let a = c .before .before .before .before .before .before .before .before .before .before .before .before .before .before .before .before .before .before .before .before .before .before .pre in
@@ -65,4 +50,5 @@ returns-3 c =
 pub write-spec : {M : Type 1} → statement M
 write-spec =
     tie.close
-    (tie.spec put-all-to-sleep-requires same-length returns install-moves-requires first-states-requires enter-all-requires same-length-2 returns-2 close-scopes-requires same-length-3 returns-3)
+    (tie.spec (λ c κs. search needs) (λ c. search needs) returns install-moves-requires (λ c κs. search needs) enter-all-requires (λ c. search needs)
+    returns-2 close-scopes-requires (λ c. search needs) returns-3)

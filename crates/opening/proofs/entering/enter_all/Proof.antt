@@ -30,29 +30,17 @@ woken-by-requires c κs = (c .before .before .before .before .pre .0, c .before 
 loop-holds : tie.Need-loop-holds Inv-loop μ-loop
 loop-holds c = (omega arith, entering-start _ _ (c .before .before .before .before .before .pre .1) _ _ (c .before .before .before .before .before .pre .2) (c .woken-by .ensures))
 
-mul-enter-track : tie.Need-mul-enter-track Inv-loop μ-loop
-mul-enter-track c = search needs
-
 array-read-enter-track : tie.Need-array-read-enter-track Inv-loop μ-loop
 array-read-enter-track c = let n = c .before .before .before .before .before .before .before .before .pre .0 .holds .tracks in omega arith
 
 array-read-enter-track-2 : tie.Need-array-read-enter-track-2 Inv-loop μ-loop
 array-read-enter-track-2 c = let n = c .before .before .before .before .before .before .before .before .pre .0 .holds .tracks in omega arith
 
-mul-enter-track-2 : tie.Need-mul-enter-track-2 Inv-loop μ-loop
-mul-enter-track-2 c = search needs
-
 array-read-enter-track-3 : tie.Need-array-read-enter-track-3 Inv-loop μ-loop
 array-read-enter-track-3 c = let n = c .before .before .before .before .before .before .before .before .pre .0 .holds .tracks in omega arith
 
 enter-track-requires : tie.Need-enter-track-requires Inv-loop μ-loop
 enter-track-requires c κs = (entering-tidy _ _ (c .before .before .before .before .before .before .before .before .pre .1) _ _ (c .before .before .before .before .before .before .before .before .pre .2) (c .before .before .before .woken-by .ensures) _ (c .before .before .loop .inv .0) (c .before .before .loop .inv .1), search needs, entering-asleep _ _ (c .before .before .before .before .before .before .before .before .pre .1) _ _ (c .before .before .before .before .before .before .before .before .pre .2) (c .before .before .before .woken-by .ensures) _ (c .before .before .loop .inv .0) (c .before .before .loop .inv .1) (omega arith) (c .before .before .before .before .before .before .before .before .pre .3))
-
-add-t : tie.Need-add-t Inv-loop μ-loop
-add-t c = search needs
-
-loop-less : tie.Need-loop-less Inv-loop μ-loop
-loop-less c = search needs
 
 loop-again : tie.Need-loop-again Inv-loop μ-loop
 loop-again c = (omega arith, entering-more _ _ (c .before .before .before .before .before .before .before .before .before .before .before .pre .1) _ _ (c .before .before .before .before .before .before .before .before .before .before .before .pre .2) (c .before .before .before .before .before .before .woken-by .ensures) _ (c .before .before .before .before .before .loop .inv .0) (c .before .before .before .before .before .loop .inv .1) (c .before .before .enter-track .ensures))
@@ -66,19 +54,5 @@ returns c = entering-end _ _ (c .before .before .before .before .before .before 
 pub enter-all-spec : {M : Type 1} → statement M
 enter-all-spec =
     tie.close
-    (tie.spec
-    Inv-loop
-    μ-loop
-    woken-by-requires
-    loop-holds
-    mul-enter-track
-    array-read-enter-track
-    array-read-enter-track-2
-    mul-enter-track-2
-    array-read-enter-track-3
-    enter-track-requires
-    add-t
-    loop-less
-    loop-again
-    same-length
-    returns)
+    (tie.spec Inv-loop μ-loop woken-by-requires loop-holds (λ c. search needs) array-read-enter-track array-read-enter-track-2 (λ c. search needs)
+    array-read-enter-track-3 enter-track-requires (λ c. search needs) (λ c. search needs) loop-again same-length returns)
