@@ -2,9 +2,9 @@
 -- before; a scope therefore closes exactly if each of its tracks will be forward in a final state, and its host does not move. Assumes nothing.
 use mathlib.Core.Path.{_≡_, refl, sym, ap, ap₂, _∙_, subst}
 use mathlib.Core.Logic.{_⊎_, inl, inr}
-use mathlib.Core.Bool.{Bool, true, false, cond, not, _&&_, _||_, and-comm, or-false}
+use mathlib.Core.Bool.{Bool, true, false, not, _&&_, _||_, and-comm, or-false}
 use mathlib.Core.Option.{Option, none, some}
-use Prim.Native.Nat.{ℕ, _<_, _≤_}
+use Prim.Native.Nat.{ℕ, _<_}
 use lib.Dec.{eqb, leb}
 use lib.ListN.{length}
 use borrow.Author.Tests.{eq-eqb, eqb-true, not-true}
@@ -12,7 +12,7 @@ use Rattle.rules.specs.declared.Mode.{Mode}
 use Rattle.rules.specs.declared.Mode.the-variants.{Asleep, Forward, Undoing}
 use Rattle.rules.specs.Fold.{someBelow, everyBelow, countBelow}
 use Rattle.rules.specs.Plan.{Plan, trackCount, stateCount, host, owner, transition, mover, replacement, isRoot, isFinal, isStateOf, isHostedBy, everyIn, firstState, transitionFor}
-use Rattle.rules.specs.Ledger.{Configuration, Ledger, isAwake, isForward, sleeping}
+use Rattle.rules.specs.Ledger.{Configuration, Ledger, isAwake, isForward}
 use Rattle.rules.specs.Scope.{isOpen, hasOpenScope}
 use Rattle.rules.specs.Opening.{fresh, wakes}
 use Rattle.rules.specs.Event.{install, installed, destinationOf, installedBy, hasCode, move, moved, isClosing, closesScope, closed, closings, isFinishing, isReplaced, isFull}

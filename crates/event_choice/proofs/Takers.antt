@@ -5,21 +5,20 @@ use mathlib.Core.Logic.{inl, inr}
 use mathlib.Core.Bool.{Bool, true, false, cond, not, _&&_}
 use mathlib.Core.List.{List}
 use mathlib.Core.Option.{Option, none, some}
-use Prim.Native.Nat.{ℕ, _+_, _<_, _≤_}
+use Prim.Native.Nat.{ℕ, _+_, _<_}
 use native.Mathlib.Omega.{arith}
 use lib.Dec.{eqb, ltb}
-use lib.ListN.{getD}
 use borrow.Author.Tests.{eq-eqb, eqb-true, not-true}
 use Rattle.rules.specs.declared.Counts.{Counts}
 use Rattle.rules.specs.declared.Mode.{Mode}
 use Rattle.rules.specs.declared.Mode.the-variants.{Asleep, Forward, Undoing}
 use Rattle.rules.specs.declared.Track.{Track}
 use Rattle.rules.specs.Fold.{firstBelow}
-use Rattle.rules.specs.Plan.{Plan, planOf, trackCount, stateCount, transitionCount, noState, owner, transition, mover, isStateOf, transitionFor}
+use Rattle.rules.specs.Plan.{Plan, planOf, stateCount, noState, owner, transition, mover, isStateOf, transitionFor}
 use Rattle.rules.specs.Ledger.{Ledger, isAwake, isForward}
 use Rattle.rules.specs.Scope.{hasOpenScope}
 use Rattle.rules.specs.Event.{move}
-use Rattle.rules.proofs.Tests.{look, look-option, clash, refuted, and-true, and-both, and-not, same-test}
+use Rattle.rules.proofs.Tests.{look, look-option, clash, refuted, and-true, same-test}
 use Rattle.rules.proofs.Folds.{first-found, first-more-none, first-more-here, first-stays}
 use Rattle.plan.proofs.FieldLaws.{track-count, transition-count}
 use Rattle.ledger.specs.Words.{trackOf}

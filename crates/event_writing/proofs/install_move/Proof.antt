@@ -1,5 +1,4 @@
 -- Nothing happens, or the transition's entry is installed and its destination entered. Assumes nothing.
-use Prim.Native.Nat.{_<_}
 use native.Mathlib.Omega.{arith}
 use Rattle.rules.specs.Plan.{noState}
 use Rattle.lookup.proofs.OneTrackLaws.{kept-track}

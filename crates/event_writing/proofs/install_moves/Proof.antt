@@ -1,10 +1,7 @@
 -- The movers among the tracks visited have installed their entries, the others are as they were. Assumes nothing.
-use mathlib.Core.Path.{_≡_, sym, ap, _∙_}
-use mathlib.Core.List.{List}
-use mathlib.Core.Option.{Option}
-use Prim.Native.Nat.{ℕ, _≤_, _-_}
+use mathlib.Core.Path.{_≡_}
+use Prim.Native.Nat.{_≤_, _-_}
 use native.Mathlib.Omega.{arith}
-use denote.Ref.{now}
 use Rattle.rules.specs.Layout.{entryLimit}
 use Rattle.rules.specs.Plan.{planOf, noState}
 use Rattle.rules.specs.Ledger.{written}
@@ -15,7 +12,6 @@ use Rattle.lookup.specs.Figures.{Numbers}
 use Rattle.lookup.proofs.FiguresLaws.{numbers-empty, number-more, numbers-all}
 use Rattle.lookup.proofs.OneTrackLaws.{pass-orderly, pass-length, pass-end}
 use Rattle.event_choice.specs.Next.{movesOf}
-use Rattle.event_choice.proofs.Visits.{moves-at}
 use Rattle.event_writing.proofs.Installing.{installing-start, installing-fits, installing-to, installing-room, installing-more}
 use borrow.Author.Needs.{needs}
 use Rattle.event_writing.proofs.install_moves.Statement.{statement}

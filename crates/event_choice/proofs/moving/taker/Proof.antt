@@ -1,7 +1,6 @@
 -- Each test that fails leaves the transition to none; the last leaves it to its own track. Assumes nothing.
-use mathlib.Core.Path.{_≡_, sym, _∙_}
+use mathlib.Core.Path.{sym, _∙_}
 use native.Mathlib.Omega.{arith}
-use Prim.Native.Nat.{_<_}
 use borrow.Author.Tests.{not-true, not-false}
 use Rattle.rules.specs.Plan.{noState}
 use Rattle.event_choice.proofs.Visits.{source-low, mover-low}
