@@ -14,6 +14,7 @@ use Rattle.rules.specs.Layout.{entryLimit}
 use Rattle.rules.specs.Plan.{Plan, planOf, trackCount, noState, host, owner, replacement}
 use Rattle.rules.specs.Ledger.{Configuration, Ledger, isAwake, sleeping, written}
 use Rattle.rules.specs.Event.{installed, isClosing, isClosed, closesScope, closed, isReplaced}
+use Rattle.rules.proofs.Modes.{forward-awake}
 use Rattle.rules.proofs.Tests.{look, look-option, clash, refuted, and-true, and-both}
 use Rattle.rules.proofs.Stored.{written-same}
 use Rattle.rules.proofs.Closing.{closed-host, closed-root, closing-final}
@@ -22,7 +23,6 @@ use Rattle.ledger.specs.Words.{Tidy}
 use Rattle.lookup.specs.Checked.{Accepts, ledgerOf}
 use Rattle.lookup.proofs.Facts.{plan-facts}
 use Rattle.lookup.proofs.OneTrackLaws.{Stores, stores-sleeping, stores-at, holds, Fitting, through, passed, pass-start, pass-old}
-use Rattle.event_choice.proofs.Takers.{forward-awake}
 use Rattle.event_writing.specs.Writing.{Closings, isClosedBy, closedBy}
 use Rattle.event_writing.proofs.Installing.{installed-stores}
 

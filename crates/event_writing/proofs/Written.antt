@@ -16,6 +16,7 @@ use Rattle.rules.specs.Plan.{Plan, planOf, trackCount, host}
 use Rattle.rules.specs.Ledger.{Configuration, Ledger, isAwake, isForward, sleeping, written}
 use Rattle.rules.specs.Opening.{fresh, wakes, entered, enter}
 use Rattle.rules.specs.Event.{destinationOf, installedBy, hasCode, move, moved, closesScope, closed, finished, isReplaced, isFull, afterEvent}
+use Rattle.rules.proofs.Modes.{forward-awake}
 use Rattle.rules.proofs.Tests.{look, look-option, clash, refuted, and-true, and-both, or-right}
 use Rattle.rules.proofs.Folds.{some-not}
 use Rattle.rules.proofs.Acceptance.{Accepted}
@@ -34,7 +35,6 @@ use Rattle.event_choice.specs.declared.Choice.{Choice}
 use Rattle.event_choice.specs.Next.{InRange, movesOf}
 use Rattle.event_choice.specs.Chosen.{Chosen}
 use Rattle.event_choice.proofs.Visits.{own-low}
-use Rattle.event_choice.proofs.Takers.{forward-awake}
 use Rattle.event_choice.proofs.Moved.{mover-facts, woken-asleep, moved-kept, moved-own, moved-up, closes-before, closing-still}
 use Rattle.event_choice.proofs.Still.{none-close}
 use Rattle.event_choice.proofs.Choosing as choosing

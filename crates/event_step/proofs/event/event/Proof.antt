@@ -14,7 +14,9 @@ go-on-requires : tie.Need-go-on-requires
 go-on-requires c κs = going-of _ _ _ (c .before .before .before .before .before .before .before .pre) _ (c .before .before .before .before .if1 .left) _ (c .before .before .is-over .ensures) (c .before .if2 .left)
 
 returns-3 : tie.Need-returns-3
-returns-3 c = event-going _ _ _ (c .before .before .before .before .before .before .before .before .before .before .pre) _ (c .before .before .before .before .before .before .before .if1 .left) _ (c .before .before .before .before .before .is-over .ensures) (c .before .before .before .before .if2 .left) _ _ (c .before .before .go-on .ensures)
+returns-3 c =
+    event-going _ _ _ (c .before .before .before .before .before .before .before .before .before .before .pre) _ (c .before .before .before .before .before .before .before .if1 .left) _ (c .before .before .before .before .before .is-over .ensures)
+    (c .before .before .before .before .if2 .left) _ _ (c .before .before .go-on .ensures)
 
 pub event-spec : {M : Type 1} → statement M
 event-spec = tie.close (tie.spec returns (λ c κs. search needs) (λ c. search needs) returns-2 go-on-requires (λ c. search needs) returns-3)
