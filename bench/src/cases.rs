@@ -28,37 +28,32 @@ pub struct Case {
 }
 
 impl Case {
-    /// All plans; the random ones are made from a fixed seed.
+    /// All plans, each with a journal as long as may be: a short run takes
+    /// what the start of a process takes. The random plans are made from a
+    /// fixed seed.
     pub fn all() -> io::Result<Vec<Case>> {
-        let mut cases = vec![Case::sample_plan()];
+        let mut cases = vec![Case::new("P", samples::sample()).expect("P is accepted")];
         cases.extend(Case::samples(Path::new(SAMPLES))?);
         cases.push(Case::found("small", (3, 3), (6, 9), (5, 10)));
         cases.push(Case::found("middle", (12, 14), (40, 60), (70, 110)));
         cases.push(Case::found("largest", (32, 32), (128, 128), (256, 256)));
+        for case in &mut cases {
+            case.journal = case.lively_journal(MAX_BYTES);
+        }
         Ok(cases)
     }
 
-    fn new(name: &str, plan: Vec<u8>, journal: Vec<u8>) -> Option<Case> {
+    fn new(name: &str, plan: Vec<u8>) -> Option<Case> {
         let read = plan::read(&plan).ok()?;
-        let name = name.to_string();
         Some(Case {
-            name,
+            name: name.to_string(),
             plan,
-            journal,
+            journal: Vec::new(),
             read,
         })
     }
 
-    /// Plan P with the paper's journal.
-    fn sample_plan() -> Case {
-        let mut records = [10, 11, 12].map(Record::Event).to_vec();
-        records.push(Record::Signal);
-        records.extend([Record::FireLowest; 4]);
-        let journal = samples::journal(&records);
-        Case::new("P", samples::sample(), journal).expect("P is accepted")
-    }
-
-    /// The samples with their own journals, by name.
+    /// The samples' plans, by name.
     fn samples(folder: &Path) -> io::Result<Vec<Case>> {
         let mut folders: Vec<_> = fs::read_dir(folder)?
             .filter_map(|entry| entry.ok().map(|entry| entry.path()))
@@ -69,9 +64,7 @@ impl Case {
             let name = path
                 .file_name()
                 .map_or_else(String::new, |name| name.to_string_lossy().replace('_', " "));
-            let plan = fs::read(path.join("plan.bin"))?;
-            let journal = fs::read(path.join("journal.bin"))?;
-            Ok(Case::new(&name, plan, journal))
+            Ok(Case::new(&name, fs::read(path.join("plan.bin"))?))
         };
         let cases: io::Result<Vec<_>> = folders.iter().map(|path| sample(path)).collect();
         Ok(cases?.into_iter().flatten().collect())
@@ -79,7 +72,7 @@ impl Case {
 
     /// The first generated plan whose counts of tracks, states and
     /// transitions lie in the ranges, whose histories do all the calls, and
-    /// that does not run dry; with a journal as long as may be.
+    /// that does not run dry.
     fn found(
         name: &str,
         tracks: (usize, usize),
@@ -95,12 +88,9 @@ impl Case {
                 && case.stays_lively()
         };
         let made = (0..).map(|index| plans::bytes(&mut Rng::for_case(1, 21, index), 32));
-        let mut found = made
-            .filter_map(|plan| Case::new(name, plan, Vec::new()))
+        made.filter_map(|plan| Case::new(name, plan))
             .find(fits)
-            .expect("plans go on for ever");
-        found.journal = found.lively_journal(MAX_BYTES);
-        found
+            .expect("plans go on for ever")
     }
 
     /// The name, with tracks, states and transitions.

@@ -3,4 +3,5 @@ pub mod Visits
 pub mod Takers
 pub mod Moved
 pub mod Still
+pub mod OneMove
 pub mod Choosing

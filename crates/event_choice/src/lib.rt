@@ -1,13 +1,19 @@
 // What an event will do, read off the ledger before a word is written: the moves, the scopes that close, 21, finish and the figures.
 pub mod closing;
+pub mod indexed;
 pub mod judging;
 pub mod moving;
 
 use lookup::opens;
 use rules::Counts;
 ghost use mathlib.Core.Path.{_≡_};
+ghost use mathlib.Core.Bool.{false};
 ghost use Rattle.rules.specs.Plan.{planOf};
+ghost use Rattle.rules.specs.Scope.{hasOpenScope};
+ghost use Rattle.rules.specs.Event.{move};
 ghost use Rattle.lookup.specs.Checked.{Going, ledgerOf};
+ghost use Rattle.lookup.specs.Figures.{Figures, Numbers};
+ghost use Rattle.transition_index.specs.Indexed.{Indexed};
 ghost use Rattle.event_choice.specs.Chosen.{Chosen};
 
 // For each track the transition that it takes, 65535 for none, and whether its open scope closes; how many do either; whether the event
@@ -22,18 +28,24 @@ pub struct Choice {
     pub full: bool,
 }
 
-// What an event does. Where no track moves, nothing else does.
-pub fn choose(plan: &[u8], c: Counts, ledger: &[u16], event: u16) -> Choice
-    requires { ⌜ Going (now plan) c (now ledger) ⌝ }
+// What is judged of the moves. Where no track moves, nothing else does.
+fn choose_by(
+    plan: &[u8],
+    c: Counts,
+    ledger: &[u16],
+    event: u16,
+    scopes: &[bool; 32],
+    taken: &[u16; 32],
+) -> Choice
+    requires { ⌜ Going (now plan) c (now ledger) × Figures false (now scopes) (c .tracks) (hasOpenScope (planOf (now plan) c) (ledgerOf c (now ledger)))
+        × Numbers (now taken) (c .tracks) (move (planOf (now plan) c) (ledgerOf c (now ledger)) event) ⌝ }
     ensures { λ r. ⌜ Chosen (planOf (now (plan .entry)) c) (ledgerOf c (now (ledger .entry))) r × (r .event ≡ event) ⌝ }
 {
-    let scopes = opens::open_scopes(plan, c, ledger);
-    let taken = moving::taken_by(plan, c, ledger, event, &scopes);
-    let moved = judging::moves(c, &taken);
+    let moved = judging::moves(c, taken);
     if moved == 0 {
         return Choice {
             event: event,
-            taken: taken,
+            taken: *taken,
             closing: [false; 32],
             moved: 0,
             closed: 0,
@@ -41,15 +53,42 @@ pub fn choose(plan: &[u8], c: Counts, ledger: &[u16], event: u16) -> Choice
             full: false,
         };
     }
-    let closing = closing::closing_scopes(plan, c, ledger, scopes, &taken);
-    let v = judging::judge(plan, c, ledger, &taken, &closing);
+    let closing = closing::closing_scopes(plan, c, ledger, *scopes, taken);
+    let v = judging::judge(plan, c, ledger, taken, &closing);
     Choice {
         event: event,
-        taken: taken,
+        taken: *taken,
         closing: closing,
         moved: moved,
         closed: v.closed,
         finishing: v.finishing,
         full: v.full,
     }
+}
+
+// What an event does.
+pub fn choose(plan: &[u8], c: Counts, ledger: &[u16], event: u16) -> Choice
+    requires { ⌜ Going (now plan) c (now ledger) ⌝ }
+    ensures { λ r. ⌜ Chosen (planOf (now (plan .entry)) c) (ledgerOf c (now (ledger .entry))) r × (r .event ≡ event) ⌝ }
+{
+    let scopes = opens::open_scopes(plan, c, ledger);
+    let taken = moving::taken_by(plan, c, ledger, event, &scopes);
+    choose_by(plan, c, ledger, event, &scopes, &taken)
+}
+
+// The same by an index of the transitions.
+pub fn choose_indexed(
+    plan: &[u8],
+    c: Counts,
+    ledger: &[u16],
+    event: u16,
+    head: &[u16; 256],
+    next: &[u16; 256],
+) -> Choice
+    requires { ⌜ Going (now plan) c (now ledger) × Indexed (now plan) c (now head) (now next) ⌝ }
+    ensures { λ r. ⌜ Chosen (planOf (now (plan .entry)) c) (ledgerOf c (now (ledger .entry))) r × (r .event ≡ event) ⌝ }
+{
+    let scopes = opens::open_scopes(plan, c, ledger);
+    let taken = indexed::taken_from(plan, c, ledger, event, &scopes, head, next);
+    choose_by(plan, c, ledger, event, &scopes, &taken)
 }

@@ -1,20 +1,43 @@
 // An event: its refusals, judged before a word is written, then its step and its figures.
+use event_choice::Choice;
 use lookup::reading;
+use opening::firsts;
 use rules::Counts;
 use rules::EventAnswer;
+ghost use mathlib.Core.Path.{_≡_};
 ghost use Rattle.rules.specs.Layout.{entryLimit};
-ghost use Rattle.rules.specs.Plan.{planOf};
+ghost use Rattle.rules.specs.Plan.{planOf, firstState};
 ghost use Rattle.rules.specs.Call.{Meets, eventOutcome};
 ghost use Rattle.rules.specs.Answers.{eventTold};
-ghost use Rattle.lookup.specs.Checked.{Checked, Going};
+ghost use Rattle.lookup.specs.Checked.{Accepts, Checked, Going, ledgerOf};
+ghost use Rattle.lookup.specs.Figures.{Figures};
+ghost use Rattle.transition_index.specs.Indexed.{Indexed};
+ghost use Rattle.event_choice.specs.Chosen.{Chosen};
 ghost use Rattle.event_step.specs.Outcome.{goingOutcome};
 
-// An event other than 0 on a ledger that is not over. Where no track moves nothing changes.
-fn go_on(plan: &[u8], c: Counts, ledger: &mut [u16], event: u16) -> EventAnswer
-    requires { ⌜ Going (now plan) c (now ledger) ⌝ }
-    ensures { λ r. ⌜ Meets (goingOutcome (planOf (now (plan .entry)) c) (now (ledger .entry)) event) (eventTold r) (now (ledger .exit)) ⌝ }
+// The first state of each track, where some track moves.
+fn firsts_where(plan: &[u8], c: Counts, moved: u16) -> [u16; 32]
+    requires { ⌜ Accepts (now plan) c ⌝ }
+    ensures { λ r. ⌜ ((moved ≡ 0 → ⊥) → Figures 0 r (c .tracks) (firstState (planOf (now (plan .entry)) c))) ⌝ }
 {
-    let choice = event_choice::choose(plan, c, &ledger[..], event);
+    if moved == 0 {
+        return [0; 32];
+    }
+    firsts::first_states(plan, c)
+}
+
+// An event other than 0 on a ledger that is not over, its choice made, given the first state of each track. Where no track moves nothing changes.
+fn go_on(
+    plan: &[u8],
+    c: Counts,
+    ledger: &mut [u16],
+    choice: Choice,
+    firsts: &[u16; 32],
+) -> EventAnswer
+    requires { ⌜ Going (now plan) c (now ledger) × Chosen (planOf (now plan) c) (ledgerOf c (now ledger)) choice
+        × ((choice .moved ≡ 0 → ⊥) → Figures 0 (now firsts) (c .tracks) (firstState (planOf (now plan) c))) ⌝ }
+    ensures { λ r. ⌜ Meets (goingOutcome (planOf (now (plan .entry)) c) (now (ledger .entry)) (choice .event)) (eventTold r) (now (ledger .exit)) ⌝ }
+{
     if choice.full {
         return EventAnswer::Refused(21);
     }
@@ -23,7 +46,7 @@ fn go_on(plan: &[u8], c: Counts, ledger: &mut [u16], event: u16) -> EventAnswer
         return EventAnswer::Moved(0, 0);
     }
     let closed = choice.closed;
-    event_writing::write(plan, c, &mut ledger[..], choice);
+    event_writing::write(plan, c, &mut ledger[..], choice, firsts);
     EventAnswer::Moved(moved, closed)
 }
 
@@ -38,5 +61,31 @@ pub fn event(plan: &[u8], c: Counts, ledger: &mut [u16], event: u16) -> EventAns
     if reading::is_over(c, &ledger[..]) {
         return EventAnswer::Refused(20);
     }
-    go_on(plan, c, &mut ledger[..], event)
+    let choice = event_choice::choose(plan, c, &ledger[..], event);
+    let firsts = firsts_where(plan, c, choice.moved);
+    go_on(plan, c, &mut ledger[..], choice, &firsts)
+}
+
+// The same, given the first state of each track and an index of the transitions: who has many events makes them once.
+pub fn event_indexed(
+    plan: &[u8],
+    c: Counts,
+    ledger: &mut [u16],
+    event: u16,
+    firsts: &[u16; 32],
+    head: &[u16; 256],
+    next: &[u16; 256],
+) -> EventAnswer
+    requires { ⌜ Checked (now plan) c (now ledger) × Figures 0 (now firsts) (c .tracks) (firstState (planOf (now plan) c))
+        × Indexed (now plan) c (now head) (now next) ⌝ }
+    ensures { λ r. ⌜ Meets (eventOutcome entryLimit (now (plan .entry)) (now (ledger .entry)) (record { event = event })) (eventTold r) (now (ledger .exit)) ⌝ }
+{
+    if event == 0 {
+        return EventAnswer::Refused(19);
+    }
+    if reading::is_over(c, &ledger[..]) {
+        return EventAnswer::Refused(20);
+    }
+    let choice = event_choice::choose_indexed(plan, c, &ledger[..], event, head, next);
+    go_on(plan, c, &mut ledger[..], choice, firsts)
 }

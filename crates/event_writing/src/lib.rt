@@ -3,7 +3,6 @@ use event_choice::Choice;
 use ledger::track;
 use lookup::reading;
 use opening::entering;
-use opening::firsts;
 use plan::fields;
 use plan::fields::NO_STATE;
 use rules::Counts;
@@ -13,12 +12,12 @@ ghost use mathlib.Core.Bool.{true, false};
 ghost use Prim.Native.Nat.{_<_};
 ghost use lib.ListN.{length, getD};
 ghost use Rattle.rules.specs.Layout.{entryLimit};
-ghost use Rattle.rules.specs.Plan.{planOf, noState, optional, replacement};
+ghost use Rattle.rules.specs.Plan.{planOf, noState, optional, replacement, firstState};
 ghost use Rattle.rules.specs.Ledger.{written, isAwake};
 ghost use Rattle.rules.specs.Event.{installed, installedBy, destinationOf, hasCode, closed, afterEvent};
 ghost use Rattle.ledger.specs.Words.{Tidy};
 ghost use Rattle.lookup.specs.Checked.{Accepts, Going, ledgerOf};
-ghost use Rattle.lookup.specs.Figures.{Numbers};
+ghost use Rattle.lookup.specs.Figures.{Figures, Numbers};
 ghost use Rattle.lookup.specs.OneTrack.{withConfiguration};
 ghost use Rattle.event_choice.specs.Next.{InRange, movesOf};
 ghost use Rattle.event_choice.specs.Chosen.{Chosen};
@@ -125,9 +124,10 @@ fn close_scopes(plan: &[u8], c: Counts, ledger: &mut [u16], closing: &[bool; 32]
     }
 }
 
-// Writes the ledger that the event leaves.
-pub fn write(plan: &[u8], c: Counts, ledger: &mut [u16], choice: Choice)
-    requires { ⌜ Going (now plan) c (now ledger) × Chosen (planOf (now plan) c) (ledgerOf c (now ledger)) choice × (choice .full ≡ false) ⌝ }
+// Writes the ledger that the event leaves, given the first state of each track.
+pub fn write(plan: &[u8], c: Counts, ledger: &mut [u16], choice: Choice, firsts: &[u16; 32])
+    requires { ⌜ Going (now plan) c (now ledger) × Chosen (planOf (now plan) c) (ledgerOf c (now ledger)) choice × (choice .full ≡ false)
+        × Figures 0 (now firsts) (c .tracks) (firstState (planOf (now plan) c)) ⌝ }
     ensures { λ _. ⌜ now (ledger .exit)
         ≡ written entryLimit (c .tracks)
         (afterEvent (planOf (now (plan .entry)) c) (ledgerOf c (now (ledger .entry))) (choice .event)) (now (ledger .entry)) ⌝ }
@@ -139,8 +139,7 @@ pub fn write(plan: &[u8], c: Counts, ledger: &mut [u16], choice: Choice)
     let taken = choice.taken;
     let closing = choice.closing;
     let to = install_moves(plan, c, &mut ledger[..], &taken);
-    let firsts = firsts::first_states(plan, c);
-    entering::enter_all(plan, c, &mut ledger[..], firsts, to);
+    entering::enter_all(plan, c, &mut ledger[..], *firsts, to);
     if choice.closed == 0 {
         return;
     }

@@ -6,12 +6,14 @@ use Prim.Native.Nat.{ℕ, _+_, _*_, _<_, _≤_, _^_}
 use lib.ListN.{length}
 use Rattle.rules.specs.declared.Counts.{Counts}
 use Rattle.rules.specs.Fold.{sumBelow}
-use Rattle.rules.specs.Plan.{planOf}
+use Rattle.rules.specs.Plan.{planOf, firstState}
 use Rattle.rules.specs.Layout.{entryLimit}
 use Rattle.rules.specs.Call.{Call, callOutcome}
 use Rattle.rules.specs.Journal.{Entered, ended, broken, fireLowest, called}
 use Rattle.rules.specs.Transcript.{refusalLine, callLine, firingsOf, heldTotal, tallyLine}
 use Rattle.lookup.specs.Checked.{Checked, ledgerOf}
+use Rattle.lookup.specs.Figures.{Figures}
+use Rattle.transition_index.specs.Indexed.{Indexed}
 use Rattle.journal.specs.Records.{callOf}
 use Rattle.journal.specs.Writing.{Wrote, Lined, lineRoom}
 use Rattle.replay.specs.declared.carry_out.Progress.{Progress}
@@ -25,6 +27,11 @@ pub record Prepared (bs : List ℕ) (c : Counts) (ws out : List ℕ) (from : Pro
   pub checked : Checked bs c ws
   pub room : from .place + lineRoom ≤ length out
   pub few : from .tally .fired + 1 < 2 ^ 32
+
+-- What is read of the plan once: the first state of each track, and the index of its transitions.
+pub record Tables (bs : List ℕ) (c : Counts) (firsts head next : List ℕ) : Type 0 where
+  pub started : Figures 0 firsts (c .tracks) (firstState (planOf bs c))
+  pub indexed : Indexed bs c head next
 
 -- The place is reached, and the tally has n firings more and the ledger's entries.
 pub record CameTo (c : Counts) (ws : List ℕ) (from : Progress) (end n : ℕ) (next : Progress) : Type 0 where

@@ -10,7 +10,7 @@ ghost use Rattle.rules.specs.Call.{event, signal, fire, nothing};
 ghost use Rattle.rules.specs.Journal.{fireLowest};
 ghost use Rattle.ledger.specs.Words.{Room};
 ghost use Rattle.journal.specs.Records.{recordTold, sizeOf};
-ghost use Rattle.replay.specs.CarriedOut.{callAt, Prepared, CameTo, CarriedOut};
+ghost use Rattle.replay.specs.CarriedOut.{callAt, Prepared, Tables, CameTo, CarriedOut};
 
 // How far a run has come: the place in the output, and the tally.
 pub struct Progress {
@@ -39,12 +39,23 @@ fn carry_out_event(
     output: &mut [u8],
     from: Progress,
     name: u16,
+    firsts: &[u16; 32],
+    head: &[u16; 256],
+    next: &[u16; 256],
 ) -> Progress
-    requires { ⌜ Prepared (now plan) c (now ledger) (now output) from ⌝ }
+    requires { ⌜ Prepared (now plan) c (now ledger) (now output) from × Tables (now plan) c (now firsts) (now head) (now next) ⌝ }
     ensures { λ r. ⌜ CarriedOut (now (plan .entry)) c (event (record { event = name }))
         (now (ledger .entry)) (now (output .entry)) from (now (ledger .exit)) (now (output .exit)) r ⌝ }
 {
-    let answer = event_step::event::event(plan, c, &mut ledger[..], name);
+    let answer = event_step::event::event_indexed(
+        plan,
+        c,
+        &mut ledger[..],
+        name,
+        firsts,
+        head,
+        next,
+    );
     let place = lines::event_line(&mut output[..], from.place, name, answer);
     come_to(c, &ledger[..], from, place, 0)
 }
@@ -99,7 +110,7 @@ fn carry_out_lowest(
     carry_out_fire(plan, c, &mut ledger[..], &mut output[..], from, track)
 }
 
-// Does what the record asks for.
+// Does what the record asks for, given the first state of each track and the index of the transitions.
 pub fn carry_out(
     plan: &[u8],
     c: Counts,
@@ -107,8 +118,12 @@ pub fn carry_out(
     output: &mut [u8],
     from: Progress,
     found: Record,
+    firsts: &[u16; 32],
+    head: &[u16; 256],
+    next: &[u16; 256],
 ) -> Progress
-    requires { ⌜ Prepared (now plan) c (now ledger) (now output) from × (0 < sizeOf (recordTold found)) ⌝ }
+    requires { ⌜ Prepared (now plan) c (now ledger) (now output) from × (0 < sizeOf (recordTold found))
+        × Tables (now plan) c (now firsts) (now head) (now next) ⌝ }
     ensures { λ r. ⌜ CarriedOut (now (plan .entry)) c (callAt (now (plan .entry)) c (now (ledger .entry)) (recordTold found))
         (now (ledger .entry)) (now (output .entry)) from (now (ledger .exit)) (now (output .exit)) r ⌝ }
 {
@@ -122,6 +137,9 @@ pub fn carry_out(
             &mut output[..],
             from,
             event,
+            firsts,
+            head,
+            next,
         ),
         Record::Signal => carry_out_signal(plan, c, &mut ledger[..], &mut output[..], from),
         Record::Fire(track) => carry_out_fire(

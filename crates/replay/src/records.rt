@@ -8,6 +8,7 @@ use journal::record::Record;
 use journal::record::record_at;
 use journal::record::size_of;
 use journal::tally::Tally;
+use opening::firsts;
 use rules::Counts;
 ghost use mathlib.Core.Path.{_≡_};
 ghost use Prim.Native.Nat.{_+_, _*_, _≤_};
@@ -45,7 +46,8 @@ fn close(found: Record, output: &mut [u8], from: Progress) -> usize
     tally_line(output, from.place, last.held, last.fired)
 }
 
-// Writes the lines of the records and the last line from a place of the output on. Answers the place after them.
+// Writes the lines of the records and the last line from a place of the output on. Answers the place after them. What the plan alone tells is
+// read once, before the records.
 pub fn run_records(
     plan: &[u8],
     c: Counts,
@@ -58,6 +60,10 @@ pub fn run_records(
     ensures { λ r. ⌜ RanRecords (now (plan .entry)) (now (journal .entry)) c
         (now (ledger .entry)) (now (output .entry)) start (now (ledger .exit)) (now (output .exit)) r ⌝ }
 {
+    let firsts = firsts::first_states(plan, c);
+    let index = transition_index::index(plan, c);
+    let head = index.head;
+    let chain = index.next;
     let held = held::held_total(c, &ledger[..]);
     let tally = Tally {
         held: held,
@@ -74,7 +80,17 @@ pub fn run_records(
         if size == 0 {
             return close(found, &mut output[..], so_far);
         }
-        let next = carry_out(plan, c, &mut ledger[..], &mut output[..], so_far, found);
+        let next = carry_out(
+            plan,
+            c,
+            &mut ledger[..],
+            &mut output[..],
+            so_far,
+            found,
+            &firsts,
+            &head,
+            &chain,
+        );
         so_far = next;
         at += size;
     }

@@ -6,12 +6,9 @@ use Rattle.export.proofs.at_bit16.Tie as tie
 use Rattle.export.proofs.at_bit16.Reads as reads
 use Rattle.export.proofs.at_bit16.Lts as lts
 
-mul-result : tie.Need-mul-result
-mul-result c = search needs
-
 returns : tie.Need-returns
 unfolding bit16 bit32
 returns c = search needs
 
 pub at-bit16-spec : {M : Type 1} → statement M
-at-bit16-spec = tie.close (tie.spec mul-result returns)
+at-bit16-spec = tie.close (tie.spec (λ c. search needs) returns)

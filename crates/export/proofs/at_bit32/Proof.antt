@@ -6,12 +6,9 @@ use Rattle.export.proofs.at_bit32.Tie as tie
 use Rattle.export.proofs.at_bit32.Reads as reads
 use Rattle.export.proofs.at_bit32.Lts as lts
 
-mul-result : tie.Need-mul-result
-mul-result c = search needs
-
 returns : tie.Need-returns
 unfolding bit32
 returns c = search needs
 
 pub at-bit32-spec : {M : Type 1} → statement M
-at-bit32-spec = tie.close (tie.spec mul-result returns)
+at-bit32-spec = tie.close (tie.spec (λ c. search needs) returns)

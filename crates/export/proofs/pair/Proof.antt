@@ -8,18 +8,9 @@ use Rattle.export.proofs.pair.Lts as lts
 use Rattle.export.proofs.at_bit16.Reads as at-bit16-reads
 use Rattle.export.proofs.at_bit32.Reads as at-bit32-reads
 
-at-bit16-requires : tie.Need-at-bit16-requires
-at-bit16-requires c κs = search needs
-
-at-bit32-requires : tie.Need-at-bit32-requires
-at-bit32-requires c κs = search needs
-
 add-result : tie.Need-add-result
 unfolding bit16 bit32
 add-result c = search needs
 
-returns : tie.Need-returns
-returns c = search needs
-
 pub pair-spec : {M : Type 1} → statement M
-pair-spec = tie.close (tie.spec at-bit16-requires at-bit32-requires add-result returns)
+pair-spec = tie.close (tie.spec (λ c κs. search needs) (λ c κs. search needs) add-result (λ c. search needs))

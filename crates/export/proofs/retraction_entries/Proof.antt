@@ -9,14 +9,8 @@ use borrow.Author.Needs.{needs}
 use Rattle.export.proofs.retraction_entries.Statement.{statement}
 use Rattle.export.proofs.retraction_entries.Tie as tie
 
-entries-requires : tie.Need-entries-requires
-entries-requires c κs = search needs
-
 returns : tie.Need-returns
 returns c = part-empty _ _ (ap length (sym (c .before .entries .ensures .held-as)) ∙ c .if1 .taken)
-
-wide-requires : tie.Need-wide-requires
-wide-requires c κs = search needs
 
 entry-place-requires : tie.Need-entry-place-requires
 unfolding entryLimit
@@ -35,9 +29,9 @@ pub retraction-entries-spec : {M : Type 1} → statement M
 retraction-entries-spec =
     tie.close
     (tie.spec
-    entries-requires
+    (λ c κs. search needs)
     returns
-    wide-requires
+    (λ c κs. search needs)
     entry-place-requires
     mul-result
     add-result

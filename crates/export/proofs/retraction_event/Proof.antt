@@ -7,30 +7,9 @@ use borrow.Author.Needs.{needs}
 use Rattle.export.proofs.retraction_event.Statement.{statement}
 use Rattle.export.proofs.retraction_event.Tie as tie
 
-event-requires : tie.Need-event-requires
-event-requires c κs = search needs
-
-enum-known-answer : tie.Need-enum-known-answer
-enum-known-answer c = search needs
-
-at-bit0-requires : tie.Need-at-bit0-requires
-at-bit0-requires c κs = search needs
-
-enum-known-answer-2 : tie.Need-enum-known-answer-2
-enum-known-answer-2 c = search needs
-
-pair-requires : tie.Need-pair-requires
-pair-requires c κs = search needs
-
-same-length : tie.Need-same-length
-same-length c = search needs
-
 returns : tie.Need-returns
 unfolding eventTold packed
 returns c = packs _ _ _ _ _ (c .before .before .before .before .before .before .event .ensures) (c .at-bit0 .ensures ∙ sym (ap (λ x. packed (eventTold x)) (c .before .before .answer .given .1)))
-
-same-length-2 : tie.Need-same-length-2
-same-length-2 c = search needs
 
 returns-2 : tie.Need-returns-2
 unfolding eventTold packed
@@ -40,12 +19,12 @@ pub retraction-event-spec : {M : Type 1} → statement M
 retraction-event-spec =
     tie.close
     (tie.spec
-    event-requires
-    enum-known-answer
-    at-bit0-requires
-    enum-known-answer-2
-    pair-requires
-    same-length
+    (λ c κs. search needs)
+    (λ c. search needs)
+    (λ c κs. search needs)
+    (λ c. search needs)
+    (λ c κs. search needs)
+    (λ c. search needs)
     returns
-    same-length-2
+    (λ c. search needs)
     returns-2)

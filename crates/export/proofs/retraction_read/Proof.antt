@@ -7,18 +7,6 @@ use borrow.Author.Needs.{needs}
 use Rattle.export.proofs.retraction_read.Statement.{statement}
 use Rattle.export.proofs.retraction_read.Tie as tie
 
-read-plan-requires : tie.Need-read-plan-requires
-read-plan-requires c κs = search needs
-
-enum-known-answer : tie.Need-enum-known-answer
-enum-known-answer c = search needs
-
-at-bit0-requires : tie.Need-at-bit0-requires
-at-bit0-requires c κs = search needs
-
-enum-known-answer-2 : tie.Need-enum-known-answer-2
-enum-known-answer-2 c = search needs
-
 counted-requires : tie.Need-counted-requires
 unfolding planTold
 counted-requires c κs = accepted-holds _ _ (sym (c .before .before .before .read-plan .ensures) ∙ ap planTold (c .before .answer2 .given .1))
@@ -35,10 +23,10 @@ pub retraction-read-spec : {M : Type 1} → statement M
 retraction-read-spec =
     tie.close
     (tie.spec
-    read-plan-requires
-    enum-known-answer
-    at-bit0-requires
-    enum-known-answer-2
+    (λ c κs. search needs)
+    (λ c. search needs)
+    (λ c κs. search needs)
+    (λ c. search needs)
     counted-requires
     returns
     returns-2)

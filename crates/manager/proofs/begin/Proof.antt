@@ -6,28 +6,13 @@ use borrow.Author.Needs.{needs}
 use Rattle.manager.proofs.begin.Statement.{statement}
 use Rattle.manager.proofs.begin.Tie as tie
 
-read-lent-requires : tie.Need-read-lent-requires
-read-lent-requires c κs = search needs
-
-enum-known-answer : tie.Need-enum-known-answer
-enum-known-answer c = search needs
-
-enum-known-answer-2 : tie.Need-enum-known-answer-2
-enum-known-answer-2 c = search needs
-
 begin-all-requires : tie.Need-begin-all-requires
 unfolding planTold
 begin-all-requires c κs = lent-holds _ _ _ (sym (ap planTold (c .before .before .answer2 .given .1)) ∙ c .before .before .before .before .read-lent .ensures)
 
-same-length : tie.Need-same-length
-same-length c = search needs
-
 returns : tie.Need-returns
 unfolding planTold beginTold
 returns c = meets _ _ _ _ (begin-refused _ _ _ (sym (ap planTold (c .before .answer .given .1)) ∙ c .before .before .before .read-lent .ensures)) refl
-
-same-length-2 : tie.Need-same-length-2
-same-length-2 c = search needs
 
 returns-2 : tie.Need-returns-2
 unfolding planTold beginTold
@@ -37,11 +22,11 @@ pub begin-spec : {M : Type 1} → statement M
 begin-spec =
     tie.close
     (tie.spec
-    read-lent-requires
-    enum-known-answer
-    enum-known-answer-2
+    (λ c κs. search needs)
+    (λ c. search needs)
+    (λ c. search needs)
     begin-all-requires
-    same-length
+    (λ c. search needs)
     returns
-    same-length-2
+    (λ c. search needs)
     returns-2)

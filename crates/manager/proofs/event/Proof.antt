@@ -8,41 +8,23 @@ use borrow.Author.Needs.{needs}
 use Rattle.manager.proofs.event.Statement.{statement}
 use Rattle.manager.proofs.event.Tie as tie
 
-verify-requires : tie.Need-verify-requires
-verify-requires c κs = search needs
-
-enum-known-answer : tie.Need-enum-known-answer
-enum-known-answer c = search needs
-
-enum-known-answer-2 : tie.Need-enum-known-answer-2
-enum-known-answer-2 c = search needs
-
 event-requires : tie.Need-event-requires
 unfolding planTold
 event-requires c κs = call-checked _ _ _ (sym (ap planTold (c .before .before .answer2 .given .1)) ∙ c .before .before .before .before .verify .ensures)
-
-same-length : tie.Need-same-length
-same-length c = search needs
 
 returns : tie.Need-returns
 unfolding planTold eventTold eventOutcome
 returns c = meets _ _ _ _ (call-refused _ _ (event (record { event = _ })) _ (sym (ap planTold (c .before .answer .given .1)) ∙ c .before .before .before .verify .ensures)) refl
 
-same-length-2 : tie.Need-same-length-2
-same-length-2 c = search needs
-
-returns-2 : tie.Need-returns-2
-returns-2 c = search needs
-
 pub event-spec : {M : Type 1} → statement M
 event-spec =
     tie.close
     (tie.spec
-    verify-requires
-    enum-known-answer
-    enum-known-answer-2
+    (λ c κs. search needs)
+    (λ c. search needs)
+    (λ c. search needs)
     event-requires
-    same-length
+    (λ c. search needs)
     returns
-    same-length-2
-    returns-2)
+    (λ c. search needs)
+    (λ c. search needs))

@@ -11,18 +11,6 @@ use borrow.Author.Needs.{needs}
 use Rattle.manager.proofs.part_of.Statement.{statement}
 use Rattle.manager.proofs.part_of.Tie as tie
 
-verify-requires : tie.Need-verify-requires
-verify-requires c κs = search needs
-
-enum-told : tie.Need-enum-told
-enum-told c = search needs
-
-enum-known-answer : tie.Need-enum-known-answer
-enum-known-answer c = search needs
-
-wide-requires : tie.Need-wide-requires
-wide-requires c κs = search needs
-
 returns : tie.Need-returns
 unfolding planTold
 returns c = span-at _ _ _ _ _ _ (c .before .before .wide .ensures .0) (span-absent _ _ _ _ (sym (ap planTold (c .before .before .before .before .answer .given .1)) ∙ c .before .before .before .before .before .before .verify .ensures) (c .if1 .taken))
@@ -34,12 +22,6 @@ track-at-requires c κs = in-room _ _ _ (lent-room _ _ _ (checked-facts _ _ _ (s
 entry-place-requires : tie.Need-entry-place-requires
 unfolding planTold entryLimit
 entry-place-requires c κs = (omega (arith, lent-room _ _ _ (checked-facts _ _ _ (sym (ap planTold (c .before .before .before .before .before .answer .given .1)) ∙ c .before .before .before .before .before .before .before .verify .ensures) .0) .few, c .before .if1 .left), omega arith)
-
-wide-requires-2 : tie.Need-wide-requires-2
-wide-requires-2 c κs = search needs
-
-mul-t12 : tie.Need-mul-t12
-mul-t12 c = search needs
 
 add-t13 : tie.Need-add-t13
 unfolding planTold entriesPlace trackPlace trackWidth headWords entryWidth entryLimit leadingWords
@@ -57,15 +39,15 @@ pub part-of-spec : {M : Type 1} → statement M
 part-of-spec =
     tie.close
     (tie.spec
-    verify-requires
-    enum-told
-    enum-known-answer
-    wide-requires
+    (λ c κs. search needs)
+    (λ c. search needs)
+    (λ c. search needs)
+    (λ c κs. search needs)
     returns
     track-at-requires
     entry-place-requires
-    wide-requires-2
-    mul-t12
+    (λ c κs. search needs)
+    (λ c. search needs)
     add-t13
     returns-2
     returns-3)

@@ -6,28 +6,13 @@ use borrow.Author.Needs.{needs}
 use Rattle.manager.proofs.ready.Statement.{statement}
 use Rattle.manager.proofs.ready.Tie as tie
 
-verify-requires : tie.Need-verify-requires
-verify-requires c κs = search needs
-
-enum-known-answer : tie.Need-enum-known-answer
-enum-known-answer c = search needs
-
-enum-known-answer-2 : tie.Need-enum-known-answer-2
-enum-known-answer-2 c = search needs
-
 ready-bits-requires : tie.Need-ready-bits-requires
 unfolding planTold
 ready-bits-requires c κs = lent-holds _ _ _ (checked-facts _ _ _ (sym (ap planTold (c .before .before .answer2 .given .1)) ∙ c .before .before .before .before .verify .ensures) .0)
 
-same-length : tie.Need-same-length
-same-length c = search needs
-
 returns : tie.Need-returns
 unfolding planTold readyTold
 returns c = meets _ _ _ _ (ready-refused _ _ _ (sym (ap planTold (c .before .answer .given .1)) ∙ c .before .before .before .verify .ensures)) refl
-
-same-length-2 : tie.Need-same-length-2
-same-length-2 c = search needs
 
 returns-2 : tie.Need-returns-2
 unfolding planTold readyTold
@@ -37,11 +22,11 @@ pub ready-spec : {M : Type 1} → statement M
 ready-spec =
     tie.close
     (tie.spec
-    verify-requires
-    enum-known-answer
-    enum-known-answer-2
+    (λ c κs. search needs)
+    (λ c. search needs)
+    (λ c. search needs)
     ready-bits-requires
-    same-length
+    (λ c. search needs)
     returns
-    same-length-2
+    (λ c. search needs)
     returns-2)

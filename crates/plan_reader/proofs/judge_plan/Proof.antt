@@ -6,15 +6,9 @@ use borrow.Author.Needs.{needs}
 use Rattle.plan_reader.proofs.judge_plan.Statement.{statement}
 use Rattle.plan_reader.proofs.judge_plan.Tie as tie
 
-no-track-requires : tie.Need-no-track-requires
-no-track-requires c κs = search needs
-
 returns : tie.Need-returns
 returns c =
     sym (in-order _ _ ∙ rw (sym (c .before .no-track .ensures) ∙ c .if1 .taken))
-
-some-bad-state-requires : tie.Need-some-bad-state-requires
-some-bad-state-requires c κs = search needs
 
 returns-2 : tie.Need-returns-2
 returns-2 c =
@@ -22,9 +16,6 @@ returns-2 c =
       sym (c .before .before .before .no-track .ensures) ∙ c .before .before .if1 .left,
       sym (c .before .some-bad-state .ensures) ∙ c .if2 .taken,
     ))
-
-some-bad-host-requires : tie.Need-some-bad-host-requires
-some-bad-host-requires c κs = search needs
 
 returns-3 : tie.Need-returns-3
 returns-3 c =
@@ -74,8 +65,5 @@ judge-transitions-requires c κs =
       chains = c .before .before .before .before .before .chain-tracks .ensures;
     }
 
-returns-6 : tie.Need-returns-6
-returns-6 c = search needs
-
 pub judge-plan-spec : {M : Type 1} → statement M
-judge-plan-spec = tie.close (tie.spec no-track-requires returns some-bad-state-requires returns-2 some-bad-host-requires returns-3 some-bad-first-requires returns-4 chain-tracks-requires some-bad-hosting-requires returns-5 judge-transitions-requires returns-6)
+judge-plan-spec = tie.close (tie.spec (λ c κs. search needs) returns (λ c κs. search needs) returns-2 (λ c κs. search needs) returns-3 some-bad-first-requires returns-4 chain-tracks-requires some-bad-hosting-requires returns-5 judge-transitions-requires (λ c. search needs))

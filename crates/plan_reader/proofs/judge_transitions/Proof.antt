@@ -6,9 +6,6 @@ use borrow.Author.Needs.{needs}
 use Rattle.plan_reader.proofs.judge_transitions.Statement.{statement}
 use Rattle.plan_reader.proofs.judge_transitions.Tie as tie
 
-some-bad-transition-requires : tie.Need-some-bad-transition-requires
-some-bad-transition-requires c κs = search needs
-
 returns : tie.Need-returns
 returns c =
     sym (then-transitions _ _ _ _ (c .before .before .before .pre) ∙ rw (sym (c .before .some-bad-transition .ensures) ∙ c .if1 .taken))
@@ -34,9 +31,6 @@ returns-3 c =
       sym (c .before .some-repeated-event .ensures) ∙ c .if3 .taken,
     ))
 
-some-too-high-requires : tie.Need-some-too-high-requires
-some-too-high-requires c κs = search needs
-
 returns-4 : tie.Need-returns-4
 returns-4 c =
     sym (then-transitions _ _ _ _ (c .before .before .before .before .before .before .before .before .before .pre) ∙ rw (
@@ -56,4 +50,4 @@ returns-5 c =
     ))
 
 pub judge-transitions-spec : {M : Type 1} → statement M
-judge-transitions-spec = tie.close (tie.spec some-bad-transition-requires returns some-bad-deviation-requires returns-2 some-repeated-event-requires returns-3 some-too-high-requires returns-4 returns-5)
+judge-transitions-spec = tie.close (tie.spec (λ c κs. search needs) returns some-bad-deviation-requires returns-2 some-repeated-event-requires returns-3 (λ c κs. search needs) returns-4 returns-5)

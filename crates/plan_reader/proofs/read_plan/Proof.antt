@@ -8,15 +8,6 @@ use borrow.Author.Needs.{needs}
 use Rattle.plan_reader.proofs.read_plan.Statement.{statement}
 use Rattle.plan_reader.proofs.read_plan.Tie as tie
 
-scan-records-requires : tie.Need-scan-records-requires
-scan-records-requires c κs = search needs
-
-enum-known-scanned : tie.Need-enum-known-scanned
-enum-known-scanned c = search needs
-
-enum-known-scanned-2 : tie.Need-enum-known-scanned-2
-enum-known-scanned-2 c = search needs
-
 judge-plan-requires : tie.Need-judge-plan-requires
 unfolding scanTold
 judge-plan-requires c κs = scan-holds _ _ (sym (c .before .before .before .scan-records .ensures) ∙ ap scanTold (c .before .scanned2 .given .1))
@@ -37,9 +28,9 @@ pub read-plan-spec : {M : Type 1} → statement M
 read-plan-spec =
     tie.close
     (tie.spec
-    scan-records-requires
-    enum-known-scanned
-    enum-known-scanned-2
+    (λ c κs. search needs)
+    (λ c. search needs)
+    (λ c. search needs)
     judge-plan-requires
     returns
     returns-2

@@ -19,51 +19,12 @@ abbrev μ-loop : tie.MeasureT-loop
 loop-holds : tie.Need-loop-holds Inv-loop μ-loop
 loop-holds c = (underway-start _ _ _ _, refl, refl)
 
-mul-kind : tie.Need-mul-kind Inv-loop μ-loop
-mul-kind c = search needs
-
-mul-kind-2 : tie.Need-mul-kind-2 Inv-loop μ-loop
-mul-kind-2 c = search needs
-
-shared-slice-read-kind : tie.Need-shared-slice-read-kind Inv-loop μ-loop
-shared-slice-read-kind c = search needs
-
-mul-argument : tie.Need-mul-argument Inv-loop μ-loop
-mul-argument c = search needs
-
-add-argument : tie.Need-add-argument Inv-loop μ-loop
-add-argument c = search needs
-
-mul-argument-2 : tie.Need-mul-argument-2 Inv-loop μ-loop
-mul-argument-2 c = search needs
-
-shared-slice-read-argument : tie.Need-shared-slice-read-argument Inv-loop μ-loop
-shared-slice-read-argument c = search needs
-
-make-call-requires : tie.Need-make-call-requires Inv-loop μ-loop
-make-call-requires c κs = search needs
-
-mul-write-answer : tie.Need-mul-write-answer Inv-loop μ-loop
-mul-write-answer c = search needs
-
 write-answer-requires : tie.Need-write-answer-requires Inv-loop μ-loop
 unfolding answerRoom
 write-answer-requires c κs = omega (arith, c .before .before .before .before .before .before .before .before .before .before .before .before .before .pre, c .before .before .before .before .before .before .before .before .loop .inv .1, c .before .before .before .before .before .before .before .loop-test .taken)
 
-add-i : tie.Need-add-i Inv-loop μ-loop
-add-i c = search needs
-
-loop-less : tie.Need-loop-less Inv-loop μ-loop
-loop-less c = search needs
-
 loop-again : tie.Need-loop-again Inv-loop μ-loop
 loop-again c = (underway-next _ _ _ _ _ _ _ (omega (arith, c .before .before .before .before .before .before .before .before .before .before .loop-test .taken)) (omega (arith, c .before .before .before .before .before .before .before .before .before .before .before .before .before .before .before .before .pre, c .before .before .before .before .before .before .before .before .before .before .before .loop .inv .1)) (c .before .before .before .before .before .before .before .before .before .before .before .loop .inv .0) _ _ _ (c .before .before .before .before .before .before .make-call .ensures) (c .before .before .write-answer .ensures), search needs, search needs)
-
-same-length : tie.Need-same-length Inv-loop μ-loop
-same-length c = search needs
-
-same-length-2 : tie.Need-same-length-2 Inv-loop μ-loop
-same-length-2 c = search needs
 
 returns : tie.Need-returns Inv-loop μ-loop
 returns c = underway-done _ _ _ _ _ _ _ (c .loop-test .left) (c .before .loop .inv .0)
@@ -75,19 +36,19 @@ make-calls-spec =
     Inv-loop
     μ-loop
     loop-holds
-    mul-kind
-    mul-kind-2
-    shared-slice-read-kind
-    mul-argument
-    add-argument
-    mul-argument-2
-    shared-slice-read-argument
-    make-call-requires
-    mul-write-answer
+    (λ c. search needs)
+    (λ c. search needs)
+    (λ c. search needs)
+    (λ c. search needs)
+    (λ c. search needs)
+    (λ c. search needs)
+    (λ c. search needs)
+    (λ c κs. search needs)
+    (λ c. search needs)
     write-answer-requires
-    add-i
-    loop-less
+    (λ c. search needs)
+    (λ c. search needs)
     loop-again
-    same-length
-    same-length-2
+    (λ c. search needs)
+    (λ c. search needs)
     returns)

@@ -7,27 +7,9 @@ use borrow.Author.Needs.{needs}
 use Rattle.property3.proofs.make_signal.Statement.{statement}
 use Rattle.property3.proofs.make_signal.Tie as tie
 
-signal-requires : tie.Need-signal-requires
-signal-requires c κs = search needs
-
-enum-known-answer : tie.Need-enum-known-answer
-enum-known-answer c = search needs
-
-encoded-refusal-requires : tie.Need-encoded-refusal-requires
-encoded-refusal-requires c κs = search needs
-
-enum-known-answer-2 : tie.Need-enum-known-answer-2
-enum-known-answer-2 c = search needs
-
-same-length : tie.Need-same-length
-same-length c = search needs
-
 returns : tie.Need-returns
 unfolding signalTold encodedAnswer encodedWords
 returns c = encoded _ _ _ _ (c .before .before .before .before .before .before .signal .ensures) (ap encodedWords (c .encoded-refusal .ensures) ∙ sym (ap (λ x. encodedAnswer (signalTold x)) (c .before .before .answer .given .1)))
-
-same-length-2 : tie.Need-same-length-2
-same-length-2 c = search needs
 
 returns-2 : tie.Need-returns-2
 unfolding signalTold encodedAnswer encodedWords
@@ -37,11 +19,11 @@ pub make-signal-spec : {M : Type 1} → statement M
 make-signal-spec =
     tie.close
     (tie.spec
-    signal-requires
-    enum-known-answer
-    encoded-refusal-requires
-    enum-known-answer-2
-    same-length
+    (λ c κs. search needs)
+    (λ c. search needs)
+    (λ c κs. search needs)
+    (λ c. search needs)
+    (λ c. search needs)
     returns
-    same-length-2
+    (λ c. search needs)
     returns-2)

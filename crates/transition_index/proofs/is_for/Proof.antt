@@ -4,17 +4,11 @@ use borrow.Author.Needs.{needs}
 use Rattle.transition_index.proofs.is_for.Statement.{statement}
 use Rattle.transition_index.proofs.is_for.Tie as tie
 
-source-of-requires : tie.Need-source-of-requires
-source-of-requires c κs = search needs
-
 returns : tie.Need-returns
 returns c = other-source _ _ _ _ _ (c .before .source-of .ensures) (c .if1 .taken)
-
-event-of-requires : tie.Need-event-of-requires
-event-of-requires c κs = search needs
 
 returns-2 : tie.Need-returns-2
 returns-2 c = same-source _ _ _ _ _ _ (c .before .before .source-of .ensures) (c .before .if1 .left) (c .event-of .ensures)
 
 pub is-for-spec : {M : Type 1} → statement M
-is-for-spec = tie.close (tie.spec source-of-requires returns event-of-requires returns-2)
+is-for-spec = tie.close (tie.spec (λ c κs. search needs) returns (λ c κs. search needs) returns-2)

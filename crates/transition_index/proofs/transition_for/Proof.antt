@@ -13,38 +13,14 @@ Inv-loop plan c head next s event y₀ y = Walk (planOf plan c) s event (c .tran
 abbrev μ-loop : tie.MeasureT-loop
 μ-loop plan c head next s event y₀ y = y
 
-cell-of-requires : tie.Need-cell-of-requires Inv-loop μ-loop
-cell-of-requires c κs = search needs
-
-mul-y : tie.Need-mul-y Inv-loop μ-loop
-mul-y c = search needs
-
-element-copy-out-y : tie.Need-element-copy-out-y Inv-loop μ-loop
-element-copy-out-y c = search needs
-
 cast-y : tie.Need-cast-y Inv-loop μ-loop
 cast-y c = let q = walk-start _ _ _ _ _ _ (c .before .before .before .pre .1) _ (c .before .cell-of .ensures .0) (c .before .cell-of .ensures .1) .within in search needs
 
 loop-holds : tie.Need-loop-holds Inv-loop μ-loop
 loop-holds c = walk-start _ _ _ _ _ _ (c .before .before .before .pre .1) _ (c .before .cell-of .ensures .0) (c .before .cell-of .ensures .1)
 
-sub-x : tie.Need-sub-x Inv-loop μ-loop
-sub-x c = search needs
-
-is-for-requires : tie.Need-is-for-requires Inv-loop μ-loop
-is-for-requires c κs = search needs
-
-cast-result : tie.Need-cast-result Inv-loop μ-loop
-cast-result c = search needs
-
 returns : tie.Need-returns Inv-loop μ-loop
 returns c = one-found _ _ _ _ (c .before .before .before .before .before .before .before .pre .0) _ (search needs) (sym (c .before .is-for .ensures) ∙ c .if1 .taken)
-
-mul-y-2 : tie.Need-mul-y-2 Inv-loop μ-loop
-mul-y-2 c = search needs
-
-element-copy-out-y-2 : tie.Need-element-copy-out-y-2 Inv-loop μ-loop
-element-copy-out-y-2 c = search needs
 
 cast-y-2 : tie.Need-cast-y-2 Inv-loop μ-loop
 cast-y-2 c = let q = walk-on _ _ _ _ _ _ _ (c .before .before .before .loop-test .taken) (c .before .before .before .before .loop .inv) (sym (c .before .before .is-for .ensures) ∙ c .before .if1 .left) (c .before .before .before .before .before .before .before .before .pre .1 .chained) refl .walk .within in search needs
@@ -65,17 +41,17 @@ transition-for-spec =
     (tie.spec
     Inv-loop
     μ-loop
-    cell-of-requires
-    mul-y
-    element-copy-out-y
+    (λ c κs. search needs)
+    (λ c. search needs)
+    (λ c. search needs)
     cast-y
     loop-holds
-    sub-x
-    is-for-requires
-    cast-result
+    (λ c. search needs)
+    (λ c κs. search needs)
+    (λ c. search needs)
     returns
-    mul-y-2
-    element-copy-out-y-2
+    (λ c. search needs)
+    (λ c. search needs)
     cast-y-2
     loop-less
     loop-again

@@ -10,13 +10,17 @@ returns c = event-zero _ _ _ (c .before .before .before .pre) _ (c .if1 .taken)
 returns-2 : tie.Need-returns-2
 returns-2 c = event-over _ _ _ (c .before .before .before .before .before .before .pre) _ (c .before .before .before .if1 .left) _ (c .before .is-over .ensures) (c .if2 .taken)
 
+choose-requires : tie.Need-choose-requires
+choose-requires c κs = going-of _ _ _ (c .before .before .before .before .before .before .before .pre) _ (c .before .before .before .before .if1 .left) _ (c .before .before .is-over .ensures) (c .before .if2 .left)
+
 go-on-requires : tie.Need-go-on-requires
-go-on-requires c κs = going-of _ _ _ (c .before .before .before .before .before .before .before .pre) _ (c .before .before .before .before .if1 .left) _ (c .before .before .is-over .ensures) (c .before .if2 .left)
+go-on-requires c κs = (going-of _ _ _ (c .before .before .before .before .before .before .before .before .before .before .before .pre) _ (c .before .before .before .before .before .before .before .before .if1 .left) _ (c .before .before .before .before .before .before .is-over .ensures) (c .before .before .before .before .before .if2 .left), c .before .before .before .choose .ensures .0, c .before .before .firsts-where .ensures)
 
 returns-3 : tie.Need-returns-3
-returns-3 c =
-    event-going _ _ _ (c .before .before .before .before .before .before .before .before .before .before .pre) _ (c .before .before .before .before .before .before .before .if1 .left) _ (c .before .before .before .before .before .is-over .ensures)
-    (c .before .before .before .before .if2 .left) _ _ (c .before .before .go-on .ensures)
+returns-3 c = event-going _ _ _ (c .before .before .before .before .before .before .before .before .before .before .before .before .before .before .pre) _ (c .before .before .before .before .before .before .before .before .before .before .before .if1 .left) _ (c .before .before .before .before .before .before .before .before .before .is-over .ensures) (c .before .before .before .before .before .before .before .before .if2 .left) _ _ (rw (c .before .before .before .before .before .before .choose .ensures .1) at (c .before .before .go-on .ensures))
 
 pub event-spec : {M : Type 1} → statement M
-event-spec = tie.close (tie.spec returns (λ c κs. search needs) (λ c. search needs) returns-2 go-on-requires (λ c. search needs) returns-3)
+event-spec =
+    tie.close
+    (tie.spec returns (λ c κs. search needs) (λ c. search needs) returns-2 choose-requires (λ c κs. search needs) go-on-requires (λ c. search needs)
+    returns-3)

@@ -17,26 +17,14 @@ Inv-loop plan c ledger «open» tracks bits₀ bit₀ t₀ bits bit t = (t ≤ t
 abbrev μ-loop : tie.MeasureT-loop
 μ-loop plan c ledger «open» tracks bits₀ bit₀ t₀ bits bit t = tracks - t
 
-open-scopes-requires : tie.Need-open-scopes-requires Inv-loop μ-loop
-open-scopes-requires c κs = search needs
-
 loop-holds : tie.Need-loop-holds Inv-loop μ-loop
 loop-holds c = (search needs, refl, bits-none _)
-
-is-ready-requires : tie.Need-is-ready-requires Inv-loop μ-loop
-is-ready-requires c κs = search needs
 
 add-bits : tie.Need-add-bits Inv-loop μ-loop
 add-bits c = let h : c .before .before .before .before .loop .t ≤ 32 = omega (arith, c .before .before .before .before .before .before .before .before .pre .room .few) in omega (arith, bit-small _ _ (c .before .before .before .before .loop .inv .1) h, bits-fit _ _ _ (c .before .before .before .before .loop .inv .2) h)
 
 mul-bit : tie.Need-mul-bit Inv-loop μ-loop
 mul-bit c = let h : c .before .before .before .before .loop .t ≤ 32 = omega (arith, c .before .before .before .before .before .before .before .before .pre .room .few) in omega (arith, bit-small _ _ (c .before .before .before .before .loop .inv .1) h)
-
-add-t : tie.Need-add-t Inv-loop μ-loop
-add-t c = search needs
-
-loop-less : tie.Need-loop-less Inv-loop μ-loop
-loop-less c = search needs
 
 loop-again : tie.Need-loop-again Inv-loop μ-loop
 loop-again c = (search needs, twice _ _ (c .before .before .before .before .loop .inv .1), ⊎-elim (λ w. w .1 ∙ bits-yes _ _ _ _ (c .before .before .before .before .loop .inv .2) (c .before .before .before .before .loop .inv .1) (c .before .is-ready .ensures) (w .0 .taken)) (λ w. w .1 ∙ bits-no _ _ _ (c .before .before .before .before .loop .inv .2) (c .before .is-ready .ensures) (w .0 .left)) (c .if1 .came))
@@ -53,13 +41,13 @@ ready-bits-spec =
     (tie.spec
     Inv-loop
     μ-loop
-    open-scopes-requires
+    (λ c κs. search needs)
     loop-holds
-    is-ready-requires
+    (λ c κs. search needs)
     add-bits
     mul-bit
-    add-t
-    loop-less
+    (λ c. search needs)
+    (λ c. search needs)
     loop-again
     cast-result
     returns)

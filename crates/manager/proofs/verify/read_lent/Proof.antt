@@ -7,15 +7,6 @@ use borrow.Author.Needs.{needs}
 use Rattle.manager.proofs.verify.read_lent.Statement.{statement}
 use Rattle.manager.proofs.verify.read_lent.Tie as tie
 
-read-plan-requires : tie.Need-read-plan-requires
-read-plan-requires c κs = search needs
-
-enum-known-answer : tie.Need-enum-known-answer
-enum-known-answer c = search needs
-
-enum-known-answer-2 : tie.Need-enum-known-answer-2
-enum-known-answer-2 c = search needs
-
 has-room-requires : tie.Need-has-room-requires
 unfolding planTold
 has-room-requires c κs = accepted-holds _ _ (sym (c .before .before .before .read-plan .ensures) ∙ ap planTold (c .before .answer2 .given .1)) .tracks
@@ -36,9 +27,9 @@ pub read-lent-spec : {M : Type 1} → statement M
 read-lent-spec =
     tie.close
     (tie.spec
-    read-plan-requires
-    enum-known-answer
-    enum-known-answer-2
+    (λ c κs. search needs)
+    (λ c. search needs)
+    (λ c. search needs)
     has-room-requires
     returns
     returns-2

@@ -6,15 +6,6 @@ use borrow.Author.Needs.{needs}
 use Rattle.manager.proofs.verify.verify.Statement.{statement}
 use Rattle.manager.proofs.verify.verify.Tie as tie
 
-read-lent-requires : tie.Need-read-lent-requires
-read-lent-requires c κs = search needs
-
-enum-known-answer : tie.Need-enum-known-answer
-enum-known-answer c = search needs
-
-enum-known-answer-2 : tie.Need-enum-known-answer-2
-enum-known-answer-2 c = search needs
-
 is-sound-requires : tie.Need-is-sound-requires
 unfolding planTold
 is-sound-requires c κs =
@@ -36,9 +27,9 @@ pub verify-spec : {M : Type 1} → statement M
 verify-spec =
     tie.close
     (tie.spec
-    read-lent-requires
-    enum-known-answer
-    enum-known-answer-2
+    (λ c κs. search needs)
+    (λ c. search needs)
+    (λ c. search needs)
     is-sound-requires
     returns
     returns-2

@@ -5,11 +5,8 @@ use borrow.Author.Needs.{needs}
 use Rattle.plan.proofs.fields.code_of.Statement.{statement}
 use Rattle.plan.proofs.fields.code_of.Tie as tie
 
-transition-word-requires : tie.Need-transition-word-requires
-transition-word-requires c κs = search needs
-
 returns : tie.Need-returns
 returns c = c .transition-word .ensures ∙ sym (code-at _ _ _ (search needs))
 
 pub code-of-spec : {M : Type 1} → statement M
-code-of-spec = tie.close (tie.spec transition-word-requires returns)
+code-of-spec = tie.close (tie.spec (λ c κs. search needs) returns)

@@ -5,11 +5,8 @@ use borrow.Author.Needs.{needs}
 use Rattle.plan.proofs.fields.destination_of.Statement.{statement}
 use Rattle.plan.proofs.fields.destination_of.Tie as tie
 
-transition-word-requires : tie.Need-transition-word-requires
-transition-word-requires c κs = search needs
-
 returns : tie.Need-returns
 returns c = c .transition-word .ensures ∙ sym (destination-at _ _ _ (search needs))
 
 pub destination-of-spec : {M : Type 1} → statement M
-destination-of-spec = tie.close (tie.spec transition-word-requires returns)
+destination-of-spec = tie.close (tie.spec (λ c κs. search needs) returns)

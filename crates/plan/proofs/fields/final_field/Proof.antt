@@ -5,11 +5,8 @@ use borrow.Author.Needs.{needs}
 use Rattle.plan.proofs.fields.final_field.Statement.{statement}
 use Rattle.plan.proofs.fields.final_field.Tie as tie
 
-state-word-requires : tie.Need-state-word-requires
-state-word-requires c κs = search needs
-
 returns : tie.Need-returns
 returns c = c .state-word .ensures ∙ sym (final-at _ _ _ (search needs))
 
 pub final-field-spec : {M : Type 1} → statement M
-final-field-spec = tie.close (tie.spec state-word-requires returns)
+final-field-spec = tie.close (tie.spec (λ c κs. search needs) returns)

@@ -7,18 +7,9 @@ use borrow.Author.Needs.{needs}
 use Rattle.plan.proofs.fields.host_word.Statement.{statement}
 use Rattle.plan.proofs.fields.host_word.Tie as tie
 
-mul-word-at : tie.Need-mul-word-at
-mul-word-at c = search needs
-
-add-word-at : tie.Need-add-word-at
-add-word-at c = search needs
-
-word-at-requires : tie.Need-word-at-requires
-word-at-requires c κs = search needs
-
 returns : tie.Need-returns
 unfolding trackRecord lengthOf
 returns c = c .word-at .ensures ∙ sym (host-word _ _ _ (search needs))
 
 pub host-word-spec : {M : Type 1} → statement M
-host-word-spec = tie.close (tie.spec mul-word-at add-word-at word-at-requires returns)
+host-word-spec = tie.close (tie.spec (λ c. search needs) (λ c. search needs) (λ c κs. search needs) returns)

@@ -4,12 +4,9 @@ use borrow.Author.Needs.{needs}
 use Rattle.plan.proofs.fields.is_final.Statement.{statement}
 use Rattle.plan.proofs.fields.is_final.Tie as tie
 
-final-field-requires : tie.Need-final-field-requires
-final-field-requires c κs = search needs
-
 returns : tie.Need-returns
 unfolding isFinal
 returns c = rw (c .final-field .ensures)
 
 pub is-final-spec : {M : Type 1} → statement M
-is-final-spec = tie.close (tie.spec final-field-requires returns)
+is-final-spec = tie.close (tie.spec (λ c κs. search needs) returns)

@@ -5,12 +5,9 @@ use borrow.Author.Needs.{needs}
 use Rattle.plan.proofs.fields.is_root.Statement.{statement}
 use Rattle.plan.proofs.fields.is_root.Tie as tie
 
-host-word-requires : tie.Need-host-word-requires
-host-word-requires c κs = search needs
-
 returns : tie.Need-returns
 unfolding noState
 returns c = root-word _ _ _ (c .host-word .ensures)
 
 pub is-root-spec : {M : Type 1} → statement M
-is-root-spec = tie.close (tie.spec host-word-requires returns)
+is-root-spec = tie.close (tie.spec (λ c κs. search needs) returns)

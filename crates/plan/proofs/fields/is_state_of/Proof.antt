@@ -9,14 +9,8 @@ use Rattle.plan.proofs.fields.is_state_of.Tie as tie
 returns : tie.Need-returns
 returns c = sym (beyond _ _ _ (rw state-count (search needs)))
 
-track-of-requires : tie.Need-track-of-requires
-track-of-requires c κs = search needs
-
-cast-result : tie.Need-cast-result
-cast-result c = search needs
-
 returns-2 : tie.Need-returns-2
 returns-2 c = rw (c .track-of .ensures) (sym (within _ _ _ (rw state-count (search needs))))
 
 pub is-state-of-spec : {M : Type 1} → statement M
-is-state-of-spec = tie.close (tie.spec returns track-of-requires cast-result returns-2)
+is-state-of-spec = tie.close (tie.spec returns (λ c κs. search needs) (λ c. search needs) returns-2)

@@ -5,11 +5,8 @@ use borrow.Author.Needs.{needs}
 use Rattle.plan.proofs.fields.replacement_of.Statement.{statement}
 use Rattle.plan.proofs.fields.replacement_of.Tie as tie
 
-state-word-requires : tie.Need-state-word-requires
-state-word-requires c κs = search needs
-
 returns : tie.Need-returns
 returns c = c .state-word .ensures ∙ sym (replacement-at _ _ _ (search needs))
 
 pub replacement-of-spec : {M : Type 1} → statement M
-replacement-of-spec = tie.close (tie.spec state-word-requires returns)
+replacement-of-spec = tie.close (tie.spec (λ c κs. search needs) returns)

@@ -21,35 +21,11 @@ abbrev μ-loop : tie.MeasureT-loop
 loop-holds : tie.Need-loop-holds Inv-loop μ-loop
 loop-holds c = let q = c .before .pre in (search needs, rw (q .3, q .4) (chained-none _ 32 128))
 
-element-copy-out-if1 : tie.Need-element-copy-out-if1 Inv-loop μ-loop
-element-copy-out-if1 c = search needs
-
-track-of-requires : tie.Need-track-of-requires Inv-loop μ-loop
-track-of-requires c κs = search needs
-
-cast-t : tie.Need-cast-t Inv-loop μ-loop
-cast-t c = search needs
-
 element-copy-out-before : tie.Need-element-copy-out-before Inv-loop μ-loop
 element-copy-out-before c = let q = host-within _ _ (c .before .before .before .before .before .before .pre .0) (c .before .before .before .before .before .before .pre .1) _ (some-scope _ _ _ _ (sym (track-count _ _)) (c .before .before .before .before .before .before .pre .2 .at _ (search needs)) (c .before .if1 .taken)) in let e = c .track-of .ensures in omega arith
 
-element-write-before : tie.Need-element-write-before Inv-loop μ-loop
-element-write-before c = search needs
-
-add-last : tie.Need-add-last Inv-loop μ-loop
-add-last c = search needs
-
-cast-last : tie.Need-cast-last Inv-loop μ-loop
-cast-last c = search needs
-
 element-write-last : tie.Need-element-write-last Inv-loop μ-loop
 element-write-last c = let q = host-within _ _ (c .before .before .before .before .before .before .before .pre .0) (c .before .before .before .before .before .before .before .pre .1) _ (some-scope _ _ _ _ (sym (track-count _ _)) (c .before .before .before .before .before .before .before .pre .2 .at _ (search needs)) (c .before .before .if1 .taken)) in let e = c .before .track-of .ensures in omega arith
-
-add-s : tie.Need-add-s Inv-loop μ-loop
-add-s c = search needs
-
-loop-less : tie.Need-loop-less Inv-loop μ-loop
-loop-less c = search needs
 
 loop-again : tie.Need-loop-again Inv-loop μ-loop
 loop-again c =
@@ -73,15 +49,15 @@ chain-states-spec =
     Inv-loop
     μ-loop
     loop-holds
-    element-copy-out-if1
-    track-of-requires
-    cast-t
+    (λ c. search needs)
+    (λ c κs. search needs)
+    (λ c. search needs)
     element-copy-out-before
-    element-write-before
-    add-last
-    cast-last
+    (λ c. search needs)
+    (λ c. search needs)
+    (λ c. search needs)
     element-write-last
-    add-s
-    loop-less
+    (λ c. search needs)
+    (λ c. search needs)
     loop-again
     returns)

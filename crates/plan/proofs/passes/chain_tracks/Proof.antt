@@ -20,34 +20,13 @@ abbrev μ-loop : tie.MeasureT-loop
 loop-holds : tie.Need-loop-holds Inv-loop μ-loop
 loop-holds c = let q = c .before .pre in (search needs, rw (q .2, q .3) (chained-none _ 128 32))
 
-host-word-requires : tie.Need-host-word-requires Inv-loop μ-loop
-host-word-requires c κs = search needs
-
-cast-s : tie.Need-cast-s Inv-loop μ-loop
-cast-s c = search needs
-
 element-copy-out-before : tie.Need-element-copy-out-before Inv-loop μ-loop
 unfolding noState
 element-copy-out-before c = host-low _ _ (c .before .before .before .before .before .pre .0) _ _ (search needs) (c .before .host-word .ensures) (c .if1 .taken) (some-not _ _ (c .before .before .before .before .before .pre .1) _ (search needs)) .1
 
-element-write-before : tie.Need-element-write-before Inv-loop μ-loop
-element-write-before c = search needs
-
-add-last : tie.Need-add-last Inv-loop μ-loop
-add-last c = search needs
-
-cast-last : tie.Need-cast-last Inv-loop μ-loop
-cast-last c = search needs
-
 element-write-last : tie.Need-element-write-last Inv-loop μ-loop
 unfolding noState
 element-write-last c = host-low _ _ (c .before .before .before .before .before .before .pre .0) _ _ (search needs) (c .before .before .host-word .ensures) (c .before .if1 .taken) (some-not _ _ (c .before .before .before .before .before .before .pre .1) _ (search needs)) .1
-
-add-t : tie.Need-add-t Inv-loop μ-loop
-add-t c = search needs
-
-loop-less : tie.Need-loop-less Inv-loop μ-loop
-loop-less c = search needs
 
 loop-again : tie.Need-loop-again Inv-loop μ-loop
 unfolding noState
@@ -71,14 +50,14 @@ chain-tracks-spec =
     Inv-loop
     μ-loop
     loop-holds
-    host-word-requires
-    cast-s
+    (λ c κs. search needs)
+    (λ c. search needs)
     element-copy-out-before
-    element-write-before
-    add-last
-    cast-last
+    (λ c. search needs)
+    (λ c. search needs)
+    (λ c. search needs)
     element-write-last
-    add-t
-    loop-less
+    (λ c. search needs)
+    (λ c. search needs)
     loop-again
     returns)

@@ -23,32 +23,11 @@ loop-holds : tie.Need-loop-holds Inv-loop μ-loop
 unfolding firstMarks firstAmong firstBelow tabulate tabulateFrom noState
 loop-holds c = (search needs, refl)
 
-track-of-requires : tie.Need-track-of-requires Inv-loop μ-loop
-track-of-requires c κs = search needs
-
-cast-t : tie.Need-cast-t Inv-loop μ-loop
-cast-t c = search needs
-
-mul-if1 : tie.Need-mul-if1 Inv-loop μ-loop
-mul-if1 c = search needs
-
 array-read-if1 : tie.Need-array-read-if1 Inv-loop μ-loop
 array-read-if1 c = let b = owner-low _ _ (c .before .before .before .before .pre .0) (c .before .before .before .before .pre .1) _ (c .before .loop-test .taken) in omega (arith, b, c .track-of .ensures)
 
-cast-firsts : tie.Need-cast-firsts Inv-loop μ-loop
-cast-firsts c = search needs
-
-mul-firsts : tie.Need-mul-firsts Inv-loop μ-loop
-mul-firsts c = search needs
-
 array-write-firsts : tie.Need-array-write-firsts Inv-loop μ-loop
 array-write-firsts c = let b = owner-low _ _ (c .before .before .before .before .before .pre .0) (c .before .before .before .before .before .pre .1) _ (c .before .before .loop-test .taken) in omega (arith, b, c .before .track-of .ensures)
-
-add-s : tie.Need-add-s Inv-loop μ-loop
-add-s c = search needs
-
-loop-less : tie.Need-loop-less Inv-loop μ-loop
-loop-less c = search needs
 
 loop-again : tie.Need-loop-again Inv-loop μ-loop
 unfolding noState
@@ -75,14 +54,14 @@ first-states-spec =
     Inv-loop
     μ-loop
     loop-holds
-    track-of-requires
-    cast-t
-    mul-if1
+    (λ c κs. search needs)
+    (λ c. search needs)
+    (λ c. search needs)
     array-read-if1
-    cast-firsts
-    mul-firsts
+    (λ c. search needs)
+    (λ c. search needs)
     array-write-firsts
-    add-s
-    loop-less
+    (λ c. search needs)
+    (λ c. search needs)
     loop-again
     returns)

@@ -4,24 +4,6 @@ use borrow.Author.Needs.{needs}
 use Rattle.plan_reader.proofs.events.cell_of.Statement.{statement}
 use Rattle.plan_reader.proofs.events.cell_of.Tie as tie
 
-source-of-requires : tie.Need-source-of-requires
-source-of-requires c κs = search needs
-
-cast-source : tie.Need-cast-source
-cast-source c = search needs
-
-event-of-requires : tie.Need-event-of-requires
-event-of-requires c κs = search needs
-
-cast-event : tie.Need-cast-event
-cast-event c = search needs
-
-mul-result : tie.Need-mul-result
-mul-result c = search needs
-
-add-result : tie.Need-add-result
-add-result c = search needs
-
 returns : tie.Need-returns
 returns c = (cell-at _ _ _ _ (c .before .source-of .ensures) (c .event-of .ensures), search needs)
 
@@ -29,10 +11,10 @@ pub cell-of-spec : {M : Type 1} → statement M
 cell-of-spec =
     tie.close
     (tie.spec
-    source-of-requires
-    cast-source
-    event-of-requires
-    cast-event
-    mul-result
-    add-result
+    (λ c κs. search needs)
+    (λ c. search needs)
+    (λ c κs. search needs)
+    (λ c. search needs)
+    (λ c. search needs)
+    (λ c. search needs)
     returns)

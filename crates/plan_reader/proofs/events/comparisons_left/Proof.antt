@@ -13,35 +13,14 @@ Inv-loop plan c x from next allowed event left₀ y₀ left y = Walk (planOf pla
 abbrev μ-loop : tie.MeasureT-loop
 μ-loop plan c x from next allowed event left₀ y₀ left y = y
 
-event-of-requires : tie.Need-event-of-requires Inv-loop μ-loop
-event-of-requires c κs = search needs
-
 loop-holds : tie.Need-loop-holds Inv-loop μ-loop
 loop-holds c = walk-start _ _ _ _ (c .before .before .pre .2)
 
 returns : tie.Need-returns Inv-loop μ-loop
 returns c = λ h. absurd (h refl)
 
-sub-event-of : tie.Need-sub-event-of Inv-loop μ-loop
-sub-event-of c = search needs
-
-event-of-requires-2 : tie.Need-event-of-requires-2 Inv-loop μ-loop
-event-of-requires-2 c κs = search needs
-
 returns-2 : tie.Need-returns-2 Inv-loop μ-loop
 returns-2 c = λ h. absurd (h refl)
-
-sub-left : tie.Need-sub-left Inv-loop μ-loop
-sub-left c = search needs
-
-sub-y : tie.Need-sub-y Inv-loop μ-loop
-sub-y c = search needs
-
-mul-y : tie.Need-mul-y Inv-loop μ-loop
-mul-y c = search needs
-
-element-copy-out-y : tie.Need-element-copy-out-y Inv-loop μ-loop
-element-copy-out-y c = search needs
 
 cast-y : tie.Need-cast-y Inv-loop μ-loop
 cast-y c = let q = walk-on _ _ _ _ _ (c .before .before .before .before .loop-test .taken) (c .before .before .before .before .before .loop .inv) (λ e. c .before .if2 .left (c .before .before .event-of2 .ensures ∙ e ∙ sym (c .before .before .before .before .before .before .event-of .ensures))) (c .before .before .before .before .before .before .before .before .pre .2 .chained) refl .walk .within in search needs
@@ -61,16 +40,16 @@ comparisons-left-spec =
     (tie.spec
     Inv-loop
     μ-loop
-    event-of-requires
+    (λ c κs. search needs)
     loop-holds
     returns
-    sub-event-of
-    event-of-requires-2
+    (λ c. search needs)
+    (λ c κs. search needs)
     returns-2
-    sub-left
-    sub-y
-    mul-y
-    element-copy-out-y
+    (λ c. search needs)
+    (λ c. search needs)
+    (λ c. search needs)
+    (λ c. search needs)
     cast-y
     loop-less
     loop-again

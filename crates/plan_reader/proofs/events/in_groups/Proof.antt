@@ -22,36 +22,6 @@ loop-holds c = (search needs, heads-none _ _ _ _ refl refl)
 group-of-requires : tie.Need-group-of-requires Inv-loop μ-loop
 group-of-requires c κs = (search needs, search needs, source-within _ _ (c .before .before .before .pre .1) (c .before .loop .x) (search needs))
 
-mul-next : tie.Need-mul-next Inv-loop μ-loop
-mul-next c = search needs
-
-array-read-next : tie.Need-array-read-next Inv-loop μ-loop
-array-read-next c = search needs
-
-mul-next-2 : tie.Need-mul-next-2 Inv-loop μ-loop
-mul-next-2 c = search needs
-
-array-write-next : tie.Need-array-write-next Inv-loop μ-loop
-array-write-next c = search needs
-
-add-head : tie.Need-add-head Inv-loop μ-loop
-add-head c = search needs
-
-cast-head : tie.Need-cast-head Inv-loop μ-loop
-cast-head c = search needs
-
-mul-head : tie.Need-mul-head Inv-loop μ-loop
-mul-head c = search needs
-
-array-write-head : tie.Need-array-write-head Inv-loop μ-loop
-array-write-head c = search needs
-
-add-x : tie.Need-add-x Inv-loop μ-loop
-add-x c = search needs
-
-loop-less : tie.Need-loop-less Inv-loop μ-loop
-loop-less c = search needs
-
 loop-again : tie.Need-loop-again Inv-loop μ-loop
 loop-again c = (search needs, heads-more _ _ _ _ _ _ (search needs) (c .group-of .ensures .1) (c .group-of .ensures .0) (c .before .before .loop .inv .1))
 
@@ -66,15 +36,15 @@ in-groups-spec =
     μ-loop
     loop-holds
     group-of-requires
-    mul-next
-    array-read-next
-    mul-next-2
-    array-write-next
-    add-head
-    cast-head
-    mul-head
-    array-write-head
-    add-x
-    loop-less
+    (λ c. search needs)
+    (λ c. search needs)
+    (λ c. search needs)
+    (λ c. search needs)
+    (λ c. search needs)
+    (λ c. search needs)
+    (λ c. search needs)
+    (λ c. search needs)
+    (λ c. search needs)
+    (λ c. search needs)
     loop-again
     returns)

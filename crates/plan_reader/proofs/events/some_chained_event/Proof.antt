@@ -23,50 +23,14 @@ loop-holds : tie.Need-loop-holds Inv-loop μ-loop
 unfolding someBelow
 loop-holds c = (search needs, refl, heads-none _ _ _ _ refl refl)
 
-cell-of-requires : tie.Need-cell-of-requires Inv-loop μ-loop
-cell-of-requires c κs = search needs
-
-mul-from : tie.Need-mul-from Inv-loop μ-loop
-mul-from c = search needs
-
-array-read-from : tie.Need-array-read-from Inv-loop μ-loop
-array-read-from c = search needs
-
 cast-comparisons-left : tie.Need-cast-comparisons-left Inv-loop μ-loop
 cast-comparisons-left c = let q = head-most _ _ _ _ _ _ (c .before .before .loop .inv .2) (c .cell-of .ensures .1) in search needs
 
 comparisons-left-requires : tie.Need-comparisons-left-requires Inv-loop μ-loop
 comparisons-left-requires c κs = (search needs, search needs, head-from _ _ _ _ _ _ (c .before .before .before .loop .inv .2) (c .before .cell-of .ensures .1) (c .before .cell-of .ensures .0))
 
-some-marked-event-requires : tie.Need-some-marked-event-requires Inv-loop μ-loop
-some-marked-event-requires c κs = search needs
-
 returns : tie.Need-returns Inv-loop μ-loop
 returns c = c .some-marked-event .ensures
-
-mul-next : tie.Need-mul-next Inv-loop μ-loop
-mul-next c = search needs
-
-array-write-next : tie.Need-array-write-next Inv-loop μ-loop
-array-write-next c = search needs
-
-add-head : tie.Need-add-head Inv-loop μ-loop
-add-head c = search needs
-
-cast-head : tie.Need-cast-head Inv-loop μ-loop
-cast-head c = search needs
-
-mul-head : tie.Need-mul-head Inv-loop μ-loop
-mul-head c = search needs
-
-array-write-head : tie.Need-array-write-head Inv-loop μ-loop
-array-write-head c = search needs
-
-add-x : tie.Need-add-x Inv-loop μ-loop
-add-x c = search needs
-
-loop-less : tie.Need-loop-less Inv-loop μ-loop
-loop-less c = search needs
 
 loop-again : tie.Need-loop-again Inv-loop μ-loop
 loop-again c = (search needs, none-more _ _ (c .before .before .before .before .before .loop .inv .1) (c .before .comparisons-left .ensures (c .if1 .left)), heads-more _ _ _ _ _ _ (search needs) (c .before .before .before .cell-of .ensures .1) (c .before .before .before .cell-of .ensures .0) (c .before .before .before .before .before .loop .inv .2))
@@ -81,20 +45,20 @@ some-chained-event-spec =
     Inv-loop
     μ-loop
     loop-holds
-    cell-of-requires
-    mul-from
-    array-read-from
+    (λ c κs. search needs)
+    (λ c. search needs)
+    (λ c. search needs)
     cast-comparisons-left
     comparisons-left-requires
-    some-marked-event-requires
+    (λ c κs. search needs)
     returns
-    mul-next
-    array-write-next
-    add-head
-    cast-head
-    mul-head
-    array-write-head
-    add-x
-    loop-less
+    (λ c. search needs)
+    (λ c. search needs)
+    (λ c. search needs)
+    (λ c. search needs)
+    (λ c. search needs)
+    (λ c. search needs)
+    (λ c. search needs)
+    (λ c. search needs)
     loop-again
     returns-2)

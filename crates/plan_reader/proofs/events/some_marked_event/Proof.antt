@@ -20,23 +20,8 @@ Inv-loop plan c head next marks₀ g₀ marks g = (g ≤ 2048) × Done (planOf p
 abbrev μ-loop : tie.MeasureT-loop
 μ-loop plan c head next marks₀ g₀ marks g = 2048 - g
 
-in-groups-requires : tie.Need-in-groups-requires Inv-loop2 μ-loop2 Inv-loop μ-loop
-in-groups-requires c κs = search needs
-
 loop-holds : tie.Need-loop-holds Inv-loop2 μ-loop2 Inv-loop μ-loop
 loop-holds c = (search needs, done-none _ _ 4096 _ refl refl)
-
-add-mark : tie.Need-add-mark Inv-loop2 μ-loop2 Inv-loop μ-loop
-add-mark c = search needs
-
-cast-mark : tie.Need-cast-mark Inv-loop2 μ-loop2 Inv-loop μ-loop
-cast-mark c = search needs
-
-mul-y : tie.Need-mul-y Inv-loop2 μ-loop2 Inv-loop μ-loop
-mul-y c = search needs
-
-array-read-y : tie.Need-array-read-y Inv-loop2 μ-loop2 Inv-loop μ-loop
-array-read-y c = search needs
 
 cast-y : tie.Need-cast-y Inv-loop2 μ-loop2 Inv-loop μ-loop
 cast-y c = let q = mark-start _ _ _ _ _ (c .before .loop .inv .1) (c .before .before .before .before .in-groups .ensures .last _ (search needs)) .within in search needs
@@ -44,38 +29,8 @@ cast-y c = let q = mark-start _ _ _ _ _ (c .before .loop .inv .1) (c .before .be
 loop2-holds : tie.Need-loop2-holds Inv-loop2 μ-loop2 Inv-loop μ-loop
 loop2-holds c = mark-start _ _ _ _ _ (c .before .loop .inv .1) (c .before .before .before .before .in-groups .ensures .last _ (search needs))
 
-sub-event-of : tie.Need-sub-event-of Inv-loop2 μ-loop2 Inv-loop μ-loop
-sub-event-of c = search needs
-
-event-of-requires : tie.Need-event-of-requires Inv-loop2 μ-loop2 Inv-loop μ-loop
-event-of-requires c κs = search needs
-
-cast-event : tie.Need-cast-event Inv-loop2 μ-loop2 Inv-loop μ-loop
-cast-event c = search needs
-
-mul-if1 : tie.Need-mul-if1 Inv-loop2 μ-loop2 Inv-loop μ-loop
-mul-if1 c = search needs
-
-array-read-if1 : tie.Need-array-read-if1 Inv-loop2 μ-loop2 Inv-loop μ-loop
-array-read-if1 c = search needs
-
 returns : tie.Need-returns Inv-loop2 μ-loop2 Inv-loop μ-loop
 returns c = sym (mark-found _ _ _ _ _ _ (c .before .before .loop2-test .taken) (c .before .before .before .loop2 .inv) (place-at _ _ _ _ (c .before .event-of .ensures)) (search needs) (c .if1 .taken))
-
-mul-marks : tie.Need-mul-marks Inv-loop2 μ-loop2 Inv-loop μ-loop
-mul-marks c = search needs
-
-array-write-marks : tie.Need-array-write-marks Inv-loop2 μ-loop2 Inv-loop μ-loop
-array-write-marks c = search needs
-
-sub-y : tie.Need-sub-y Inv-loop2 μ-loop2 Inv-loop μ-loop
-sub-y c = search needs
-
-mul-y-2 : tie.Need-mul-y-2 Inv-loop2 μ-loop2 Inv-loop μ-loop
-mul-y-2 c = search needs
-
-array-read-y-2 : tie.Need-array-read-y-2 Inv-loop2 μ-loop2 Inv-loop μ-loop
-array-read-y-2 c = search needs
 
 cast-y-2 : tie.Need-cast-y-2 Inv-loop2 μ-loop2 Inv-loop μ-loop
 cast-y-2 c = let q = mark-on _ _ _ _ _ _ _ _ (c .before .before .loop2-test .taken) (c .before .before .before .loop2 .inv) (place-at _ _ _ _ (c .before .event-of .ensures)) (search needs) (c .if1 .left) (search needs) (c .before .before .before .before .before .before .before .before .in-groups .ensures .chained) refl .marked .within in search needs
@@ -85,12 +40,6 @@ loop2-less c = mark-on _ _ _ _ _ _ _ _ (c .before .before .loop2-test .taken) (c
 
 loop2-again : tie.Need-loop2-again Inv-loop2 μ-loop2 Inv-loop μ-loop
 loop2-again c = mark-on _ _ _ _ _ _ _ _ (c .before .before .loop2-test .taken) (c .before .before .before .loop2 .inv) (place-at _ _ _ _ (c .before .event-of .ensures)) (search needs) (c .if1 .left) (search needs) (c .before .before .before .before .before .before .before .before .in-groups .ensures .chained) refl .marked
-
-add-g : tie.Need-add-g Inv-loop2 μ-loop2 Inv-loop μ-loop
-add-g c = search needs
-
-loop-less : tie.Need-loop-less Inv-loop2 μ-loop2 Inv-loop μ-loop
-loop-less c = search needs
 
 loop-again : tie.Need-loop-again Inv-loop2 μ-loop2 Inv-loop μ-loop
 loop-again c = (search needs, mark-end _ _ _ _ _ (c .loop2-test .left) (c .before .loop2 .inv))
@@ -106,29 +55,29 @@ some-marked-event-spec =
     μ-loop2
     Inv-loop
     μ-loop
-    in-groups-requires
+    (λ c κs. search needs)
     loop-holds
-    add-mark
-    cast-mark
-    mul-y
-    array-read-y
+    (λ c. search needs)
+    (λ c. search needs)
+    (λ c. search needs)
+    (λ c. search needs)
     cast-y
     loop2-holds
-    sub-event-of
-    event-of-requires
-    cast-event
-    mul-if1
-    array-read-if1
+    (λ c. search needs)
+    (λ c κs. search needs)
+    (λ c. search needs)
+    (λ c. search needs)
+    (λ c. search needs)
     returns
-    mul-marks
-    array-write-marks
-    sub-y
-    mul-y-2
-    array-read-y-2
+    (λ c. search needs)
+    (λ c. search needs)
+    (λ c. search needs)
+    (λ c. search needs)
+    (λ c. search needs)
     cast-y-2
     loop2-less
     loop2-again
-    add-g
-    loop-less
+    (λ c. search needs)
+    (λ c. search needs)
     loop-again
     returns-2)

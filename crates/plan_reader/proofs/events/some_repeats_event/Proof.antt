@@ -21,17 +21,8 @@ loop-holds : tie.Need-loop-holds Inv-loop μ-loop
 unfolding someBelow
 loop-holds c = (search needs, refl)
 
-repeats-event-requires : tie.Need-repeats-event-requires Inv-loop μ-loop
-repeats-event-requires c κs = search needs
-
 returns : tie.Need-returns Inv-loop μ-loop
 returns c = sym (some-at _ _ (c .before .before .before .loop .x) (search needs) (sym (c .before .repeats-event .ensures) ∙ c .if1 .taken))
-
-add-x : tie.Need-add-x Inv-loop μ-loop
-add-x c = search needs
-
-loop-less : tie.Need-loop-less Inv-loop μ-loop
-loop-less c = search needs
 
 loop-again : tie.Need-loop-again Inv-loop μ-loop
 loop-again c = (search needs, none-more _ _ (c .before .before .before .loop .inv .1) (sym (c .before .repeats-event .ensures) ∙ c .if1 .left))
@@ -46,9 +37,9 @@ some-repeats-event-spec =
     Inv-loop
     μ-loop
     loop-holds
-    repeats-event-requires
+    (λ c κs. search needs)
     returns
-    add-x
-    loop-less
+    (λ c. search needs)
+    (λ c. search needs)
     loop-again
     returns-2)

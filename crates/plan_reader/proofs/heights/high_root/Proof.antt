@@ -6,20 +6,11 @@ use borrow.Author.Needs.{needs}
 use Rattle.plan_reader.proofs.heights.high_root.Statement.{statement}
 use Rattle.plan_reader.proofs.heights.high_root.Tie as tie
 
-is-root-requires : tie.Need-is-root-requires
-is-root-requires c κs = search needs
-
 returns : tie.Need-returns
 returns c = rw (sym (c .before .is-root .ensures) ∙ not-true _ (c .if1 .taken))
-
-add-height : tie.Need-add-height
-add-height c = search needs
-
-height-requires : tie.Need-height-requires
-height-requires c κs = search needs
 
 returns-2 : tie.Need-returns-2
 returns-2 c = rw (sym (c .before .before .is-root .ensures) ∙ not-false _ (c .before .if1 .left), c .height .ensures) (levels-decide _ _ (c .before .before .before .before .pre .0 .holds) (c .before .before .before .before .pre .0 .hosted) _ (search needs))
 
 pub high-root-spec : {M : Type 1} → statement M
-high-root-spec = tie.close (tie.spec is-root-requires returns add-height height-requires returns-2)
+high-root-spec = tie.close (tie.spec (λ c κs. search needs) returns (λ c. search needs) (λ c κs. search needs) returns-2)

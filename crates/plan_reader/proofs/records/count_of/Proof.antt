@@ -4,12 +4,9 @@ use borrow.Author.Needs.{needs}
 use Rattle.plan_reader.proofs.records.count_of.Statement.{statement}
 use Rattle.plan_reader.proofs.records.count_of.Tie as tie
 
-of-kind-requires : tie.Need-of-kind-requires
-of-kind-requires c κs = search needs
-
 returns : tie.Need-returns
 unfolding countOf
 returns c = c .of-kind .ensures
 
 pub count-of-spec : {M : Type 1} → statement M
-count-of-spec = tie.close (tie.spec of-kind-requires returns)
+count-of-spec = tie.close (tie.spec (λ c κs. search needs) returns)

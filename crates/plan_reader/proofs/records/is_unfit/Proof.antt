@@ -4,9 +4,6 @@ use borrow.Author.Needs.{needs}
 use Rattle.plan_reader.proofs.records.is_unfit.Statement.{statement}
 use Rattle.plan_reader.proofs.records.is_unfit.Tie as tie
 
-length-of-requires : tie.Need-length-of-requires
-length-of-requires c κs = search needs
-
 returns : tie.Need-returns
 returns c = unfit-none _ _ _ (c .before .length-of .ensures) (search needs)
 
@@ -14,4 +11,4 @@ returns-2 : tie.Need-returns-2
 returns-2 c = unfit-falls _ _ _ (c .before .length-of .ensures) (c .if1 .left)
 
 pub is-unfit-spec : {M : Type 1} → statement M
-is-unfit-spec = tie.close (tie.spec length-of-requires returns returns-2)
+is-unfit-spec = tie.close (tie.spec (λ c κs. search needs) returns returns-2)

@@ -6,32 +6,11 @@ use borrow.Author.Needs.{needs}
 use Rattle.plan_reader.proofs.records.judge_record.Statement.{statement}
 use Rattle.plan_reader.proofs.records.judge_record.Tie as tie
 
-sub-if1 : tie.Need-sub-if1
-sub-if1 c = search needs
-
 returns : tie.Need-returns
 unfolding kindAt sizeAt
 returns c =
     sym (in-words _ _ _ _ _ _ _ _ _ _ refl refl refl refl refl refl
     ∙ table-2 _ _ _ _ _ _ _ _ (search needs))
-
-word-at-requires : tie.Need-word-at-requires
-word-at-requires c κs = search needs
-
-cast-size : tie.Need-cast-size
-cast-size c = search needs
-
-add-word-at : tie.Need-add-word-at
-add-word-at c = search needs
-
-word-at-requires-2 : tie.Need-word-at-requires-2
-word-at-requires-2 c κs = search needs
-
-length-of-requires : tie.Need-length-of-requires
-length-of-requires c κs = search needs
-
-is-unfit-requires : tie.Need-is-unfit-requires
-is-unfit-requires c κs = search needs
 
 returns-2 : tie.Need-returns-2
 unfolding kindAt sizeAt
@@ -45,20 +24,11 @@ returns-3 c =
     sym (in-words _ _ _ _ _ _ _ _ _ _ (c .before .before .before .before .word-at2 .ensures) (c .before .before .before .length-of .ensures) (c .before .before .is-unfit .ensures) (c .before .before .before .before .before .word-at .ensures) refl refl
     ∙ table-4 _ _ _ _ _ _ _ _ (search needs) (search needs) (c .if3 .taken))
 
-sub-if4 : tie.Need-sub-if4
-sub-if4 c = search needs
-
 returns-4 : tie.Need-returns-4
 unfolding kindAt sizeAt
 returns-4 c =
     sym (in-words _ _ _ _ _ _ _ _ _ _ (c .before .before .before .before .before .word-at2 .ensures) (c .before .before .before .before .length-of .ensures) (c .before .before .before .is-unfit .ensures) (c .before .before .before .before .before .before .word-at .ensures) refl refl
     ∙ table-5 _ _ _ _ _ _ _ _ (search needs) (search needs) (search needs) (search needs))
-
-most-of-requires : tie.Need-most-of-requires
-most-of-requires c κs = search needs
-
-count-of-requires : tie.Need-count-of-requires
-count-of-requires c κs = search needs
 
 returns-5 : tie.Need-returns-5
 unfolding kindAt sizeAt
@@ -71,9 +41,6 @@ unfolding kindAt sizeAt
 returns-6 c =
     sym (in-words _ _ _ _ _ _ _ _ _ _ (c .before .before .before .before .before .before .before .before .before .word-at2 .ensures) (c .before .before .before .before .before .before .before .before .length-of .ensures) (c .before .before .before .before .before .before .before .is-unfit .ensures) (c .before .before .before .before .before .before .before .before .before .before .word-at .ensures) (c .before .before .before .most-of .ensures) (c .before .before .count-of .ensures)
     ∙ table-0 _ _ _ _ _ _ _ _ (search needs) (search needs) (search needs) (search needs) (search needs) (c .if6 .taken))
-
-add-if7 : tie.Need-add-if7
-add-if7 c = search needs
 
 returns-7 : tie.Need-returns-7
 unfolding kindAt sizeAt
@@ -91,22 +58,22 @@ pub judge-record-spec : {M : Type 1} → statement M
 judge-record-spec =
     tie.close
     (tie.spec
-    sub-if1
+    (λ c. search needs)
     returns
-    word-at-requires
-    cast-size
-    add-word-at
-    word-at-requires-2
-    length-of-requires
-    is-unfit-requires
+    (λ c κs. search needs)
+    (λ c. search needs)
+    (λ c. search needs)
+    (λ c κs. search needs)
+    (λ c κs. search needs)
+    (λ c κs. search needs)
     returns-2
     returns-3
-    sub-if4
+    (λ c. search needs)
     returns-4
-    most-of-requires
-    count-of-requires
+    (λ c κs. search needs)
+    (λ c κs. search needs)
     returns-5
     returns-6
-    add-if7
+    (λ c. search needs)
     returns-7
     returns-8)

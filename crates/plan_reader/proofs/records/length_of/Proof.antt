@@ -4,12 +4,9 @@ use borrow.Author.Needs.{needs}
 use Rattle.plan_reader.proofs.records.length_of.Statement.{statement}
 use Rattle.plan_reader.proofs.records.length_of.Tie as tie
 
-of-kind-requires : tie.Need-of-kind-requires
-of-kind-requires c κs = search needs
-
 returns : tie.Need-returns
 unfolding lengthOf
 returns c = c .of-kind .ensures
 
 pub length-of-spec : {M : Type 1} → statement M
-length-of-spec = tie.close (tie.spec of-kind-requires returns)
+length-of-spec = tie.close (tie.spec (λ c κs. search needs) returns)

@@ -4,12 +4,9 @@ use borrow.Author.Needs.{needs}
 use Rattle.plan_reader.proofs.records.most_of.Statement.{statement}
 use Rattle.plan_reader.proofs.records.most_of.Tie as tie
 
-of-kind-requires : tie.Need-of-kind-requires
-of-kind-requires c κs = search needs
-
 returns : tie.Need-returns
 unfolding mostOf
 returns c = c .of-kind .ensures
 
 pub most-of-spec : {M : Type 1} → statement M
-most-of-spec = tie.close (tie.spec of-kind-requires returns)
+most-of-spec = tie.close (tie.spec (λ c κs. search needs) returns)

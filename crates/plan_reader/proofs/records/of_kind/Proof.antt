@@ -5,20 +5,8 @@ use borrow.Author.Needs.{needs}
 use Rattle.plan_reader.proofs.records.of_kind.Statement.{statement}
 use Rattle.plan_reader.proofs.records.of_kind.Tie as tie
 
-returns : tie.Need-returns
-returns c = search needs
-
-returns-2 : tie.Need-returns-2
-returns-2 c = search needs
-
-returns-3 : tie.Need-returns-3
-returns-3 c = search needs
-
-returns-4 : tie.Need-returns-4
-returns-4 c = search needs
-
 returns-5 : tie.Need-returns-5
 returns-5 c = sym (other-kind _ _ _ _ _ (c .before .before .before .if1 .left) (c .before .before .if2 .left) (c .before .if3 .left) (c .if4 .left))
 
 pub of-kind-spec : {M : Type 1} → statement M
-of-kind-spec = tie.close (tie.spec returns returns-2 returns-3 returns-4 returns-5)
+of-kind-spec = tie.close (tie.spec (λ c. search needs) (λ c. search needs) (λ c. search needs) (λ c. search needs) returns-5)

@@ -20,9 +20,6 @@ loop-holds : tie.Need-loop-holds Inv-loop μ-loop
 unfolding noCounts
 loop-holds c = (start-stands _, rest-start _)
 
-judge-record-requires : tie.Need-judge-record-requires Inv-loop μ-loop
-judge-record-requires c κs = search needs
-
 returns : tie.Need-returns Inv-loop μ-loop
 unfolding scanTold
 returns c = sym (c .before .before .loop .inv .1 ∙ rest-refused _ _ _ _ _ (sym (c .before .judge-record .ensures)) (c .if1 .taken))
@@ -36,12 +33,6 @@ word-at-requires c κs = let q = sane _ _ _ _ (sym (c .before .judge-record .ens
 returns-2 : tie.Need-returns-2 Inv-loop μ-loop
 unfolding scanTold kindAt
 returns-2 c = sym (c .before .before .before .before .before .loop .inv .1 ∙ rest-end _ _ _ _ (sym (c .before .before .before .before .judge-record .ensures) ∙ c .before .before .before .if1 .left) (sym (c .before .before .word-at .ensures) ∙ c .if2 .taken))
-
-one-more-requires : tie.Need-one-more-requires Inv-loop μ-loop
-one-more-requires c κs = search needs
-
-length-of-requires : tie.Need-length-of-requires Inv-loop μ-loop
-length-of-requires c κs = search needs
 
 add-t11 : tie.Need-add-t11 Inv-loop μ-loop
 unfolding kindAt
@@ -68,13 +59,13 @@ scan-each-spec =
     Inv-loop
     μ-loop
     loop-holds
-    judge-record-requires
+    (λ c κs. search needs)
     returns
     add-word-at
     word-at-requires
     returns-2
-    one-more-requires
-    length-of-requires
+    (λ c κs. search needs)
+    (λ c κs. search needs)
     add-t11
     loop-less
     loop-again)

@@ -8,30 +8,9 @@ use borrow.Author.Needs.{needs}
 use Rattle.plan_reader.proofs.refusals.bad_deviation.Statement.{statement}
 use Rattle.plan_reader.proofs.refusals.bad_deviation.Tie as tie
 
-deviation-of-requires : tie.Need-deviation-of-requires
-deviation-of-requires c κs = search needs
-
 returns : tie.Need-returns
 unfolding noState
 returns c = sym (no-deviation _ _ _ _ refl (c .before .deviation-of .ensures) (c .if1 .taken))
-
-source-of-requires : tie.Need-source-of-requires
-source-of-requires c κs = search needs
-
-cast-source : tie.Need-cast-source
-cast-source c = search needs
-
-track-of-requires : tie.Need-track-of-requires
-track-of-requires c κs = search needs
-
-cast-t : tie.Need-cast-t
-cast-t c = search needs
-
-cast-s : tie.Need-cast-s
-cast-s c = search needs
-
-is-state-of-requires : tie.Need-is-state-of-requires
-is-state-of-requires c κs = search needs
 
 returns-2 : tie.Need-returns-2
 unfolding noState mover
@@ -54,9 +33,6 @@ returns-4 : tie.Need-returns-4
 unfolding noState mover
 returns-4 c = sym (deviation-hosted _ _ _ _ (c .before .before .before .before .before .before .track-of .ensures ∙ ap (owner _) (c .before .before .before .before .before .before .before .source-of .ensures)) (c .before .before .before .before .before .before .before .before .before .deviation-of .ensures) (c .before .before .before .before .before .before .before .before .if1 .left) (sym (c .before .before .before .before .before .is-state-of .ensures) ∙ not-false _ (c .before .before .before .before .if2 .left)) (sym (c .before .before .before .is-final .ensures) ∙ c .before .before .if3 .left) (sym (c .before .is-root .ensures) ∙ not-true _ (c .if4 .taken)))
 
-code-of-requires : tie.Need-code-of-requires
-code-of-requires c κs = search needs
-
 returns-5 : tie.Need-returns-5
 unfolding noState mover
 returns-5 c = rw (c .code-of .ensures) (sym (deviation-code _ _ _ _ (c .before .before .before .before .before .before .before .track-of .ensures ∙ ap (owner _) (c .before .before .before .before .before .before .before .before .source-of .ensures)) (c .before .before .before .before .before .before .before .before .before .before .deviation-of .ensures) (c .before .before .before .before .before .before .before .before .before .if1 .left) (sym (c .before .before .before .before .before .before .is-state-of .ensures) ∙ not-false _ (c .before .before .before .before .before .if2 .left)) (sym (c .before .before .before .before .is-final .ensures) ∙ c .before .before .before .if3 .left) (sym (c .before .before .is-root .ensures) ∙ not-false _ (c .before .if4 .left))))
@@ -65,18 +41,18 @@ pub bad-deviation-spec : {M : Type 1} → statement M
 bad-deviation-spec =
     tie.close
     (tie.spec
-    deviation-of-requires
+    (λ c κs. search needs)
     returns
-    source-of-requires
-    cast-source
-    track-of-requires
-    cast-t
-    cast-s
-    is-state-of-requires
+    (λ c κs. search needs)
+    (λ c. search needs)
+    (λ c κs. search needs)
+    (λ c. search needs)
+    (λ c. search needs)
+    (λ c κs. search needs)
     returns-2
     is-final-requires
     returns-3
     is-root-requires
     returns-4
-    code-of-requires
+    (λ c κs. search needs)
     returns-5)

@@ -10,12 +10,9 @@ use Rattle.plan_reader.proofs.refusals.bad_first.Tie as tie
 returns : tie.Need-returns
 returns c = sym (first-lost _ _ _ (c .before .before .before .pre .1) (rw state-count (search needs)))
 
-is-final-requires : tie.Need-is-final-requires
-is-final-requires c κs = search needs
-
 returns-2 : tie.Need-returns-2
 unfolding noState
 returns-2 c = c .is-final .ensures ∙ sym (first-here _ _ _ (c .before .before .before .before .pre .1) (rw state-count (search needs)) (rw state-count (search needs)))
 
 pub bad-first-spec : {M : Type 1} → statement M
-bad-first-spec = tie.close (tie.spec returns is-final-requires returns-2)
+bad-first-spec = tie.close (tie.spec returns (λ c κs. search needs) returns-2)

@@ -7,25 +7,13 @@ use borrow.Author.Needs.{needs}
 use Rattle.plan_reader.proofs.refusals.bad_host.Statement.{statement}
 use Rattle.plan_reader.proofs.refusals.bad_host.Tie as tie
 
-host-word-requires : tie.Need-host-word-requires
-host-word-requires c κs = search needs
-
 returns : tie.Need-returns
 unfolding noState
 returns c = sym (host-root _ _ _ (c .before .host-word .ensures) (c .if1 .taken))
 
-cast-s : tie.Need-cast-s
-cast-s c = search needs
-
 returns-2 : tie.Need-returns-2
 unfolding noState
 returns-2 c = sym (host-lost _ _ _ (c .before .before .before .host-word .ensures) (c .before .before .if1 .left) (rw state-count (search needs)))
-
-track-of-requires : tie.Need-track-of-requires
-track-of-requires c κs = search needs
-
-cast-result : tie.Need-cast-result
-cast-result c = search needs
 
 returns-3 : tie.Need-returns-3
 unfolding noState
@@ -34,4 +22,4 @@ returns-3 c = rw (c .track-of .ensures) (sym (host-track _ _ _ (c .before .befor
 pub bad-host-spec : {M : Type 1} → statement M
 bad-host-spec =
     tie.close
-    (tie.spec host-word-requires returns cast-s returns-2 track-of-requires cast-result returns-3)
+    (tie.spec (λ c κs. search needs) returns (λ c. search needs) returns-2 (λ c κs. search needs) (λ c. search needs) returns-3)

@@ -5,17 +5,11 @@ use borrow.Author.Needs.{needs}
 use Rattle.plan_reader.proofs.refusals.bad_hosting.Statement.{statement}
 use Rattle.plan_reader.proofs.refusals.bad_hosting.Tie as tie
 
-is-final-requires : tie.Need-is-final-requires
-is-final-requires c κs = search needs
-
 returns : tie.Need-returns
 returns c = c .is-final .ensures ∙ sym (hosting-here _ _ (sym (c .before .before .before .pre .2) ∙ c .before .if1 .taken))
-
-replacement-of-requires : tie.Need-replacement-of-requires
-replacement-of-requires c κs = search needs
 
 returns-2 : tie.Need-returns-2
 returns-2 c = rw (c .replacement-of .ensures) (sym (hosting-none _ _ (sym (c .before .before .before .pre .2) ∙ c .before .if1 .left)))
 
 pub bad-hosting-spec : {M : Type 1} → statement M
-bad-hosting-spec = tie.close (tie.spec is-final-requires returns replacement-of-requires returns-2)
+bad-hosting-spec = tie.close (tie.spec (λ c κs. search needs) returns (λ c κs. search needs) returns-2)

@@ -6,21 +6,12 @@ use borrow.Author.Needs.{needs}
 use Rattle.plan_reader.proofs.refusals.bad_state.Statement.{statement}
 use Rattle.plan_reader.proofs.refusals.bad_state.Tie as tie
 
-track-of-requires : tie.Need-track-of-requires
-track-of-requires c κs = search needs
-
-cast-if1 : tie.Need-cast-if1
-cast-if1 c = search needs
-
 returns : tie.Need-returns
 returns c = sym (state-lost _ _ (rw (track-count, ← c .before .before .track-of .ensures) (search needs)))
-
-final-field-requires : tie.Need-final-field-requires
-final-field-requires c κs = search needs
 
 returns-2 : tie.Need-returns-2
 returns-2 c = rw (c .final-field .ensures) (sym (state-owned _ _ (rw (track-count, ← c .before .before .before .track-of .ensures) (search needs))))
 
 pub bad-state-spec : {M : Type 1} → statement M
 bad-state-spec =
-    tie.close (tie.spec track-of-requires cast-if1 returns final-field-requires returns-2)
+    tie.close (tie.spec (λ c κs. search needs) (λ c. search needs) returns (λ c κs. search needs) returns-2)

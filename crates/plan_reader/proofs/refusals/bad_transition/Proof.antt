@@ -6,41 +6,17 @@ use borrow.Author.Needs.{needs}
 use Rattle.plan_reader.proofs.refusals.bad_transition.Statement.{statement}
 use Rattle.plan_reader.proofs.refusals.bad_transition.Tie as tie
 
-source-of-requires : tie.Need-source-of-requires
-source-of-requires c κs = search needs
-
-cast-source : tie.Need-cast-source
-cast-source c = search needs
-
 returns : tie.Need-returns
 returns c = sym (source-lost _ _ _ _ (c .before .before .source-of .ensures) refl (rw state-count (search needs)))
-
-destination-of-requires : tie.Need-destination-of-requires
-destination-of-requires c κs = search needs
-
-cast-destination : tie.Need-cast-destination
-cast-destination c = search needs
 
 returns-2 : tie.Need-returns-2
 returns-2 c = sym (destination-lost _ _ _ _ (c .before .before .before .before .before .source-of .ensures) (c .before .before .destination-of .ensures) (rw state-count (search needs)) (rw state-count (search needs)))
 
-track-of-requires : tie.Need-track-of-requires
-track-of-requires c κs = search needs
-
-track-of-requires-2 : tie.Need-track-of-requires-2
-track-of-requires-2 c κs = search needs
-
 returns-3 : tie.Need-returns-3
 returns-3 c = sym (two-tracks _ _ _ _ (c .before .before .before .before .before .before .before .before .source-of .ensures) (c .before .before .before .before .before .destination-of .ensures) (rw state-count (search needs)) (rw state-count (search needs)) (λ e. c .if3 .taken (c .before .before .track-of .ensures ∙ e ∙ sym (c .before .track-of2 .ensures))))
 
-is-final-requires : tie.Need-is-final-requires
-is-final-requires c κs = search needs
-
 returns-4 : tie.Need-returns-4
 returns-4 c = sym (from-final _ _ _ _ (c .before .before .before .before .before .before .before .before .before .before .source-of .ensures) (c .before .before .before .before .before .before .before .destination-of .ensures) (rw state-count (search needs)) (rw state-count (search needs)) (sym (c .before .before .before .before .track-of .ensures) ∙ c .before .before .if3 .left ∙ c .before .before .before .track-of2 .ensures) (sym (c .before .is-final .ensures) ∙ c .if4 .taken))
-
-event-of-requires : tie.Need-event-of-requires
-event-of-requires c κs = search needs
 
 returns-5 : tie.Need-returns-5
 returns-5 c = rw (c .event-of .ensures) (sym (by-event _ _ _ _ (c .before .before .before .before .before .before .before .before .before .before .before .source-of .ensures) (c .before .before .before .before .before .before .before .before .destination-of .ensures) (rw state-count (search needs)) (rw state-count (search needs)) (sym (c .before .before .before .before .before .track-of .ensures) ∙ c .before .before .before .if3 .left ∙ c .before .before .before .before .track-of2 .ensures) (sym (c .before .before .is-final .ensures) ∙ c .before .if4 .left)))
@@ -49,16 +25,16 @@ pub bad-transition-spec : {M : Type 1} → statement M
 bad-transition-spec =
     tie.close
     (tie.spec
-    source-of-requires
-    cast-source
+    (λ c κs. search needs)
+    (λ c. search needs)
     returns
-    destination-of-requires
-    cast-destination
+    (λ c κs. search needs)
+    (λ c. search needs)
     returns-2
-    track-of-requires
-    track-of-requires-2
+    (λ c κs. search needs)
+    (λ c κs. search needs)
     returns-3
-    is-final-requires
+    (λ c κs. search needs)
     returns-4
-    event-of-requires
+    (λ c κs. search needs)
     returns-5)

@@ -30,12 +30,6 @@ bad-deviation-requires c κs =
 returns : tie.Need-returns Inv-loop μ-loop
 returns c = sym (some-at _ _ (c .before .before .before .loop .x) (search needs) (sym (c .before .bad-deviation .ensures) ∙ c .if1 .taken))
 
-add-x : tie.Need-add-x Inv-loop μ-loop
-add-x c = search needs
-
-loop-less : tie.Need-loop-less Inv-loop μ-loop
-loop-less c = search needs
-
 loop-again : tie.Need-loop-again Inv-loop μ-loop
 loop-again c = (search needs, none-more _ _ (c .before .before .before .loop .inv .1) (sym (c .before .bad-deviation .ensures) ∙ c .if1 .left))
 
@@ -51,7 +45,7 @@ some-bad-deviation-spec =
     loop-holds
     bad-deviation-requires
     returns
-    add-x
-    loop-less
+    (λ c. search needs)
+    (λ c. search needs)
     loop-again
     returns-2)

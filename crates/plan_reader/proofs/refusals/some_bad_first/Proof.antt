@@ -19,15 +19,9 @@ Inv-loop plan c firsts tracks t₀ t = (t ≤ tracks) × (someBelow t (badFirst 
 abbrev μ-loop : tie.MeasureT-loop
 μ-loop plan c firsts tracks t₀ t = tracks - t
 
-first-states-requires : tie.Need-first-states-requires Inv-loop μ-loop
-first-states-requires c κs = search needs
-
 loop-holds : tie.Need-loop-holds Inv-loop μ-loop
 unfolding someBelow
 loop-holds c = (search needs, refl)
-
-mul-first : tie.Need-mul-first Inv-loop μ-loop
-mul-first c = search needs
 
 array-read-first : tie.Need-array-read-first Inv-loop μ-loop
 array-read-first c = let n = c .before .before .before .before .pre .0 .tracks in omega arith
@@ -37,12 +31,6 @@ bad-first-requires c κs = (search needs, first-read _ _ (c .before .before .bef
 
 returns : tie.Need-returns Inv-loop μ-loop
 returns c = sym (some-at _ _ (c .before .before .before .loop .t) (search needs) (sym (c .before .bad-first .ensures) ∙ c .if1 .taken))
-
-add-t : tie.Need-add-t Inv-loop μ-loop
-add-t c = search needs
-
-loop-less : tie.Need-loop-less Inv-loop μ-loop
-loop-less c = search needs
 
 loop-again : tie.Need-loop-again Inv-loop μ-loop
 loop-again c = (search needs, none-more _ _ (c .before .before .before .loop .inv .1) (sym (c .before .bad-first .ensures) ∙ c .if1 .left))
@@ -56,13 +44,13 @@ some-bad-first-spec =
     (tie.spec
     Inv-loop
     μ-loop
-    first-states-requires
+    (λ c κs. search needs)
     loop-holds
-    mul-first
+    (λ c. search needs)
     array-read-first
     bad-first-requires
     returns
-    add-t
-    loop-less
+    (λ c. search needs)
+    (λ c. search needs)
     loop-again
     returns-2)

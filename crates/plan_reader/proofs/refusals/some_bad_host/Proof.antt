@@ -21,17 +21,8 @@ loop-holds : tie.Need-loop-holds Inv-loop μ-loop
 unfolding someBelow
 loop-holds c = (search needs, refl)
 
-bad-host-requires : tie.Need-bad-host-requires Inv-loop μ-loop
-bad-host-requires c κs = search needs
-
 returns : tie.Need-returns Inv-loop μ-loop
 returns c = sym (some-at _ _ (c .before .before .before .loop .t) (search needs) (sym (c .before .bad-host .ensures) ∙ c .if1 .taken))
-
-add-t : tie.Need-add-t Inv-loop μ-loop
-add-t c = search needs
-
-loop-less : tie.Need-loop-less Inv-loop μ-loop
-loop-less c = search needs
 
 loop-again : tie.Need-loop-again Inv-loop μ-loop
 loop-again c = (search needs, none-more _ _ (c .before .before .before .loop .inv .1) (sym (c .before .bad-host .ensures) ∙ c .if1 .left))
@@ -46,9 +37,9 @@ some-bad-host-spec =
     Inv-loop
     μ-loop
     loop-holds
-    bad-host-requires
+    (λ c κs. search needs)
     returns
-    add-t
-    loop-less
+    (λ c. search needs)
+    (λ c. search needs)
     loop-again
     returns-2)

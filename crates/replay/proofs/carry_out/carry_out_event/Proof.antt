@@ -5,8 +5,8 @@ use borrow.Author.Needs.{needs}
 use Rattle.replay.proofs.carry_out.carry_out_event.Statement.{statement}
 use Rattle.replay.proofs.carry_out.carry_out_event.Tie as tie
 
-event-requires : tie.Need-event-requires
-event-requires c κs = search needs
+event-indexed-requires : tie.Need-event-indexed-requires
+event-indexed-requires c κs = search needs
 
 event-line-requires : tie.Need-event-line-requires
 event-line-requires c κs = search needs
@@ -22,13 +22,13 @@ same-length-2 c = search needs
 
 returns : tie.Need-returns
 unfolding eventOutcome
-returns c = carried-out _ _ (event (record { event = _ })) _ _ _ _ _ _ _ _ _ (c .before .before .before .before .before .before .before .before .event .ensures) (c .before .before .before .before .event-line .ensures) (event-fires _ _) (c .come-to .ensures)
+returns c = carried-out _ _ (event (record { event = _ })) _ _ _ _ _ _ _ _ _ (c .before .before .before .before .before .before .before .before .event-indexed .ensures) (c .before .before .before .before .event-line .ensures) (event-fires _ _) (c .come-to .ensures)
 
 pub carry-out-event-spec : {M : Type 1} → statement M
 carry-out-event-spec =
     tie.close
     (tie.spec
-    event-requires
+    event-indexed-requires
     event-line-requires
     come-to-requires
     same-length
