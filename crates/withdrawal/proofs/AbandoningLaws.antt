@@ -7,13 +7,15 @@ use mathlib.Core.List.{List}
 use mathlib.Core.Option.{some}
 use Prim.Native.Nat.{ℕ, _+_, _-_, _<_, _≤_}
 use native.Mathlib.Omega.{arith}
+use lib.Dec.{eqb}
 use lib.ListN.{length, getD, set}
-use borrow.Author.Tests.{not-true, not-false}
+use borrow.Author.Tests.{not-true, not-false, eqb-true, eqb-false}
 use Rattle.rules.specs.declared.Counts.{Counts}
 use Rattle.rules.specs.Plan.{Plan, planOf, trackCount, noState, host, owner}
 use Rattle.rules.specs.Layout.{entryLimit}
 use Rattle.rules.specs.Ledger.{Configuration, Ledger, isAwake, isUndoing, isEmpty, written}
 use Rattle.rules.specs.Signal.{abandoned}
+use Rattle.rules.proofs.Tests.{look, and-true}
 use Rattle.rules.proofs.Passes.{upTo}
 use Rattle.plan.proofs.FieldLaws.{track-count}
 use Rattle.ledger.specs.Words.{withAsleep}
@@ -96,14 +98,16 @@ module _ (bs : List ℕ) (c : Counts) (acc : Accepts bs c) (ws : List ℕ) where
       there : t < trackCount (planOf bs c)
       there = omega (arith, track-count bs c)
 
-      pub visit-shut : not (getD (x .opens) t false) ≡ true → Cleared (planOf bs c) (ledgerOf c ws) x (t + 1)
-      visit-shut z = cleared-shut (planOf bs c) (plan-facts bs c acc) (ledgerOf c ws) x t there k (not-true (getD (x .opens) t false) z)
+      pub visit-none : (getD (x .opens) t false && eqb (getD (x .busy) t 0) 0) ≡ false → Cleared (planOf bs c) (ledgerOf c ws) x (t + 1)
+      visit-none z =
+          elim (look (getD (x .opens) t false)) [
+            | inl q ↦ cleared-busy (planOf bs c) (plan-facts bs c acc) (ledgerOf c ws) x t there k (eqb-false _ _ (rw q at z))
+            | inr q ↦ cleared-shut (planOf bs c) (plan-facts bs c acc) (ledgerOf c ws) x t there k q
+          ]
 
-      pub visit-busy : (getD (x .busy) t 0 ≡ 0 → ⊥) → Cleared (planOf bs c) (ledgerOf c ws) x (t + 1)
-      visit-busy z = cleared-busy (planOf bs c) (plan-facts bs c acc) (ledgerOf c ws) x t there k z
-
-      pub visit-due : not (getD (x .opens) t false) ≡ false → getD (x .busy) t 0 ≡ 0 → Due (planOf bs c) (ledgerOf c ws) x t
-      visit-due m i = record { low = there; figures = k .figures; marked = not-false (getD (x .opens) t false) m; idle = i }
+      pub visit-due : (getD (x .opens) t false && eqb (getD (x .busy) t 0) 0) ≡ true → Due (planOf bs c) (ledgerOf c ws) x t
+      visit-due z =
+          let q = and-true _ _ z in record { low = there; figures = k .figures; marked = q .0; idle = eqb-true _ _ (q .1) }
 
       pub visit-climb : {y : Scopes} → Climbed (planOf bs c) (ledgerOf c ws) x y t → Cleared (planOf bs c) (ledgerOf c ws) y (t + 1)
       visit-climb d = cleared-more (planOf bs c) (plan-facts bs c acc) (ledgerOf c ws) x t there k d

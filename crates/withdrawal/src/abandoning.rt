@@ -9,6 +9,7 @@ use rules::Counts;
 ghost use mathlib.Core.Path.{_≡_};
 ghost use mathlib.Core.Bool.{false, _&&_};
 ghost use Prim.Native.Nat.{_+_, _<_};
+ghost use lib.Dec.{eqb};
 ghost use lib.ListN.{getD};
 ghost use Rattle.rules.specs.Layout.{entryLimit};
 ghost use Rattle.rules.specs.Plan.{planOf};
@@ -40,8 +41,9 @@ fn is_taken_back(c: Counts, ledger: &[u16], t: usize) -> bool
 }
 
 // Whether a track is busy, given the tracks that have an open scope.
-fn is_busy(plan: &[u8], c: Counts, ledger: &[u16], opens: [bool; 32], t: usize) -> bool
-    requires { ⌜ Room (now ledger) (c .tracks) × (t < c .tracks) × (getD opens t false ≡ hasOpenScope (planOf (now plan) c) (ledgerOf c (now ledger)) t) ⌝ }
+fn is_busy(plan: &[u8], c: Counts, ledger: &[u16], opens: &[bool; 32], t: usize) -> bool
+    requires { ⌜ Room (now ledger) (c .tracks) × (t < c .tracks)
+        × (getD (now opens) t false ≡ hasOpenScope (planOf (now plan) c) (ledgerOf c (now ledger)) t) ⌝ }
     ensures { λ r. ⌜ r ≡ isBusy (planOf (now (plan .entry)) c) (ledgerOf c (now (ledger .entry))) t ⌝ }
 {
     if !reading::is_awake(c, ledger, t) {
@@ -53,30 +55,28 @@ fn is_busy(plan: &[u8], c: Counts, ledger: &[u16], opens: [bool; 32], t: usize) 
     opens[t]
 }
 
-// The counts with a track's own added, if it is busy, to those of its host's track.
+// Adds a track, if it is busy, to the count of its host's track.
 fn count_track(
     plan: &[u8],
     c: Counts,
     ledger: &[u16],
-    opens: [bool; 32],
-    busy: [u8; 32],
+    opens: &[bool; 32],
+    busy: &mut [u8; 32],
     t: usize,
-) -> [u8; 32]
-    requires { ⌜ Lent (now plan) c (now ledger) × (t < c .tracks) × Counted (planOf (now plan) c) (ledgerOf c (now ledger)) opens busy t ⌝ }
-    ensures { λ r. ⌜ Counted (planOf (now (plan .entry)) c) (ledgerOf c (now (ledger .entry))) opens r (t + 1) ⌝ }
+)
+    requires { ⌜ Lent (now plan) c (now ledger) × (t < c .tracks) × Counted (planOf (now plan) c) (ledgerOf c (now ledger)) (now opens) (now busy) t ⌝ }
+    ensures { λ _. ⌜ Counted (planOf (now (plan .entry)) c) (ledgerOf c (now (ledger .entry))) (now (opens .entry)) (now (busy .exit)) (t + 1) ⌝ }
 {
     if !is_busy(plan, c, ledger, opens, t) {
-        return busy;
+        return;
     }
     let u = reading::host_track(plan, c, t);
     if u == NO_STATE {
-        return busy;
+        return;
     }
     let at = u as usize;
     let count = busy[at];
-    let mut next = busy;
-    next[at] = count + 1;
-    next
+    busy[at] = count + 1;
 }
 
 // The open scopes, with the busy tracks of each counted.
@@ -85,12 +85,11 @@ fn open_scopes(plan: &[u8], c: Counts, ledger: &[u16]) -> Scopes
     ensures { λ r. ⌜ Counted (planOf (now (plan .entry)) c) (ledgerOf c (now (ledger .entry))) (r .opens) (r .busy) (c .tracks) ⌝ }
 {
     let opens = opens::open_scopes(plan, c, ledger);
-    let mut busy = [0; 32];
+    let mut busy: [u8; 32] = [0; 32];
     let tracks = c.tracks;
     let mut t: usize = 0;
     while t < tracks {
-        let next = count_track(plan, c, ledger, opens, busy, t);
-        busy = next;
+        count_track(plan, c, ledger, &opens, &mut busy, t);
         t += 1;
     }
     Scopes {
@@ -123,18 +122,11 @@ fn climb(plan: &[u8], c: Counts, ledger: &[u16], scopes: Scopes, t: usize) -> Sc
     climb(plan, c, ledger, next, at)
 }
 
-// Abandoning from the scope of a track, if it is due.
-fn climb_if_due(plan: &[u8], c: Counts, ledger: &[u16], scopes: Scopes, t: usize) -> Scopes
-    requires { ⌜ Accepts (now plan) c × Tidy (now ledger) (c .tracks) × Cleared (planOf (now plan) c) (ledgerOf c (now ledger)) scopes t × (t < c .tracks) ⌝ }
-    ensures { λ r. ⌜ Cleared (planOf (now (plan .entry)) c) (ledgerOf c (now (ledger .entry))) r (t + 1) ⌝ }
+// Whether a scope is due: it is open, and has no busy track.
+fn is_due(opened: bool, busy: u8) -> bool
+    ensures { λ r. ⌜ r ≡ (opened && eqb busy 0) ⌝ }
 {
-    if !scopes.opens[t] {
-        return scopes;
-    }
-    if scopes.busy[t] != 0 {
-        return scopes;
-    }
-    climb(plan, c, ledger, scopes, t)
+    opened & (busy == 0)
 }
 
 // The tracks whose scope is open once nothing is due any more.
@@ -146,18 +138,20 @@ fn left_open(plan: &[u8], c: Counts, ledger: &[u16]) -> [bool; 32]
     let tracks = c.tracks;
     let mut t: usize = 0;
     while t < tracks {
-        let next = climb_if_due(plan, c, ledger, scopes, t);
-        scopes = next;
+        if is_due(scopes.opens[t], scopes.busy[t]) {
+            let next = climb(plan, c, ledger, scopes, t);
+            scopes = next;
+        }
         t += 1;
     }
     scopes.opens
 }
 
 // Puts a track to sleep if the scope that it is in is not left open.
-fn leave_track(plan: &[u8], c: Counts, ledger: &mut [u16], opens: [bool; 32], t: usize)
+fn leave_track(plan: &[u8], c: Counts, ledger: &mut [u16], opens: &[bool; 32], t: usize)
     requires { ⌜ Accepts (now plan) c × Tidy (now ledger) (c .tracks) × (t < c .tracks) ⌝ }
     ensures { λ _. ⌜ now (ledger .exit)
-        ≡ withConfiguration c (now (ledger .entry)) t (keptBy (planOf (now (plan .entry)) c) opens t (ledgerOf c (now (ledger .entry)) t)) ⌝ }
+        ≡ withConfiguration c (now (ledger .entry)) t (keptBy (planOf (now (plan .entry)) c) (now (opens .entry)) t (ledgerOf c (now (ledger .entry)) t)) ⌝ }
 {
     if !reading::is_awake(c, &ledger[..], t) {
         return;
@@ -182,7 +176,7 @@ pub fn abandon(plan: &[u8], c: Counts, ledger: &mut [u16])
     let tracks = c.tracks;
     let mut t: usize = 0;
     while t < tracks {
-        leave_track(plan, c, &mut ledger[..], opens, t);
+        leave_track(plan, c, &mut ledger[..], &opens, t);
         t += 1;
     }
 }

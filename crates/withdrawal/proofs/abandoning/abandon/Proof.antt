@@ -26,7 +26,10 @@ loop-holds : tie.Need-loop-holds Inv-loop μ-loop
 loop-holds c = (omega arith, leaving-start _ _ _ (c .before .before .before .before .pre .1) _ (c .left-open .ensures))
 
 leave-track-requires : tie.Need-leave-track-requires Inv-loop μ-loop
-leave-track-requires c κs = (c .before .before .before .before .before .before .before .pre .0, leaving-orderly _ _ _ (c .before .before .before .before .before .before .before .pre .1) _ (c .before .before .before .left-open .ensures) _ (c .before .before .loop .inv .0) (c .before .before .loop .inv .1), search needs)
+leave-track-requires c κs =
+    let pre = c .before .before .before .before .before .before .before .before .pre in
+    let i = c .before .before .before .loop .inv in
+    (pre .0, leaving-orderly _ _ _ (pre .1) _ (c .before .before .before .before .left-open .ensures) _ (i .0) (i .1), search needs)
 
 add-t : tie.Need-add-t Inv-loop μ-loop
 add-t c = search needs
@@ -35,7 +38,9 @@ loop-less : tie.Need-loop-less Inv-loop μ-loop
 loop-less c = search needs
 
 loop-again : tie.Need-loop-again Inv-loop μ-loop
-loop-again c = (omega arith, leaving-more _ _ _ (c .before .before .before .before .before .before .before .before .before .before .pre .1) _ (c .before .before .before .before .before .before .left-open .ensures) _ (c .before .before .before .before .before .loop .inv .0) (c .before .before .before .before .before .loop .inv .1) (c .before .before .leave-track .ensures))
+loop-again c =
+    let i = c .before .before .before .before .before .before .loop .inv in
+    (omega arith, leaving-more _ _ _ (c .before .before .before .before .before .before .before .before .before .before .before .pre .1) _ (c .before .before .before .before .before .before .before .left-open .ensures) _ (i .0) (i .1) (c .before .before .leave-track .ensures))
 
 same-length : tie.Need-same-length Inv-loop μ-loop
 same-length c = leaving-length _ _ _ (c .before .before .before .before .before .before .pre .1) _ (c .before .before .left-open .ensures) _ (c .before .loop .inv .0) (c .before .loop .inv .1)

@@ -13,42 +13,38 @@ is-busy-requires c κs = (c .before .before .pre .0 .room, c .before .before .pr
 returns : tie.Need-returns
 returns c = count-idle _ _ (c .before .before .before .before .pre .0 .accepts) _ _ _ _ (c .before .before .before .before .pre .2) (c .before .is-busy .ensures) (c .if1 .taken)
 
-host-track-requires : tie.Need-host-track-requires
-host-track-requires c κs = search needs
-
 returns-2 : tie.Need-returns-2
 unfolding noState
 returns-2 c = count-root _ _ (c .before .before .before .before .before .before .pre .0 .accepts) _ _ _ _ (c .before .before .before .before .before .before .pre .2) (c .before .before .before .is-busy .ensures) (c .before .before .if1 .left) (c .before .host-track .ensures) (c .if2 .taken)
 
-cast-at : tie.Need-cast-at
-cast-at c = search needs
-
-array-read-count : tie.Need-array-read-count
+element-copy-out-count : tie.Need-element-copy-out-count
 unfolding noState
-array-read-count c = let b = host-track-low _ _ _ _ (c .before .before .before .before .before .before .pre .0 .accepts) (c .before .host-track .ensures) (c .if2 .left) in let n = c .before .before .before .before .before .before .pre .0 .accepts .holds .tracks in omega arith
+element-copy-out-count c = let b = host-track-low _ _ _ _ (c .before .before .before .before .before .before .pre .0 .accepts) (c .before .host-track .ensures) (c .if2 .left) in let n = c .before .before .before .before .before .before .pre .0 .accepts .holds .tracks in omega arith
 
-add-next : tie.Need-add-next
+add-busy : tie.Need-add-busy
 unfolding noState
-add-next c = let n = c .before .before .before .before .before .before .pre .0 .accepts .holds .tracks in let b = c .before .before .before .before .before .before .pre .1 in let d = count-most _ _ (c .before .before .before .before .before .before .pre .0 .accepts) _ _ _ _ (c .before .before .before .before .before .before .pre .2) (c .before .before .before .is-busy .ensures) (c .before .before .if1 .left) (c .before .host-track .ensures) (c .if2 .left) in omega arith
+add-busy c =
+    let pre = c .before .before .before .before .before .before .before .pre in
+    let n = pre .0 .accepts .holds .tracks in
+    let b = pre .1 in
+    let d = count-most _ _ (pre .0 .accepts) _ _ _ _ (pre .2) (c .before .before .before .before .is-busy .ensures) (c .before .before .before .if1 .left) (c .before .before .host-track .ensures) (c .before .if2 .left) in
+    omega arith
 
-array-write-next : tie.Need-array-write-next
+element-write-busy : tie.Need-element-write-busy
 unfolding noState
-array-write-next c = let b = host-track-low _ _ _ _ (c .before .before .before .before .before .before .pre .0 .accepts) (c .before .host-track .ensures) (c .if2 .left) in let n = c .before .before .before .before .before .before .pre .0 .accepts .holds .tracks in omega arith
+element-write-busy c =
+    let pre = c .before .before .before .before .before .before .before .pre in
+    let b = host-track-low _ _ _ _ (pre .0 .accepts) (c .before .before .host-track .ensures) (c .before .if2 .left) in
+    let n = pre .0 .accepts .holds .tracks in
+    omega arith
 
 returns-3 : tie.Need-returns-3
 unfolding noState
-returns-3 c = count-host _ _ (c .before .before .before .before .before .before .pre .0 .accepts) _ _ _ _ (c .before .before .before .before .before .before .pre .2) (c .before .before .before .is-busy .ensures) (c .before .before .if1 .left) (c .before .host-track .ensures) (c .if2 .left)
+returns-3 c =
+    let pre = c .before .before .before .before .before .before .before .pre in
+    count-host _ _ (pre .0 .accepts) _ _ _ _ (pre .2) (c .before .before .before .before .is-busy .ensures) (c .before .before .before .if1 .left) (c .before .before .host-track .ensures) (c .before .if2 .left)
 
 pub count-track-spec : {M : Type 1} → statement M
 count-track-spec =
     tie.close
-    (tie.spec
-    is-busy-requires
-    returns
-    host-track-requires
-    returns-2
-    cast-at
-    array-read-count
-    add-next
-    array-write-next
-    returns-3)
+    (tie.spec is-busy-requires returns (λ c κs. search needs) returns-2 (λ c. search needs) element-copy-out-count add-busy element-write-busy returns-3)

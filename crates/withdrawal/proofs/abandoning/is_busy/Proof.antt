@@ -16,11 +16,11 @@ is-taken-back-requires c κs = search needs
 returns-2 : tie.Need-returns-2
 returns-2 c = busy-holding _ _ _ (c .before .before .before .is-awake .ensures) (c .before .before .if1 .left) (c .before .is-taken-back .ensures) (c .if2 .taken)
 
-array-read-result : tie.Need-array-read-result
-array-read-result c = search needs
+element-copy-out-result : tie.Need-element-copy-out-result
+element-copy-out-result c = search needs
 
 returns-3 : tie.Need-returns-3
-returns-3 c = busy-open _ _ _ (c .before .before .before .is-awake .ensures) (c .before .before .if1 .left) (c .before .is-taken-back .ensures) (c .if2 .left) (c .before .before .before .before .before .before .pre .2)
+returns-3 c = busy-open _ _ _ (c .before .before .before .before .is-awake .ensures) (c .before .before .before .if1 .left) (c .before .before .is-taken-back .ensures) (c .before .if2 .left) (c .before .before .before .before .before .before .before .pre .2)
 
 pub is-busy-spec : {M : Type 1} → statement M
 is-busy-spec =
@@ -30,5 +30,5 @@ is-busy-spec =
     returns
     is-taken-back-requires
     returns-2
-    array-read-result
+    element-copy-out-result
     returns-3)

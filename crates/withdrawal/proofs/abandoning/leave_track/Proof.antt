@@ -30,26 +30,30 @@ returns-2 c = leave-root _ _ (c .before .before .before .before .before .before 
 cast-if3 : tie.Need-cast-if3
 cast-if3 c = search needs
 
-array-read-if3 : tie.Need-array-read-if3
+element-copy-out-if3 : tie.Need-element-copy-out-if3
 unfolding noState
-array-read-if3 c = let b = host-track-low _ _ _ _ (c .before .before .before .before .before .before .before .pre .0) (c .before .host-track .ensures) (c .if2 .left) in let n = c .before .before .before .before .before .before .before .pre .0 .holds .tracks in omega arith
+element-copy-out-if3 c = let b = host-track-low _ _ _ _ (c .before .before .before .before .before .before .before .pre .0) (c .before .host-track .ensures) (c .if2 .left) in let n = c .before .before .before .before .before .before .before .pre .0 .holds .tracks in omega arith
 
 same-length-3 : tie.Need-same-length-3
 same-length-3 c = search needs
 
 returns-3 : tie.Need-returns-3
 unfolding noState
-returns-3 c = leave-not _ _ (c .before .before .before .before .before .before .before .before .pre .0) _ (c .before .before .before .before .before .before .before .before .pre .1) _ _ (c .before .before .before .before .is-awake .ensures) (c .before .before .host-track .ensures) (c .before .if2 .left) (c .if3 .taken)
+returns-3 c =
+    let pre = c .before .before .before .before .before .before .before .before .before .pre in
+    leave-not _ _ (pre .0) _ (pre .1) _ _ (c .before .before .before .before .before .is-awake .ensures) (c .before .before .before .host-track .ensures) (c .before .before .if2 .left) (c .if3 .taken)
 
 put-to-sleep-requires : tie.Need-put-to-sleep-requires
-put-to-sleep-requires c κs = in-room _ _ _ (c .before .before .before .before .before .before .before .before .before .pre .1 .room) (c .before .before .before .before .before .before .before .before .before .pre .2)
+put-to-sleep-requires c κs = let pre = c .before .before .before .before .before .before .before .before .before .before .pre in in-room _ _ _ (pre .1 .room) (pre .2)
 
 same-length-4 : tie.Need-same-length-4
 same-length-4 c = search needs
 
 returns-4 : tie.Need-returns-4
 unfolding noState
-returns-4 c = leave-done _ _ (c .before .before .before .before .before .before .before .before .before .before .before .before .pre .0) _ (c .before .before .before .before .before .before .before .before .before .before .before .before .pre .1) _ _ (c .before .before .before .before .before .before .before .before .is-awake .ensures) (c .before .before .before .before .before .before .host-track .ensures) (c .before .before .before .before .before .if2 .left) (c .before .before .before .before .before .before .before .before .before .before .before .before .pre .2) (c .before .before .before .before .if3 .left) (c .before .before .put-to-sleep .ensures)
+returns-4 c =
+    let pre = c .before .before .before .before .before .before .before .before .before .before .before .before .before .pre in
+    leave-done _ _ (pre .0) _ (pre .1) _ _ (c .before .before .before .before .before .before .before .before .before .is-awake .ensures) (c .before .before .before .before .before .before .before .host-track .ensures) (c .before .before .before .before .before .before .if2 .left) (pre .2) (c .before .before .before .before .if3 .left) (c .before .before .put-to-sleep .ensures)
 
 pub leave-track-spec : {M : Type 1} → statement M
 leave-track-spec =
@@ -62,7 +66,7 @@ leave-track-spec =
     same-length-2
     returns-2
     cast-if3
-    array-read-if3
+    element-copy-out-if3
     same-length-3
     returns-3
     put-to-sleep-requires

@@ -23,7 +23,7 @@ loop-holds : tie.Need-loop-holds Inv-loop μ-loop
 loop-holds c = (omega arith, count-start _ _ (c .before .before .before .pre .accepts) _ _ (c .open-scopes .ensures))
 
 count-track-requires : tie.Need-count-track-requires Inv-loop μ-loop
-count-track-requires c κs = (c .before .before .before .before .before .pre, search needs, c .before .loop .inv .1)
+count-track-requires c κs = (c .before .before .before .before .before .before .before .pre, search needs, c .before .before .before .loop .inv .1)
 
 add-t : tie.Need-add-t Inv-loop μ-loop
 add-t c = search needs
