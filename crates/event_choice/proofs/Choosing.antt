@@ -1,20 +1,20 @@
 -- From the passes to the choice: the words name the event's moves, so what was judged of those moves is what the rules say. Assumes nothing.
-use mathlib.Core.Path.{_≡_, refl, sym, ap, _∙_, subst, fun-ext}
+use mathlib.Core.Path.{_≡_, sym, ap, _∙_, subst, fun-ext}
 use mathlib.Core.Logic.{inl, inr}
-use mathlib.Core.Bool.{Bool, true, false, cond, not, _&&_}
+use mathlib.Core.Bool.{Bool, false, not}
 use mathlib.Core.List.{List}
-use mathlib.Core.Option.{Option, none, some}
-use Prim.Native.Nat.{ℕ, _<_, _≤_}
+use mathlib.Core.Option.{none, some}
+use Prim.Native.Nat.{ℕ}
 use native.Mathlib.Omega.{arith}
 use lib.Dec.{eqb, ltb}
 use lib.ListN.{getD, replicate}
 use borrow.Author.Tests.{ltb-true, ltb-false}
 use Rattle.rules.specs.declared.Counts.{Counts}
-use Rattle.rules.specs.Fold.{someBelow, countBelow}
+use Rattle.rules.specs.Fold.{countBelow}
 use Rattle.rules.specs.Layout.{entryLimit}
-use Rattle.rules.specs.Plan.{Plan, planOf, trackCount, transitionCount, noState, optional}
+use Rattle.rules.specs.Plan.{Plan, planOf, trackCount, noState, optional}
 use Rattle.rules.specs.Ledger.{Ledger, isForward, sleeping}
-use Rattle.rules.specs.Event.{isMove, move, moves, moved, closesScope, closed, closings, isFinishing, isFull}
+use Rattle.rules.specs.Event.{isMove, move, moves, moved, closed, closings}
 use Rattle.rules.proofs.Tests.{look}
 use Rattle.rules.proofs.Folds.{count-same}
 use Rattle.rules.proofs.Acceptance.{Accepted, transition-for}
@@ -25,7 +25,6 @@ use Rattle.lookup.specs.Checked.{Going, ledgerOf}
 use Rattle.lookup.specs.Figures.{Figures, Numbers}
 use Rattle.lookup.proofs.Facts.{plan-facts, few-tracks, live-of-going, beyond}
 use Rattle.lookup.proofs.FiguresLaws.{figure-each}
-use Rattle.event_choice.specs.declared.Choice.{Choice}
 use Rattle.event_choice.specs.declared.judging.Verdict.{Verdict}
 use Rattle.event_choice.specs.Next.{InRange, movesOf, closesNext}
 use Rattle.event_choice.specs.Chosen.{Judged, Chosen}

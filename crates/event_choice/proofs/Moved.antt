@@ -2,20 +2,20 @@
 -- before; a scope therefore closes exactly if each of its tracks will be forward in a final state, and its host does not move. Assumes nothing.
 use mathlib.Core.Path.{_≡_, refl, sym, ap, ap₂, _∙_, subst}
 use mathlib.Core.Logic.{_⊎_, inl, inr}
-use mathlib.Core.Bool.{Bool, true, false, cond, not, _&&_, _||_, and-comm, or-false}
+use mathlib.Core.Bool.{Bool, true, false, not, _&&_, _||_, and-comm, or-false}
 use mathlib.Core.Option.{Option, none, some}
-use Prim.Native.Nat.{ℕ, _<_, _≤_}
+use Prim.Native.Nat.{ℕ, _<_}
 use lib.Dec.{eqb, leb}
 use lib.ListN.{length}
 use borrow.Author.Tests.{eq-eqb, eqb-true, not-true}
-use Rattle.rules.specs.declared.Mode.{Mode}
-use Rattle.rules.specs.declared.Mode.the-variants.{Asleep, Forward, Undoing}
+use Rattle.rules.specs.declared.Mode.the-variants.{Forward}
 use Rattle.rules.specs.Fold.{someBelow, everyBelow, countBelow}
 use Rattle.rules.specs.Plan.{Plan, trackCount, stateCount, host, owner, transition, mover, replacement, isRoot, isFinal, isStateOf, isHostedBy, everyIn, firstState, transitionFor}
-use Rattle.rules.specs.Ledger.{Configuration, Ledger, isAwake, isForward, sleeping}
+use Rattle.rules.specs.Ledger.{Configuration, Ledger, isAwake, isForward}
 use Rattle.rules.specs.Scope.{isOpen, hasOpenScope}
 use Rattle.rules.specs.Opening.{fresh, wakes}
 use Rattle.rules.specs.Event.{install, installed, destinationOf, installedBy, hasCode, move, moved, isClosing, closesScope, closed, closings, isFinishing, isReplaced, isFull}
+use Rattle.rules.proofs.Modes.{forward-awake, forward-is}
 use Rattle.rules.proofs.Tests.{look, look-option, clash, none-some, refuted, and-true, and-both, implies, implied, strong, same-test}
 use Rattle.rules.proofs.Folds.{every-at, every-of, every-same, some-same, count-same}
 use Rattle.rules.proofs.Counting.{count-pairs}
@@ -26,13 +26,7 @@ use Rattle.rules.proofs.Closing.{closed-root, closed-alike}
 use Rattle.rules.proofs.Soundness.{Live}
 use Rattle.event_choice.specs.Next.{nextOf, endsBy, codeBy, endsNext, closesNext, finishesNext, fullNext}
 use Rattle.event_choice.proofs.Visits.{own-low}
-use Rattle.event_choice.proofs.Takers.{forward-awake, is-owner}
-
-forward-is : (m : Mode) → isForward m ≡ true → m ≡ Forward
-unfolding isForward
-forward-is Asleep h = clash h refl
-forward-is Forward h = refl
-forward-is Undoing h = clash h refl
+use Rattle.event_choice.proofs.Takers.{is-owner}
 
 module _ (p : Plan) (ok : Accepted p) (l : Ledger) (live : Live p l) (event : ℕ) where
   abbrev to : ℕ → Option ℕ

@@ -8,13 +8,13 @@ use Prim.Native.Nat.{ℕ, _+_, _<_, _≤_}
 use native.Mathlib.Omega.{arith}
 use lib.Dec.{eqb, leb, ltb}
 use lib.ListN.{length, getD}
-use borrow.Author.Tests.{eq-eqb, ne-eqb, eqb-true, not-true, not-false, ltb-true, lt-ltb, le-leb, lt-leb}
+use borrow.Author.Tests.{eq-eqb, ne-eqb, not-true, not-false, ltb-true, lt-ltb, le-leb, lt-leb}
 use Rattle.rules.specs.declared.Counts.{Counts}
 use Rattle.rules.specs.declared.Track.{Track}
 use Rattle.rules.specs.Fold.{everyBelow, someBelow, countBelow}
 use Rattle.rules.specs.Layout.{entryLimit}
 use Rattle.rules.specs.Plan.{Plan, planOf, trackCount, stateCount, noState, optional, owner, transition, mover, replacement, isRoot, isFinal, isStateOf, isHostedBy, firstState}
-use Rattle.rules.specs.Ledger.{Configuration, Ledger, isAwake, isForward, sleeping}
+use Rattle.rules.specs.Ledger.{Configuration, Ledger, isAwake, sleeping}
 use Rattle.rules.specs.Scope.{hasOpenScope}
 use Rattle.rules.proofs.Tests.{look, and-true}
 use Rattle.rules.proofs.Folds.{every-more, some-more, count-more}

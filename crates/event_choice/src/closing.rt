@@ -8,7 +8,6 @@ use rules::Track;
 ghost use mathlib.Core.Path.{_≡_};
 ghost use mathlib.Core.Bool.{false, not, _&&_};
 ghost use Prim.Native.Nat.{_<_};
-ghost use lib.ListN.{getD};
 ghost use Rattle.rules.specs.Plan.{planOf, noState, optional, isHostedBy};
 ghost use Rattle.rules.specs.Ledger.{isAwake};
 ghost use Rattle.rules.specs.Scope.{hasOpenScope};

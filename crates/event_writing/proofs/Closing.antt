@@ -3,8 +3,8 @@ use mathlib.Core.Path.{_≡_, sym, ap, ap₂, _∙_}
 use mathlib.Core.Logic.{inl, inr}
 use mathlib.Core.Bool.{Bool, true, false, cond, not, _&&_}
 use mathlib.Core.List.{List}
-use mathlib.Core.Option.{Option, none, some}
-use Prim.Native.Nat.{ℕ, _+_, _<_, _≤_}
+use mathlib.Core.Option.{some}
+use Prim.Native.Nat.{ℕ, _<_}
 use native.Mathlib.Omega.{arith}
 use lib.Dec.{eqb}
 use lib.ListN.{length, getD}
@@ -12,18 +12,17 @@ use borrow.Author.Tests.{ne-eqb}
 use Rattle.rules.specs.declared.Counts.{Counts}
 use Rattle.rules.specs.Layout.{entryLimit}
 use Rattle.rules.specs.Plan.{Plan, planOf, trackCount, noState, host, owner, replacement}
-use Rattle.rules.specs.Ledger.{Configuration, Ledger, isAwake, isForward, sleeping, written}
+use Rattle.rules.specs.Ledger.{Configuration, Ledger, isAwake, sleeping, written}
 use Rattle.rules.specs.Event.{installed, isClosing, isClosed, closesScope, closed, isReplaced}
+use Rattle.rules.proofs.Modes.{forward-awake}
 use Rattle.rules.proofs.Tests.{look, look-option, clash, refuted, and-true, and-both}
 use Rattle.rules.proofs.Stored.{written-same}
 use Rattle.rules.proofs.Closing.{closed-host, closed-root, closing-final}
-use Rattle.rules.proofs.Acceptance.{Accepted}
 use Rattle.plan.proofs.FieldLaws.{track-count, state-count}
 use Rattle.ledger.specs.Words.{Tidy}
 use Rattle.lookup.specs.Checked.{Accepts, ledgerOf}
 use Rattle.lookup.proofs.Facts.{plan-facts}
 use Rattle.lookup.proofs.OneTrackLaws.{Stores, stores-sleeping, stores-at, holds, Fitting, through, passed, pass-start, pass-old}
-use Rattle.event_choice.proofs.Takers.{forward-awake}
 use Rattle.event_writing.specs.Writing.{Closings, isClosedBy, closedBy}
 use Rattle.event_writing.proofs.Installing.{installed-stores}
 

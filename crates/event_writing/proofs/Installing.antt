@@ -1,19 +1,19 @@
 -- The pass that installs the movers' entries. Assumes nothing.
 use mathlib.Core.Path.{_≡_, sym, ap, _∙_}
 use mathlib.Core.Logic.{inl, inr}
-use mathlib.Core.Bool.{Bool, true, false, not}
+use mathlib.Core.Bool.{true, not}
 use mathlib.Core.List.{List}
 use mathlib.Core.Option.{Option, none, some}
-use Prim.Native.Nat.{ℕ, _+_, _<_, _≤_}
+use Prim.Native.Nat.{ℕ, _+_, _<_}
 use native.Mathlib.Omega.{arith}
 use lib.Dec.{eqb}
 use lib.ListN.{length, getD}
 use Rattle.rules.specs.declared.Counts.{Counts}
 use Rattle.rules.specs.Layout.{entryLimit}
-use Rattle.rules.specs.Plan.{Plan, planOf, optional, transition}
-use Rattle.rules.specs.Ledger.{Configuration, Ledger, isAwake, sleeping, written}
+use Rattle.rules.specs.Plan.{Plan, optional, transition}
+use Rattle.rules.specs.Ledger.{Configuration, isAwake, written}
 use Rattle.rules.specs.Event.{install, installed, destinationOf, installedBy, hasCode}
-use Rattle.rules.proofs.Tests.{look, look-option, clash}
+use Rattle.rules.proofs.Tests.{look, clash}
 use Rattle.ledger.specs.Words.{Tidy}
 use Rattle.lookup.specs.Checked.{ledgerOf}
 use Rattle.lookup.specs.OneTrack.{withConfiguration}

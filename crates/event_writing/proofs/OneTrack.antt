@@ -1,7 +1,7 @@
 -- One track written: a code given, a move's entry installed, a closing done. Each branch of the code is a case of the definition. Assumes nothing.
 use mathlib.Core.Path.{_≡_, refl, sym, ap, _∙_}
-use mathlib.Core.Bool.{Bool, true, false, not, _&&_}
-use mathlib.Core.List.{List, _∷_}
+use mathlib.Core.Bool.{Bool, true, false, not}
+use mathlib.Core.List.{List}
 use mathlib.Core.Option.{some}
 use Prim.Native.Nat.{ℕ, _<_}
 use native.Mathlib.Omega.{arith}
@@ -11,8 +11,8 @@ use borrow.Author.Tests.{eq-eqb, ne-eqb, not-true, not-false}
 use Rattle.rules.specs.declared.Counts.{Counts}
 use Rattle.rules.specs.declared.Track.{Track}
 use Rattle.rules.specs.Layout.{entryLimit}
-use Rattle.rules.specs.Plan.{Plan, planOf, noState, optional, owner, transition, replacement}
-use Rattle.rules.specs.Ledger.{Configuration, Ledger, isAwake, sleeping}
+use Rattle.rules.specs.Plan.{Plan, planOf, noState, optional, transition, replacement}
+use Rattle.rules.specs.Ledger.{Configuration, isAwake}
 use Rattle.rules.specs.Event.{install, installed, destinationOf, installedBy, hasCode}
 use Rattle.ledger.specs.Words.{Tidy, trackOf, trackAt, withInstalled, withAsleep}
 use Rattle.ledger.proofs.ReadTracks.{mode-as, state-as}

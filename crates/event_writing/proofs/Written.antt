@@ -1,23 +1,23 @@
 -- The three passes one after the other: entries installed, states entered, scopes closed. Each is the rules' own step on the ledger that the one
 -- before left, so together they are the event. Assumes nothing.
-use mathlib.Core.Path.{_≡_, refl, sym, ap, _∙_, subst}
+use mathlib.Core.Path.{_≡_, sym, ap, _∙_, subst}
 use mathlib.Core.Logic.{inl, inr}
-use mathlib.Core.Bool.{Bool, true, false, cond, not, _&&_, _||_}
+use mathlib.Core.Bool.{true, false, _&&_, _||_}
 use mathlib.Core.List.{List}
 use mathlib.Core.Option.{Option, none, some}
 use Prim.Native.Nat.{ℕ, _<_, _≤_}
 use native.Mathlib.Omega.{arith}
-use lib.Dec.{eqb, leb, ltb}
-use lib.ListN.{length, getD}
+use lib.Dec.{leb, ltb}
+use lib.ListN.{length}
 use borrow.Author.Tests.{leb-false, ltb-true, ltb-false}
 use Rattle.rules.specs.declared.Counts.{Counts}
-use Rattle.rules.specs.Fold.{someBelow}
 use Rattle.rules.specs.Layout.{entryLimit}
-use Rattle.rules.specs.Plan.{Plan, planOf, trackCount, stateCount, optional, host, replacement}
+use Rattle.rules.specs.Plan.{Plan, planOf, trackCount, host}
 use Rattle.rules.specs.Ledger.{Configuration, Ledger, isAwake, isForward, sleeping, written}
 use Rattle.rules.specs.Opening.{fresh, wakes, entered, enter}
-use Rattle.rules.specs.Event.{destinationOf, installedBy, hasCode, move, moved, isClosing, closesScope, closed, finished, isFinishing, isReplaced, isFull, afterEvent}
-use Rattle.rules.proofs.Tests.{look, look-option, clash, none-some, refuted, and-true, and-both, or-right}
+use Rattle.rules.specs.Event.{destinationOf, installedBy, hasCode, move, moved, closesScope, closed, finished, isReplaced, isFull, afterEvent}
+use Rattle.rules.proofs.Modes.{forward-awake}
+use Rattle.rules.proofs.Tests.{look, look-option, clash, refuted, and-true, and-both, or-right}
 use Rattle.rules.proofs.Folds.{some-not}
 use Rattle.rules.proofs.Acceptance.{Accepted}
 use Rattle.rules.proofs.Opening.{wakes-root, wakes-same}
@@ -28,14 +28,13 @@ use Rattle.ledger.specs.Words.{Tidy}
 use Rattle.lookup.specs.Checked.{Going, ledgerOf}
 use Rattle.lookup.specs.Figures.{Numbers}
 use Rattle.lookup.proofs.Facts.{plan-facts, live-of-going, tidy-words, storable, beyond}
-use Rattle.lookup.proofs.OneTrackLaws.{Stores, stores-at, storable-of, read-back, orderly-after, then}
+use Rattle.lookup.proofs.OneTrackLaws.{Stores, storable-of, read-back, orderly-after, then}
 use Rattle.opening.specs.Entering.{statesOf, Sleepers}
 use Rattle.opening.proofs.EnteringLaws.{entered-stores}
 use Rattle.event_choice.specs.declared.Choice.{Choice}
 use Rattle.event_choice.specs.Next.{InRange, movesOf}
 use Rattle.event_choice.specs.Chosen.{Chosen}
 use Rattle.event_choice.proofs.Visits.{own-low}
-use Rattle.event_choice.proofs.Takers.{forward-awake}
 use Rattle.event_choice.proofs.Moved.{mover-facts, woken-asleep, moved-kept, moved-own, moved-up, closes-before, closing-still}
 use Rattle.event_choice.proofs.Still.{none-close}
 use Rattle.event_choice.proofs.Choosing as choosing

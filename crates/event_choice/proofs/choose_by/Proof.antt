@@ -5,9 +5,6 @@ use borrow.Author.Needs.{needs}
 use Rattle.event_choice.proofs.choose_by.Statement.{statement}
 use Rattle.event_choice.proofs.choose_by.Tie as tie
 
-moves-requires : tie.Need-moves-requires
-moves-requires c κs = search needs
-
 returns : tie.Need-returns
 returns c = let p = c .before .before .before .before .before .pre in (chosen-none _ _ _ (p .0) _ (p .2) (c .before .before .moves .ensures) (c .before .if1 .taken), refl)
 
@@ -21,5 +18,4 @@ returns-2 : tie.Need-returns-2
 returns-2 c = let p = c .before .before .before .before .before .before .before .before .before .pre in (chosen-all _ _ _ (p .0) _ (p .2) (c .before .before .before .before .before .before .moves .ensures) (c .before .before .before .closing-scopes .ensures) (c .before .judge .ensures), refl)
 
 pub choose-by-spec : {M : Type 1} → statement M
-choose-by-spec =
-    tie.close (tie.spec moves-requires returns closing-scopes-requires judge-requires returns-2)
+choose-by-spec = tie.close (tie.spec (λ c κs. search needs) returns closing-scopes-requires judge-requires returns-2)

@@ -33,12 +33,6 @@ close-track-requires c κs =
     let f = closing-fits _ _ (a .0) _ (a .1) _ (a .2) in
     (a .0, pass-orderly _ _ (a .1) _ f _ (i .0) (i .1), b, closing-needs _ _ (a .0) _ (a .1) _ (a .2) _ b (i .1))
 
-add-t : tie.Need-add-t Inv-loop μ-loop
-add-t c = search needs
-
-loop-less : tie.Need-loop-less Inv-loop μ-loop
-loop-less c = search needs
-
 loop-again : tie.Need-loop-again Inv-loop μ-loop
 loop-again c =
     let a = c .before .before .before .before .before .before .before .before .pre in
@@ -58,4 +52,6 @@ returns c =
     ∙ closing-all _ _ (a .0) _ (a .1) _ (a .2)
 
 pub close-scopes-spec : {M : Type 1} → statement M
-close-scopes-spec = tie.close (tie.spec Inv-loop μ-loop loop-holds close-track-requires add-t loop-less loop-again same-length returns)
+close-scopes-spec =
+    tie.close
+    (tie.spec Inv-loop μ-loop loop-holds close-track-requires (λ c. search needs) (λ c. search needs) loop-again same-length returns)

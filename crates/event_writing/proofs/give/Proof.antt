@@ -13,9 +13,6 @@ install-requires c κs =
     let a = c .before .before .before .pre in
     (in-room _ _ _ (a .0 .room) (a .1), give-room _ _ (a .0) _ (a .1) 0 0 (a .2 (c .before .if1 .left)))
 
-same-length : tie.Need-same-length
-same-length c = search needs
-
 returns-2 : tie.Need-returns-2
 returns-2 c =
     let a = c .before .before .before .before .before .before .pre in
@@ -23,4 +20,4 @@ returns-2 c =
     give-some _ _ (a .0) _ (a .1) _ _ (a .2 n) n (c .before .before .install .ensures)
 
 pub give-spec : {M : Type 1} → statement M
-give-spec = tie.close (tie.spec returns install-requires same-length returns-2)
+give-spec = tie.close (tie.spec returns install-requires (λ c. search needs) returns-2)

@@ -1,5 +1,4 @@
 -- Nothing happens, or the transition's entry is installed and its destination entered. Assumes nothing.
-use Prim.Native.Nat.{_<_}
 use native.Mathlib.Omega.{arith}
 use Rattle.rules.specs.Plan.{noState}
 use Rattle.lookup.proofs.OneTrackLaws.{kept-track}
@@ -35,9 +34,6 @@ destination-of-requires c κs =
     let a = c .before .before .before .before .before .before .before .before .before .pre in
     (a .0 .holds, a .3 (c .before .before .before .before .before .before .if1 .left))
 
-same-length : tie.Need-same-length
-same-length c = search needs
-
 returns-2 : tie.Need-returns-2
 unfolding noState
 returns-2 c =
@@ -51,6 +47,4 @@ returns-2 c =
     )
 
 pub install-move-spec : {M : Type 1} → statement M
-install-move-spec =
-    tie.close
-    (tie.spec returns code-of-requires deviation-of-requires give-requires destination-of-requires same-length returns-2)
+install-move-spec = tie.close (tie.spec returns code-of-requires deviation-of-requires give-requires destination-of-requires (λ c. search needs) returns-2)

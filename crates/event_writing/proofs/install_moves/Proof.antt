@@ -1,10 +1,7 @@
 -- The movers among the tracks visited have installed their entries, the others are as they were. Assumes nothing.
-use mathlib.Core.Path.{_≡_, sym, ap, _∙_}
-use mathlib.Core.List.{List}
-use mathlib.Core.Option.{Option}
-use Prim.Native.Nat.{ℕ, _≤_, _-_}
+use mathlib.Core.Path.{_≡_}
+use Prim.Native.Nat.{_≤_, _-_}
 use native.Mathlib.Omega.{arith}
-use denote.Ref.{now}
 use Rattle.rules.specs.Layout.{entryLimit}
 use Rattle.rules.specs.Plan.{planOf, noState}
 use Rattle.rules.specs.Ledger.{written}
@@ -15,7 +12,6 @@ use Rattle.lookup.specs.Figures.{Numbers}
 use Rattle.lookup.proofs.FiguresLaws.{numbers-empty, number-more, numbers-all}
 use Rattle.lookup.proofs.OneTrackLaws.{pass-orderly, pass-length, pass-end}
 use Rattle.event_choice.specs.Next.{movesOf}
-use Rattle.event_choice.proofs.Visits.{moves-at}
 use Rattle.event_writing.proofs.Installing.{installing-start, installing-fits, installing-to, installing-room, installing-more}
 use borrow.Author.Needs.{needs}
 use Rattle.event_writing.proofs.install_moves.Statement.{statement}
@@ -34,12 +30,6 @@ loop-holds : tie.Need-loop-holds Inv-loop μ-loop
 unfolding noState
 loop-holds c = let a = c .before .before .pre in (omega arith, installing-start _ _ (a .1) _ _ (a .3), numbers-empty _ _)
 
-mul-install-move : tie.Need-mul-install-move Inv-loop μ-loop
-mul-install-move c = search needs
-
-element-copy-out-install-move : tie.Need-element-copy-out-install-move Inv-loop μ-loop
-element-copy-out-install-move c = search needs
-
 install-move-requires : tie.Need-install-move-requires Inv-loop μ-loop
 unfolding noState
 install-move-requires c κs =
@@ -49,17 +39,8 @@ install-move-requires c κs =
     let f = installing-fits _ _ (a .1) _ _ (a .3) in
     (a .0, pass-orderly _ _ (a .1) _ f _ (i .0) (i .1), b, a .2 .low _ b, installing-room _ _ (a .1) _ _ (a .3) _ b (i .1))
 
-mul-to : tie.Need-mul-to Inv-loop μ-loop
-mul-to c = search needs
-
 array-write-to : tie.Need-array-write-to Inv-loop μ-loop
 array-write-to c = let n = c .before .before .before .before .before .before .before .before .before .pre .1 .room .few in omega arith
-
-add-t : tie.Need-add-t Inv-loop μ-loop
-add-t c = search needs
-
-loop-less : tie.Need-loop-less Inv-loop μ-loop
-loop-less c = search needs
 
 loop-again : tie.Need-loop-again Inv-loop μ-loop
 loop-again c =
@@ -87,4 +68,5 @@ returns c =
 pub install-moves-spec : {M : Type 1} → statement M
 install-moves-spec =
     tie.close
-    (tie.spec Inv-loop μ-loop loop-holds mul-install-move element-copy-out-install-move install-move-requires mul-to array-write-to add-t loop-less loop-again same-length returns)
+    (tie.spec Inv-loop μ-loop loop-holds (λ c. search needs) (λ c. search needs) install-move-requires (λ c. search needs) array-write-to
+    (λ c. search needs) (λ c. search needs) loop-again same-length returns)

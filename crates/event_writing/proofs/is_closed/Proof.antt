@@ -7,22 +7,13 @@ use borrow.Author.Needs.{needs}
 use Rattle.event_writing.proofs.is_closed.Statement.{statement}
 use Rattle.event_writing.proofs.is_closed.Tie as tie
 
-host-track-requires : tie.Need-host-track-requires
-host-track-requires c κs = search needs
-
 returns : tie.Need-returns
 unfolding noState
 returns c = closed-root _ _ _ _ _ _ (c .before .host-track .ensures) (c .before .before .before .pre .0) (c .if1 .taken)
 
-is-awake-requires : tie.Need-is-awake-requires
-is-awake-requires c κs = search needs
-
 returns-2 : tie.Need-returns-2
 unfolding noState
 returns-2 c = closed-asleep _ _ _ _ _ _ (c .before .before .before .host-track .ensures) (c .before .before .if1 .left) (c .before .is-awake .ensures) (c .if2 .taken)
-
-cast-result : tie.Need-cast-result
-cast-result c = search needs
 
 element-copy-out-result : tie.Need-element-copy-out-result
 unfolding noState
@@ -36,4 +27,4 @@ unfolding noState
 returns-3 c = closed-awake _ _ _ _ _ _ (c .before .before .before .before .host-track .ensures) (c .before .before .before .if1 .left) (c .before .before .is-awake .ensures) (c .before .if2 .left)
 
 pub is-closed-spec : {M : Type 1} → statement M
-is-closed-spec = tie.close (tie.spec host-track-requires returns is-awake-requires returns-2 cast-result element-copy-out-result returns-3)
+is-closed-spec = tie.close (tie.spec (λ c κs. search needs) returns (λ c κs. search needs) returns-2 (λ c. search needs) element-copy-out-result returns-3)

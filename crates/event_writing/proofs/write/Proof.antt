@@ -5,12 +5,6 @@ use borrow.Author.Needs.{needs}
 use Rattle.event_writing.proofs.write.Statement.{statement}
 use Rattle.event_writing.proofs.write.Tie as tie
 
-put-all-to-sleep-requires : tie.Need-put-all-to-sleep-requires
-put-all-to-sleep-requires c κs = search needs
-
-same-length : tie.Need-same-length
-same-length c = search needs
-
 returns : tie.Need-returns
 returns c =
     let a = c .before .before .before .before .before .before .before .pre in
@@ -24,15 +18,8 @@ install-moves-requires c κs =
 enter-all-requires : tie.Need-enter-all-requires
 enter-all-requires c κs =
     let a = c .before .before .before .before .before .before .before .before .before .before .before .before .pre in
-    let m = c .before .before .before .before .install-moves .ensures in (
-      a .0 .checked .lent .accepts,
-      first-tidy _ _ _ (a .0) _ (a .1) (a .2) (m .0),
-      a .3,
-      sleepers _ _ _ (a .0) _ (a .1) (a .2) (m .0) (m .1),
-    )
-
-same-length-2 : tie.Need-same-length-2
-same-length-2 c = search needs
+    let m = c .before .before .before .before .install-moves .ensures in
+    (a .0 .checked .lent .accepts, first-tidy _ _ _ (a .0) _ (a .1) (a .2) (m .0), a .3, sleepers _ _ _ (a .0) _ (a .1) (a .2) (m .0) (m .1))
 
 returns-2 : tie.Need-returns-2
 returns-2 c =
@@ -44,14 +31,8 @@ close-scopes-requires : tie.Need-close-scopes-requires
 close-scopes-requires c κs =
     let a = c .before .before .before .before .before .before .before .before .before .before .before .before .before .before .before .before .before .before .before .pre in
     let m = c .before .before .before .before .before .before .before .before .before .before .before .install-moves .ensures in
-    let e = c .before .before .before .before .before .before .enter-all .ensures in (
-      a .0 .checked .lent .accepts,
-      second-tidy _ _ _ (a .0) _ (a .1) (a .2) (m .0) (m .1) e,
-      closings _ _ _ (a .0) _ (a .1) (a .2) (m .0) (m .1) e,
-    )
-
-same-length-3 : tie.Need-same-length-3
-same-length-3 c = search needs
+    let e = c .before .before .before .before .before .before .enter-all .ensures in
+    (a .0 .checked .lent .accepts, second-tidy _ _ _ (a .0) _ (a .1) (a .2) (m .0) (m .1) e, closings _ _ _ (a .0) _ (a .1) (a .2) (m .0) (m .1) e)
 
 returns-3 : tie.Need-returns-3
 returns-3 c =
@@ -62,4 +43,5 @@ returns-3 c =
 pub write-spec : {M : Type 1} → statement M
 write-spec =
     tie.close
-    (tie.spec put-all-to-sleep-requires same-length returns install-moves-requires enter-all-requires same-length-2 returns-2 close-scopes-requires same-length-3 returns-3)
+    (tie.spec (λ c κs. search needs) (λ c. search needs) returns install-moves-requires enter-all-requires (λ c. search needs) returns-2
+    close-scopes-requires (λ c. search needs) returns-3)

@@ -1,7 +1,7 @@
 -- After t visits a track's open scope is marked unless one of the tracks below t keeps it open. Assumes nothing.
-use mathlib.Core.Path.{_≡_, refl, sym, ap, _∙_}
+use mathlib.Core.Path.{_≡_, sym, _∙_}
 use mathlib.Core.Logic.{inl, inr}
-use mathlib.Core.Bool.{Bool, true, false, _&&_, and-true}
+use mathlib.Core.Bool.{Bool, false, and-true}
 use mathlib.Core.List.{List}
 use mathlib.Core.Option.{Option}
 use Prim.Native.Nat.{ℕ, _≤_, _-_}
@@ -43,24 +43,12 @@ loop-holds c =
     let a = c .before .before .args in
     (omega arith, at-first (now (a .plan)) (a .c) (ledgerOf (a .c) (now (a .ledger))) _ (c .before .before .pre .2))
 
-kept-open-requires : tie.Need-kept-open-requires Inv-loop μ-loop
-kept-open-requires c κs = search needs
-
-cast-closing : tie.Need-cast-closing Inv-loop μ-loop
-cast-closing c = search needs
-
 array-write-closing : tie.Need-array-write-closing Inv-loop μ-loop
 unfolding noState
 array-write-closing c =
     let b = c .before .kept-open .ensures .low (c .if1 .taken) in
     let n = c .before .before .before .before .before .before .pre .0 .checked .lent .room .few in
     omega arith
-
-add-t : tie.Need-add-t Inv-loop μ-loop
-add-t c = search needs
-
-loop-less : tie.Need-loop-less Inv-loop μ-loop
-loop-less c = search needs
 
 loop-again : tie.Need-loop-again Inv-loop μ-loop
 unfolding noState
@@ -85,4 +73,5 @@ returns c =
 pub closing-scopes-spec : {M : Type 1} → statement M
 closing-scopes-spec =
     tie.close
-    (tie.spec Inv-loop μ-loop loop-holds kept-open-requires cast-closing array-write-closing add-t loop-less loop-again returns)
+    (tie.spec Inv-loop μ-loop loop-holds (λ c κs. search needs) (λ c. search needs) array-write-closing (λ c. search needs) (λ c. search needs)
+    loop-again returns)

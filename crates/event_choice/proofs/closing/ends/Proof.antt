@@ -7,18 +7,9 @@ use borrow.Author.Needs.{needs}
 use Rattle.event_choice.proofs.closing.ends.Statement.{statement}
 use Rattle.event_choice.proofs.closing.ends.Tie as tie
 
-is-forward-requires : tie.Need-is-forward-requires
-is-forward-requires c κs = search needs
-
 returns : tie.Need-returns
 unfolding endsBy
 returns c = and-stops (c .before .is-forward .ensures) _ (c .if1 .taken)
-
-cast-is-final : tie.Need-cast-is-final
-cast-is-final c = search needs
-
-is-final-requires : tie.Need-is-final-requires
-is-final-requires c κs = search needs
 
 returns-2 : tie.Need-returns-2
 unfolding endsBy noState
@@ -27,9 +18,6 @@ returns-2 c = and-goes (c .before .before .before .is-forward .ensures) (c .befo
 destination-of-requires : tie.Need-destination-of-requires
 unfolding noState
 destination-of-requires c κs = (c .before .before .before .before .pre .0 .holds, c .before .before .before .before .pre .2 (c .if2 .left))
-
-cast-is-final-2 : tie.Need-cast-is-final-2
-cast-is-final-2 c = search needs
 
 is-final-requires-2 : tie.Need-is-final-requires-2
 unfolding noState
@@ -46,4 +34,5 @@ returns-3 c =
 pub ends-spec : {M : Type 1} → statement M
 ends-spec =
     tie.close
-    (tie.spec is-forward-requires returns cast-is-final is-final-requires returns-2 destination-of-requires cast-is-final-2 is-final-requires-2 returns-3)
+    (tie.spec (λ c κs. search needs) returns (λ c. search needs) (λ c κs. search needs) returns-2 destination-of-requires (λ c. search needs)
+    is-final-requires-2 returns-3)

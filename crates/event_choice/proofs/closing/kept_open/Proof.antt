@@ -12,23 +12,11 @@ use borrow.Author.Needs.{needs}
 use Rattle.event_choice.proofs.closing.kept_open.Statement.{statement}
 use Rattle.event_choice.proofs.closing.kept_open.Tie as tie
 
-track-requires : tie.Need-track-requires
-track-requires c κs = search needs
-
-is-awake-requires : tie.Need-is-awake-requires
-is-awake-requires c κs = search needs
-
 returns : tie.Need-returns
 unfolding noState
 returns c =
     host-unless _ _ _ (c .before .before .before .before .before .pre .0 .checked .lent .accepts)
     (asleep-leaves _ (fails (c .before .is-awake .ensures ∙ ap isAwake (mode-as _ (c .before .before .track .ensures))) (c .if1 .taken)))
-
-mul-ends : tie.Need-mul-ends
-mul-ends c = search needs
-
-element-copy-out-ends : tie.Need-element-copy-out-ends
-element-copy-out-ends c = search needs
 
 ends-requires : tie.Need-ends-requires
 unfolding noState
@@ -46,9 +34,6 @@ returns-2 c =
     (sym (ends-read (planOf (now (a .args .plan)) (a .args .c)) l (now (a .args .taken)) _ (a .args .t) (a .pre .2) (c .before .before .before .before .before .track .ensures) (c .before .ends .ensures))
     ∙ c .if2 .taken))
 
-host-track-requires : tie.Need-host-track-requires
-host-track-requires c κs = search needs
-
 returns-3 : tie.Need-returns-3
 returns-3 c =
     let a = c .before .before .before .before .before .before .before .before .before in
@@ -60,4 +45,5 @@ returns-3 c =
 pub kept-open-spec : {M : Type 1} → statement M
 kept-open-spec =
     tie.close
-    (tie.spec track-requires is-awake-requires returns mul-ends element-copy-out-ends ends-requires returns-2 host-track-requires returns-3)
+    (tie.spec (λ c κs. search needs) (λ c κs. search needs) returns (λ c. search needs) (λ c. search needs) ends-requires returns-2
+    (λ c κs. search needs) returns-3)

@@ -17,15 +17,9 @@ returns-2 : tie.Need-returns-2
 unfolding noState
 returns-2 c = code-none _ _ _ (c .before .if1 .left) (c .if2 .taken)
 
-cast-replacement-of : tie.Need-cast-replacement-of
-cast-replacement-of c = search needs
-
-replacement-of-requires : tie.Need-replacement-of-requires
-replacement-of-requires c κs = search needs
-
 returns-3 : tie.Need-returns-3
 unfolding noState
 returns-3 c = code-replaced _ _ _ (c .before .before .if1 .left) (c .before .if2 .left) (c .replacement-of .ensures)
 
 pub code-given-spec : {M : Type 1} → statement M
-code-given-spec = tie.close (tie.spec code-of-requires returns returns-2 cast-replacement-of replacement-of-requires returns-3)
+code-given-spec = tie.close (tie.spec code-of-requires returns returns-2 (λ c. search needs) (λ c κs. search needs) returns-3)

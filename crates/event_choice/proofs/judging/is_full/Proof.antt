@@ -5,19 +5,13 @@ use borrow.Author.Needs.{needs}
 use Rattle.event_choice.proofs.judging.is_full.Statement.{statement}
 use Rattle.event_choice.proofs.judging.is_full.Tie as tie
 
-cast-if1 : tie.Need-cast-if1
-cast-if1 c = search needs
-
 returns : tie.Need-returns
 unfolding entryLimit
 returns c = not-full _ (c .if1 .taken)
-
-code-given-requires : tie.Need-code-given-requires
-code-given-requires c κs = search needs
 
 returns-2 : tie.Need-returns-2
 unfolding entryLimit
 returns-2 c = full-given (c .before .if1 .left) (c .code-given .ensures)
 
 pub is-full-spec : {M : Type 1} → statement M
-is-full-spec = tie.close (tie.spec cast-if1 returns code-given-requires returns-2)
+is-full-spec = tie.close (tie.spec (λ c. search needs) returns (λ c κs. search needs) returns-2)

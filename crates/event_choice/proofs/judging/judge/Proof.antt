@@ -1,6 +1,6 @@
 -- After t visits the verdict is that on the tracks below t. Assumes nothing.
-use mathlib.Core.Path.{_≡_, refl, sym, ap, _∙_}
-use mathlib.Core.Bool.{true, false, cond, not, _||_}
+use mathlib.Core.Path.{_≡_, refl, ap, _∙_}
+use mathlib.Core.Bool.{cond, not, _||_}
 use Prim.Native.Nat.{_≤_, _-_}
 use native.Mathlib.Omega.{arith}
 use denote.Ref.{now}
@@ -29,24 +29,6 @@ loop-holds : tie.Need-loop-holds Inv-loop μ-loop
 unfolding countBelow everyBelow someBelow
 loop-holds c = (omega arith, omega arith, refl, refl, refl)
 
-track-requires : tie.Need-track-requires Inv-loop μ-loop
-track-requires c κs = search needs
-
-mul-x : tie.Need-mul-x Inv-loop μ-loop
-mul-x c = search needs
-
-element-copy-out-x : tie.Need-element-copy-out-x Inv-loop μ-loop
-element-copy-out-x c = search needs
-
-element-copy-out-closes : tie.Need-element-copy-out-closes Inv-loop μ-loop
-element-copy-out-closes c = search needs
-
-one-where-requires : tie.Need-one-where-requires Inv-loop μ-loop
-one-where-requires c κs = search needs
-
-add-closed : tie.Need-add-closed Inv-loop μ-loop
-add-closed c = search needs
-
 root-ends-requires : tie.Need-root-ends-requires Inv-loop μ-loop
 unfolding noState
 root-ends-requires c κs =
@@ -54,24 +36,12 @@ root-ends-requires c κs =
     let b = c .before .before .before .before .loop-test .taken in
     (a .0 .checked .lent .accepts, state-low _ _ _ _ (a .0) b (c .before .before .before .track .ensures), a .1 .low _ b, b)
 
-both-requires : tie.Need-both-requires Inv-loop μ-loop
-both-requires c κs = search needs
-
 is-full-requires : tie.Need-is-full-requires Inv-loop μ-loop
 unfolding noState
 is-full-requires c κs =
     let a = c .before .before .before .before .before .before .before .before .before .before .pre in
     let b = c .before .before .before .before .before .before .loop-test .taken in
     (a .0 .checked .lent .accepts, state-low _ _ _ _ (a .0) b (c .before .before .before .before .before .track .ensures), a .1 .low _ b)
-
-either-requires : tie.Need-either-requires Inv-loop μ-loop
-either-requires c κs = search needs
-
-add-t : tie.Need-add-t Inv-loop μ-loop
-add-t c = search needs
-
-loop-less : tie.Need-loop-less Inv-loop μ-loop
-loop-less c = search needs
 
 loop-again : tie.Need-loop-again Inv-loop μ-loop
 loop-again c =
@@ -103,4 +73,6 @@ returns c =
 pub judge-spec : {M : Type 1} → statement M
 judge-spec =
     tie.close
-    (tie.spec Inv-loop μ-loop loop-holds track-requires mul-x element-copy-out-x element-copy-out-closes one-where-requires add-closed root-ends-requires both-requires is-full-requires either-requires add-t loop-less loop-again returns)
+    (tie.spec Inv-loop μ-loop loop-holds (λ c κs. search needs) (λ c. search needs) (λ c. search needs) (λ c. search needs) (λ c κs. search needs)
+    (λ c. search needs) root-ends-requires (λ c κs. search needs) is-full-requires (λ c κs. search needs) (λ c. search needs) (λ c. search needs)
+    loop-again returns)

@@ -22,24 +22,6 @@ loop-holds : tie.Need-loop-holds Inv-loop μ-loop
 unfolding countBelow
 loop-holds c = (search needs, search needs, refl)
 
-mul-one-where : tie.Need-mul-one-where Inv-loop μ-loop
-mul-one-where c = search needs
-
-element-copy-out-one-where : tie.Need-element-copy-out-one-where Inv-loop μ-loop
-element-copy-out-one-where c = search needs
-
-one-where-requires : tie.Need-one-where-requires Inv-loop μ-loop
-one-where-requires c κs = search needs
-
-add-n : tie.Need-add-n Inv-loop μ-loop
-add-n c = search needs
-
-add-t : tie.Need-add-t Inv-loop μ-loop
-add-t c = search needs
-
-loop-less : tie.Need-loop-less Inv-loop μ-loop
-loop-less c = search needs
-
 loop-again : tie.Need-loop-again Inv-loop μ-loop
 unfolding noState
 loop-again c = (search needs, search needs, one-more _ _ _ _ (c .before .before .before .loop .inv .2) (c .one-where .ensures .0))
@@ -50,4 +32,5 @@ returns c = let e : c .before .loop .t ≡ c .before .before .args .c .tracks = 
 pub moves-spec : {M : Type 1} → statement M
 moves-spec =
     tie.close
-    (tie.spec Inv-loop μ-loop loop-holds mul-one-where element-copy-out-one-where one-where-requires add-n add-t loop-less loop-again returns)
+    (tie.spec Inv-loop μ-loop loop-holds (λ c. search needs) (λ c. search needs) (λ c κs. search needs) (λ c. search needs) (λ c. search needs)
+    (λ c. search needs) loop-again returns)

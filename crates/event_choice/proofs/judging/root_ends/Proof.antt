@@ -4,17 +4,11 @@ use borrow.Author.Needs.{needs}
 use Rattle.event_choice.proofs.judging.root_ends.Statement.{statement}
 use Rattle.event_choice.proofs.judging.root_ends.Tie as tie
 
-is-root-requires : tie.Need-is-root-requires
-is-root-requires c κs = search needs
-
 returns : tie.Need-returns
 returns c = or-stops (c .before .is-root .ensures) _ (c .if1 .taken)
-
-ends-requires : tie.Need-ends-requires
-ends-requires c κs = search needs
 
 returns-2 : tie.Need-returns-2
 returns-2 c = or-goes (c .before .before .is-root .ensures) (c .before .if1 .left) (c .ends .ensures)
 
 pub root-ends-spec : {M : Type 1} → statement M
-root-ends-spec = tie.close (tie.spec is-root-requires returns ends-requires returns-2)
+root-ends-spec = tie.close (tie.spec (λ c κs. search needs) returns (λ c κs. search needs) returns-2)

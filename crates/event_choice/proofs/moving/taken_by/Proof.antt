@@ -1,5 +1,4 @@
 -- After x visits a track's transition is the one found among those below x. Assumes nothing.
-use mathlib.Core.Path.{_≡_, refl, _∙_}
 use mathlib.Core.Logic.{inl, inr}
 use Prim.Native.Nat.{_≤_, _-_}
 use native.Mathlib.Omega.{arith}
@@ -26,30 +25,12 @@ loop-holds c =
     let a = c .before .before .args in
     (omega arith, numbers-none (c .before .before .pre .0 .checked .lent .room .few) (λ t. found-none (planOf (now (a .plan)) (a .c)) (ledgerOf (a .c) (now (a .ledger))) _ t))
 
-taker-requires : tie.Need-taker-requires Inv-loop μ-loop
-taker-requires c κs = search needs
-
-cast-taken : tie.Need-cast-taken Inv-loop μ-loop
-cast-taken c = search needs
-
-cast-taken-2 : tie.Need-cast-taken-2 Inv-loop μ-loop
-cast-taken-2 c = search needs
-
-mul-taken : tie.Need-mul-taken Inv-loop μ-loop
-mul-taken c = search needs
-
 array-write-taken : tie.Need-array-write-taken Inv-loop μ-loop
 unfolding noState
 array-write-taken c =
     let b = c .before .taker .ensures .low (c .if1 .taken) in
     let n = c .before .before .before .before .before .before .pre .0 .checked .lent .room .few in
     omega arith
-
-add-x : tie.Need-add-x Inv-loop μ-loop
-add-x c = search needs
-
-loop-less : tie.Need-loop-less Inv-loop μ-loop
-loop-less c = search needs
 
 loop-again : tie.Need-loop-again Inv-loop μ-loop
 unfolding noState
@@ -72,4 +53,5 @@ returns c = found-all _ _ _ (c .before .before .before .before .pre .0) _ (omega
 pub taken-by-spec : {M : Type 1} → statement M
 taken-by-spec =
     tie.close
-    (tie.spec Inv-loop μ-loop loop-holds taker-requires cast-taken cast-taken-2 mul-taken array-write-taken add-x loop-less loop-again returns)
+    (tie.spec Inv-loop μ-loop loop-holds (λ c κs. search needs) (λ c. search needs) (λ c. search needs) (λ c. search needs) array-write-taken
+    (λ c. search needs) (λ c. search needs) loop-again returns)

@@ -1,7 +1,6 @@
 -- Each test that fails leaves the transition to none; the last leaves it to its own track. Assumes nothing.
-use mathlib.Core.Path.{_≡_, sym, _∙_}
+use mathlib.Core.Path.{sym, _∙_}
 use native.Mathlib.Omega.{arith}
-use Prim.Native.Nat.{_<_}
 use borrow.Author.Tests.{not-true, not-false}
 use Rattle.rules.specs.Plan.{noState}
 use Rattle.event_choice.proofs.Visits.{source-low, mover-low}
@@ -10,26 +9,14 @@ use borrow.Author.Needs.{needs}
 use Rattle.event_choice.proofs.moving.taker.Statement.{statement}
 use Rattle.event_choice.proofs.moving.taker.Tie as tie
 
-event-of-requires : tie.Need-event-of-requires
-event-of-requires c κs = search needs
-
 returns : tie.Need-returns
 unfolding noState
 returns c = other-event _ _ _ (c .before .before .before .before .pre .0) _ _ (c .before .event-of .ensures) (c .if1 .taken)
-
-source-of-requires : tie.Need-source-of-requires
-source-of-requires c κs = search needs
-
-cast-track-of : tie.Need-cast-track-of
-cast-track-of c = search needs
 
 track-of-requires : tie.Need-track-of-requires
 track-of-requires c κs =
     let a = c .before .before .before .before .before .pre in
     (a .0 .checked .lent .accepts .holds, source-low _ _ (a .0 .checked .lent .accepts) (a .1) (c .source-of .ensures))
-
-cast-t : tie.Need-cast-t
-cast-t c = search needs
 
 element-copy-out-if2 : tie.Need-element-copy-out-if2
 element-copy-out-if2 c =
@@ -58,9 +45,6 @@ returns-3 c =
     other-source _ _ _ (a .0) _ _ (c .before .before .before .before .before .before .before .before .event-of .ensures) (c .before .before .before .before .before .before .before .if1 .left)
     (c .before .before .before .before .before .before .source-of .ensures) (c .before .before .before .before .before .track-of .ensures) (c .before .before .track .ensures) (c .if3 .taken)
 
-is-forward-requires : tie.Need-is-forward-requires
-is-forward-requires c κs = search needs
-
 returns-4 : tie.Need-returns-4
 unfolding noState
 returns-4 c =
@@ -83,4 +67,5 @@ returns-5 c =
 pub taker-spec : {M : Type 1} → statement M
 taker-spec =
     tie.close
-    (tie.spec event-of-requires returns source-of-requires cast-track-of track-of-requires cast-t element-copy-out-if2 returns-2 track-requires returns-3 is-forward-requires returns-4 returns-5)
+    (tie.spec (λ c κs. search needs) returns (λ c κs. search needs) (λ c. search needs) track-of-requires (λ c. search needs) element-copy-out-if2
+    returns-2 track-requires returns-3 (λ c κs. search needs) returns-4 returns-5)

@@ -7,26 +7,14 @@ use Rattle.event_step.proofs.event.event.Tie as tie
 returns : tie.Need-returns
 returns c = event-zero _ _ _ (c .before .before .before .pre) _ (c .if1 .taken)
 
-is-over-requires : tie.Need-is-over-requires
-is-over-requires c κs = search needs
-
-same-length : tie.Need-same-length
-same-length c = search needs
-
 returns-2 : tie.Need-returns-2
 returns-2 c = event-over _ _ _ (c .before .before .before .before .before .before .pre) _ (c .before .before .before .if1 .left) _ (c .before .is-over .ensures) (c .if2 .taken)
 
 choose-requires : tie.Need-choose-requires
 choose-requires c κs = going-of _ _ _ (c .before .before .before .before .before .before .before .pre) _ (c .before .before .before .before .if1 .left) _ (c .before .before .is-over .ensures) (c .before .if2 .left)
 
-firsts-where-requires : tie.Need-firsts-where-requires
-firsts-where-requires c κs = search needs
-
 go-on-requires : tie.Need-go-on-requires
 go-on-requires c κs = (going-of _ _ _ (c .before .before .before .before .before .before .before .before .before .before .before .pre) _ (c .before .before .before .before .before .before .before .before .if1 .left) _ (c .before .before .before .before .before .before .is-over .ensures) (c .before .before .before .before .before .if2 .left), c .before .before .before .choose .ensures .0, c .before .before .firsts-where .ensures)
-
-same-length-2 : tie.Need-same-length-2
-same-length-2 c = search needs
 
 returns-3 : tie.Need-returns-3
 returns-3 c = event-going _ _ _ (c .before .before .before .before .before .before .before .before .before .before .before .before .before .before .pre) _ (c .before .before .before .before .before .before .before .before .before .before .before .if1 .left) _ (c .before .before .before .before .before .before .before .before .before .is-over .ensures) (c .before .before .before .before .before .before .before .before .if2 .left) _ _ (rw (c .before .before .before .before .before .before .choose .ensures .1) at (c .before .before .go-on .ensures))
@@ -34,13 +22,5 @@ returns-3 c = event-going _ _ _ (c .before .before .before .before .before .befo
 pub event-spec : {M : Type 1} → statement M
 event-spec =
     tie.close
-    (tie.spec
-    returns
-    is-over-requires
-    same-length
-    returns-2
-    choose-requires
-    firsts-where-requires
-    go-on-requires
-    same-length-2
+    (tie.spec returns (λ c κs. search needs) (λ c. search needs) returns-2 choose-requires (λ c κs. search needs) go-on-requires (λ c. search needs)
     returns-3)

@@ -7,12 +7,6 @@ use Rattle.event_step.proofs.event.event_indexed.Tie as tie
 returns : tie.Need-returns
 returns c = event-zero _ _ _ (c .before .before .before .pre .0) _ (c .if1 .taken)
 
-is-over-requires : tie.Need-is-over-requires
-is-over-requires c κs = search needs
-
-same-length : tie.Need-same-length
-same-length c = search needs
-
 returns-2 : tie.Need-returns-2
 returns-2 c = event-over _ _ _ (c .before .before .before .before .before .before .pre .0) _ (c .before .before .before .if1 .left) _ (c .before .is-over .ensures) (c .if2 .taken)
 
@@ -22,21 +16,10 @@ choose-indexed-requires c κs = (going-of _ _ _ (c .before .before .before .befo
 go-on-requires : tie.Need-go-on-requires
 go-on-requires c κs = (going-of _ _ _ (c .before .before .before .before .before .before .before .before .before .pre .0) _ (c .before .before .before .before .before .before .if1 .left) _ (c .before .before .before .before .is-over .ensures) (c .before .before .before .if2 .left), c .before .choose-indexed .ensures .0, λ _. c .before .before .before .before .before .before .before .before .before .pre .1)
 
-same-length-2 : tie.Need-same-length-2
-same-length-2 c = search needs
-
 returns-3 : tie.Need-returns-3
 returns-3 c = event-going _ _ _ (c .before .before .before .before .before .before .before .before .before .before .before .before .pre .0) _ (c .before .before .before .before .before .before .before .before .before .if1 .left) _ (c .before .before .before .before .before .before .before .is-over .ensures) (c .before .before .before .before .before .before .if2 .left) _ _ (rw (c .before .before .before .before .choose-indexed .ensures .1) at (c .before .before .go-on .ensures))
 
 pub event-indexed-spec : {M : Type 1} → statement M
 event-indexed-spec =
     tie.close
-    (tie.spec
-    returns
-    is-over-requires
-    same-length
-    returns-2
-    choose-indexed-requires
-    go-on-requires
-    same-length-2
-    returns-3)
+    (tie.spec returns (λ c κs. search needs) (λ c. search needs) returns-2 choose-indexed-requires go-on-requires (λ c. search needs) returns-3)

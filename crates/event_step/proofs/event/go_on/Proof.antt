@@ -16,11 +16,8 @@ write-requires c κs =
     let a = c .before .before .before .before .before .pre in
     (a .0, a .1, c .before .before .if1 .left, a .2 (c .before .if2 .left))
 
-same-length : tie.Need-same-length
-same-length c = search needs
-
 returns-3 : tie.Need-returns-3
 returns-3 c = step-met _ _ _ (c .before .before .before .before .before .before .before .before .pre .0) _ (c .before .before .before .before .before .before .before .before .pre .1, refl) (c .before .before .before .before .before .if1 .left) (c .before .before .write .ensures)
 
 pub go-on-spec : {M : Type 1} → statement M
-go-on-spec = tie.close (tie.spec returns returns-2 write-requires same-length returns-3)
+go-on-spec = tie.close (tie.spec returns returns-2 write-requires (λ c. search needs) returns-3)

@@ -6,15 +6,9 @@ use borrow.Author.Needs.{needs}
 use Rattle.lookup.proofs.opens.inside.Statement.{statement}
 use Rattle.lookup.proofs.opens.inside.Tie as tie
 
-is-awake-requires : tie.Need-is-awake-requires
-is-awake-requires c κs = search needs
-
 returns : tie.Need-returns
 unfolding noState
 returns c = host-unless _ _ _ (c .before .before .before .before .pre .0 .accepts) (fails (c .before .is-awake .ensures) (c .if1 .taken))
-
-host-track-requires : tie.Need-host-track-requires
-host-track-requires c κs = search needs
 
 returns-2 : tie.Need-returns-2
 returns-2 c =
@@ -22,4 +16,4 @@ returns-2 c =
     (holds (c .before .before .is-awake .ensures) (c .before .if1 .left))
 
 pub inside-spec : {M : Type 1} → statement M
-inside-spec = tie.close (tie.spec is-awake-requires returns host-track-requires returns-2)
+inside-spec = tie.close (tie.spec (λ c κs. search needs) returns (λ c κs. search needs) returns-2)

@@ -52,21 +52,9 @@ loop-holds : tie.Need-loop-holds Inv-loop μ-loop
 unfolding someBelow
 loop-holds c = (omega arith, figure-each false _ false _ (c .before .before .pre .accepts .holds .tracks) (λ t l. refl))
 
-inside-requires : tie.Need-inside-requires Inv-loop μ-loop
-inside-requires c κs = search needs
-
-cast-opens : tie.Need-cast-opens Inv-loop μ-loop
-cast-opens c = search needs
-
 array-write-opens : tie.Need-array-write-opens Inv-loop μ-loop
 unfolding noState
 array-write-opens c = let b = c .before .inside .ensures .low (c .if1 .taken) in let n = c .before .before .before .before .before .before .pre .accepts .holds .tracks in omega arith
-
-add-t : tie.Need-add-t Inv-loop μ-loop
-add-t c = search needs
-
-loop-less : tie.Need-loop-less Inv-loop μ-loop
-loop-less c = search needs
 
 loop-again : tie.Need-loop-again Inv-loop μ-loop
 unfolding noState
@@ -91,4 +79,5 @@ returns c =
 pub open-scopes-spec : {M : Type 1} → statement M
 open-scopes-spec =
     tie.close
-    (tie.spec Inv-loop μ-loop loop-holds inside-requires cast-opens array-write-opens add-t loop-less loop-again returns)
+    (tie.spec Inv-loop μ-loop loop-holds (λ c κs. search needs) (λ c. search needs) array-write-opens (λ c. search needs) (λ c. search needs)
+    loop-again returns)

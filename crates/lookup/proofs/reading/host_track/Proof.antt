@@ -6,15 +6,9 @@ use borrow.Author.Needs.{needs}
 use Rattle.lookup.proofs.reading.host_track.Statement.{statement}
 use Rattle.lookup.proofs.reading.host_track.Tie as tie
 
-host-word-requires : tie.Need-host-word-requires
-host-word-requires c κs = search needs
-
 returns : tie.Need-returns
 unfolding noState
 returns c = host-root _ _ _ (c .before .host-word .ensures) (c .if1 .taken)
-
-cast-track-of : tie.Need-cast-track-of
-cast-track-of c = search needs
 
 track-of-requires : tie.Need-track-of-requires
 unfolding noState
@@ -25,5 +19,4 @@ unfolding noState
 returns-2 c = c .track-of .ensures ∙ host-track _ _ _ (c .before .before .host-word .ensures) (c .before .if1 .left)
 
 pub host-track-spec : {M : Type 1} → statement M
-host-track-spec =
-    tie.close (tie.spec host-word-requires returns cast-track-of track-of-requires returns-2)
+host-track-spec = tie.close (tie.spec (λ c κs. search needs) returns (λ c. search needs) track-of-requires returns-2)

@@ -6,14 +6,8 @@ use borrow.Author.Needs.{needs}
 use Rattle.lookup.proofs.reading.is_awake.Statement.{statement}
 use Rattle.lookup.proofs.reading.is_awake.Tie as tie
 
-track-requires : tie.Need-track-requires
-track-requires c κs = search needs
-
-is-awake-requires : tie.Need-is-awake-requires
-is-awake-requires c κs = search needs
-
 returns : tie.Need-returns
 returns c = c .is-awake .ensures ∙ ap isAwake (mode-as _ (c .before .track .ensures))
 
 pub is-awake-spec : {M : Type 1} → statement M
-is-awake-spec = tie.close (tie.spec track-requires is-awake-requires returns)
+is-awake-spec = tie.close (tie.spec (λ c κs. search needs) (λ c κs. search needs) returns)

@@ -20,17 +20,8 @@ loop-holds : tie.Need-loop-holds Inv-loop μ-loop
 unfolding everyBelow
 loop-holds c = (search needs, refl)
 
-is-awake-requires : tie.Need-is-awake-requires Inv-loop μ-loop
-is-awake-requires c κs = search needs
-
 returns : tie.Need-returns Inv-loop μ-loop
 returns c = (every-stops _ _ _ (ap not (c .before .is-awake .ensures)) (ap not (c .if1 .taken)) (search needs))
-
-add-t : tie.Need-add-t Inv-loop μ-loop
-add-t c = search needs
-
-loop-less : tie.Need-loop-less Inv-loop μ-loop
-loop-less c = search needs
 
 loop-again : tie.Need-loop-again Inv-loop μ-loop
 loop-again c = (search needs, every-next _ _ (c .before .before .before .loop .inv .1) (ap not (c .before .is-awake .ensures)) (ap not (c .if1 .left)))
@@ -39,15 +30,4 @@ returns-2 : tie.Need-returns-2 Inv-loop μ-loop
 returns-2 c = (every-ends _ _ _ (c .before .loop .inv .1) (search needs) (search needs))
 
 pub is-over-spec : {M : Type 1} → statement M
-is-over-spec =
-    tie.close
-    (tie.spec
-    Inv-loop
-    μ-loop
-    loop-holds
-    is-awake-requires
-    returns
-    add-t
-    loop-less
-    loop-again
-    returns-2)
+is-over-spec = tie.close (tie.spec Inv-loop μ-loop loop-holds (λ c κs. search needs) returns (λ c. search needs) (λ c. search needs) loop-again returns-2)

@@ -8,12 +8,6 @@ use borrow.Author.Needs.{needs}
 use Rattle.lookup.proofs.ready.is_ready.Statement.{statement}
 use Rattle.lookup.proofs.ready.is_ready.Tie as tie
 
-track-requires : tie.Need-track-requires
-track-requires c κs = search needs
-
-is-undoing-requires : tie.Need-is-undoing-requires
-is-undoing-requires c κs = search needs
-
 returns : tie.Need-returns
 returns c =
     fire-not _ _ _ _ (c .before .before .before .before .before .pre .1)
@@ -25,9 +19,6 @@ returns-2 c =
     fire-nothing _ _ _ _ (c .before .before .before .before .before .before .before .pre .1)
     (holds (c .before .before .before .is-undoing .ensures ∙ ap isUndoing (mode-as _ k)) (c .before .before .if1 .left)) (empty-as _ k (c .if2 .taken))
 
-element-copy-out-result : tie.Need-element-copy-out-result
-element-copy-out-result c = search needs
-
 returns-3 : tie.Need-returns-3
 returns-3 c =
     let k = c .before .before .before .before .before .track .ensures in
@@ -36,4 +27,4 @@ returns-3 c =
     (held-as _ k (c .before .if2 .left)) (pre .2 .at _ (pre .1))
 
 pub is-ready-spec : {M : Type 1} → statement M
-is-ready-spec = tie.close (tie.spec track-requires is-undoing-requires returns returns-2 element-copy-out-result returns-3)
+is-ready-spec = tie.close (tie.spec (λ c κs. search needs) (λ c κs. search needs) returns returns-2 (λ c. search needs) returns-3)

@@ -4,23 +4,11 @@ use borrow.Author.Needs.{needs}
 use Rattle.opening.proofs.begin.begin_all.Statement.{statement}
 use Rattle.opening.proofs.begin.begin_all.Tie as tie
 
-put-all-to-sleep-requires : tie.Need-put-all-to-sleep-requires
-put-all-to-sleep-requires c κs = search needs
-
-first-states-requires : tie.Need-first-states-requires
-first-states-requires c κs = search needs
-
-root-words-requires : tie.Need-root-words-requires
-root-words-requires c κs = search needs
-
 enter-all-requires : tie.Need-enter-all-requires
 enter-all-requires c κs =
     let a = c .before .before .before .before .before .before .before .before .before .before .pre in
     let s = c .before .before .before .before .before .before .put-all-to-sleep .ensures in
     (a .accepts, begin-tidy _ _ (a .accepts) _ (a .room) s, c .before .before .before .first-states .ensures, begin-sleepers _ _ (a .accepts) _ (a .room) s _)
-
-same-length : tie.Need-same-length
-same-length c = search needs
 
 returns : tie.Need-returns
 returns c =
@@ -28,6 +16,4 @@ returns c =
     begin-done _ _ (a .accepts) _ (a .room) (c .before .before .before .before .before .before .before .before .before .put-all-to-sleep .ensures) _ (c .before .before .before .before .root-words .ensures) (c .before .before .enter-all .ensures)
 
 pub begin-all-spec : {M : Type 1} → statement M
-begin-all-spec =
-    tie.close
-    (tie.spec put-all-to-sleep-requires first-states-requires root-words-requires enter-all-requires same-length returns)
+begin-all-spec = tie.close (tie.spec (λ c κs. search needs) (λ c κs. search needs) (λ c κs. search needs) enter-all-requires (λ c. search needs) returns)

@@ -5,21 +5,12 @@ use borrow.Author.Needs.{needs}
 use Rattle.opening.proofs.begin.root_word.Statement.{statement}
 use Rattle.opening.proofs.begin.root_word.Tie as tie
 
-is-root-requires : tie.Need-is-root-requires
-is-root-requires c κs = search needs
-
 returns : tie.Need-returns
 unfolding noState
 returns c = let a = c .before .before .before .pre in not-rooted _ _ (a .0) _ (a .1) (c .before .is-root .ensures) (c .if1 .taken)
-
-mul-result : tie.Need-mul-result
-mul-result c = search needs
-
-element-copy-out-result : tie.Need-element-copy-out-result
-element-copy-out-result c = search needs
 
 returns-2 : tie.Need-returns-2
 returns-2 c = let a = c .before .before .before .before .pre in rooted _ _ (a .0) _ (a .1) (c .before .before .is-root .ensures) (c .before .if1 .left) (a .2 .at _ (a .1))
 
 pub root-word-spec : {M : Type 1} → statement M
-root-word-spec = tie.close (tie.spec is-root-requires returns mul-result element-copy-out-result returns-2)
+root-word-spec = tie.close (tie.spec (λ c κs. search needs) returns (λ c. search needs) (λ c. search needs) returns-2)

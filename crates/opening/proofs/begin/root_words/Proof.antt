@@ -18,20 +18,8 @@ abbrev μ-loop : tie.MeasureT-loop
 loop-holds : tie.Need-loop-holds Inv-loop μ-loop
 loop-holds c = (omega arith, numbers-empty _ _)
 
-root-word-requires : tie.Need-root-word-requires Inv-loop μ-loop
-root-word-requires c κs = search needs
-
-mul-to : tie.Need-mul-to Inv-loop μ-loop
-mul-to c = search needs
-
 array-write-to : tie.Need-array-write-to Inv-loop μ-loop
 array-write-to c = let n = c .before .before .before .before .pre .0 .holds .tracks in omega arith
-
-add-t : tie.Need-add-t Inv-loop μ-loop
-add-t c = search needs
-
-loop-less : tie.Need-loop-less Inv-loop μ-loop
-loop-less c = search needs
 
 loop-again : tie.Need-loop-again Inv-loop μ-loop
 loop-again c =
@@ -44,4 +32,5 @@ returns c = numbers-all (omega arith) (c .before .loop .inv .1)
 pub root-words-spec : {M : Type 1} → statement M
 root-words-spec =
     tie.close
-    (tie.spec Inv-loop μ-loop loop-holds root-word-requires mul-to array-write-to add-t loop-less loop-again returns)
+    (tie.spec Inv-loop μ-loop loop-holds (λ c κs. search needs) (λ c. search needs) array-write-to (λ c. search needs) (λ c. search needs) loop-again
+    returns)

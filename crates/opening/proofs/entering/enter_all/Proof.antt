@@ -25,13 +25,10 @@ abbrev μ-loop : tie.MeasureT-loop
 μ-loop plan c ledger₀ firsts to woken tracks t₀ ledger t = c .tracks - t
 
 woken-by-requires : tie.Need-woken-by-requires Inv-loop μ-loop
-woken-by-requires c κs = (c .before .before .before .before .pre .0, c .before .before .before .before .pre .2)
+woken-by-requires c κs = let a = c .before .before .before .before .pre in (a .0, a .2)
 
 loop-holds : tie.Need-loop-holds Inv-loop μ-loop
-loop-holds c = (omega arith, entering-start _ _ (c .before .before .before .before .before .pre .1) _ _ (c .before .before .before .before .before .pre .2) (c .woken-by .ensures))
-
-mul-enter-track : tie.Need-mul-enter-track Inv-loop μ-loop
-mul-enter-track c = search needs
+loop-holds c = let a = c .before .before .before .before .before .pre in (omega arith, entering-start _ _ (a .1) _ _ (a .2) (c .woken-by .ensures))
 
 array-read-enter-track : tie.Need-array-read-enter-track Inv-loop μ-loop
 array-read-enter-track c = let n = c .before .before .before .before .before .before .before .before .pre .0 .holds .tracks in omega arith
@@ -39,46 +36,34 @@ array-read-enter-track c = let n = c .before .before .before .before .before .be
 array-read-enter-track-2 : tie.Need-array-read-enter-track-2 Inv-loop μ-loop
 array-read-enter-track-2 c = let n = c .before .before .before .before .before .before .before .before .pre .0 .holds .tracks in omega arith
 
-mul-enter-track-2 : tie.Need-mul-enter-track-2 Inv-loop μ-loop
-mul-enter-track-2 c = search needs
-
 array-read-enter-track-3 : tie.Need-array-read-enter-track-3 Inv-loop μ-loop
 array-read-enter-track-3 c = let n = c .before .before .before .before .before .before .before .before .pre .0 .holds .tracks in omega arith
 
 enter-track-requires : tie.Need-enter-track-requires Inv-loop μ-loop
-enter-track-requires c κs = (entering-tidy _ _ (c .before .before .before .before .before .before .before .before .pre .1) _ _ (c .before .before .before .before .before .before .before .before .pre .2) (c .before .before .before .woken-by .ensures) _ (c .before .before .loop .inv .0) (c .before .before .loop .inv .1), search needs, entering-asleep _ _ (c .before .before .before .before .before .before .before .before .pre .1) _ _ (c .before .before .before .before .before .before .before .before .pre .2) (c .before .before .before .woken-by .ensures) _ (c .before .before .loop .inv .0) (c .before .before .loop .inv .1) (omega arith) (c .before .before .before .before .before .before .before .before .pre .3))
-
-add-t : tie.Need-add-t Inv-loop μ-loop
-add-t c = search needs
-
-loop-less : tie.Need-loop-less Inv-loop μ-loop
-loop-less c = search needs
+enter-track-requires c κs =
+    let a = c .before .before .before .before .before .before .before .before .pre in
+    let w = c .before .before .before .woken-by .ensures in
+    let i = c .before .before .loop .inv in
+    (entering-tidy _ _ (a .1) _ _ (a .2) w _ (i .0) (i .1), search needs, entering-asleep _ _ (a .1) _ _ (a .2) w _ (i .0) (i .1) (omega arith) (a .3))
 
 loop-again : tie.Need-loop-again Inv-loop μ-loop
-loop-again c = (omega arith, entering-more _ _ (c .before .before .before .before .before .before .before .before .before .before .before .pre .1) _ _ (c .before .before .before .before .before .before .before .before .before .before .before .pre .2) (c .before .before .before .before .before .before .woken-by .ensures) _ (c .before .before .before .before .before .loop .inv .0) (c .before .before .before .before .before .loop .inv .1) (c .before .before .enter-track .ensures))
+loop-again c =
+    let a = c .before .before .before .before .before .before .before .before .before .before .before .pre in
+    let i = c .before .before .before .before .before .loop .inv in
+    (omega arith, entering-more _ _ (a .1) _ _ (a .2) (c .before .before .before .before .before .before .woken-by .ensures) _ (i .0) (i .1) (c .before .before .enter-track .ensures))
 
 same-length : tie.Need-same-length Inv-loop μ-loop
-same-length c = entering-length _ _ (c .before .before .before .before .before .before .before .pre .1) _ _ (c .before .before .before .before .before .before .before .pre .2) (c .before .before .woken-by .ensures) _ (c .before .loop .inv .0) (c .before .loop .inv .1)
+same-length c =
+    let a = c .before .before .before .before .before .before .before .pre in
+    entering-length _ _ (a .1) _ _ (a .2) (c .before .before .woken-by .ensures) _ (c .before .loop .inv .0) (c .before .loop .inv .1)
 
 returns : tie.Need-returns Inv-loop μ-loop
-returns c = entering-end _ _ (c .before .before .before .before .before .before .before .pre .1) _ _ (c .before .before .before .before .before .before .before .pre .2) (c .before .before .woken-by .ensures) _ (c .before .loop .inv .0) (c .before .loop .inv .1) (omega arith)
+returns c =
+    let a = c .before .before .before .before .before .before .before .pre in
+    entering-end _ _ (a .1) _ _ (a .2) (c .before .before .woken-by .ensures) _ (c .before .loop .inv .0) (c .before .loop .inv .1) (omega arith)
 
 pub enter-all-spec : {M : Type 1} → statement M
 enter-all-spec =
     tie.close
-    (tie.spec
-    Inv-loop
-    μ-loop
-    woken-by-requires
-    loop-holds
-    mul-enter-track
-    array-read-enter-track
-    array-read-enter-track-2
-    mul-enter-track-2
-    array-read-enter-track-3
-    enter-track-requires
-    add-t
-    loop-less
-    loop-again
-    same-length
-    returns)
+    (tie.spec Inv-loop μ-loop woken-by-requires loop-holds (λ c. search needs) array-read-enter-track array-read-enter-track-2 (λ c. search needs)
+    array-read-enter-track-3 enter-track-requires (λ c. search needs) (λ c. search needs) loop-again same-length returns)

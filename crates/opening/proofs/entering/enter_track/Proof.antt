@@ -6,12 +6,6 @@ use borrow.Author.Needs.{needs}
 use Rattle.opening.proofs.entering.enter_track.Statement.{statement}
 use Rattle.opening.proofs.entering.enter_track.Tie as tie
 
-put-mode-requires : tie.Need-put-mode-requires
-put-mode-requires c κs = search needs
-
-same-length : tie.Need-same-length
-same-length c = search needs
-
 returns : tie.Need-returns
 unfolding noState
 returns c = enter-state _ _ (c .before .before .before .before .before .before .pre .0) _ _ _ _ (c .before .before .before .before .if1 .taken) (c .before .before .put-mode .ensures)
@@ -20,24 +14,9 @@ returns-2 : tie.Need-returns-2
 unfolding noState
 returns-2 c = enter-not _ _ (c .before .before .before .pre .0) _ _ _ _ (c .before .if1 .left) (not-true _ (c .if2 .taken))
 
-put-mode-requires-2 : tie.Need-put-mode-requires-2
-put-mode-requires-2 c κs = search needs
-
-same-length-2 : tie.Need-same-length-2
-same-length-2 c = search needs
-
 returns-3 : tie.Need-returns-3
 unfolding noState
 returns-3 c = let w = not-false _ (c .before .before .before .before .if2 .left) in enter-first _ _ (c .before .before .before .before .before .before .before .pre .0) _ _ _ _ (c .before .before .before .before .before .if1 .left) w (c .before .before .before .before .before .before .before .pre .2 w) (c .before .before .put-mode2 .ensures)
 
 pub enter-track-spec : {M : Type 1} → statement M
-enter-track-spec =
-    tie.close
-    (tie.spec
-    put-mode-requires
-    same-length
-    returns
-    returns-2
-    put-mode-requires-2
-    same-length-2
-    returns-3)
+enter-track-spec = tie.close (tie.spec (λ c κs. search needs) (λ c. search needs) returns returns-2 (λ c κs. search needs) (λ c. search needs) returns-3)

@@ -8,27 +8,15 @@ use borrow.Author.Needs.{needs}
 use Rattle.opening.proofs.waking.wakes.Statement.{statement}
 use Rattle.opening.proofs.waking.wakes.Tie as tie
 
-host-word-requires : tie.Need-host-word-requires
-host-word-requires c κs = search needs
-
 returns : tie.Need-returns
 unfolding noState
 returns c = root-asleep _ _ (c .before .before .before .pre .0) _ _ _ (c .before .host-word .ensures) (c .if1 .taken)
-
-cast-track-of : tie.Need-cast-track-of
-cast-track-of c = search needs
 
 track-of-requires : tie.Need-track-of-requires
 unfolding noState
 track-of-requires c κs =
     let a = c .before .before .before .pre .0 in
     (a .holds, host-low _ _ _ _ a (c .before .host-word .ensures) (c .if1 .left))
-
-cast-u : tie.Need-cast-u
-cast-u c = search needs
-
-mul-s : tie.Need-mul-s
-mul-s c = search needs
 
 element-copy-out-s : tie.Need-element-copy-out-s
 unfolding noState
@@ -56,9 +44,6 @@ returns-3 c =
     let a = c .before .before .before .before .before .before .before .before .pre in
     wakes-not _ _ (a .0) _ _ _ (c .before .before .before .before .before .before .host-word .ensures) (c .before .before .before .before .before .if1 .left) _ (c .before .before .before .before .track-of .ensures) (c .before .before .if2 .left) _ (a .3) (not-true _ (c .if3 .taken))
 
-mul-result : tie.Need-mul-result
-mul-result c = search needs
-
 element-copy-out-result : tie.Need-element-copy-out-result
 unfolding noState
 element-copy-out-result c =
@@ -77,4 +62,5 @@ returns-4 c =
 pub wakes-spec : {M : Type 1} → statement M
 wakes-spec =
     tie.close
-    (tie.spec host-word-requires returns cast-track-of track-of-requires cast-u mul-s element-copy-out-s returns-2 element-copy-out-if3 returns-3 mul-result element-copy-out-result returns-4)
+    (tie.spec (λ c κs. search needs) returns (λ c. search needs) track-of-requires (λ c. search needs) (λ c. search needs) element-copy-out-s
+    returns-2 element-copy-out-if3 returns-3 (λ c. search needs) element-copy-out-result returns-4)

@@ -20,17 +20,8 @@ abbrev μ-loop : tie.MeasureT-loop
 loop-holds : tie.Need-loop-holds Inv-loop μ-loop
 loop-holds c = (omega arith, figure-none _ _ _)
 
-wakes-requires : tie.Need-wakes-requires Inv-loop μ-loop
-wakes-requires c κs = search needs
-
 array-write-woken : tie.Need-array-write-woken Inv-loop μ-loop
 array-write-woken c = let n = c .before .before .before .before .before .pre .0 .holds .tracks in omega arith
-
-add-t : tie.Need-add-t Inv-loop μ-loop
-add-t c = search needs
-
-loop-less : tie.Need-loop-less Inv-loop μ-loop
-loop-less c = search needs
 
 loop-again : tie.Need-loop-again Inv-loop μ-loop
 loop-again c =
@@ -41,4 +32,6 @@ returns : tie.Need-returns Inv-loop μ-loop
 returns c = figure-all _ _ _ _ _ (omega arith) (c .before .loop .inv .1)
 
 pub woken-by-spec : {M : Type 1} → statement M
-woken-by-spec = tie.close (tie.spec Inv-loop μ-loop loop-holds wakes-requires array-write-woken add-t loop-less loop-again returns)
+woken-by-spec =
+    tie.close
+    (tie.spec Inv-loop μ-loop loop-holds (λ c κs. search needs) array-write-woken (λ c. search needs) (λ c. search needs) loop-again returns)

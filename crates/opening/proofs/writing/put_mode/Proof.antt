@@ -5,17 +5,11 @@ use borrow.Author.Needs.{needs}
 use Rattle.opening.proofs.writing.put_mode.Statement.{statement}
 use Rattle.opening.proofs.writing.put_mode.Tie as tie
 
-track-requires : tie.Need-track-requires
-track-requires c κs = search needs
-
 put-track-requires : tie.Need-put-track-requires
 put-track-requires c κs = in-room _ _ _ (c .before .before .before .before .pre .0 .room) (c .before .before .before .before .pre .1)
-
-same-length : tie.Need-same-length
-same-length c = search needs
 
 returns : tie.Need-returns
 returns c = mode-put _ _ (c .before .before .before .before .before .before .before .pre .0) _ (c .before .before .before .before .before .before .before .pre .1) _ _ _ (c .before .before .before .before .track .ensures) (c .before .before .put-track .ensures)
 
 pub put-mode-spec : {M : Type 1} → statement M
-put-mode-spec = tie.close (tie.spec track-requires put-track-requires same-length returns)
+put-mode-spec = tie.close (tie.spec (λ c κs. search needs) put-track-requires (λ c. search needs) returns)
