@@ -36,6 +36,11 @@ count-zero (suc n) f h k l =
           ]
     ]
 
+-- no scope is due to close
+pub none-closing : (p : Plan) (l : Ledger) → closings p l ≡ 0 → (s : ℕ) → s < stateCount p → isClosing p l s ≡ false
+unfolding closings
+none-closing p l h s b = count-zero (stateCount p) (isClosing p l) h s b
+
 count-none : (n : ℕ) (f : ℕ → Bool) → ((k : ℕ) → f k ≡ false) → countBelow n f ≡ 0
 unfolding countBelow
 count-none zero f h = refl

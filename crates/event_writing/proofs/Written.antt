@@ -21,6 +21,7 @@ use Rattle.rules.proofs.Tests.{look, look-option, clash, none-some, refuted, an
 use Rattle.rules.proofs.Folds.{some-not}
 use Rattle.rules.proofs.Acceptance.{Accepted}
 use Rattle.rules.proofs.Opening.{wakes-root, wakes-same}
+use Rattle.rules.proofs.Closing.{closed-host, closed-root, closed-kept}
 use Rattle.rules.proofs.Soundness.{Live}
 use Rattle.rules.proofs.Stored.{Storable, written-same}
 use Rattle.plan.proofs.FieldLaws.{track-count}
@@ -37,6 +38,7 @@ use Rattle.event_choice.specs.Chosen.{Chosen}
 use Rattle.event_choice.proofs.Visits.{own-low}
 use Rattle.event_choice.proofs.Takers.{forward-awake}
 use Rattle.event_choice.proofs.Moved.{mover-facts, woken-asleep, moved-kept, moved-own, moved-up, closes-before, closing-still}
+use Rattle.event_choice.proofs.Still.{none-closing}
 use Rattle.event_choice.proofs.Choosing as choosing
 use Rattle.event_writing.specs.Writing.{Movers, Closings}
 use Rattle.event_writing.proofs.Installing.{installing-stores}
@@ -201,3 +203,24 @@ module _ (bs : List ℕ) (c : Counts) (ws : List ℕ) (g : Going bs c ws) (r : C
           all-written z x =
               then c ws o m stores-second second (closed p) x
               ∙ written-same entryLimit (c .tracks) _ _ ws (λ t b. sym (rw (sym (ch .finishing) ∙ z)))
+
+          -- no scope closes
+          pub none-closed : r .finishing ≡ false → r .closed ≡ 0 → us ≡ written entryLimit (c .tracks) (afterEvent p l e) ws
+          unfolding afterEvent finished closesScope
+          none-closed z n =
+              second ∙ written-same entryLimit (c .tracks) _ _ ws (λ t b. sym (rw (sym (ch .finishing) ∙ z) (kept t (omega (arith, track-count bs c)))))
+            where
+              due : (s : ℕ) → s < stateCount p → isClosing p m s ≡ false
+              due = none-closing p m (sym (ch .many-closed) ∙ n)
+
+              kept : (t : ℕ) → t < trackCount p → closed p m t ≡ m t
+              kept t b =
+                  closed-kept p m t
+                  (elim (look-option (host p t)) [
+                    | inl q ↦ closed-root p m t q
+                    | inr q ↦ closed-host p m t (q .0) (q .1) ∙ due (q .0) (ok .host-state t (q .0) (q .1))
+                  ])
+                  (refuted (closesScope p m t)
+                  (λ h.
+                  let a = and-true (isAwake (m t .mode)) _ h in
+                  clash (a .1) (due (m t .state) (own-low p t (m t .state) (moved-own p ok l live e t b (a .0))))))

@@ -138,7 +138,11 @@ pub fn write(plan: &[u8], c: Counts, ledger: &mut [u16], choice: Choice, firsts:
     }
     let taken = choice.taken;
     let closing = choice.closing;
+    let closed = choice.closed;
     let to = install_moves(plan, c, &mut ledger[..], &taken);
     entering::enter_all(plan, c, &mut ledger[..], *firsts, to);
+    if closed == 0 {
+        return;
+    }
     close_scopes(plan, c, &mut ledger[..], &closing);
 }

@@ -1,6 +1,6 @@
--- Every track sleeps; or the three passes follow one another. Assumes nothing.
+-- Every track sleeps; or the three passes follow one another, the last where some scope closes. Assumes nothing.
 use Rattle.lookup.proofs.Facts.{tidy-words}
-use Rattle.event_writing.proofs.Written.{in-range, movers, finish-written, first-tidy, sleepers, second-tidy, closings, all-written}
+use Rattle.event_writing.proofs.Written.{in-range, movers, finish-written, first-tidy, sleepers, second-tidy, closings, none-closed, all-written}
 use borrow.Author.Needs.{needs}
 use Rattle.event_writing.proofs.write.Statement.{statement}
 use Rattle.event_writing.proofs.write.Tie as tie
@@ -31,26 +31,35 @@ enter-all-requires c κs =
       sleepers _ _ _ (a .0) _ (a .1) (a .2) (m .0) (m .1),
     )
 
-close-scopes-requires : tie.Need-close-scopes-requires
-close-scopes-requires c κs =
-    let a = c .before .before .before .before .before .before .before .before .before .before .before .before .before .before .before .before .before .pre in
-    let m = c .before .before .before .before .before .before .before .before .before .install-moves .ensures in
-    let e = c .before .before .before .before .enter-all .ensures in (
-      a .0 .checked .lent .accepts,
-      second-tidy _ _ _ (a .0) _ (a .1) (a .2) (m .0) (m .1) e,
-      closings _ _ _ (a .0) _ (a .1) (a .2) (m .0) (m .1) e,
-    )
-
 same-length-2 : tie.Need-same-length-2
 same-length-2 c = search needs
 
 returns-2 : tie.Need-returns-2
 returns-2 c =
-    let a = c .before .before .before .before .before .before .before .before .before .before .before .before .before .before .before .before .before .before .before .before .pre in
-    let m = c .before .before .before .before .before .before .before .before .before .before .before .before .install-moves .ensures in
-    all-written _ _ _ (a .0) _ (a .1) (a .2) (m .0) (m .1) (c .before .before .before .before .before .before .before .enter-all .ensures) (c .before .before .before .before .before .before .before .before .before .before .before .before .before .before .before .before .before .if1 .left) (c .before .before .close-scopes .ensures)
+    let a = c .before .before .before .before .before .before .before .before .before .before .before .before .before .before .before .before .pre in
+    let m = c .before .before .before .before .before .before .before .before .install-moves .ensures in
+    none-closed _ _ _ (a .0) _ (a .1) (a .2) (m .0) (m .1) (c .before .before .before .enter-all .ensures) (c .before .before .before .before .before .before .before .before .before .before .before .before .before .if1 .left) (c .if2 .taken)
+
+close-scopes-requires : tie.Need-close-scopes-requires
+close-scopes-requires c κs =
+    let a = c .before .before .before .before .before .before .before .before .before .before .before .before .before .before .before .before .before .before .pre in
+    let m = c .before .before .before .before .before .before .before .before .before .before .install-moves .ensures in
+    let e = c .before .before .before .before .before .enter-all .ensures in (
+      a .0 .checked .lent .accepts,
+      second-tidy _ _ _ (a .0) _ (a .1) (a .2) (m .0) (m .1) e,
+      closings _ _ _ (a .0) _ (a .1) (a .2) (m .0) (m .1) e,
+    )
+
+same-length-3 : tie.Need-same-length-3
+same-length-3 c = search needs
+
+returns-3 : tie.Need-returns-3
+returns-3 c =
+    let a = c .before .before .before .before .before .before .before .before .before .before .before .before .before .before .before .before .before .before .before .before .before .pre in
+    let m = c .before .before .before .before .before .before .before .before .before .before .before .before .before .install-moves .ensures in
+    all-written _ _ _ (a .0) _ (a .1) (a .2) (m .0) (m .1) (c .before .before .before .before .before .before .before .before .enter-all .ensures) (c .before .before .before .before .before .before .before .before .before .before .before .before .before .before .before .before .before .before .if1 .left) (c .before .before .close-scopes .ensures)
 
 pub write-spec : {M : Type 1} → statement M
 write-spec =
     tie.close
-    (tie.spec put-all-to-sleep-requires same-length returns install-moves-requires enter-all-requires close-scopes-requires same-length-2 returns-2)
+    (tie.spec put-all-to-sleep-requires same-length returns install-moves-requires enter-all-requires same-length-2 returns-2 close-scopes-requires same-length-3 returns-3)
