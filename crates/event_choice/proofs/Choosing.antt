@@ -1,22 +1,22 @@
 -- From the passes to the choice: the words name the event's moves, so what was judged of those moves is what the rules say. Assumes nothing.
-use mathlib.Core.Path.{_≡_, sym, ap, _∙_, subst, fun-ext}
+use mathlib.Core.Path.{_≡_, refl, sym, ap, _∙_, subst, fun-ext}
 use mathlib.Core.Logic.{inl, inr}
-use mathlib.Core.Bool.{Bool, false, not}
+use mathlib.Core.Bool.{Bool, true, false, cond, not, _&&_}
 use mathlib.Core.List.{List}
-use mathlib.Core.Option.{none, some}
-use Prim.Native.Nat.{ℕ}
+use mathlib.Core.Option.{Option, none, some}
+use Prim.Native.Nat.{ℕ, _<_, _≤_}
 use native.Mathlib.Omega.{arith}
-use lib.Dec.{eqb, ltb}
-use lib.ListN.{getD, replicate}
+use lib.Dec.{eqb, leb, ltb}
+use lib.ListN.{length, getD, replicate}
 use borrow.Author.Tests.{ltb-true, ltb-false}
 use Rattle.rules.specs.declared.Counts.{Counts}
-use Rattle.rules.specs.Fold.{countBelow}
+use Rattle.rules.specs.Fold.{someBelow, countBelow}
 use Rattle.rules.specs.Layout.{entryLimit}
-use Rattle.rules.specs.Plan.{Plan, planOf, trackCount, noState, optional}
-use Rattle.rules.specs.Ledger.{Ledger, isForward, sleeping}
-use Rattle.rules.specs.Event.{isMove, move, moves, moved, closed, closings}
-use Rattle.rules.proofs.Tests.{look}
-use Rattle.rules.proofs.Folds.{count-same}
+use Rattle.rules.specs.Plan.{Plan, planOf, trackCount, transitionCount, noState, optional, transition, isFinal}
+use Rattle.rules.specs.Ledger.{Configuration, Ledger, isForward, sleeping}
+use Rattle.rules.specs.Event.{isMove, hasCode, move, moves, moved, closesScope, closed, closings, isFinishing, isFull}
+use Rattle.rules.proofs.Tests.{look, clash}
+use Rattle.rules.proofs.Folds.{some-not, some-same, count-same}
 use Rattle.rules.proofs.Acceptance.{Accepted, transition-for}
 use Rattle.rules.proofs.Soundness.{Live}
 use Rattle.plan.specs.Passes.{slots}
@@ -25,12 +25,14 @@ use Rattle.lookup.specs.Checked.{Going, ledgerOf}
 use Rattle.lookup.specs.Figures.{Figures, Numbers}
 use Rattle.lookup.proofs.Facts.{plan-facts, few-tracks, live-of-going, beyond}
 use Rattle.lookup.proofs.FiguresLaws.{figure-each}
+use Rattle.event_choice.specs.declared.Choice.{Choice}
+use Rattle.event_choice.specs.declared.judging.Survey.{Survey}
 use Rattle.event_choice.specs.declared.judging.Verdict.{Verdict}
-use Rattle.event_choice.specs.Next.{InRange, movesOf, closesNext}
-use Rattle.event_choice.specs.Chosen.{Judged, Chosen}
+use Rattle.event_choice.specs.Next.{InRange, movesOf, isLast, closesNext}
+use Rattle.event_choice.specs.Chosen.{Surveyed, Judged, Chosen}
 use Rattle.event_choice.proofs.Visits.{word-some, moves-at}
 use Rattle.event_choice.proofs.Moved.{mover-facts, closes-before, closings-before, finishes-before, full-before}
-use Rattle.event_choice.proofs.Still.{no-moves, still-closes, still-closings, still-finish, still-full}
+use Rattle.event_choice.proofs.Ending.{none-closes, no-closings, no-finish, full-moves}
 
 is-move : (p : Plan) (w : ℕ) → not (eqb w noState) ≡ isMove (optional w)
 unfolding optional isMove
@@ -80,22 +82,37 @@ module _ (bs : List ℕ) (c : Counts) (ws : List ℕ) (g : Going bs c ws) (event
       e ∙ ap (λ k. countBelow k (λ t. not (eqb (getD ts t 0) noState))) (sym (track-count bs c))
       ∙ count-same (trackCount p) _ _ (λ t b. is-move p (getD ts t 0) ∙ ap (isMove) (taken-all .at t b))
 
-  module _ {n : ℕ} (count : n ≡ countBelow (c .tracks) (λ t. not (eqb (getD ts t 0) noState))) where
-    -- no track moves
-    pub chosen-none : n ≡ 0
-        → Chosen p l (record { event = event; taken = ts; closing = replicate slots false; moved = 0; closed = 0; finishing = false; full = false })
-    chosen-none z =
-        let still = no-moves p l event (beyond bs c ws) (sym (count-all count) ∙ z) in
-        record {
-          taken = taken-all;
-          closing = figure-each false _ false (trackCount p) (few-tracks bs c (g .checked .lent .accepts)) (λ t b. sym (still-closes p l event ok live still t));
-          many-moved = sym z ∙ count-all count;
-          many-closed = sym (still-closings p l event ok live still);
-          finishing = sym (still-finish p l event ok live still);
-          full = sym (still-full p l event ok live still entryLimit);
-        }
+  -- no move leads to a final state
+  pub chosen-early : {v : Survey} → Surveyed p l ts (c .tracks) v → v .ends ≡ false
+      → Chosen p l (record { event = event; taken = ts; closing = replicate slots false; moved = v .moved; closed = 0; finishing = false; full = v .full })
+  unfolding isLast sleeping isForward
+  chosen-early {v} s z =
+      record {
+        taken = taken-all;
+        closing = figure-each false _ false (trackCount p) (few-tracks bs c (g .checked .lent .accepts)) (λ t b. sym (none-closes p ok l live event stays t));
+        many-moved = count-all (s .many);
+        many-closed = sym (no-closings p ok l live event stays);
+        finishing = sym (no-finish p ok l live event stays);
+        full =
+            s .fills ∙ ap (λ k. someBelow k (λ t. hasCode p (optional (getD ts t 0)) && leb entryLimit (length (l t .held)))) (sym (track-count bs c))
+            ∙ some-same (trackCount p) _ _ (λ t b. ap (λ o. hasCode p o && leb entryLimit (length (l t .held))) (taken-all .at t b))
+            ∙ sym (full-moves p ok l live event stays entryLimit);
+      }
+    where
+      stays : (t x : ℕ) → move p l event t ≡ some x → isFinal p (transition p x .destination) ≡ false
+      stays t x q =
+          elim (look (ltb t (c .tracks))) [
+            | inl h ↦
+                let b = ltb-true t (c .tracks) h in
+                ap (isLast p) (sym (took .at t b ∙ q)) ∙ some-not (c .tracks) (λ t. isLast p (optional (getD ts t 0))) (sym (s .ends) ∙ z) t b
+            | inr h ↦
+                let b = ltb-false t (c .tracks) h in
+                clash (mover-facts p ok l live event t x q .ahead)
+                (ap (λ (y : Configuration). isForward (y .mode)) (beyond bs c ws t (omega (arith, track-count bs c))))
+          ]
 
-    -- some do
+  -- some move may
+  module _ {n : ℕ} (count : n ≡ countBelow (c .tracks) (λ t. not (eqb (getD ts t 0) noState))) where
     pub chosen-all : {ms : List Bool} {v : Verdict} → Figures false ms (c .tracks) (closesNext p l (movesOf ts (c .tracks)))
         → Judged p l (movesOf ts (c .tracks)) (c .tracks) v
         → Chosen p l (record { event = event; taken = ts; closing = ms; moved = n; closed = v .closed; finishing = v .finishing; full = v .full })

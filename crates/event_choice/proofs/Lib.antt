@@ -3,5 +3,6 @@ pub mod Visits
 pub mod Takers
 pub mod Moved
 pub mod Still
+pub mod Ending
 pub mod OneMove
 pub mod Choosing

@@ -1,5 +1,5 @@
 -- Where no track moves, a live ledger stays as it is: none enters a state, so none wakes; closing and finish are not due before the event
--- and so not after it; no entry is given. Assumes nothing.
+-- and so not after it. Assumes nothing.
 use mathlib.Core.Path.{_≡_, refl, ap, _∙_, fun-ext}
 use mathlib.Core.Logic.{inl, inr}
 use mathlib.Core.Bool.{Bool, false, cond, and-false}
@@ -38,7 +38,12 @@ count-zero (suc n) f h k l =
           ]
     ]
 
-count-none : (n : ℕ) (f : ℕ → Bool) → ((k : ℕ) → f k ≡ false) → countBelow n f ≡ 0
+-- no scope is due to close
+pub none-closing : (p : Plan) (l : Ledger) → closings p l ≡ 0 → (s : ℕ) → s < stateCount p → isClosing p l s ≡ false
+unfolding closings
+none-closing p l h s b = count-zero (stateCount p) (isClosing p l) h s b
+
+pub count-none : (n : ℕ) (f : ℕ → Bool) → ((k : ℕ) → f k ≡ false) → countBelow n f ≡ 0
 unfolding countBelow
 count-none zero f h = refl
 count-none (suc n) f h = let a = count-none n f h in let b : _≡_ {A = ℕ} (cond (f n) 1 0) 0 = rw (h n) in omega arith
@@ -88,24 +93,10 @@ module _ (p : Plan) (l : Ledger) (e : ℕ) where
         enter-none p ok (λ t. destinationOf p (move p l e t)) (λ t. installedBy p (move p l e t) (l t)) goes
         ∙ fun-ext (λ t. rw (still t, installedBy))
 
-    closes-not : (t : ℕ) → closesScope p l t ≡ false
-    unfolding closesScope
-    closes-not t = rw (live .closing (l t .state)) (and-false (isAwake (l t .mode)))
-
     pub after-same : afterEvent p l e ≡ l
     unfolding afterEvent finished
     after-same = rw (moved-same, closed-steady p l (live .closing)) (fun-ext (λ t. rw (live .finish)))
 
-    pub still-closes : (t : ℕ) → closesScope p (moved p l e) t ≡ false
-    still-closes t = rw moved-same (closes-not t)
-
     pub still-closings : closings p (moved p l e) ≡ 0
     unfolding closings
     still-closings = rw moved-same (count-none (stateCount p) (isClosing p l) (live .closing))
-
-    pub still-finish : isFinishing p (closed p (moved p l e)) ≡ false
-    still-finish = rw (moved-same, closed-steady p l (live .closing)) (live .finish)
-
-    pub still-full : (limit : ℕ) → isFull p limit l e ≡ false
-    unfolding isFull hasCode isReplaced
-    still-full limit = some-none (trackCount p) _ (λ t k. rw (still t, hasCode, moved-same, closes-not t))

@@ -16,6 +16,7 @@ use Rattle.rules.specs.Layout.{entryLimit}
 use Rattle.rules.specs.Plan.{Plan, planOf, trackCount, stateCount, noState, optional, owner, transition, mover, replacement, isRoot, isFinal, isStateOf, isHostedBy, firstState}
 use Rattle.rules.specs.Ledger.{Configuration, Ledger, isAwake, sleeping}
 use Rattle.rules.specs.Scope.{hasOpenScope}
+use Rattle.rules.specs.Event.{hasCode}
 use Rattle.rules.proofs.Tests.{look, and-true}
 use Rattle.rules.proofs.Folds.{every-more, some-more, count-more}
 use Rattle.plan.proofs.FieldLaws.{track-count, state-count, transition-count}
@@ -23,7 +24,7 @@ use Rattle.ledger.specs.Words.{trackOf}
 use Rattle.ledger.proofs.ReadTracks.{mode-as, state-as, count-as}
 use Rattle.lookup.specs.Checked.{Accepts, Going, ledgerOf}
 use Rattle.lookup.proofs.Facts.{plan-facts, live-of-going, storable, owner-low}
-use Rattle.event_choice.specs.Next.{movesOf, nextOf, endsBy, codeBy, endsNext, closesNext, finishesNext, fullNext}
+use Rattle.event_choice.specs.Next.{movesOf, nextOf, endsBy, codeBy, isLast, endsNext, closesNext, finishesNext, fullNext}
 
 -- a word names a number, or none
 pub word-none : {x : ℕ} → x ≡ noState → optional x ≡ none
@@ -101,6 +102,30 @@ module _ (p : Plan) (s : ℕ) {x : ℕ} where
     unfolding codeBy
     code-replaced z h e = e ∙ rw (word-none z, codeBy, not-false closes h)
 
+-- a transition that is taken, if one is: where it leads, and whether the track has room for its code
+module _ (p : Plan) {x : ℕ} where
+  pub last-none : x ≡ noState → false ≡ isLast p (optional x)
+  unfolding isLast
+  last-none z = rw (word-none z, isLast)
+
+  pub last-some : (x ≡ noState → ⊥) → {d : ℕ} → d ≡ transition p x .destination → {r : Bool} → r ≡ isFinal p d → r ≡ isLast p (optional x)
+  unfolding isLast
+  last-some z f e = e ∙ ap (isFinal p) f ∙ rw (word-some z, isLast)
+
+  pub fills-none : (b : Bool) → x ≡ noState → false ≡ (hasCode p (optional x) && b)
+  unfolding hasCode
+  fills-none b z = rw (word-none z, hasCode)
+
+  module _ (z : x ≡ noState → ⊥) {r : ℕ} (e : r ≡ transition p x .code) where
+    pub fills-zero : (b : Bool) → r ≡ 0 → false ≡ (hasCode p (optional x) && b)
+    unfolding hasCode
+    fills-zero b f = rw (word-some z, hasCode, eq-eqb (transition p x .code) 0 (sym e ∙ f))
+
+    pub fills-full : (r ≡ 0 → ⊥) → {k : Track} (y : Configuration) → k ≡ trackOf y
+        → leb entryLimit (k .count) ≡ (hasCode p (optional x) && leb entryLimit (length (y .held)))
+    unfolding hasCode
+    fills-full f y h = ap (leb entryLimit) (count-as _ h) ∙ rw (word-some z, hasCode, ne-eqb (transition p x .code) 0 (λ q. f (e ∙ q)))
+
 -- a track as it was read
 module _ (p : Plan) (l : Ledger) (ts : List ℕ) (n t : ℕ) (b : t < n) {k : Track} (read : k ≡ trackOf (l t)) where
   pub ends-read : {r : Bool} → r ≡ endsBy p (k .mode) (k .state) (optional (getD ts t 0)) → r ≡ endsNext p l (movesOf ts n) t
@@ -153,6 +178,9 @@ module _ (p : Plan) (l : Ledger) (goes : ℕ → Option ℕ) where
 pub one-more : (f : ℕ → Bool) (n t r : ℕ) → n ≡ countBelow t f → r ≡ cond (f t) 1 0 → n + r ≡ countBelow (t + 1) f
 one-more f n t r e g = rw (e, g) (sym (count-more t f))
 
+pub some-or-more : (f : ℕ → Bool) {t : ℕ} {d r e : Bool} → d ≡ someBelow t f → r ≡ f t → e ≡ (d || r) → e ≡ someBelow (t + 1) f
+some-or-more f {t} e g h = h ∙ ap₂ (λ x y. x || y) e g ∙ sym (some-more t f)
+
 module _ (p : Plan) (l : Ledger) (ts : List ℕ) (n t : ℕ) (b : t < n) {k : Track} (read : k ≡ trackOf (l t)) where
   pub finishes-more : {f r d : Bool} → f ≡ everyBelow t (λ i. not (isRoot p i) || endsNext p l (movesOf ts n) i)
       → r ≡ (not (isRoot p t) || endsBy p (k .mode) (k .state) (optional (getD ts t 0))) → d ≡ (f && r)
@@ -164,7 +192,7 @@ module _ (p : Plan) (l : Ledger) (ts : List ℕ) (n t : ℕ) (b : t < n) {k : Tr
   pub full-more : {f r d q : Bool} → f ≡ someBelow t (fullNext p l (movesOf ts n) entryLimit) → q ≡ closesNext p l (movesOf ts n) t
       → r ≡ (leb entryLimit (k .count) && not (eqb (codeBy p (k .state) (optional (getD ts t 0)) q) 0)) → d ≡ (f || r)
       → d ≡ someBelow (t + 1) (fullNext p l (movesOf ts n) entryLimit)
-  full-more e f g h = h ∙ ap₂ (λ x y. x || y) e (full-read p l ts n t b read f g) ∙ sym (some-more t (fullNext p l (movesOf ts n) entryLimit))
+  full-more e f g h = some-or-more (fullNext p l (movesOf ts n) entryLimit) e (full-read p l ts n t b read f g) h
 
 -- all tracks together
 pub finishes-all : (bs : List ℕ) (c : Counts) (l : Ledger) (goes : ℕ → Option ℕ) {n : ℕ} {r : Bool} → n ≡ c .tracks

@@ -1,17 +1,27 @@
 -- An event's choice: what each of its fields says, by the rules. Assumes nothing.
 use mathlib.Core.Path.{_≡_}
-use mathlib.Core.Bool.{false}
+use mathlib.Core.Bool.{false, not, _&&_}
+use mathlib.Core.List.{List}
 use mathlib.Core.Option.{Option}
 use Prim.Native.Nat.{ℕ}
+use lib.Dec.{eqb, leb}
+use lib.ListN.{length, getD}
 use Rattle.rules.specs.Fold.{someBelow, countBelow}
 use Rattle.rules.specs.Layout.{entryLimit}
-use Rattle.rules.specs.Plan.{Plan, trackCount}
+use Rattle.rules.specs.Plan.{Plan, trackCount, noState, optional}
 use Rattle.rules.specs.Ledger.{Ledger}
-use Rattle.rules.specs.Event.{move, moves, moved, closesScope, closed, closings, isFinishing, isFull}
+use Rattle.rules.specs.Event.{hasCode, move, moves, moved, closesScope, closed, closings, isFinishing, isFull}
 use Rattle.lookup.specs.Figures.{Figures, Numbers}
 use Rattle.event_choice.specs.declared.Choice.{Choice}
+use Rattle.event_choice.specs.declared.judging.Survey.{Survey}
 use Rattle.event_choice.specs.declared.judging.Verdict.{Verdict}
-use Rattle.event_choice.specs.Next.{closesNext, finishesNext, fullNext}
+use Rattle.event_choice.specs.Next.{isLast, closesNext, finishesNext, fullNext}
+
+-- what is known of the moves that words name for the tracks below n
+pub record Surveyed (p : Plan) (l : Ledger) (ts : List ℕ) (n : ℕ) (r : Survey) : Type 0 where
+  pub many : r .moved ≡ countBelow n (λ t. not (eqb (getD ts t 0) noState))
+  pub ends : r .ends ≡ someBelow n (λ t. isLast p (optional (getD ts t 0)))
+  pub fills : r .full ≡ someBelow n (λ t. hasCode p (optional (getD ts t 0)) && leb entryLimit (length (l t .held)))
 
 -- what is known from the moves of the tracks below n
 pub record Judged (p : Plan) (l : Ledger) (goes : ℕ → Option ℕ) (n : ℕ) (r : Verdict) : Type 0 where

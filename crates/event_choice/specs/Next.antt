@@ -1,6 +1,6 @@
 -- What an event will do, read off the ledger before the call and the moves that are made. Assumes nothing.
 use mathlib.Core.Path.{_≡_}
-use mathlib.Core.Bool.{Bool, cond, not, _&&_, _||_}
+use mathlib.Core.Bool.{Bool, false, cond, not, _&&_, _||_}
 use mathlib.Core.List.{List}
 use mathlib.Core.Option.{Option, none, some}
 use Prim.Native.Nat.{ℕ, _<_}
@@ -39,6 +39,11 @@ endsBy p m s o = isForward m && isFinal p (nextOf p s o)
 unfoldable pub codeBy : Plan → ℕ → Option ℕ → Bool → ℕ
 codeBy p s none closes = cond closes (replacement p s) 0
 codeBy p s (some x) closes = transition p x .code
+
+-- the move, if there is one, leads to a final state
+unfoldable pub isLast : Plan → Option ℕ → Bool
+isLast p none = false
+isLast p (some x) = isFinal p (transition p x .destination)
 
 module _ (p : Plan) (l : Ledger) (goes : ℕ → Option ℕ) where
   unfoldable pub endsNext : ℕ → Bool

@@ -10,14 +10,14 @@ ghost use mathlib.Core.Path.{_≡_};
 ghost use mathlib.Core.Bool.{false, cond, not, _&&_, _||_};
 ghost use Prim.Native.Nat.{_<_, _≤_};
 ghost use lib.Dec.{eqb, leb};
-ghost use lib.ListN.{getD};
-ghost use Rattle.rules.specs.Fold.{countBelow};
+ghost use lib.ListN.{length};
 ghost use Rattle.rules.specs.Layout.{entryLimit};
 ghost use Rattle.rules.specs.Plan.{planOf, noState, optional, isRoot};
-ghost use Rattle.lookup.specs.Checked.{Accepts, Going, ledgerOf};
+ghost use Rattle.rules.specs.Event.{hasCode};
+ghost use Rattle.lookup.specs.Checked.{Accepts, Lent, Going, ledgerOf};
 ghost use Rattle.lookup.specs.Figures.{Figures};
-ghost use Rattle.event_choice.specs.Next.{InRange, movesOf, endsBy, codeBy, closesNext};
-ghost use Rattle.event_choice.specs.Chosen.{Judged};
+ghost use Rattle.event_choice.specs.Next.{InRange, movesOf, endsBy, codeBy, isLast, closesNext};
+ghost use Rattle.event_choice.specs.Chosen.{Surveyed, Judged};
 
 // The code that a track is given: its transition's, or the replacement if its scope closes; 0 for none.
 fn code_given(plan: &[u8], c: Counts, k: Track, x: u16, closes: bool) -> u16
@@ -80,19 +80,63 @@ fn either(a: bool, b: bool) -> bool
     b
 }
 
-// How many tracks move.
-pub fn moves(c: Counts, taken: &[u16; 32]) -> u16
-    requires { ⌜ c .tracks ≤ 32 ⌝ }
-    ensures { λ r. ⌜ r ≡ countBelow (c .tracks) (λ t. not (eqb (getD (now (taken .entry)) t 0) noState)) ⌝ }
+// Whether a transition, 65535 for none, leads to a final state.
+fn is_last(plan: &[u8], c: Counts, x: u16) -> bool
+    requires { ⌜ Accepts (now plan) c × ((x ≡ noState → ⊥) → x < c .transitions) ⌝ }
+    ensures { λ r. ⌜ r ≡ isLast (planOf (now (plan .entry)) c) (optional x) ⌝ }
+{
+    if x == NO_STATE {
+        return false;
+    }
+    let d = fields::destination_of(plan, c, x as usize);
+    fields::is_final(plan, c, d as usize)
+}
+
+// Whether a transition, 65535 for none, gives an entry to a track that is full.
+fn overfills(plan: &[u8], c: Counts, ledger: &[u16], x: u16, t: usize) -> bool
+    requires { ⌜ Lent (now plan) c (now ledger) × (t < c .tracks) × ((x ≡ noState → ⊥) → x < c .transitions) ⌝ }
+    ensures { λ r. ⌜ r ≡ (hasCode (planOf (now (plan .entry)) c) (optional x)
+        && leb entryLimit (length (ledgerOf c (now (ledger .entry)) t .held))) ⌝ }
+{
+    if x == NO_STATE {
+        return false;
+    }
+    if fields::code_of(plan, c, x as usize) == 0 {
+        return false;
+    }
+    let k = reading::track(c, ledger, t);
+    ENTRY_LIMIT <= k.count as usize
+}
+
+// Of the moves: how many, whether one leads to a final state, and whether one gives an entry to a track that is full.
+pub struct Survey {
+    pub moved: u16,
+    pub ends: bool,
+    pub full: bool,
+}
+
+// What is known of the moves alone.
+pub fn moves(plan: &[u8], c: Counts, ledger: &[u16], taken: &[u16; 32]) -> Survey
+    requires { ⌜ Lent (now plan) c (now ledger) × InRange c (now taken) ⌝ }
+    ensures { λ r. ⌜ Surveyed (planOf (now (plan .entry)) c) (ledgerOf c (now (ledger .entry))) (now (taken .entry)) (c .tracks) r ⌝ }
 {
     let tracks = c.tracks;
     let mut n: u16 = 0;
+    let mut ends = false;
+    let mut full = false;
     let mut t: usize = 0;
     while t < tracks {
-        n += one_where(taken[t] != NO_STATE);
+        let x = taken[t];
+        n += one_where(x != NO_STATE);
+        ends = either(ends, is_last(plan, c, x));
+        full = either(full, overfills(plan, c, ledger, x, t));
         t += 1;
     }
-    n
+    Survey {
+        moved: n,
+        ends: ends,
+        full: full,
+    }
 }
 
 // Of an event: how many scopes close, whether it finishes, and whether a track that it gives an entry is full.

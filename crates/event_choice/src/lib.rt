@@ -28,7 +28,7 @@ pub struct Choice {
     pub full: bool,
 }
 
-// What is judged of the moves. Where no track moves, nothing else does.
+// What an event does, given its moves. Where none leads to a final state, no scope closes and nothing finishes.
 fn choose_by(
     plan: &[u8],
     c: Counts,
@@ -41,16 +41,16 @@ fn choose_by(
         × Numbers (now taken) (c .tracks) (move (planOf (now plan) c) (ledgerOf c (now ledger)) event) ⌝ }
     ensures { λ r. ⌜ Chosen (planOf (now (plan .entry)) c) (ledgerOf c (now (ledger .entry))) r × (r .event ≡ event) ⌝ }
 {
-    let moved = judging::moves(c, taken);
-    if moved == 0 {
+    let m = judging::moves(plan, c, ledger, taken);
+    if !m.ends {
         return Choice {
             event: event,
             taken: *taken,
             closing: [false; 32],
-            moved: 0,
+            moved: m.moved,
             closed: 0,
             finishing: false,
-            full: false,
+            full: m.full,
         };
     }
     let closing = closing::closing_scopes(plan, c, ledger, *scopes, taken);
@@ -59,7 +59,7 @@ fn choose_by(
         event: event,
         taken: *taken,
         closing: closing,
-        moved: moved,
+        moved: m.moved,
         closed: v.closed,
         finishing: v.finishing,
         full: v.full,

@@ -1,21 +1,26 @@
 -- The words name the event's moves, and what is judged of them is the choice. Assumes nothing.
 use mathlib.Core.Path.{refl}
-use Rattle.event_choice.proofs.Choosing.{in-range, chosen-none, chosen-all}
+use borrow.Author.Tests.{not-true}
+use Rattle.event_choice.proofs.Choosing.{in-range, chosen-early, chosen-all}
 use borrow.Author.Needs.{needs}
 use Rattle.event_choice.proofs.choose_by.Statement.{statement}
 use Rattle.event_choice.proofs.choose_by.Tie as tie
 
+moves-requires : tie.Need-moves-requires
+moves-requires c κs = let p = c .before .before .pre in (p .0 .checked .lent, in-range _ _ _ (p .0) _ (p .2))
+
 returns : tie.Need-returns
-returns c = let p = c .before .before .before .before .before .pre in (chosen-none _ _ _ (p .0) _ (p .2) (c .before .before .moves .ensures) (c .before .if1 .taken), refl)
+returns c = let p = c .before .before .before .before .before .before .pre in (chosen-early _ _ _ (p .0) _ (p .2) (c .before .before .before .moves .ensures) (not-true _ (c .before .if1 .taken)), refl)
 
 closing-scopes-requires : tie.Need-closing-scopes-requires
-closing-scopes-requires c κs = let p = c .before .before .before .before .before .pre in (p .0, in-range _ _ _ (p .0) _ (p .2), p .1)
+closing-scopes-requires c κs = let p = c .before .before .before .before .before .before .pre in (p .0, in-range _ _ _ (p .0) _ (p .2), p .1)
 
 judge-requires : tie.Need-judge-requires
-judge-requires c κs = let p = c .before .before .before .before .before .before .before .pre in (p .0, in-range _ _ _ (p .0) _ (p .2), c .before .closing-scopes .ensures)
+judge-requires c κs = let p = c .before .before .before .before .before .before .before .before .pre in (p .0, in-range _ _ _ (p .0) _ (p .2), c .before .closing-scopes .ensures)
 
 returns-2 : tie.Need-returns-2
-returns-2 c = let p = c .before .before .before .before .before .before .before .before .before .pre in (chosen-all _ _ _ (p .0) _ (p .2) (c .before .before .before .before .before .before .moves .ensures) (c .before .before .before .closing-scopes .ensures) (c .before .judge .ensures), refl)
+returns-2 c = let p = c .before .before .before .before .before .before .before .before .before .before .pre in (chosen-all _ _ _ (p .0) _ (p .2) (c .before .before .before .before .before .before .before .moves .ensures .many) (c .before .before .before .closing-scopes .ensures) (c .before .judge .ensures), refl)
 
 pub choose-by-spec : {M : Type 1} → statement M
-choose-by-spec = tie.close (tie.spec (λ c κs. search needs) returns closing-scopes-requires judge-requires returns-2)
+choose-by-spec =
+    tie.close (tie.spec moves-requires returns closing-scopes-requires judge-requires returns-2)

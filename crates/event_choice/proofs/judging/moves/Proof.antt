@@ -1,36 +1,85 @@
--- The count after t visits is that of the tracks below t. Assumes nothing.
+-- After t visits what is known is of the tracks below t. Assumes nothing.
 use mathlib.Core.Path.{_≡_, refl}
-use mathlib.Core.Bool.{not}
+use mathlib.Core.Bool.{not, _&&_}
 use Prim.Native.Nat.{_≤_, _-_}
 use native.Mathlib.Omega.{arith}
-use lib.Dec.{eqb}
-use lib.ListN.{getD}
-use Rattle.rules.specs.Fold.{countBelow}
-use Rattle.rules.specs.Plan.{noState}
-use Rattle.event_choice.proofs.Visits.{one-more}
+use lib.Dec.{eqb, leb}
+use lib.ListN.{length, getD}
+use Rattle.rules.specs.Fold.{someBelow, countBelow}
+use Rattle.rules.specs.Layout.{entryLimit}
+use Rattle.rules.specs.Plan.{planOf, noState, optional}
+use Rattle.rules.specs.Event.{hasCode}
+use Rattle.lookup.specs.Checked.{ledgerOf}
+use Rattle.event_choice.specs.Next.{isLast}
+use Rattle.event_choice.proofs.Visits.{one-more, some-or-more}
 use borrow.Author.Needs.{needs}
 use Rattle.event_choice.proofs.judging.moves.Statement.{statement}
 use Rattle.event_choice.proofs.judging.moves.Tie as tie
 
 abbrev Inv-loop : tie.InvT-loop
-Inv-loop taken tracks n₀ t₀ n t = (t ≤ tracks) × (n ≤ t) × (n ≡ countBelow t (λ i. not (eqb (getD taken i 0) noState)))
+Inv-loop plan c ledger taken tracks n₀ ends₀ full₀ t₀ n ends full t =
+    let p = planOf plan c in
+    (t ≤ tracks) × (n ≤ t) × (n ≡ countBelow t (λ i. not (eqb (getD taken i 0) noState)))
+    × (ends ≡ someBelow t (λ i. isLast p (optional (getD taken i 0))))
+    × (full ≡ someBelow t (λ i. hasCode p (optional (getD taken i 0)) && leb entryLimit (length (ledgerOf c ledger i .held))))
 
 abbrev μ-loop : tie.MeasureT-loop
-μ-loop taken tracks n₀ t₀ n t = tracks - t
+μ-loop plan c ledger taken tracks n₀ ends₀ full₀ t₀ n ends full t = tracks - t
 
 loop-holds : tie.Need-loop-holds Inv-loop μ-loop
-unfolding countBelow
-loop-holds c = (search needs, search needs, refl)
+unfolding countBelow someBelow
+loop-holds c = (search needs, search needs, refl, refl, refl)
+
+mul-x : tie.Need-mul-x Inv-loop μ-loop
+mul-x c = search needs
+
+element-copy-out-x : tie.Need-element-copy-out-x Inv-loop μ-loop
+element-copy-out-x c = search needs
+
+one-where-requires : tie.Need-one-where-requires Inv-loop μ-loop
+one-where-requires c κs = search needs
+
+add-n : tie.Need-add-n Inv-loop μ-loop
+add-n c = search needs
+
+is-last-requires : tie.Need-is-last-requires Inv-loop μ-loop
+unfolding noState
+is-last-requires c κs = let a = c .before .before .before .before .before .before .pre in (a .0 .accepts, a .1 .low _ (c .before .before .loop-test .taken))
+
+either-requires : tie.Need-either-requires Inv-loop μ-loop
+either-requires c κs = search needs
+
+overfills-requires : tie.Need-overfills-requires Inv-loop μ-loop
+unfolding noState
+overfills-requires c κs = let a = c .before .before .before .before .before .before .before .before .pre in (a .0, c .before .before .before .before .loop-test .taken, a .1 .low _ (c .before .before .before .before .loop-test .taken))
+
+either-requires-2 : tie.Need-either-requires-2 Inv-loop μ-loop
+either-requires-2 c κs = search needs
+
+add-t : tie.Need-add-t Inv-loop μ-loop
+add-t c = search needs
+
+loop-less : tie.Need-loop-less Inv-loop μ-loop
+loop-less c = search needs
 
 loop-again : tie.Need-loop-again Inv-loop μ-loop
 unfolding noState
-loop-again c = (search needs, search needs, one-more _ _ _ _ (c .before .before .before .loop .inv .2) (c .one-where .ensures .0))
+loop-again c =
+    let inv = c .before .before .before .before .before .before .before .loop .inv in (
+      search needs,
+      search needs,
+      one-more _ _ _ _ (inv .2) (c .before .before .before .before .one-where .ensures .0),
+      some-or-more _ (inv .3) (c .before .before .before .is-last .ensures) (c .before .before .either .ensures),
+      some-or-more _ (inv .4) (c .before .overfills .ensures) (c .either2 .ensures),
+    )
 
 returns : tie.Need-returns Inv-loop μ-loop
-returns c = let e : c .before .loop .t ≡ c .before .before .args .c .tracks = omega arith in rw e at (c .before .loop .inv .2)
+returns c =
+    let inv = c .before .loop .inv in
+    let e : c .before .loop .t ≡ c .before .before .before .before .args .c .tracks = omega arith in
+    record { many = rw e at (inv .2); ends = rw e at (inv .3); fills = rw e at (inv .4) }
 
 pub moves-spec : {M : Type 1} → statement M
 moves-spec =
     tie.close
-    (tie.spec Inv-loop μ-loop loop-holds (λ c. search needs) (λ c. search needs) (λ c κs. search needs) (λ c. search needs) (λ c. search needs)
-    (λ c. search needs) loop-again returns)
+    (tie.spec Inv-loop μ-loop loop-holds mul-x element-copy-out-x one-where-requires add-n is-last-requires either-requires overfills-requires either-requires-2 add-t loop-less loop-again returns)

@@ -1,0 +1,79 @@
+-- Where no move leads to a final state, no scope closes and nothing finishes: a track that is in a final state after the moves was there before, and
+-- nothing was due then. Assumes nothing.
+use mathlib.Core.Path.{_≡_, sym, ap, _∙_}
+use mathlib.Core.Logic.{inl, inr}
+use mathlib.Core.Bool.{Bool, true, false, not, _&&_, _||_, and-false, or-false}
+use mathlib.Core.Option.{Option, some}
+use Prim.Native.Nat.{ℕ, _<_}
+use lib.Dec.{leb}
+use lib.ListN.{length}
+use Rattle.rules.specs.Fold.{someBelow}
+use Rattle.rules.specs.Plan.{Plan, trackCount, stateCount, transition, isRoot, isFinal}
+use Rattle.rules.specs.Ledger.{Configuration, Ledger, isAwake, isForward}
+use Rattle.rules.specs.Opening.{fresh, wakes}
+use Rattle.rules.specs.Event.{destinationOf, hasCode, move, moved, isClosing, closesScope, closed, closings, isFinishing, isReplaced, isFull}
+use Rattle.rules.proofs.Tests.{look, look-option, clash, refuted, and-true}
+use Rattle.rules.proofs.Folds.{every-at, every-same, some-same}
+use Rattle.rules.proofs.Acceptance.{Accepted}
+use Rattle.rules.proofs.Closing.{closing-alike, closing-final, closed-steady}
+use Rattle.rules.proofs.Soundness.{Live}
+use Rattle.event_choice.proofs.Moved.{moved-mover, moved-woken, moved-kept}
+use Rattle.event_choice.proofs.Still.{count-none}
+
+module _ (p : Plan) (ok : Accepted p) (l : Ledger) (live : Live p l) (e : ℕ)
+    (stays : (t x : ℕ) → move p l e t ≡ some x → isFinal p (transition p x .destination) ≡ false) where
+  abbrev m : Ledger
+  m = moved p l e
+
+  kept : (t : ℕ) → t < trackCount p → isFinal p (m t .state) ≡ true → m t ≡ l t
+  unfolding fresh
+  kept t b f =
+      elim (look-option (move p l e t)) [
+        | inr q ↦ clash f (ap (λ (c : Configuration). isFinal p (c .state)) (moved-mover p ok l live e t (q .0) (q .1)) ∙ stays t (q .0) (q .1))
+        | inl q ↦
+            elim (look (wakes p (λ t. destinationOf p (move p l e t)) t)) [
+              | inl w ↦ clash f (ap (λ (c : Configuration). isFinal p (c .state)) (moved-woken p ok l live e t q w) ∙ ok .first-open t b)
+              | inr w ↦ moved-kept p ok l live e t q w
+            ]
+      ]
+
+  none-due : (s : ℕ) → isClosing p m s ≡ false
+  none-due s =
+      refuted (isClosing p m s)
+      (λ k.
+      clash k
+      (closing-alike p m l s
+      (λ t b h. let r = kept t b (closing-final p m s t k b h .1) in (ap (λ (c : Configuration). c .mode) r, ap (λ (c : Configuration). c .state) r))
+      ∙ live .closing s))
+
+  pub none-closes : (t : ℕ) → closesScope p m t ≡ false
+  unfolding closesScope
+  none-closes t = rw (none-due (m t .state)) (and-false (isAwake (m t .mode)))
+
+  pub no-closings : closings p m ≡ 0
+  unfolding closings
+  no-closings = count-none (stateCount p) (isClosing p m) none-due
+
+  pub no-finish : isFinishing p (closed p m) ≡ false
+  unfolding isFinishing
+  no-finish =
+      rw (closed-steady p m none-due)
+      (refuted (isFinishing p m)
+      (λ k.
+      clash k
+      (every-same (trackCount p) _ _
+      (λ t b.
+      elim (look (isRoot p t)) [
+        | inr r ↦ rw r
+        | inl r ↦
+            let f : (isForward (m t .mode) && isFinal p (m t .state)) ≡ true =
+            rw r at (every-at (trackCount p) (λ t. not (isRoot p t) || (isForward (m t .mode) && isFinal p (m t .state))) k t b) in
+            ap (λ (c : Configuration). not (isRoot p t) || (isForward (c .mode) && isFinal p (c .state))) (kept t b (and-true (isForward (m t .mode)) _ f .1))
+      ])
+      ∙ live .finish)))
+
+  pub full-moves : (limit : ℕ) → isFull p limit l e ≡ someBelow (trackCount p) (λ t. hasCode p (move p l e t) && leb limit (length (l t .held)))
+  unfolding isFull isReplaced
+  full-moves limit =
+      some-same (trackCount p) _ _
+      (λ t b. rw (none-closes t) (ap (λ z. z && leb limit (length (l t .held))) (or-false (hasCode p (move p l e t)))))
