@@ -41,13 +41,13 @@ fn go_on(
     if choice.full {
         return EventAnswer::Refused(21);
     }
-    let moved = choice.moved;
-    if moved == 0 {
+    let movers = choice.moved;
+    if movers == 0 {
         return EventAnswer::Moved(0, 0);
     }
     let closed = choice.closed;
     event_writing::write(plan, c, &mut ledger[..], choice, firsts);
-    EventAnswer::Moved(moved, closed)
+    EventAnswer::Moved(movers, closed)
 }
 
 // An event under an accepted plan, on a sound ledger.

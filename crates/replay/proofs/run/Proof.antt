@@ -6,17 +6,8 @@ use borrow.Author.Needs.{needs}
 use Rattle.replay.proofs.run.Statement.{statement}
 use Rattle.replay.proofs.run.Tie as tie
 
-text-room-requires : tie.Need-text-room-requires
-text-room-requires c κs = search needs
-
 returns : tie.Need-returns
 returns c = small _ _ _ _ _ (c .before .text-room .ensures) (c .if1 .taken)
-
-has-room-requires : tie.Need-has-room-requires
-has-room-requires c κs = search needs
-
-same-length : tie.Need-same-length
-same-length c = search needs
 
 returns-2 : tie.Need-returns-2
 returns-2 c = short _ _ _ _ _ (c .before .before .before .before .text-room .ensures) (c .before .before .before .if1 .left) _ (c .before .has-room .ensures) (c .if2 .taken)
@@ -24,58 +15,25 @@ returns-2 c = short _ _ _ _ _ (c .before .before .before .before .text-room .ens
 refusal-line-requires : tie.Need-refusal-line-requires
 refusal-line-requires c κs = line-fits _ _ _ (c .before .before .before .before .before .before .text-room .ensures) (c .before .before .before .before .before .if1 .left)
 
-same-length-2 : tie.Need-same-length-2
-same-length-2 c = search needs
-
-same-length-3 : tie.Need-same-length-3
-same-length-3 c = search needs
-
 returns-3 : tie.Need-returns-3
 returns-3 c = ran-long-plan _ _ _ _ _ (c .before .before .before .before .before .before .before .before .before .text-room .ensures) (c .before .before .before .before .before .before .before .before .if1 .left) (long-ledger _ _ (c .before .before .before .before .before .before .has-room .ensures) (c .before .before .before .before .before .if2 .left)) _ (search needs) _ (c .before .before .before .before .if3 .taken) (c .before .before .refusal-line .ensures)
 
 refusal-line-requires-2 : tie.Need-refusal-line-requires-2
 refusal-line-requires-2 c κs = line-fits _ _ _ (c .before .before .before .before .before .before .before .text-room .ensures) (c .before .before .before .before .before .before .if1 .left)
 
-same-length-4 : tie.Need-same-length-4
-same-length-4 c = search needs
-
-same-length-5 : tie.Need-same-length-5
-same-length-5 c = search needs
-
 returns-4 : tie.Need-returns-4
 returns-4 c = ran-long-journal _ _ _ _ _ (c .before .before .before .before .before .before .before .before .before .before .text-room .ensures) (c .before .before .before .before .before .before .before .before .before .if1 .left) (long-ledger _ _ (c .before .before .before .before .before .before .before .has-room .ensures) (c .before .before .before .before .before .before .if2 .left)) _ (search needs) _ (c .before .before .before .before .if4 .taken) (c .before .before .refusal-line2 .ensures)
 
-read-plan-requires : tie.Need-read-plan-requires
-read-plan-requires c κs = search needs
-
-enum-known-answer : tie.Need-enum-known-answer
-enum-known-answer c = search needs
-
 refusal-line-requires-3 : tie.Need-refusal-line-requires-3
 refusal-line-requires-3 c κs = line-fits _ _ _ (c .before .before .before .before .before .before .before .before .before .before .before .text-room .ensures) (c .before .before .before .before .before .before .before .before .before .before .if1 .left)
-
-enum-known-answer-2 : tie.Need-enum-known-answer-2
-enum-known-answer-2 c = search needs
 
 run-plan-requires : tie.Need-run-plan-requires
 unfolding planTold
 run-plan-requires c κs = (record { accepts = accepts _ _ (sym (c .before .before .before .before .before .read-plan .ensures) ∙ ap planTold (c .before .before .before .answer2 .given .1)); room = roomy _ _ (sym (c .before .before .before .before .before .read-plan .ensures) ∙ ap planTold (c .before .before .before .answer2 .given .1)) _ (long-ledger _ _ (c .before .before .before .before .before .before .before .before .before .has-room .ensures) (c .before .before .before .before .before .before .before .before .if2 .left)) }, c .before .before .before .before .before .before .if4 .left, text-fits _ _ _ (c .before .before .before .before .before .before .before .before .before .before .before .before .text-room .ensures) (c .before .before .before .before .before .before .before .before .before .before .before .if1 .left) (c .before .before .before .before .before .before .if4 .left))
 
-same-length-6 : tie.Need-same-length-6
-same-length-6 c = search needs
-
-same-length-7 : tie.Need-same-length-7
-same-length-7 c = search needs
-
 returns-5 : tie.Need-returns-5
 unfolding planTold
 returns-5 c = ran-back _ _ _ _ _ (c .before .before .before .before .before .before .before .before .before .before .before .before .before .before .text-room .ensures) (c .before .before .before .before .before .before .before .before .before .before .before .before .before .if1 .left) (long-ledger _ _ (c .before .before .before .before .before .before .before .before .before .before .before .has-room .ensures) (c .before .before .before .before .before .before .before .before .before .before .if2 .left)) _ (search needs) _ _ (c .before .before .before .before .before .before .before .before .before .if3 .left) (c .before .before .before .before .before .before .before .before .if4 .left) (sym (c .before .before .before .before .before .before .before .read-plan .ensures) ∙ ap planTold (c .before .before .before .before .before .answer .given .1)) (c .before .before .refusal-line3 .ensures)
-
-same-length-8 : tie.Need-same-length-8
-same-length-8 c = search needs
-
-same-length-9 : tie.Need-same-length-9
-same-length-9 c = search needs
 
 returns-6 : tie.Need-returns-6
 unfolding planTold
@@ -85,27 +43,27 @@ pub run-spec : {M : Type 1} → statement M
 run-spec =
     tie.close
     (tie.spec
-    text-room-requires
+    (λ c κs. search needs)
     returns
-    has-room-requires
-    same-length
+    (λ c κs. search needs)
+    (λ c. search needs)
     returns-2
     refusal-line-requires
-    same-length-2
-    same-length-3
+    (λ c. search needs)
+    (λ c. search needs)
     returns-3
     refusal-line-requires-2
-    same-length-4
-    same-length-5
+    (λ c. search needs)
+    (λ c. search needs)
     returns-4
-    read-plan-requires
-    enum-known-answer
+    (λ c κs. search needs)
+    (λ c. search needs)
     refusal-line-requires-3
-    enum-known-answer-2
+    (λ c. search needs)
     run-plan-requires
-    same-length-6
-    same-length-7
+    (λ c. search needs)
+    (λ c. search needs)
     returns-5
-    same-length-8
-    same-length-9
+    (λ c. search needs)
+    (λ c. search needs)
     returns-6)

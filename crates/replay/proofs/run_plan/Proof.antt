@@ -6,20 +6,8 @@ use borrow.Author.Needs.{needs}
 use Rattle.replay.proofs.run_plan.Statement.{statement}
 use Rattle.replay.proofs.run_plan.Tie as tie
 
-plan-line-requires : tie.Need-plan-line-requires
-plan-line-requires c κs = search needs
-
-begin-all-requires : tie.Need-begin-all-requires
-begin-all-requires c κs = search needs
-
 run-records-requires : tie.Need-run-records-requires
 run-records-requires c κs = (begun-checked _ _ (c .before .before .before .before .before .before .before .before .before .before .before .before .before .before .pre .0 .accepts) _ _ (c .before .before .before .before .before .before .before .before .before .before .before .before .before .before .pre .0 .room) (c .before .before .before .before .begin-all .ensures), c .before .before .before .before .before .before .before .before .before .before .before .before .before .before .pre .1, omega (arith, c .before .before .before .before .before .before .before .before .plan-line .ensures .short, c .before .before .before .before .before .before .before .before .plan-line .kept .0, c .before .before .before .before .before .before .before .before .before .before .before .before .before .before .pre .2))
-
-same-length : tie.Need-same-length
-same-length c = search needs
-
-same-length-2 : tie.Need-same-length-2
-same-length-2 c = search needs
 
 returns : tie.Need-returns
 returns c = ran-after _ _ _ _ _ _ _ _ _ (c .before .before .before .before .before .before .before .before .before .before .before .before .before .plan-line .ensures) (search needs) (ran-begun _ _ _ (c .before .before .before .before .before .before .before .before .before .before .before .before .before .before .before .before .before .before .before .pre .0 .accepts) _ _ (c .before .before .before .before .before .before .before .before .before .before .before .before .before .before .before .before .before .before .before .pre .0 .room) (c .before .before .before .before .before .before .before .before .before .begin-all .ensures) _ _ _ _ _ (c .before .before .before .before .run-records .ensures))
@@ -28,9 +16,9 @@ pub run-plan-spec : {M : Type 1} → statement M
 run-plan-spec =
     tie.close
     (tie.spec
-    plan-line-requires
-    begin-all-requires
+    (λ c κs. search needs)
+    (λ c κs. search needs)
     run-records-requires
-    same-length
-    same-length-2
+    (λ c. search needs)
+    (λ c. search needs)
     returns)

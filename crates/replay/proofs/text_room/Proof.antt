@@ -9,15 +9,9 @@ returns : tie.Need-returns
 unfolding textRoom
 returns c = rw (lt-ltb 32768 _ (c .if1 .taken))
 
-mul-result : tie.Need-mul-result
-mul-result c = search needs
-
-add-result : tie.Need-add-result
-add-result c = search needs
-
 returns-2 : tie.Need-returns-2
 unfolding textRoom
 returns-2 c = rw (le-ltb 32768 _ (c .if1 .left))
 
 pub text-room-spec : {M : Type 1} → statement M
-text-room-spec = tie.close (tie.spec returns mul-result add-result returns-2)
+text-room-spec = tie.close (tie.spec returns (λ c. search needs) (λ c. search needs) returns-2)

@@ -15,9 +15,6 @@ destination-of-requires : tie.Need-destination-of-requires
 unfolding noState
 destination-of-requires c κs = (c .before .before .pre .0 .holds, c .before .before .pre .1 (c .if1 .left))
 
-cast-is-final : tie.Need-cast-is-final
-cast-is-final c = search needs
-
 is-final-requires : tie.Need-is-final-requires
 unfolding noState
 is-final-requires c κs = let a = c .before .before .before .pre in (a .0 .holds, destination-low _ _ (a .0) (a .1 (c .before .if1 .left)) (c .destination-of .ensures))
@@ -27,4 +24,4 @@ unfolding noState
 returns-2 c = last-some _ (c .before .before .if1 .left) (c .before .destination-of .ensures) (c .is-final .ensures)
 
 pub is-last-spec : {M : Type 1} → statement M
-is-last-spec = tie.close (tie.spec returns destination-of-requires cast-is-final is-final-requires returns-2)
+is-last-spec = tie.close (tie.spec returns destination-of-requires (λ c. search needs) is-final-requires returns-2)

@@ -30,37 +30,13 @@ loop-holds : tie.Need-loop-holds Inv-loop μ-loop
 unfolding countBelow someBelow
 loop-holds c = (search needs, search needs, refl, refl, refl)
 
-mul-x : tie.Need-mul-x Inv-loop μ-loop
-mul-x c = search needs
-
-element-copy-out-x : tie.Need-element-copy-out-x Inv-loop μ-loop
-element-copy-out-x c = search needs
-
-one-where-requires : tie.Need-one-where-requires Inv-loop μ-loop
-one-where-requires c κs = search needs
-
-add-n : tie.Need-add-n Inv-loop μ-loop
-add-n c = search needs
-
 is-last-requires : tie.Need-is-last-requires Inv-loop μ-loop
 unfolding noState
 is-last-requires c κs = let a = c .before .before .before .before .before .before .pre in (a .0 .accepts, a .1 .low _ (c .before .before .loop-test .taken))
 
-either-requires : tie.Need-either-requires Inv-loop μ-loop
-either-requires c κs = search needs
-
 overfills-requires : tie.Need-overfills-requires Inv-loop μ-loop
 unfolding noState
 overfills-requires c κs = let a = c .before .before .before .before .before .before .before .before .pre in (a .0, c .before .before .before .before .loop-test .taken, a .1 .low _ (c .before .before .before .before .loop-test .taken))
-
-either-requires-2 : tie.Need-either-requires-2 Inv-loop μ-loop
-either-requires-2 c κs = search needs
-
-add-t : tie.Need-add-t Inv-loop μ-loop
-add-t c = search needs
-
-loop-less : tie.Need-loop-less Inv-loop μ-loop
-loop-less c = search needs
 
 loop-again : tie.Need-loop-again Inv-loop μ-loop
 unfolding noState
@@ -82,4 +58,4 @@ returns c =
 pub moves-spec : {M : Type 1} → statement M
 moves-spec =
     tie.close
-    (tie.spec Inv-loop μ-loop loop-holds mul-x element-copy-out-x one-where-requires add-n is-last-requires either-requires overfills-requires either-requires-2 add-t loop-less loop-again returns)
+    (tie.spec Inv-loop μ-loop loop-holds (λ c. search needs) (λ c. search needs) (λ c κs. search needs) (λ c. search needs) is-last-requires (λ c κs. search needs) overfills-requires (λ c κs. search needs) (λ c. search needs) (λ c. search needs) loop-again returns)

@@ -19,15 +19,9 @@ returns-2 : tie.Need-returns-2
 unfolding noState
 returns-2 c = fills-zero _ (c .before .before .if1 .left) (c .before .code-of .ensures) _ (c .if2 .taken)
 
-track-requires : tie.Need-track-requires
-track-requires c κs = search needs
-
-cast-result : tie.Need-cast-result
-cast-result c = search needs
-
 returns-3 : tie.Need-returns-3
 unfolding noState entryLimit
 returns-3 c = fills-full _ (c .before .before .before .before .if1 .left) (c .before .before .before .code-of .ensures) (c .before .before .if2 .left) _ (c .before .track .ensures)
 
 pub overfills-spec : {M : Type 1} → statement M
-overfills-spec = tie.close (tie.spec returns code-of-requires returns-2 track-requires cast-result returns-3)
+overfills-spec = tie.close (tie.spec returns code-of-requires returns-2 (λ c κs. search needs) (λ c. search needs) returns-3)

@@ -21,21 +21,6 @@ loop-holds : tie.Need-loop-holds Inv-loop μ-loop
 unfolding sumBelow
 loop-holds c = (search needs, search needs, refl)
 
-track-requires : tie.Need-track-requires Inv-loop μ-loop
-track-requires c κs = search needs
-
-cast-sum : tie.Need-cast-sum Inv-loop μ-loop
-cast-sum c = search needs
-
-add-sum : tie.Need-add-sum Inv-loop μ-loop
-add-sum c = search needs
-
-add-t : tie.Need-add-t Inv-loop μ-loop
-add-t c = search needs
-
-loop-less : tie.Need-loop-less Inv-loop μ-loop
-loop-less c = search needs
-
 loop-again : tie.Need-loop-again Inv-loop μ-loop
 loop-again c = (search needs, search needs, summed (λ u. length (ledgerOf (c .before .before .before .before .before .args .c) (c .before .before .before .before .before .args .ledger .now) u .held)) _ _ _ (c .before .before .before .loop .inv .2) (count-as _ (c .before .track .ensures)))
 
@@ -49,10 +34,10 @@ held-total-spec =
     Inv-loop
     μ-loop
     loop-holds
-    track-requires
-    cast-sum
-    add-sum
-    add-t
-    loop-less
+    (λ c κs. search needs)
+    (λ c. search needs)
+    (λ c. search needs)
+    (λ c. search needs)
+    (λ c. search needs)
     loop-again
     returns)

@@ -18,33 +18,15 @@ Inv-loop plan c ledger opens tracks t₀ t = (t ≤ tracks) × (firstBelow t (ma
 abbrev μ-loop : tie.MeasureT-loop
 μ-loop plan c ledger opens tracks t₀ t = tracks - t
 
-open-scopes-requires : tie.Need-open-scopes-requires Inv-loop μ-loop
-open-scopes-requires c κs = search needs
-
 loop-holds : tie.Need-loop-holds Inv-loop μ-loop
 unfolding firstBelow
 loop-holds c = (search needs, refl)
 
-is-ready-requires : tie.Need-is-ready-requires Inv-loop μ-loop
-is-ready-requires c κs = search needs
-
-cast-result : tie.Need-cast-result Inv-loop μ-loop
-cast-result c = search needs
-
 returns : tie.Need-returns Inv-loop μ-loop
 returns c = lowest-is _ _ _ _ (c .before .before .before .loop-test .taken) (c .before .before .before .before .loop .inv .1) (sym (c .before .is-ready .ensures) ∙ c .if1 .taken)
 
-add-t : tie.Need-add-t Inv-loop μ-loop
-add-t c = search needs
-
-loop-less : tie.Need-loop-less Inv-loop μ-loop
-loop-less c = search needs
-
 loop-again : tie.Need-loop-again Inv-loop μ-loop
 loop-again c = (search needs, first-more-none _ _ (c .before .before .before .before .loop .inv .1) (sym (c .before .is-ready .ensures) ∙ c .if1 .left))
-
-cast-result-2 : tie.Need-cast-result-2 Inv-loop μ-loop
-cast-result-2 c = search needs
 
 returns-2 : tie.Need-returns-2 Inv-loop μ-loop
 returns-2 c = lowest-lacks _ _ _ _ (c .before .loop .inv .0) (c .loop-test .left) (c .before .loop .inv .1)
@@ -55,13 +37,13 @@ lowest-ready-spec =
     (tie.spec
     Inv-loop
     μ-loop
-    open-scopes-requires
+    (λ c κs. search needs)
     loop-holds
-    is-ready-requires
-    cast-result
+    (λ c κs. search needs)
+    (λ c. search needs)
     returns
-    add-t
-    loop-less
+    (λ c. search needs)
+    (λ c. search needs)
     loop-again
-    cast-result-2
+    (λ c. search needs)
     returns-2)

@@ -8,36 +8,12 @@ use borrow.Author.Needs.{needs}
 use Rattle.journal.proofs.lines.event_line.Statement.{statement}
 use Rattle.journal.proofs.lines.event_line.Tie as tie
 
-enum-known-answer : tie.Need-enum-known-answer
-enum-known-answer c = search needs
-
-slice-aggregate-put-three : tie.Need-slice-aggregate-put-three
-slice-aggregate-put-three c = search needs
-
-cast-put-three : tie.Need-cast-put-three
-cast-put-three c = search needs
-
-cast-put-three-2 : tie.Need-cast-put-three-2
-cast-put-three-2 c = search needs
-
 put-three-requires : tie.Need-put-three-requires
 put-three-requires c κs = omega (arith, digits-word (c .before .before .before .before .before .before .args .name) (c .before .before .before .before .before .before .fits .name .fits), digits-word (c .before .before .before .answer .given .0 .0) (search needs), digits-word (c .before .before .before .answer .given .0 .1 .0) (search needs))
-
-enum-known-answer-2 : tie.Need-enum-known-answer-2
-enum-known-answer-2 c = search needs
-
-refusal-line-requires : tie.Need-refusal-line-requires
-refusal-line-requires c κs = search needs
-
-same-length : tie.Need-same-length
-same-length c = search needs
 
 returns : tie.Need-returns
 unfolding callLine eventTold doneLine ascii
 returns c = rw (c .before .before .before .before .before .before .answer .given .1) (lined-three (ascii "E") (decimal (c .before .before .before .before .before .before .before .before .before .args .name)) (decimal (c .before .before .before .before .before .before .answer .given .0 .0)) (decimal (c .before .before .before .before .before .before .answer .given .0 .1 .0)) (c .before .before .put-three .ensures) (omega (arith, digits-word (c .before .before .before .before .before .before .before .before .before .args .name) (c .before .before .before .before .before .before .before .before .before .fits .name .fits), digits-word (c .before .before .before .before .before .before .answer .given .0 .0) (search needs), digits-word (c .before .before .before .before .before .before .answer .given .0 .1 .0) (search needs))))
-
-same-length-2 : tie.Need-same-length-2
-same-length-2 c = search needs
 
 returns-2 : tie.Need-returns-2
 unfolding callLine eventTold
@@ -47,14 +23,14 @@ pub event-line-spec : {M : Type 1} → statement M
 event-line-spec =
     tie.close
     (tie.spec
-    enum-known-answer
-    slice-aggregate-put-three
-    cast-put-three
-    cast-put-three-2
+    (λ c. search needs)
+    (λ c. search needs)
+    (λ c. search needs)
+    (λ c. search needs)
     put-three-requires
-    enum-known-answer-2
-    refusal-line-requires
-    same-length
+    (λ c. search needs)
+    (λ c κs. search needs)
+    (λ c. search needs)
     returns
-    same-length-2
+    (λ c. search needs)
     returns-2)

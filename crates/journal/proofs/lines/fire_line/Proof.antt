@@ -5,27 +5,9 @@ use Rattle.rules.specs.Answers.{fireTold}
 use Rattle.journal.proofs.lines.fire_line.Statement.{statement}
 use Rattle.journal.proofs.lines.fire_line.Tie as tie
 
-enum-known-answer : tie.Need-enum-known-answer
-enum-known-answer c = search needs
-
-fired-line-requires : tie.Need-fired-line-requires
-fired-line-requires c κs = search needs
-
-enum-known-answer-2 : tie.Need-enum-known-answer-2
-enum-known-answer-2 c = search needs
-
-refusal-line-requires : tie.Need-refusal-line-requires
-refusal-line-requires c κs = search needs
-
-same-length : tie.Need-same-length
-same-length c = search needs
-
 returns : tie.Need-returns
 unfolding callLine fireTold
 returns c = rw (c .before .before .before .before .before .answer .given .1) (c .before .before .fired-line .ensures)
-
-same-length-2 : tie.Need-same-length-2
-same-length-2 c = search needs
 
 returns-2 : tie.Need-returns-2
 unfolding callLine fireTold
@@ -35,11 +17,11 @@ pub fire-line-spec : {M : Type 1} → statement M
 fire-line-spec =
     tie.close
     (tie.spec
-    enum-known-answer
-    fired-line-requires
-    enum-known-answer-2
-    refusal-line-requires
-    same-length
+    (λ c. search needs)
+    (λ c κs. search needs)
+    (λ c. search needs)
+    (λ c κs. search needs)
+    (λ c. search needs)
     returns
-    same-length-2
+    (λ c. search needs)
     returns-2)

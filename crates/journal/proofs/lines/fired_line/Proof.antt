@@ -10,9 +10,6 @@ use Rattle.journal.proofs.LineText.{line-three, length-head, length-fie
 use Rattle.journal.proofs.lines.fired_line.Statement.{statement}
 use Rattle.journal.proofs.lines.fired_line.Tie as tie
 
-slice-aggregate-put-head : tie.Need-slice-aggregate-put-head
-slice-aggregate-put-head c = search needs
-
 put-head-requires : tie.Need-put-head-requires
 put-head-requires c κs = omega (arith, digits-word (c .before .before .before .args .track) (c .before .before .before .fits .track .fits))
 
@@ -28,9 +25,6 @@ put-byte-requires : tie.Need-put-byte-requires
 unfolding ascii
 put-byte-requires c κs = omega (arith, deviation-most (c .before .before .before .before .before .before .before .before .before .before .before .before .before .before .before .args .deviation) (c .before .before .before .before .before .before .before .before .before .before .before .before .before .before .before .fits .deviation .fits), digits-word (c .before .before .before .before .before .before .before .before .before .before .before .before .before .before .before .args .code) (c .before .before .before .before .before .before .before .before .before .before .before .before .before .before .before .fits .code .fits), digits-word (c .before .before .before .before .before .before .before .before .before .before .before .before .before .before .before .args .track) (c .before .before .before .before .before .before .before .before .before .before .before .before .before .before .before .fits .track .fits), c .before .before .before .put-deviation-field .ensures .place, length-field (deviationText (c .before .before .before .before .before .before .before .before .before .before .before .before .before .before .before .args .deviation)), c .before .before .before .put-deviation-field .kept .0, c .before .before .before .before .before .before .before .put-field .ensures .place, length-field (decimal (c .before .before .before .before .before .before .before .before .before .before .before .before .before .before .before .args .code)), c .before .before .before .before .before .before .before .put-field .kept .0, c .before .before .before .before .before .before .before .before .before .before .before .put-head .ensures .place, length-head (ascii "F") (decimal (c .before .before .before .before .before .before .before .before .before .before .before .before .before .before .before .args .track)), c .before .before .before .before .before .before .before .before .before .before .before .put-head .kept .0)
 
-same-length : tie.Need-same-length
-same-length c = search needs
-
 returns : tie.Need-returns
 unfolding doneLine ascii
 returns c = lined-three (ascii "F") (decimal (c .before .before .before .before .before .before .before .before .before .before .before .before .before .before .before .before .before .before .args .track)) (decimal (c .before .before .before .before .before .before .before .before .before .before .before .before .before .before .before .before .before .before .args .code)) (deviationText (c .before .before .before .before .before .before .before .before .before .before .before .before .before .before .before .before .before .before .args .deviation)) (retold (line-three (ascii "F") _ _ _) (wrote-then (search needs) (wrote-then (search needs) (wrote-then (search needs) (c .before .before .before .before .before .before .before .before .before .before .before .before .before .before .put-head .ensures) (c .before .before .before .before .before .before .before .before .before .before .put-field .ensures)) (c .before .before .before .before .before .before .put-deviation-field .ensures)) (c .before .before .put-byte .ensures))) (omega (arith, deviation-most (c .before .before .before .before .before .before .before .before .before .before .before .before .before .before .before .before .before .before .args .deviation) (c .before .before .before .before .before .before .before .before .before .before .before .before .before .before .before .before .before .before .fits .deviation .fits), digits-word (c .before .before .before .before .before .before .before .before .before .before .before .before .before .before .before .before .before .before .args .code) (c .before .before .before .before .before .before .before .before .before .before .before .before .before .before .before .before .before .before .fits .code .fits), digits-word (c .before .before .before .before .before .before .before .before .before .before .before .before .before .before .before .before .before .before .args .track) (c .before .before .before .before .before .before .before .before .before .before .before .before .before .before .before .before .before .before .fits .track .fits)))
@@ -39,10 +33,10 @@ pub fired-line-spec : {M : Type 1} → statement M
 fired-line-spec =
     tie.close
     (tie.spec
-    slice-aggregate-put-head
+    (λ c. search needs)
     put-head-requires
     put-field-requires
     put-deviation-field-requires
     put-byte-requires
-    same-length
+    (λ c. search needs)
     returns)

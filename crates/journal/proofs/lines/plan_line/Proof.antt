@@ -9,14 +9,8 @@ use Rattle.journal.proofs.LineText.{digits-word}
 use Rattle.journal.proofs.lines.plan_line.Statement.{statement}
 use Rattle.journal.proofs.lines.plan_line.Tie as tie
 
-slice-aggregate-put-three : tie.Need-slice-aggregate-put-three
-slice-aggregate-put-three c = search needs
-
 put-three-requires : tie.Need-put-three-requires
 put-three-requires c κs = omega (arith, digits-word (c .before .before .before .args .c .tracks) (search needs), digits-word (c .before .before .before .args .c .states) (search needs), digits-word (c .before .before .before .args .c .transitions) (search needs))
-
-same-length : tie.Need-same-length
-same-length c = search needs
 
 returns : tie.Need-returns
 unfolding planLine ascii
@@ -24,4 +18,4 @@ returns c = lined-three (ascii "PLAN") (decimal (c .before .before .before .befo
 
 pub plan-line-spec : {M : Type 1} → statement M
 plan-line-spec =
-    tie.close (tie.spec slice-aggregate-put-three put-three-requires same-length returns)
+    tie.close (tie.spec (λ c. search needs) put-three-requires (λ c. search needs) returns)

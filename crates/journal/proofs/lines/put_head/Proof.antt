@@ -4,17 +4,8 @@ use Rattle.journal.proofs.Written.{wrote-then}
 use Rattle.journal.proofs.lines.put_head.Statement.{statement}
 use Rattle.journal.proofs.lines.put_head.Tie as tie
 
-put-word-requires : tie.Need-put-word-requires
-put-word-requires c κs = search needs
-
-put-field-requires : tie.Need-put-field-requires
-put-field-requires c κs = search needs
-
-same-length : tie.Need-same-length
-same-length c = search needs
-
 returns : tie.Need-returns
 returns c = wrote-then (search needs) (c .before .before .before .before .before .before .put-word .ensures) (c .before .before .put-field .ensures)
 
 pub put-head-spec : {M : Type 1} → statement M
-put-head-spec = tie.close (tie.spec put-word-requires put-field-requires same-length returns)
+put-head-spec = tie.close (tie.spec (λ c κs. search needs) (λ c κs. search needs) (λ c. search needs) returns)

@@ -9,14 +9,8 @@ use Rattle.journal.proofs.LineText.{digits-byte}
 use Rattle.journal.proofs.lines.refusal_line.Statement.{statement}
 use Rattle.journal.proofs.lines.refusal_line.Tie as tie
 
-slice-aggregate-put-one : tie.Need-slice-aggregate-put-one
-slice-aggregate-put-one c = search needs
-
 put-one-requires : tie.Need-put-one-requires
 put-one-requires c κs = omega (arith, digits-byte (c .before .before .before .args .number) (c .before .before .before .fits .number .fits))
-
-same-length : tie.Need-same-length
-same-length c = search needs
 
 returns : tie.Need-returns
 unfolding refusalLine ascii
@@ -24,4 +18,4 @@ returns c = lined-one (ascii "R") (decimal (c .before .before .before .before .b
 
 pub refusal-line-spec : {M : Type 1} → statement M
 refusal-line-spec =
-    tie.close (tie.spec slice-aggregate-put-one put-one-requires same-length returns)
+    tie.close (tie.spec (λ c. search needs) put-one-requires (λ c. search needs) returns)

@@ -10,9 +10,6 @@ use Rattle.journal.proofs.LineText.{line-two, length-head, length-field
 use Rattle.journal.proofs.lines.tally_line.Statement.{statement}
 use Rattle.journal.proofs.lines.tally_line.Tie as tie
 
-slice-aggregate-put-head : tie.Need-slice-aggregate-put-head
-slice-aggregate-put-head c = search needs
-
 put-head-requires : tie.Need-put-head-requires
 put-head-requires c κs = omega (arith, digits-long (c .before .before .before .args .held) (c .before .before .before .fits .held .fits))
 
@@ -24,9 +21,6 @@ put-byte-requires : tie.Need-put-byte-requires
 unfolding ascii
 put-byte-requires c κs = omega (arith, digits-long (c .before .before .before .before .before .before .before .before .before .before .before .args .fired) (c .before .before .before .before .before .before .before .before .before .before .before .fits .fired .fits), digits-long (c .before .before .before .before .before .before .before .before .before .before .before .args .held) (c .before .before .before .before .before .before .before .before .before .before .before .fits .held .fits), c .before .before .before .put-field .ensures .place, length-field (decimal (c .before .before .before .before .before .before .before .before .before .before .before .args .fired)), c .before .before .before .put-field .kept .0, c .before .before .before .before .before .before .before .put-head .ensures .place, length-head (ascii "H") (decimal (c .before .before .before .before .before .before .before .before .before .before .before .args .held)), c .before .before .before .before .before .before .before .put-head .kept .0)
 
-same-length : tie.Need-same-length
-same-length c = search needs
-
 returns : tie.Need-returns
 unfolding tallyLine ascii
 returns c = lined-two (ascii "H") (decimal (c .before .before .before .before .before .before .before .before .before .before .before .before .before .before .args .held)) (decimal (c .before .before .before .before .before .before .before .before .before .before .before .before .before .before .args .fired)) (retold (line-two (ascii "H") _ _) (wrote-then (search needs) (wrote-then (search needs) (c .before .before .before .before .before .before .before .before .before .before .put-head .ensures) (c .before .before .before .before .before .before .put-field .ensures)) (c .before .before .put-byte .ensures))) (omega (arith, digits-long (c .before .before .before .before .before .before .before .before .before .before .before .before .before .before .args .held) (c .before .before .before .before .before .before .before .before .before .before .before .before .before .before .fits .held .fits), digits-long (c .before .before .before .before .before .before .before .before .before .before .before .before .before .before .args .fired) (c .before .before .before .before .before .before .before .before .before .before .before .before .before .before .fits .fired .fits)))
@@ -35,9 +29,9 @@ pub tally-line-spec : {M : Type 1} → statement M
 tally-line-spec =
     tie.close
     (tie.spec
-    slice-aggregate-put-head
+    (λ c. search needs)
     put-head-requires
     put-field-requires
     put-byte-requires
-    same-length
+    (λ c. search needs)
     returns)

@@ -8,38 +8,17 @@ use Rattle.journal.proofs.record.record_at.Tie as tie
 returns : tie.Need-returns
 returns c = sym (at-end _ _ (c .if1 .taken))
 
-sub-left : tie.Need-sub-left
-sub-left c = search needs
-
 returns-2 : tie.Need-returns-2
 returns-2 c = sym (too-short _ _ (c .before .if1 .left) (c .if2 .taken))
 
-add-word-at : tie.Need-add-word-at
-add-word-at c = search needs
-
-word-at-requires : tie.Need-word-at-requires
-word-at-requires c κs = search needs
-
-length-of-requires : tie.Need-length-of-requires
-length-of-requires c κs = search needs
-
 returns-3 : tie.Need-returns-3
 returns-3 c = sym (unknown _ _ _ _ _ (c .before .before .word-at .ensures) (c .before .length-of .ensures) refl (c .before .before .before .if2 .left) (c .if3 .taken))
-
-word-at-requires-2 : tie.Need-word-at-requires-2
-word-at-requires-2 c κs = search needs
-
-wide-requires : tie.Need-wide-requires
-wide-requires c κs = search needs
 
 returns-4 : tie.Need-returns-4
 returns-4 c = sym (wrong _ _ _ _ _ (c .before .before .before .before .before .word-at .ensures) (c .before .before .before .before .length-of .ensures) (c .before .wide .ensures ∙ c .before .before .word-at2 .ensures) (c .before .before .before .before .before .before .if2 .left) (c .before .before .before .if3 .left) (c .if4 .taken))
 
 returns-5 : tie.Need-returns-5
 returns-5 c = sym (cut _ _ _ _ _ (c .before .before .before .before .before .before .word-at .ensures) (c .before .before .before .before .before .length-of .ensures) (c .before .before .wide .ensures ∙ c .before .before .before .word-at2 .ensures) (c .before .before .before .before .before .before .before .if2 .left) (c .before .before .before .before .if3 .left) (c .before .if4 .left) (c .if5 .taken))
-
-whole-at-requires : tie.Need-whole-at-requires
-whole-at-requires c κs = search needs
 
 returns-6 : tie.Need-returns-6
 returns-6 c = c .whole-at .ensures ∙ sym (whole _ _ _ _ _ (c .before .before .before .before .before .before .before .word-at .ensures) (c .before .before .before .before .before .before .length-of .ensures) (c .before .before .before .wide .ensures ∙ c .before .before .before .before .word-at2 .ensures) (c .before .before .before .before .before .before .before .before .if2 .left) (c .before .before .before .before .before .if3 .left) (c .before .before .if4 .left) (c .before .if5 .left))
@@ -49,15 +28,15 @@ record-at-spec =
     tie.close
     (tie.spec
     returns
-    sub-left
+    (λ c. search needs)
     returns-2
-    add-word-at
-    word-at-requires
-    length-of-requires
+    (λ c. search needs)
+    (λ c κs. search needs)
+    (λ c κs. search needs)
     returns-3
-    word-at-requires-2
-    wide-requires
+    (λ c κs. search needs)
+    (λ c κs. search needs)
     returns-4
     returns-5
-    whole-at-requires
+    (λ c κs. search needs)
     returns-6)

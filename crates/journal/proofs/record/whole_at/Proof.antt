@@ -7,9 +7,6 @@ use Rattle.rules.specs.Journal.{journalLength, recordOf}
 use Rattle.journal.proofs.record.whole_at.Statement.{statement}
 use Rattle.journal.proofs.record.whole_at.Tie as tie
 
-add-word-at : tie.Need-add-word-at
-add-word-at c = search needs
-
 word-at-requires : tie.Need-word-at-requires
 unfolding journalLength
 word-at-requires c κs = let e : journalLength (c .before .before .args .kind) ≡ 6 = rw (c .if1 .taken) in omega arith
@@ -21,9 +18,6 @@ returns c = rw (c .before .if1 .taken, c .word-at .ensures)
 returns-2 : tie.Need-returns-2
 unfolding recordOf
 returns-2 c = rw (c .if2 .taken)
-
-add-word-at-2 : tie.Need-add-word-at-2
-add-word-at-2 c = search needs
 
 word-at-requires-2 : tie.Need-word-at-requires-2
 unfolding journalLength
@@ -41,11 +35,11 @@ pub whole-at-spec : {M : Type 1} → statement M
 whole-at-spec =
     tie.close
     (tie.spec
-    add-word-at
+    (λ c. search needs)
     word-at-requires
     returns
     returns-2
-    add-word-at-2
+    (λ c. search needs)
     word-at-requires-2
     returns-3
     returns-4)

@@ -5,12 +5,6 @@ use Rattle.rules.specs.Transcript.{firingsOf}
 use Rattle.journal.proofs.tally.firings_of.Statement.{statement}
 use Rattle.journal.proofs.tally.firings_of.Tie as tie
 
-enum-told : tie.Need-enum-told
-enum-told c = search needs
-
-enum-told-2 : tie.Need-enum-told-2
-enum-told-2 c = search needs
-
 returns : tie.Need-returns
 unfolding fireTold firingsOf
 returns c = λ t. rw (c .enum-told .given .1)
@@ -20,4 +14,4 @@ unfolding fireTold firingsOf
 returns-2 c = λ t. rw (c .enum-told2 .given .1)
 
 pub firings-of-spec : {M : Type 1} → statement M
-firings-of-spec = tie.close (tie.spec enum-told enum-told-2 returns returns-2)
+firings-of-spec = tie.close (tie.spec (λ c. search needs) (λ c. search needs) returns returns-2)

@@ -11,17 +11,11 @@ use Rattle.journal.proofs.text.put_deviation.Tie as tie
 put-byte-requires : tie.Need-put-byte-requires
 put-byte-requires c κs = omega (arith, ap length (deviation-none (c .before .before .before .args .deviation) (c .before .if1 .taken)))
 
-same-length : tie.Need-same-length
-same-length c = search needs
-
 returns : tie.Need-returns
 returns c = retold (sym (deviation-none _ (c .before .before .before .before .if1 .taken))) (c .before .before .put-byte .ensures)
 
 put-number-requires : tie.Need-put-number-requires
 put-number-requires c κs = omega (arith, ap length (deviation-some (c .before .before .before .args .deviation) (c .before .if1 .left)))
-
-same-length-2 : tie.Need-same-length-2
-same-length-2 c = search needs
 
 returns-2 : tie.Need-returns-2
 returns-2 c = retold (sym (deviation-some _ (c .before .before .before .before .if1 .left))) (c .before .before .put-number .ensures)
@@ -29,4 +23,4 @@ returns-2 c = retold (sym (deviation-some _ (c .before .before .before .before .
 pub put-deviation-spec : {M : Type 1} → statement M
 put-deviation-spec =
     tie.close
-    (tie.spec put-byte-requires same-length returns put-number-requires same-length-2 returns-2)
+    (tie.spec put-byte-requires (λ c. search needs) returns put-number-requires (λ c. search needs) returns-2)

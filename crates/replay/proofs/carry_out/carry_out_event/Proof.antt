@@ -5,21 +5,6 @@ use borrow.Author.Needs.{needs}
 use Rattle.replay.proofs.carry_out.carry_out_event.Statement.{statement}
 use Rattle.replay.proofs.carry_out.carry_out_event.Tie as tie
 
-event-indexed-requires : tie.Need-event-indexed-requires
-event-indexed-requires c κs = search needs
-
-event-line-requires : tie.Need-event-line-requires
-event-line-requires c κs = search needs
-
-come-to-requires : tie.Need-come-to-requires
-come-to-requires c κs = search needs
-
-same-length : tie.Need-same-length
-same-length c = search needs
-
-same-length-2 : tie.Need-same-length-2
-same-length-2 c = search needs
-
 returns : tie.Need-returns
 unfolding eventOutcome
 returns c = carried-out _ _ (event (record { event = _ })) _ _ _ _ _ _ _ _ _ (c .before .before .before .before .before .before .before .before .event-indexed .ensures) (c .before .before .before .before .event-line .ensures) (event-fires _ _) (c .come-to .ensures)
@@ -28,9 +13,9 @@ pub carry-out-event-spec : {M : Type 1} → statement M
 carry-out-event-spec =
     tie.close
     (tie.spec
-    event-indexed-requires
-    event-line-requires
-    come-to-requires
-    same-length
-    same-length-2
+    (λ c κs. search needs)
+    (λ c κs. search needs)
+    (λ c κs. search needs)
+    (λ c. search needs)
+    (λ c. search needs)
     returns)

@@ -7,23 +7,8 @@ use borrow.Author.Needs.{needs}
 use Rattle.replay.proofs.carry_out.carry_out_fire.Statement.{statement}
 use Rattle.replay.proofs.carry_out.carry_out_fire.Tie as tie
 
-fire-requires : tie.Need-fire-requires
-fire-requires c κs = search needs
-
-fire-line-requires : tie.Need-fire-line-requires
-fire-line-requires c κs = search needs
-
-firings-of-requires : tie.Need-firings-of-requires
-firings-of-requires c κs = search needs
-
 come-to-requires : tie.Need-come-to-requires
 come-to-requires c κs = (search needs, omega (arith, c .before .firings-of .ensures 0, fires-one (record { track = 0 }) (fireTold (c .before .before .before .before .before .before .before .before .fire .result)), c .before .before .before .before .before .before .before .before .before .before .before .before .before .pre .few))
-
-same-length : tie.Need-same-length
-same-length c = search needs
-
-same-length-2 : tie.Need-same-length-2
-same-length-2 c = search needs
 
 returns : tie.Need-returns
 unfolding fireOutcome
@@ -33,10 +18,10 @@ pub carry-out-fire-spec : {M : Type 1} → statement M
 carry-out-fire-spec =
     tie.close
     (tie.spec
-    fire-requires
-    fire-line-requires
-    firings-of-requires
+    (λ c κs. search needs)
+    (λ c κs. search needs)
+    (λ c κs. search needs)
     come-to-requires
-    same-length
-    same-length-2
+    (λ c. search needs)
+    (λ c. search needs)
     returns)

@@ -22,32 +22,11 @@ Inv-loop plan c journal ledger₀ output₀ start firsts head chain held so-far�
 abbrev μ-loop : tie.MeasureT-loop
 μ-loop plan c journal ledger₀ output₀ start firsts head chain held so-far₀ at₀ ledger output so-far at = length journal - at
 
-first-states-requires : tie.Need-first-states-requires Inv-loop μ-loop
-first-states-requires c κs = search needs
-
-index-requires : tie.Need-index-requires Inv-loop μ-loop
-index-requires c κs = search needs
-
-held-total-requires : tie.Need-held-total-requires Inv-loop μ-loop
-held-total-requires c κs = search needs
-
 loop-holds : tie.Need-loop-holds Inv-loop μ-loop
 loop-holds c = (underway-start _ _ _ _ _ _ _ _ _ (c .before .before .before .before .before .before .before .before .before .before .pre .0) (held-told _ _ _ _ (c .held-total .ensures)) refl refl, refl, refl)
 
-record-at-requires : tie.Need-record-at-requires Inv-loop μ-loop
-record-at-requires c κs = search needs
-
-size-of-requires : tie.Need-size-of-requires Inv-loop μ-loop
-size-of-requires c κs = search needs
-
 close-requires : tie.Need-close-requires Inv-loop μ-loop
 close-requires c κs = within-close _ _ _ _ _ _ _ (c .before .before .before .before .before .before .before .before .before .before .before .before .before .before .before .pre .2) (c .before .before .before .before .before .before .before .before .before .before .before .before .before .before .before .pre .1) _ _ _ _ (c .before .before .before .before .loop .inv .0) (c .before .before .before .before .loop .inv .1)
-
-same-length : tie.Need-same-length Inv-loop μ-loop
-same-length c = search needs
-
-same-length-2 : tie.Need-same-length-2 Inv-loop μ-loop
-same-length-2 c = search needs
 
 returns : tie.Need-returns Inv-loop μ-loop
 returns c = underway-done _ _ _ _ _ _ _ (c .before .before .before .before .before .before .before .before .before .before .before .before .before .before .before .before .before .before .pre .2) (c .before .before .before .before .before .before .before .before .before .before .before .before .before .before .before .before .before .before .pre .1) _ _ _ _ (c .before .before .before .before .before .before .before .loop .inv .0) (c .before .before .before .before .before .before .before .loop .inv .1) _ _ (c .before .before .before .before .before .before .record-at .ensures) (c .before .before .before .before .before .size-of .ensures) (c .before .before .before .before .if1 .taken) _ _ (c .before .before .close .ensures)
@@ -70,15 +49,15 @@ run-records-spec =
     (tie.spec
     Inv-loop
     μ-loop
-    first-states-requires
-    index-requires
-    held-total-requires
+    (λ c κs. search needs)
+    (λ c κs. search needs)
+    (λ c κs. search needs)
     loop-holds
-    record-at-requires
-    size-of-requires
+    (λ c κs. search needs)
+    (λ c κs. search needs)
     close-requires
-    same-length
-    same-length-2
+    (λ c. search needs)
+    (λ c. search needs)
     returns
     carry-out-requires
     add-at

@@ -31,12 +31,6 @@ leave-track-requires c κs =
     let i = c .before .before .before .loop .inv in
     (pre .0, leaving-orderly _ _ _ (pre .1) _ (c .before .before .before .before .left-open .ensures) _ (i .0) (i .1), search needs)
 
-add-t : tie.Need-add-t Inv-loop μ-loop
-add-t c = search needs
-
-loop-less : tie.Need-loop-less Inv-loop μ-loop
-loop-less c = search needs
-
 loop-again : tie.Need-loop-again Inv-loop μ-loop
 loop-again c =
     let i = c .before .before .before .before .before .before .loop .inv in
@@ -57,8 +51,8 @@ abandon-spec =
     left-open-requires
     loop-holds
     leave-track-requires
-    add-t
-    loop-less
+    (λ c. search needs)
+    (λ c. search needs)
     loop-again
     same-length
     returns)

@@ -4,20 +4,11 @@ use Rattle.withdrawal.proofs.Counted.{busy-asleep, busy-holding, busy-o
 use Rattle.withdrawal.proofs.abandoning.is_busy.Statement.{statement}
 use Rattle.withdrawal.proofs.abandoning.is_busy.Tie as tie
 
-is-awake-requires : tie.Need-is-awake-requires
-is-awake-requires c κs = search needs
-
 returns : tie.Need-returns
 returns c = busy-asleep _ _ _ (c .before .is-awake .ensures) (c .if1 .taken)
 
-is-taken-back-requires : tie.Need-is-taken-back-requires
-is-taken-back-requires c κs = search needs
-
 returns-2 : tie.Need-returns-2
 returns-2 c = busy-holding _ _ _ (c .before .before .before .is-awake .ensures) (c .before .before .if1 .left) (c .before .is-taken-back .ensures) (c .if2 .taken)
-
-element-copy-out-result : tie.Need-element-copy-out-result
-element-copy-out-result c = search needs
 
 returns-3 : tie.Need-returns-3
 returns-3 c = busy-open _ _ _ (c .before .before .before .before .is-awake .ensures) (c .before .before .before .if1 .left) (c .before .before .is-taken-back .ensures) (c .before .if2 .left) (c .before .before .before .before .before .before .before .pre .2)
@@ -26,9 +17,9 @@ pub is-busy-spec : {M : Type 1} → statement M
 is-busy-spec =
     tie.close
     (tie.spec
-    is-awake-requires
+    (λ c κs. search needs)
     returns
-    is-taken-back-requires
+    (λ c κs. search needs)
     returns-2
-    element-copy-out-result
+    (λ c. search needs)
     returns-3)

@@ -8,34 +8,16 @@ use Rattle.withdrawal.proofs.AbandoningLaws.{leave-asleep, leave-root, 
 use Rattle.withdrawal.proofs.abandoning.leave_track.Statement.{statement}
 use Rattle.withdrawal.proofs.abandoning.leave_track.Tie as tie
 
-is-awake-requires : tie.Need-is-awake-requires
-is-awake-requires c κs = search needs
-
-same-length : tie.Need-same-length
-same-length c = search needs
-
 returns : tie.Need-returns
 returns c = leave-asleep _ _ (c .before .before .before .before .before .pre .0) _ (c .before .before .before .before .before .pre .1) _ _ (c .before .is-awake .ensures) (c .if1 .taken)
-
-host-track-requires : tie.Need-host-track-requires
-host-track-requires c κs = search needs
-
-same-length-2 : tie.Need-same-length-2
-same-length-2 c = search needs
 
 returns-2 : tie.Need-returns-2
 unfolding noState
 returns-2 c = leave-root _ _ (c .before .before .before .before .before .before .before .pre .0) _ (c .before .before .before .before .before .before .before .pre .1) _ _ (c .before .before .before .is-awake .ensures) (c .before .host-track .ensures) (c .if2 .taken)
 
-cast-if3 : tie.Need-cast-if3
-cast-if3 c = search needs
-
 element-copy-out-if3 : tie.Need-element-copy-out-if3
 unfolding noState
 element-copy-out-if3 c = let b = host-track-low _ _ _ _ (c .before .before .before .before .before .before .before .pre .0) (c .before .host-track .ensures) (c .if2 .left) in let n = c .before .before .before .before .before .before .before .pre .0 .holds .tracks in omega arith
-
-same-length-3 : tie.Need-same-length-3
-same-length-3 c = search needs
 
 returns-3 : tie.Need-returns-3
 unfolding noState
@@ -45,9 +27,6 @@ returns-3 c =
 
 put-to-sleep-requires : tie.Need-put-to-sleep-requires
 put-to-sleep-requires c κs = let pre = c .before .before .before .before .before .before .before .before .before .before .pre in in-room _ _ _ (pre .1 .room) (pre .2)
-
-same-length-4 : tie.Need-same-length-4
-same-length-4 c = search needs
 
 returns-4 : tie.Need-returns-4
 unfolding noState
@@ -59,16 +38,16 @@ pub leave-track-spec : {M : Type 1} → statement M
 leave-track-spec =
     tie.close
     (tie.spec
-    is-awake-requires
-    same-length
+    (λ c κs. search needs)
+    (λ c. search needs)
     returns
-    host-track-requires
-    same-length-2
+    (λ c κs. search needs)
+    (λ c. search needs)
     returns-2
-    cast-if3
+    (λ c. search needs)
     element-copy-out-if3
-    same-length-3
+    (λ c. search needs)
     returns-3
     put-to-sleep-requires
-    same-length-4
+    (λ c. search needs)
     returns-4)

@@ -16,20 +16,11 @@ Inv-loop plan c ledger opens busy₀ tracks t₀ busy t = (t ≤ c .tracks) × C
 abbrev μ-loop : tie.MeasureT-loop
 μ-loop plan c ledger opens busy₀ tracks t₀ busy t = c .tracks - t
 
-open-scopes-requires : tie.Need-open-scopes-requires Inv-loop μ-loop
-open-scopes-requires c κs = search needs
-
 loop-holds : tie.Need-loop-holds Inv-loop μ-loop
 loop-holds c = (omega arith, count-start _ _ (c .before .before .before .pre .accepts) _ _ (c .open-scopes .ensures))
 
 count-track-requires : tie.Need-count-track-requires Inv-loop μ-loop
 count-track-requires c κs = (c .before .before .before .before .before .before .before .pre, search needs, c .before .before .before .loop .inv .1)
-
-add-t : tie.Need-add-t Inv-loop μ-loop
-add-t c = search needs
-
-loop-less : tie.Need-loop-less Inv-loop μ-loop
-loop-less c = search needs
 
 loop-again : tie.Need-loop-again Inv-loop μ-loop
 loop-again c = (omega arith, c .count-track .ensures)
@@ -43,10 +34,10 @@ open-scopes-spec =
     (tie.spec
     Inv-loop
     μ-loop
-    open-scopes-requires
+    (λ c κs. search needs)
     loop-holds
     count-track-requires
-    add-t
-    loop-less
+    (λ c. search needs)
+    (λ c. search needs)
     loop-again
     returns)

@@ -13,9 +13,6 @@ returns c = deviates-not _ _ (c .before .before .before .pre .0) _ _ _ (c .befor
 first-states-requires : tie.Need-first-states-requires
 first-states-requires c κs = c .before .before .before .pre .0
 
-mul-to : tie.Need-mul-to
-mul-to c = search needs
-
 array-write-to : tie.Need-array-write-to
 array-write-to c = let n = c .before .before .before .before .pre .0 .holds .tracks in omega arith
 
@@ -24,12 +21,9 @@ unfolding noState
 enter-all-requires c κs =
     (c .before .before .before .before .before .pre .0, c .before .before .before .before .before .pre .1, c .before .first-states .ensures, deviating-sleepers _ _ (c .before .before .before .before .before .pre .0) _ (c .before .before .before .before .before .pre .2) _ _ (c .before .before .before .before .before .pre .3))
 
-same-length : tie.Need-same-length
-same-length c = search needs
-
 returns-2 : tie.Need-returns-2
 unfolding noState
 returns-2 c = deviating-done _ _ (c .before .before .before .before .before .before .before .before .pre .0) _ (c .before .before .before .before .before .before .before .before .pre .2) _ _ (c .before .before .enter-all .ensures)
 
 pub deviate-spec : {M : Type 1} → statement M
-deviate-spec = tie.close (tie.spec returns first-states-requires mul-to array-write-to enter-all-requires same-length returns-2)
+deviate-spec = tie.close (tie.spec returns first-states-requires (λ c. search needs) array-write-to enter-all-requires (λ c. search needs) returns-2)

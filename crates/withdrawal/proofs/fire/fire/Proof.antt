@@ -7,21 +7,9 @@ use Rattle.withdrawal.proofs.FiredWords.{fire-over, fire-not, fireable,
 use Rattle.withdrawal.proofs.fire.fire.Statement.{statement}
 use Rattle.withdrawal.proofs.fire.fire.Tie as tie
 
-is-over-requires : tie.Need-is-over-requires
-is-over-requires c κs = search needs
-
-same-length : tie.Need-same-length
-same-length c = search needs
-
 returns : tie.Need-returns
 unfolding fireTold
 returns c = fire-over (c .before .before .before .before .before .pre) (c .before .is-over .ensures) _ (c .if1 .taken)
-
-may-fire-requires : tie.Need-may-fire-requires
-may-fire-requires c κs = search needs
-
-same-length-2 : tie.Need-same-length-2
-same-length-2 c = search needs
 
 returns-2 : tie.Need-returns-2
 unfolding fireTold
@@ -35,9 +23,6 @@ sub-newest c =
     let a = fireable (c .before .before .before .before .before .before .before .before .before .before .before .pre) (c .before .before .before .before .before .before .before .is-over .ensures) (c .before .before .before .before .before .before .if1 .left) _ (c .before .before .before .before .may-fire .ensures) (c .before .before .before .if2 .left) in
     let n = counted a (c .before .track .ensures) in
     omega arith
-
-cast-newest : tie.Need-cast-newest
-cast-newest c = search needs
 
 entry-code-requires : tie.Need-entry-code-requires
 entry-code-requires c κs =
@@ -70,9 +55,6 @@ abandon-requires c κs =
     let e = deviation-is a (c .before .before .before .before .before .before .before .before .before .before .before .before .before .before .track .ensures) (c .before .before .before .before .before .before .before .before .before .entry-deviation .ensures) in
     (c .before .before .before .before .before .before .before .before .before .before .before .before .before .before .before .before .before .before .before .before .before .before .before .before .pre .lent .accepts, fired-orderly a d e (c .before .before .before .deviate .ensures), fired-nested a d e (c .before .before .before .deviate .ensures))
 
-same-length-3 : tie.Need-same-length-3
-same-length-3 c = search needs
-
 returns-3 : tie.Need-returns-3
 unfolding fireTold
 returns-3 c =
@@ -85,19 +67,19 @@ pub fire-spec : {M : Type 1} → statement M
 fire-spec =
     tie.close
     (tie.spec
-    is-over-requires
-    same-length
+    (λ c κs. search needs)
+    (λ c. search needs)
     returns
-    may-fire-requires
-    same-length-2
+    (λ c κs. search needs)
+    (λ c. search needs)
     returns-2
     track-requires
     sub-newest
-    cast-newest
+    (λ c. search needs)
     entry-code-requires
     entry-deviation-requires
     remove-newest-requires
     deviate-requires
     abandon-requires
-    same-length-3
+    (λ c. search needs)
     returns-3)

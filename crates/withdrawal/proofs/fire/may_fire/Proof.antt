@@ -8,14 +8,8 @@ use Rattle.withdrawal.proofs.fire.may_fire.Tie as tie
 returns : tie.Need-returns
 returns c = may-beyond _ _ _ _ (omega arith)
 
-open-scopes-requires : tie.Need-open-scopes-requires
-open-scopes-requires c κs = search needs
-
-is-ready-requires : tie.Need-is-ready-requires
-is-ready-requires c κs = search needs
-
 returns-2 : tie.Need-returns-2
 returns-2 c = c .is-ready .ensures
 
 pub may-fire-spec : {M : Type 1} → statement M
-may-fire-spec = tie.close (tie.spec returns open-scopes-requires is-ready-requires returns-2)
+may-fire-spec = tie.close (tie.spec returns (λ c κs. search needs) (λ c κs. search needs) returns-2)

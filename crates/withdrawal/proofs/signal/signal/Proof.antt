@@ -6,12 +6,6 @@ use borrow.Author.Needs.{needs}
 use Rattle.withdrawal.proofs.signal.signal.Statement.{statement}
 use Rattle.withdrawal.proofs.signal.signal.Tie as tie
 
-is-over-requires : tie.Need-is-over-requires
-is-over-requires c κs = search needs
-
-same-length : tie.Need-same-length
-same-length c = search needs
-
 returns : tie.Need-returns
 unfolding signalTold
 returns c = signal-over _ _ _ (c .before .before .before .before .before .pre) (sym (over-as _ _ _ (c .before .before .before .before .before .pre) (c .before .is-over .ensures)) ∙ c .if1 .taken)
@@ -22,9 +16,6 @@ turn-all-requires c κs = orderly _ _ _ (c .before .before .before .before .befo
 abandon-requires : tie.Need-abandon-requires
 abandon-requires c κs = (c .before .before .before .before .before .before .before .before .before .before .pre .lent .accepts, turned-orderly _ _ _ (c .before .before .before .before .before .before .before .before .before .before .pre) (c .before .before .before .turn-all .ensures .1), turned-nested _ _ _ (c .before .before .before .before .before .before .before .before .before .before .pre) (sym (over-as _ _ _ (c .before .before .before .before .before .before .before .before .before .before .pre) (c .before .before .before .before .before .before .is-over .ensures)) ∙ c .before .before .before .before .before .if1 .left) (c .before .before .before .turn-all .ensures .1))
 
-same-length-2 : tie.Need-same-length-2
-same-length-2 c = search needs
-
 returns-2 : tie.Need-returns-2
 unfolding signalTold
 returns-2 c = signal-done _ _ _ (c .before .before .before .before .before .before .before .before .before .before .before .before .before .pre) (sym (over-as _ _ _ (c .before .before .before .before .before .before .before .before .before .before .before .before .before .pre) (c .before .before .before .before .before .before .before .before .before .is-over .ensures)) ∙ c .before .before .before .before .before .before .before .before .if1 .left) (c .before .before .before .before .before .before .turn-all .ensures .0) (c .before .before .before .before .before .before .turn-all .ensures .1) (c .before .before .abandon .ensures)
@@ -33,10 +24,10 @@ pub signal-spec : {M : Type 1} → statement M
 signal-spec =
     tie.close
     (tie.spec
-    is-over-requires
-    same-length
+    (λ c κs. search needs)
+    (λ c. search needs)
     returns
     turn-all-requires
     abandon-requires
-    same-length-2
+    (λ c. search needs)
     returns-2)

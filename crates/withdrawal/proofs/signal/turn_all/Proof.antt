@@ -30,12 +30,6 @@ turn-track-requires c κs = (turning-orderly _ _ (c .before .before .before .bef
 add-count : tie.Need-add-count Inv-loop μ-loop
 add-count c = let f = c .before .before .before .before .before .before .before .pre .room .few in omega (arith, c .before .before .before .before .before .loop .inv .1, count-most (c .before .before .before .before .before .loop .t) (λ t. isForward (ledgerOf (c .before .before .before .before .before .before .before .args .c) (c .before .before .before .before .before .before .before .args .ledger .now) t .mode)), c .before .before .turn-track .ensures .0, one-most (isForward (ledgerOf (c .before .before .before .before .before .before .before .args .c) (c .before .before .before .before .before .loop .ledger) (c .before .before .before .before .before .loop .t) .mode)))
 
-add-t : tie.Need-add-t Inv-loop μ-loop
-add-t c = search needs
-
-loop-less : tie.Need-loop-less Inv-loop μ-loop
-loop-less c = search needs
-
 loop-again : tie.Need-loop-again Inv-loop μ-loop
 loop-again c = (omega arith, turn-count _ _ (c .before .before .before .before .before .before .before .pre) _ (turning-old _ _ (c .before .before .before .before .before .before .before .pre) _ (c .before .before .before .before .before .loop .inv .0) (c .before .before .before .before .before .loop .inv .2)) (c .before .before .before .before .before .loop .inv .1) (c .before .before .turn-track .ensures .0), turning-more _ _ (c .before .before .before .before .before .before .before .pre) _ (c .before .before .before .before .before .loop .inv .0) (c .before .before .before .before .before .loop .inv .2) (c .before .before .turn-track .ensures .1))
 
@@ -54,8 +48,8 @@ turn-all-spec =
     loop-holds
     turn-track-requires
     add-count
-    add-t
-    loop-less
+    (λ c. search needs)
+    (λ c. search needs)
     loop-again
     same-length
     returns)

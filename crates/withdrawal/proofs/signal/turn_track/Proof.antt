@@ -4,23 +4,8 @@ use borrow.Author.Needs.{needs}
 use Rattle.withdrawal.proofs.signal.turn_track.Statement.{statement}
 use Rattle.withdrawal.proofs.signal.turn_track.Tie as tie
 
-track-requires : tie.Need-track-requires
-track-requires c κs = search needs
-
-is-forward-requires : tie.Need-is-forward-requires
-is-forward-requires c κs = search needs
-
-same-length : tie.Need-same-length
-same-length c = search needs
-
 returns : tie.Need-returns
 returns c = turn-not _ _ (c .before .before .before .before .before .pre .0) _ _ (c .before .before .track .ensures) (c .before .is-forward .ensures) (c .if1 .taken)
-
-put-mode-requires : tie.Need-put-mode-requires
-put-mode-requires c κs = search needs
-
-same-length-2 : tie.Need-same-length-2
-same-length-2 c = search needs
 
 returns-2 : tie.Need-returns-2
 returns-2 c = turn-done _ _ (c .before .before .before .before .before .before .before .before .before .pre .0) _ _ (c .before .before .before .before .before .before .track .ensures) (c .before .before .before .before .before .is-forward .ensures) (c .before .before .before .before .if1 .left) (c .before .before .put-mode .ensures)
@@ -29,10 +14,10 @@ pub turn-track-spec : {M : Type 1} → statement M
 turn-track-spec =
     tie.close
     (tie.spec
-    track-requires
-    is-forward-requires
-    same-length
+    (λ c κs. search needs)
+    (λ c κs. search needs)
+    (λ c. search needs)
     returns
-    put-mode-requires
-    same-length-2
+    (λ c κs. search needs)
+    (λ c. search needs)
     returns-2)
