@@ -1,23 +1,15 @@
--- No move, no code, or the count against the limit. Assumes nothing.
-use mathlib.Core.Path.{_∙_, ap}
-use Rattle.rules.specs.Plan.{noState}
+-- No code, or the count against the limit. Assumes nothing.
 use Rattle.rules.specs.Layout.{entryLimit}
-use Rattle.event_choice.proofs.Visits.{fills-none, fills-zero, fills-full}
+use Rattle.event_choice.proofs.Visits.{fills-zero, fills-full}
 use borrow.Author.Needs.{needs}
 use Rattle.event_choice.proofs.judging.overfills.Statement.{statement}
 use Rattle.event_choice.proofs.judging.overfills.Tie as tie
 
-returns : tie.Need-returns
-unfolding noState
-returns c = fills-none _ _ (c .if1 .taken)
-
 code-of-requires : tie.Need-code-of-requires
-unfolding noState
-code-of-requires c κs = (c .before .before .before .pre .0 .accepts .holds, c .before .before .before .pre .2 (c .if1 .left))
+code-of-requires c κs = search needs
 
-returns-2 : tie.Need-returns-2
-unfolding noState
-returns-2 c = fills-zero _ (c .before .before .if1 .left) (c .before .code-of .ensures) _ (c .if2 .taken)
+returns : tie.Need-returns
+returns c = fills-zero _ _ (c .before .code-of .ensures) _ (c .if1 .taken)
 
 track-requires : tie.Need-track-requires
 track-requires c κs = search needs
@@ -25,9 +17,9 @@ track-requires c κs = search needs
 cast-result : tie.Need-cast-result
 cast-result c = search needs
 
-returns-3 : tie.Need-returns-3
-unfolding noState entryLimit
-returns-3 c = fills-full _ (c .before .before .before .before .if1 .left) (c .before .before .before .code-of .ensures) (c .before .before .if2 .left) _ (c .before .track .ensures)
+returns-2 : tie.Need-returns-2
+unfolding entryLimit
+returns-2 c = fills-full _ _ (c .before .before .before .code-of .ensures) (c .before .before .if1 .left) _ (c .before .track .ensures)
 
 pub overfills-spec : {M : Type 1} → statement M
-overfills-spec = tie.close (tie.spec returns code-of-requires returns-2 track-requires cast-result returns-3)
+overfills-spec = tie.close (tie.spec code-of-requires returns track-requires cast-result returns-2)
