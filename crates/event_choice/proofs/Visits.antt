@@ -102,29 +102,27 @@ module _ (p : Plan) (s : ℕ) {x : ℕ} where
     unfolding codeBy
     code-replaced z h e = e ∙ rw (word-none z, codeBy, not-false closes h)
 
--- a transition that is taken, if one is: where it leads, and whether the track has room for its code
+-- a track that takes no transition leads nowhere and is given nothing; one that takes one has room for its code or not
 module _ (p : Plan) {x : ℕ} where
-  pub last-none : x ≡ noState → false ≡ isLast p (optional x)
+  pub last-none : x ≡ noState → isLast p (optional x) ≡ false
   unfolding isLast
   last-none z = rw (word-none z, isLast)
 
-  pub last-some : (x ≡ noState → ⊥) → {d : ℕ} → d ≡ transition p x .destination → {r : Bool} → r ≡ isFinal p d → r ≡ isLast p (optional x)
-  unfolding isLast
-  last-some z f e = e ∙ ap (isFinal p) f ∙ rw (word-some z, isLast)
-
-  pub fills-none : (b : Bool) → x ≡ noState → false ≡ (hasCode p (optional x) && b)
+  pub fills-none : (b : Bool) → x ≡ noState → (hasCode p (optional x) && b) ≡ false
   unfolding hasCode
   fills-none b z = rw (word-none z, hasCode)
 
-  module _ (z : x ≡ noState → ⊥) {r : ℕ} (e : r ≡ transition p x .code) where
-    pub fills-zero : (b : Bool) → r ≡ 0 → false ≡ (hasCode p (optional x) && b)
-    unfolding hasCode
-    fills-zero b f = rw (word-some z, hasCode, eq-eqb (transition p x .code) 0 (sym e ∙ f))
+  pub fills-some : (b : Bool) → (x ≡ noState → ⊥) → (hasCode p (some x) && b) ≡ (hasCode p (optional x) && b)
+  fills-some b z = ap (λ o. hasCode p o && b) (sym (word-some z))
 
-    pub fills-full : (r ≡ 0 → ⊥) → {k : Track} (y : Configuration) → k ≡ trackOf y
-        → leb entryLimit (k .count) ≡ (hasCode p (optional x) && leb entryLimit (length (y .held)))
-    unfolding hasCode
-    fills-full f y h = ap (leb entryLimit) (count-as _ h) ∙ rw (word-some z, hasCode, ne-eqb (transition p x .code) 0 (λ q. f (e ∙ q)))
+module _ (p : Plan) (x : ℕ) {r : ℕ} (e : r ≡ transition p x .code) where
+  pub fills-zero : (b : Bool) → r ≡ 0 → false ≡ (hasCode p (some x) && b)
+  unfolding hasCode
+  fills-zero b f = rw (eq-eqb (transition p x .code) 0 (sym e ∙ f))
+
+  pub fills-full : (r ≡ 0 → ⊥) → {k : Track} (y : Configuration) → k ≡ trackOf y → leb entryLimit (k .count) ≡ (hasCode p (some x) && leb entryLimit (length (y .held)))
+  unfolding hasCode
+  fills-full f y h = ap (leb entryLimit) (count-as _ h) ∙ rw (ne-eqb (transition p x .code) 0 (λ q. f (e ∙ q)))
 
 -- a track as it was read
 module _ (p : Plan) (l : Ledger) (ts : List ℕ) (n t : ℕ) (b : t < n) {k : Track} (read : k ≡ trackOf (l t)) where
@@ -177,6 +175,9 @@ module _ (p : Plan) (l : Ledger) (goes : ℕ → Option ℕ) where
 -- one track more
 pub one-more : (f : ℕ → Bool) (n t r : ℕ) → n ≡ countBelow t f → r ≡ cond (f t) 1 0 → n + r ≡ countBelow (t + 1) f
 one-more f n t r e g = rw (e, g) (sym (count-more t f))
+
+pub none-more : (f : ℕ → Bool) (n t : ℕ) → n ≡ countBelow t f → f t ≡ false → n ≡ countBelow (t + 1) f
+none-more f n t e g = let h = count-more t f in let z : _≡_ {A = ℕ} (cond (f t) 1 0) 0 = rw g in omega arith
 
 pub some-or-more : (f : ℕ → Bool) {t : ℕ} {d r e : Bool} → d ≡ someBelow t f → r ≡ f t → e ≡ (d || r) → e ≡ someBelow (t + 1) f
 some-or-more f {t} e g h = h ∙ ap₂ (λ x y. x || y) e g ∙ sym (some-more t f)

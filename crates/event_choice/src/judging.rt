@@ -8,6 +8,7 @@ use rules::Counts;
 use rules::Track;
 ghost use mathlib.Core.Path.{_≡_};
 ghost use mathlib.Core.Bool.{false, cond, not, _&&_, _||_};
+ghost use mathlib.Core.Option.{some};
 ghost use Prim.Native.Nat.{_<_, _≤_};
 ghost use lib.Dec.{eqb, leb};
 ghost use lib.ListN.{length};
@@ -80,27 +81,20 @@ fn either(a: bool, b: bool) -> bool
     b
 }
 
-// Whether a transition, 65535 for none, leads to a final state.
+// Whether a transition leads to a final state.
 fn is_last(plan: &[u8], c: Counts, x: u16) -> bool
-    requires { ⌜ Accepts (now plan) c × ((x ≡ noState → ⊥) → x < c .transitions) ⌝ }
-    ensures { λ r. ⌜ r ≡ isLast (planOf (now (plan .entry)) c) (optional x) ⌝ }
+    requires { ⌜ Accepts (now plan) c × (x < c .transitions) ⌝ }
+    ensures { λ r. ⌜ r ≡ isLast (planOf (now (plan .entry)) c) (some x) ⌝ }
 {
-    if x == NO_STATE {
-        return false;
-    }
     let d = fields::destination_of(plan, c, x as usize);
     fields::is_final(plan, c, d as usize)
 }
 
-// Whether a transition, 65535 for none, gives an entry to a track that is full.
+// Whether a transition gives an entry to a track that is full.
 fn overfills(plan: &[u8], c: Counts, ledger: &[u16], x: u16, t: usize) -> bool
-    requires { ⌜ Lent (now plan) c (now ledger) × (t < c .tracks) × ((x ≡ noState → ⊥) → x < c .transitions) ⌝ }
-    ensures { λ r. ⌜ r ≡ (hasCode (planOf (now (plan .entry)) c) (optional x)
-        && leb entryLimit (length (ledgerOf c (now (ledger .entry)) t .held))) ⌝ }
+    requires { ⌜ Lent (now plan) c (now ledger) × (t < c .tracks) × (x < c .transitions) ⌝ }
+    ensures { λ r. ⌜ r ≡ (hasCode (planOf (now (plan .entry)) c) (some x) && leb entryLimit (length (ledgerOf c (now (ledger .entry)) t .held))) ⌝ }
 {
-    if x == NO_STATE {
-        return false;
-    }
     if fields::code_of(plan, c, x as usize) == 0 {
         return false;
     }
@@ -127,9 +121,11 @@ pub fn moves(plan: &[u8], c: Counts, ledger: &[u16], taken: &[u16; 32]) -> Surve
     let mut t: usize = 0;
     while t < tracks {
         let x = taken[t];
-        n += one_where(x != NO_STATE);
-        ends = either(ends, is_last(plan, c, x));
-        full = either(full, overfills(plan, c, ledger, x, t));
+        if x != NO_STATE {
+            n += 1;
+            ends = either(ends, is_last(plan, c, x));
+            full = either(full, overfills(plan, c, ledger, x, t));
+        }
         t += 1;
     }
     Survey {

@@ -1,17 +1,19 @@
 -- After t visits what is known is of the tracks below t. Assumes nothing.
-use mathlib.Core.Path.{_≡_, refl}
-use mathlib.Core.Bool.{not, _&&_}
+use mathlib.Core.Path.{_≡_, refl, sym, ap, _∙_}
+use mathlib.Core.Logic.{inl, inr}
+use mathlib.Core.Bool.{not, _&&_, or-false}
 use Prim.Native.Nat.{_≤_, _-_}
 use native.Mathlib.Omega.{arith}
 use lib.Dec.{eqb, leb}
 use lib.ListN.{length, getD}
+use borrow.Author.Tests.{eq-eqb, ne-eqb}
 use Rattle.rules.specs.Fold.{someBelow, countBelow}
 use Rattle.rules.specs.Layout.{entryLimit}
 use Rattle.rules.specs.Plan.{planOf, noState, optional}
 use Rattle.rules.specs.Event.{hasCode}
 use Rattle.lookup.specs.Checked.{ledgerOf}
 use Rattle.event_choice.specs.Next.{isLast}
-use Rattle.event_choice.proofs.Visits.{one-more, some-or-more}
+use Rattle.event_choice.proofs.Visits.{word-some, last-none, fills-none, fills-some, one-more, none-more, some-or-more}
 use borrow.Author.Needs.{needs}
 use Rattle.event_choice.proofs.judging.moves.Statement.{statement}
 use Rattle.event_choice.proofs.judging.moves.Tie as tie
@@ -32,22 +34,32 @@ loop-holds c = (search needs, search needs, refl, refl, refl)
 
 is-last-requires : tie.Need-is-last-requires Inv-loop μ-loop
 unfolding noState
-is-last-requires c κs = let a = c .before .before .before .before .before .before .pre in (a .0 .accepts, a .1 .low _ (c .before .before .loop-test .taken))
+is-last-requires c κs = let a = c .before .before .before .before .before .before .pre in (a .0 .accepts, a .1 .low _ (c .before .before .loop-test .taken) (c .if1 .taken))
 
 overfills-requires : tie.Need-overfills-requires Inv-loop μ-loop
 unfolding noState
-overfills-requires c κs = let a = c .before .before .before .before .before .before .before .before .pre in (a .0, c .before .before .before .before .loop-test .taken, a .1 .low _ (c .before .before .before .before .loop-test .taken))
+overfills-requires c κs = let a = c .before .before .before .before .before .before .before .before .pre in (a .0, c .before .before .before .before .loop-test .taken, a .1 .low _ (c .before .before .before .before .loop-test .taken) (c .before .before .if1 .taken))
 
 loop-again : tie.Need-loop-again Inv-loop μ-loop
 unfolding noState
 loop-again c =
-    let inv = c .before .before .before .before .before .before .before .loop .inv in (
-      search needs,
-      search needs,
-      one-more _ _ _ _ (inv .2) (c .before .before .before .before .one-where .ensures .0),
-      some-or-more _ (inv .3) (c .before .before .before .is-last .ensures) (c .before .before .either .ensures),
-      some-or-more _ (inv .4) (c .before .overfills .ensures) (c .either2 .ensures),
-    )
+    let inv = c .before .before .before .loop .inv in
+    elim (c .if1 .came) [
+      | inl w ↦ (
+        omega arith,
+        omega (arith, inv .1, w .5),
+        w .5 ∙ one-more _ _ _ 1 (inv .2) (rw (ne-eqb _ noState (w .0 .taken))),
+        w .6 ∙ some-or-more _ (inv .3) (w .1 .ensures ∙ ap (isLast _) (sym (word-some (w .0 .taken)))) (w .2 .ensures),
+        w .7 ∙ some-or-more _ (inv .4) (w .3 .ensures ∙ fills-some _ _ (w .0 .taken)) (w .4 .ensures),
+      )
+      | inr w ↦ (
+        omega arith,
+        omega (arith, inv .1, w .1),
+        w .1 ∙ none-more _ _ _ (inv .2) (rw (eq-eqb _ noState (w .0 .left))),
+        w .2 ∙ some-or-more _ (inv .3) (sym (last-none _ (w .0 .left))) (sym (or-false _)),
+        w .3 ∙ some-or-more _ (inv .4) (sym (fills-none _ _ (w .0 .left))) (sym (or-false _)),
+      )
+    ]
 
 returns : tie.Need-returns Inv-loop μ-loop
 returns c =
@@ -58,4 +70,4 @@ returns c =
 pub moves-spec : {M : Type 1} → statement M
 moves-spec =
     tie.close
-    (tie.spec Inv-loop μ-loop loop-holds (λ c. search needs) (λ c. search needs) (λ c κs. search needs) (λ c. search needs) is-last-requires (λ c κs. search needs) overfills-requires (λ c κs. search needs) (λ c. search needs) (λ c. search needs) loop-again returns)
+    (tie.spec Inv-loop μ-loop loop-holds (λ c. search needs) (λ c. search needs) (λ c. search needs) is-last-requires (λ c κs. search needs) overfills-requires (λ c κs. search needs) (λ c. search needs) (λ c. search needs) loop-again returns)
