@@ -21,7 +21,7 @@ use Rattle.rules.proofs.Acceptance.{Accepted, transition-for}
 use Rattle.rules.proofs.Soundness.{Live}
 use Rattle.plan.specs.Passes.{slots}
 use Rattle.plan.proofs.FieldLaws.{track-count, transition-count}
-use Rattle.lookup.specs.Checked.{Going, ledgerOf}
+use Rattle.ledger.specs.Ladder.{Going, ledgerOf}
 use Rattle.lookup.specs.Figures.{Figures, Numbers}
 use Rattle.lookup.proofs.Facts.{plan-facts, few-tracks, live-of-going, beyond}
 use Rattle.lookup.proofs.FiguresLaws.{figure-each}

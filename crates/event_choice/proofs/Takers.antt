@@ -20,9 +20,9 @@ use Rattle.rules.proofs.Modes.{forward-awake}
 use Rattle.rules.proofs.Tests.{look, look-option, clash, refuted, and-true, same-test}
 use Rattle.rules.proofs.Folds.{first-found, first-more-none, first-more-here, first-stays}
 use Rattle.plan.proofs.FieldLaws.{track-count, transition-count}
+use Rattle.ledger.specs.Ladder.{Going, ledgerOf}
 use Rattle.ledger.specs.Words.{trackOf}
 use Rattle.ledger.proofs.ReadTracks.{mode-as, state-as}
-use Rattle.lookup.specs.Checked.{Going, ledgerOf}
 use Rattle.lookup.specs.Figures.{Only, Numbers}
 use Rattle.lookup.proofs.Facts.{plan-facts, live-of-going}
 use Rattle.lookup.proofs.FiguresLaws.{only-none}

@@ -20,9 +20,9 @@ use Rattle.rules.specs.Event.{hasCode}
 use Rattle.rules.proofs.Tests.{look, and-true}
 use Rattle.rules.proofs.Folds.{every-more, some-more, count-more}
 use Rattle.plan.proofs.FieldLaws.{track-count, state-count, transition-count}
+use Rattle.ledger.specs.Ladder.{Accepts, Going, ledgerOf}
 use Rattle.ledger.specs.Words.{trackOf}
 use Rattle.ledger.proofs.ReadTracks.{mode-as, state-as, count-as}
-use Rattle.lookup.specs.Checked.{Accepts, Going, ledgerOf}
 use Rattle.lookup.proofs.Facts.{plan-facts, live-of-going, storable, owner-low}
 use Rattle.event_choice.specs.Next.{movesOf, nextOf, endsBy, codeBy, isLast, endsNext, closesNext, finishesNext, fullNext}
 

@@ -11,7 +11,7 @@ ghost use Prim.Native.Nat.{_<_};
 ghost use Rattle.rules.specs.Plan.{planOf, noState, optional, isHostedBy};
 ghost use Rattle.rules.specs.Ledger.{isAwake};
 ghost use Rattle.rules.specs.Scope.{hasOpenScope};
-ghost use Rattle.lookup.specs.Checked.{Accepts, Going, ledgerOf};
+ghost use Rattle.ledger.specs.Ladder.{Accepts, Going, ledgerOf};
 ghost use Rattle.lookup.specs.Figures.{Figures, Only};
 ghost use Rattle.event_choice.specs.Next.{InRange, movesOf, endsBy, endsNext, closesNext};
 

@@ -10,7 +10,7 @@ ghost use Prim.Native.Nat.{_<_};
 ghost use Rattle.rules.specs.Plan.{planOf, optional};
 ghost use Rattle.rules.specs.Scope.{hasOpenScope};
 ghost use Rattle.rules.specs.Event.{move};
-ghost use Rattle.lookup.specs.Checked.{ledgerOf, Lent};
+ghost use Rattle.ledger.specs.Ladder.{Lent, ledgerOf};
 ghost use Rattle.lookup.specs.Figures.{Figures, Numbers};
 ghost use Rattle.transition_index.specs.Indexed.{Indexed};
 

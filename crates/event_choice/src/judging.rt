@@ -15,7 +15,7 @@ ghost use lib.ListN.{length};
 ghost use Rattle.rules.specs.Layout.{entryLimit};
 ghost use Rattle.rules.specs.Plan.{planOf, noState, optional, isRoot};
 ghost use Rattle.rules.specs.Event.{hasCode};
-ghost use Rattle.lookup.specs.Checked.{Accepts, Lent, Going, ledgerOf};
+ghost use Rattle.ledger.specs.Ladder.{Accepts, Lent, Going, ledgerOf};
 ghost use Rattle.lookup.specs.Figures.{Figures};
 ghost use Rattle.event_choice.specs.Next.{InRange, movesOf, endsBy, codeBy, isLast, closesNext};
 ghost use Rattle.event_choice.specs.Chosen.{Surveyed, Judged};

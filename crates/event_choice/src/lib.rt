@@ -11,7 +11,7 @@ ghost use mathlib.Core.Bool.{false};
 ghost use Rattle.rules.specs.Plan.{planOf};
 ghost use Rattle.rules.specs.Scope.{hasOpenScope};
 ghost use Rattle.rules.specs.Event.{move};
-ghost use Rattle.lookup.specs.Checked.{Going, ledgerOf};
+ghost use Rattle.ledger.specs.Ladder.{Going, ledgerOf};
 ghost use Rattle.lookup.specs.Figures.{Figures, Numbers};
 ghost use Rattle.transition_index.specs.Indexed.{Indexed};
 ghost use Rattle.event_choice.specs.Chosen.{Chosen};

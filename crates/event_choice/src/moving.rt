@@ -9,7 +9,7 @@ ghost use Prim.Native.Nat.{_<_};
 ghost use Rattle.rules.specs.Plan.{planOf};
 ghost use Rattle.rules.specs.Scope.{hasOpenScope};
 ghost use Rattle.rules.specs.Event.{move};
-ghost use Rattle.lookup.specs.Checked.{Going, ledgerOf};
+ghost use Rattle.ledger.specs.Ladder.{Going, ledgerOf};
 ghost use Rattle.lookup.specs.Figures.{Figures, Numbers, Only};
 ghost use Rattle.event_choice.specs.Next.{isTaken};
 

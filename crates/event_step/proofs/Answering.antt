@@ -18,7 +18,7 @@ use Rattle.rules.specs.Call.{Answer, done, Outcome, event, Meets, refusedOr, un
 use Rattle.rules.specs.Answers.{eventTold}
 use Rattle.rules.proofs.Stored.{written-read}
 use Rattle.plan.proofs.FieldLaws.{track-count}
-use Rattle.lookup.specs.Checked.{Checked, Going, ledgerOf}
+use Rattle.ledger.specs.Ladder.{Checked, Going, ledgerOf}
 use Rattle.lookup.proofs.Facts.{plan-facts, live-of-going, tidy-words, beyond}
 use Rattle.event_choice.specs.declared.Choice.{Choice}
 use Rattle.event_choice.specs.Chosen.{Chosen}

@@ -9,7 +9,7 @@ ghost use Rattle.rules.specs.Layout.{entryLimit};
 ghost use Rattle.rules.specs.Plan.{planOf, firstState};
 ghost use Rattle.rules.specs.Call.{Meets, eventOutcome};
 ghost use Rattle.rules.specs.Answers.{eventTold};
-ghost use Rattle.lookup.specs.Checked.{Accepts, Checked, Going, ledgerOf};
+ghost use Rattle.ledger.specs.Ladder.{Accepts, Checked, Going, ledgerOf};
 ghost use Rattle.lookup.specs.Figures.{Figures};
 ghost use Rattle.transition_index.specs.Indexed.{Indexed};
 ghost use Rattle.event_choice.specs.Chosen.{Chosen};

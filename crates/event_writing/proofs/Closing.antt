@@ -19,8 +19,7 @@ use Rattle.rules.proofs.Tests.{look, look-option, clash, refuted, and-true, and
 use Rattle.rules.proofs.Stored.{written-same}
 use Rattle.rules.proofs.Closing.{closed-host, closed-root, closing-final}
 use Rattle.plan.proofs.FieldLaws.{track-count, state-count}
-use Rattle.ledger.specs.Words.{Tidy}
-use Rattle.lookup.specs.Checked.{Accepts, ledgerOf}
+use Rattle.ledger.specs.Ladder.{Tidy, Accepts, ledgerOf}
 use Rattle.lookup.proofs.Facts.{plan-facts}
 use Rattle.lookup.proofs.OneTrackLaws.{Stores, stores-sleeping, stores-at, holds, Fitting, through, passed, pass-start, pass-old}
 use Rattle.event_writing.specs.Writing.{Closings, isClosedBy, closedBy}

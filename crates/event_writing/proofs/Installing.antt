@@ -14,8 +14,7 @@ use Rattle.rules.specs.Plan.{Plan, optional, transition}
 use Rattle.rules.specs.Ledger.{Configuration, isAwake, written}
 use Rattle.rules.specs.Event.{install, installed, destinationOf, installedBy, hasCode}
 use Rattle.rules.proofs.Tests.{look, clash}
-use Rattle.ledger.specs.Words.{Tidy}
-use Rattle.lookup.specs.Checked.{ledgerOf}
+use Rattle.ledger.specs.Ladder.{Tidy, ledgerOf}
 use Rattle.lookup.specs.OneTrack.{withConfiguration}
 use Rattle.lookup.proofs.OneTrackLaws.{Stores, stores-at, holds, Fitting, through, pass-start, pass-old, pass-more}
 use Rattle.event_choice.specs.Next.{movesOf}

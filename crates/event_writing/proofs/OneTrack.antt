@@ -14,9 +14,10 @@ use Rattle.rules.specs.Layout.{entryLimit}
 use Rattle.rules.specs.Plan.{Plan, planOf, noState, optional, transition, replacement}
 use Rattle.rules.specs.Ledger.{Configuration, isAwake}
 use Rattle.rules.specs.Event.{install, installed, destinationOf, installedBy, hasCode}
-use Rattle.ledger.specs.Words.{Tidy, trackOf, trackAt, withInstalled, withAsleep}
+use Rattle.ledger.specs.Ladder.{Tidy, Accepts, ledgerOf}
+use Rattle.lookup.specs.HostTrack.{hostTrack}
+use Rattle.ledger.specs.Words.{trackOf, trackAt, withInstalled, withAsleep}
 use Rattle.ledger.proofs.ReadTracks.{mode-as, state-as}
-use Rattle.lookup.specs.Checked.{Accepts, ledgerOf, hostTrack}
 use Rattle.lookup.specs.OneTrack.{withConfiguration}
 use Rattle.lookup.proofs.Facts.{track-read, no-host-track, host-of-track}
 use Rattle.lookup.proofs.OneTrackLaws.{kept-track, put-installed, put-asleep}

@@ -24,8 +24,7 @@ use Rattle.rules.proofs.Opening.{wakes-root, wakes-same}
 use Rattle.rules.proofs.Soundness.{Live}
 use Rattle.rules.proofs.Stored.{Storable, written-same}
 use Rattle.plan.proofs.FieldLaws.{track-count}
-use Rattle.ledger.specs.Words.{Tidy}
-use Rattle.lookup.specs.Checked.{Going, ledgerOf}
+use Rattle.ledger.specs.Ladder.{Tidy, Going, ledgerOf}
 use Rattle.lookup.specs.Figures.{Numbers}
 use Rattle.lookup.proofs.Facts.{plan-facts, live-of-going, tidy-words, storable, beyond}
 use Rattle.lookup.proofs.OneTrackLaws.{Stores, storable-of, read-back, orderly-after, then}

@@ -14,7 +14,7 @@ use Rattle.rules.specs.Journal.{fireLowestCall}
 use Rattle.rules.proofs.Folds.{sum-more}
 use Rattle.plan.proofs.FieldLaws.{track-count}
 use Rattle.plan.proofs.Searches.{first-at, first-end}
-use Rattle.lookup.specs.Checked.{ledgerOf}
+use Rattle.ledger.specs.Ladder.{ledgerOf}
 
 -- one more term of a sum
 pub summed : (f : ℕ → ℕ) (t s k : ℕ) → s ≡ sumBelow t f → k ≡ f t → s + k ≡ sumBelow (t + 1) f

@@ -10,7 +10,7 @@ use lib.Dec.{leb, ltb, eqb}
 use lib.ListN.{length, List·getD-eq-default}
 use borrow.Author.Tests.{le-leb, lt-leb, lt-ltb, le-ltb, eq-eqb, ne-eqb, leb-true, leb-false, ltb-false, eqb-true, eqb-false, not-false}
 use Rattle.rules.specs.Record.{word, sizeAt, kindAt}
-use Rattle.rules.specs.Journal.{Entered, ended, broken, journalLength, isBroken, recordOf, enteredAt}
+use Rattle.rules.specs.Journal.{Item, ended, broken, journalLength, isBroken, recordOf, itemAt}
 use Rattle.rules.proofs.Tests.{look, or-false}
 use Rattle.journal.specs.Records.{sizeOf}
 
@@ -23,19 +23,19 @@ length-none k a b c d =
     ]
 
 module _ (js : List ℕ) (at : ℕ) where
-  pub at-end : length js ≤ at → enteredAt js at ≡ ended
-  unfolding enteredAt
+  pub at-end : length js ≤ at → itemAt js at ≡ ended
+  unfolding itemAt
   at-end h = rw (le-leb (length js) at h)
 
-  at-broken : at < length js → isBroken js at ≡ true → enteredAt js at ≡ broken
-  unfolding enteredAt
+  at-broken : at < length js → isBroken js at ≡ true → itemAt js at ≡ broken
+  unfolding itemAt
   at-broken h e = rw (lt-leb (length js) at h, e)
 
-  at-whole : at < length js → isBroken js at ≡ false → enteredAt js at ≡ recordOf (kindAt js at) (word js (at + 4))
-  unfolding enteredAt
+  at-whole : at < length js → isBroken js at ≡ false → itemAt js at ≡ recordOf (kindAt js at) (word js (at + 4))
+  unfolding itemAt
   at-whole h e = rw (lt-leb (length js) at h, e)
 
-  pub too-short : at < length js → length js - at < 4 → enteredAt js at ≡ broken
+  pub too-short : at < length js → length js - at < 4 → itemAt js at ≡ broken
   unfolding isBroken
   too-short h l = at-broken h (rw (lt-ltb (length js) (at + 4) (omega arith)))
 
@@ -48,17 +48,17 @@ module _ (js : List ℕ) (at : ℕ) where
     fits : ltb (length js) (at + 4) ≡ false
     fits = le-ltb (length js) (at + 4) (omega arith)
 
-    pub unknown : n ≡ 0 → enteredAt js at ≡ broken
+    pub unknown : n ≡ 0 → itemAt js at ≡ broken
     unknown e = at-broken (omega arith) (sym tests ∙ rw (fits, eq-eqb n 0 e))
 
     module _ (known : n ≡ 0 → ⊥) where
-      pub wrong : (s ≡ n → ⊥) → enteredAt js at ≡ broken
+      pub wrong : (s ≡ n → ⊥) → itemAt js at ≡ broken
       wrong e = at-broken (omega arith) (sym tests ∙ rw (fits, ne-eqb n 0 known, ne-eqb s n e))
 
-      pub cut : s ≡ n → length js - at < n → enteredAt js at ≡ broken
+      pub cut : s ≡ n → length js - at < n → itemAt js at ≡ broken
       cut e l = at-broken (omega arith) (sym tests ∙ rw (fits, ne-eqb n 0 known, eq-eqb s n e, lt-ltb (length js) (at + s) (omega arith)))
 
-      pub whole : s ≡ n → n ≤ length js - at → enteredAt js at ≡ recordOf k (word js (at + 4))
+      pub whole : s ≡ n → n ≤ length js - at → itemAt js at ≡ recordOf k (word js (at + 4))
       unfolding kindAt
       whole e l =
           at-whole (omega arith) (sym tests ∙ rw (fits, ne-eqb n 0 known, eq-eqb s n e, le-ltb (length js) (at + s) (omega arith)))
@@ -85,10 +85,10 @@ size-of-kind k field h =
           ]
     ]
 
-nothing-left : (x y : Entered) → y ≡ x → sizeOf y ≡ 0 → 0 < sizeOf x → ⊥
+nothing-left : (x y : Item) → y ≡ x → sizeOf y ≡ 0 → 0 < sizeOf x → ⊥
 nothing-left x y e z l = let s : sizeOf y ≡ sizeOf x = ap sizeOf e in omega arith
 
-pub record Stands (js : List ℕ) (at : ℕ) (x : Entered) : Type 0 where
+pub record Stands (js : List ℕ) (at : ℕ) (x : Item) : Type 0 where
   pub size : sizeOf x ≡ sizeAt js at
   pub within : at + sizeOf x ≤ length js
 
@@ -110,14 +110,14 @@ module _ (js : List ℕ) (at : ℕ) where
       let u : at + size ≤ length js = ltb-false (length js) (at + size) d in
       record { size = s ∙ sym t; within = omega arith }
 
-  pub stands : (x : Entered) → enteredAt js at ≡ x → 0 < sizeOf x → Stands js at x
-  unfolding enteredAt
+  pub stands : (x : Item) → itemAt js at ≡ x → 0 < sizeOf x → Stands js at x
+  unfolding itemAt
   stands x e l =
       elim (look (leb (length js) at)) [
         | inl a ↦ let z : ended ≡ x = sym (at-end js at (leb-true (length js) at a)) ∙ e in absurd (nothing-left x ended z refl l)
         | inr a ↦
             elim (look (isBroken js at)) [
               | inl b ↦ let z : broken ≡ x = sym (at-broken js at (leb-false (length js) at a) b) ∙ e in absurd (nothing-left x broken z refl l)
-              | inr b ↦ subst (λ (y : Entered). Stands js at y) (sym (at-whole js at (leb-false (length js) at a) b) ∙ e) (unbroken b)
+              | inr b ↦ subst (λ (y : Item). Stands js at y) (sym (at-whole js at (leb-false (length js) at a) b) ∙ e) (unbroken b)
             ]
       ]

@@ -9,8 +9,7 @@ ghost use Rattle.rules.specs.Fold.{sumBelow};
 ghost use Rattle.rules.specs.Plan.{planOf};
 ghost use Rattle.rules.specs.Journal.{fireLowestCall};
 ghost use Rattle.rules.specs.Call.{fire};
-ghost use Rattle.ledger.specs.Words.{Room};
-ghost use Rattle.lookup.specs.Checked.{ledgerOf, Lent};
+ghost use Rattle.ledger.specs.Ladder.{Room, Lent, ledgerOf};
 
 // The entries that all tracks hold.
 pub fn held_total(c: Counts, ledger: &[u16]) -> u32

@@ -4,7 +4,7 @@ ghost use mathlib.Core.Path.{_≡_};
 ghost use Prim.Native.Nat.{_+_, _≤_};
 ghost use lib.ListN.{length};
 ghost use Rattle.rules.specs.Record.{word};
-ghost use Rattle.rules.specs.Journal.{journalLength, recordOf, enteredAt};
+ghost use Rattle.rules.specs.Journal.{journalLength, recordOf, itemAt};
 ghost use Rattle.journal.specs.Records.{recordTold, sizeOf};
 
 // The journal's kinds.
@@ -78,7 +78,7 @@ fn whole_at(journal: &[u8], at: usize, kind: u16) -> Record
 
 // What stands at a place of the journal.
 pub fn record_at(journal: &[u8], at: usize) -> Record
-    ensures { λ r. ⌜ recordTold r ≡ enteredAt (now (journal .entry)) at ⌝ }
+    ensures { λ r. ⌜ recordTold r ≡ itemAt (now (journal .entry)) at ⌝ }
 {
     if journal.len() <= at {
         return Record::Ended;

@@ -15,7 +15,8 @@ use Rattle.rules.specs.Ledger.{Entry, Ledger, sleeping, modeOf, modeWord, confi
 use Rattle.rules.proofs.TrackWords.{length-heldAt, place-zero, place-more, place-below, words-sleeping}
 use Rattle.rules.proofs.Stored.{Fits, read-track}
 use Rattle.rules.proofs.Replaced.{updated, inTrack, set-three, install-entry, remove-entry, sleep-track}
-use Rattle.ledger.specs.Words.{Within, Room, trackOf, trackAt, withTrack, entryPlace, withEntry, withInstalled, withRemoved, withAsleep}
+use Rattle.ledger.specs.Ladder.{Within, Room}
+use Rattle.ledger.specs.Words.{trackOf, trackAt, withTrack, entryPlace, withEntry, withInstalled, withRemoved, withAsleep}
 
 -- what a mode's word is read as
 pub mode-zero : (w : ℕ) → w ≡ 0 → Asleep ≡ modeOf w

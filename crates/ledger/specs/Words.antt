@@ -1,28 +1,10 @@
 -- The words of one track, read and written. Assumes nothing.
-use mathlib.Core.Path.{_≡_}
-use mathlib.Core.Bool.{true}
 use mathlib.Core.List.{List, _++_}
-use Prim.Native.Nat.{ℕ, suc, pred, _+_, _*_, _<_, _≤_}
+use Prim.Native.Nat.{ℕ, suc, pred, _+_, _*_}
 use lib.ListN.{length, set, take, drop, replicate}
 use Rattle.rules.specs.declared.Track.{Track}
-use Rattle.rules.specs.Layout.{entryLimit, statePlace, countPlace, entryWidth, deviationPlace, trackWidth, trackPlace, entriesPlace, wordCount}
+use Rattle.rules.specs.Layout.{entryLimit, statePlace, countPlace, entryWidth, deviationPlace, trackWidth, trackPlace, entriesPlace}
 use Rattle.rules.specs.Ledger.{Configuration, modeWord, configurationAt}
-use Rattle.rules.specs.Soundness.{areTidy}
-
--- the ledger has room for the words of the track
-pub record Within (ws : List ℕ) (t : ℕ) : Type 0 where
-  pub number : t < 32
-  pub room : trackPlace entryLimit t + trackWidth entryLimit ≤ length ws
-
--- it has room for the words of so many tracks
-pub record Room (ws : List ℕ) (tracks : ℕ) : Type 0 where
-  pub few : tracks ≤ 32
-  pub words : wordCount entryLimit tracks ≤ length ws
-
--- and each track's words are as the paper describes them
-pub record Tidy (ws : List ℕ) (tracks : ℕ) : Type 0 where
-  pub room : Room ws tracks
-  pub tidy : areTidy entryLimit ws tracks ≡ true
 
 -- a configuration without its entries
 unfoldable pub trackOf : Configuration → Track

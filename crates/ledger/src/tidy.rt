@@ -12,7 +12,7 @@ ghost use lib.ListN.{length, getD};
 ghost use Rattle.rules.specs.Fold.{everyBelow};
 ghost use Rattle.rules.specs.Layout.{entryLimit, trackWidth};
 ghost use Rattle.rules.specs.Soundness.{isTidy, areTidy};
-ghost use Rattle.ledger.specs.Words.{Room};
+ghost use Rattle.ledger.specs.Ladder.{Room};
 
 // Whether so many words from a place on are zero. All are read, so that the processor takes many at a time.
 fn are_zero(ledger: &[u16], from: usize, count: usize) -> bool

@@ -11,7 +11,8 @@ ghost use lib.ListN.{length, set, replicate};
 ghost use Rattle.rules.specs.Layout.{entryLimit, trackPlace};
 ghost use Rattle.rules.specs.Ledger.{modeOf, modeWord, entryAt, isAwake, isForward, isUndoing, sleeping, written};
 ghost use Rattle.rules.specs.Soundness.{sameMode};
-ghost use Rattle.ledger.specs.Words.{Within, Room, trackAt, withTrack, entryPlace, withEntry, withInstalled, withRemoved, withAsleep};
+ghost use Rattle.ledger.specs.Ladder.{Within, Room};
+ghost use Rattle.ledger.specs.Words.{trackAt, withTrack, entryPlace, withEntry, withInstalled, withRemoved, withAsleep};
 
 fn mode_of(w: u16) -> Mode
     ensures { λ r. ⌜ r ≡ modeOf w ⌝ }

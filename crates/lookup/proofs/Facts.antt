@@ -21,8 +21,9 @@ use Rattle.rules.proofs.Soundness.{Live, live-facts}
 use Rattle.rules.proofs.Stored.{Storable, read-at, read-beyond, storable-read}
 use Rattle.plan.proofs.FieldLaws.{track-count, state-count}
 use Rattle.plan.proofs.Hosting.{host-none, host-some}
-use Rattle.ledger.specs.Words.{Tidy, trackOf, trackAt}
-use Rattle.lookup.specs.Checked.{Accepts, Checked, Going, ledgerOf, hostTrack}
+use Rattle.ledger.specs.Ladder.{Tidy, Accepts, Checked, Going, ledgerOf}
+use Rattle.lookup.specs.HostTrack.{hostTrack}
+use Rattle.ledger.specs.Words.{trackOf, trackAt}
 use Rattle.lookup.specs.Figures.{Only}
 use Rattle.lookup.proofs.FiguresLaws.{only-none}
 

@@ -18,9 +18,9 @@ use Rattle.rules.proofs.Tests.{look}
 use Rattle.rules.proofs.Stored.{Storable, length-written, read-written, tidy-written, written-twice, written-read, storable-read}
 use Rattle.rules.proofs.Replaced.{updated, updated-same}
 use Rattle.rules.proofs.Passes.{upTo, up-new, up-old, up-none, up-more, up-all}
-use Rattle.ledger.specs.Words.{trackOf, withTrack, withAsleep, withInstalled, withRemoved, Tidy}
+use Rattle.ledger.specs.Ladder.{Tidy, ledgerOf}
+use Rattle.ledger.specs.Words.{trackOf, withTrack, withAsleep, withInstalled, withRemoved}
 use Rattle.ledger.proofs.Words.{put-written, asleep-written, installed-written, removed-written}
-use Rattle.lookup.specs.Checked.{ledgerOf}
 use Rattle.lookup.specs.OneTrack.{withConfiguration, withMode}
 
 -- what the words can hold of one track: no more entries than the limit, and asleep nothing

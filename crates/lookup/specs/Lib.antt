@@ -1,4 +1,4 @@
 -- Where a step starts, the figures that it keeps for each track, and one track replaced.
-pub mod Checked
+pub mod HostTrack
 pub mod Figures
 pub mod OneTrack

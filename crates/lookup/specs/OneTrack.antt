@@ -7,7 +7,7 @@ use Rattle.rules.specs.declared.Counts.{Counts}
 use Rattle.rules.specs.declared.Mode.{Mode}
 use Rattle.rules.specs.Layout.{entryLimit}
 use Rattle.rules.specs.Ledger.{Configuration, written}
-use Rattle.lookup.specs.Checked.{ledgerOf}
+use Rattle.ledger.specs.Ladder.{ledgerOf}
 
 -- the words with one track's replaced
 unfoldable pub withConfiguration : Counts → List ℕ → ℕ → Configuration → List ℕ

@@ -7,7 +7,7 @@ ghost use Prim.Native.Nat.{_<_};
 ghost use Rattle.rules.specs.Plan.{planOf, isHostedBy};
 ghost use Rattle.rules.specs.Ledger.{isAwake};
 ghost use Rattle.rules.specs.Scope.{hasOpenScope};
-ghost use Rattle.lookup.specs.Checked.{ledgerOf, Lent};
+ghost use Rattle.ledger.specs.Ladder.{Lent, ledgerOf};
 ghost use Rattle.lookup.specs.Figures.{Figures, Only};
 
 // The track in whose open scope a track is, 65535 for none: its host's, if it is awake.

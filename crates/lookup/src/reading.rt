@@ -10,8 +10,9 @@ ghost use Prim.Native.Nat.{_<_};
 ghost use Rattle.rules.specs.Fold.{everyBelow};
 ghost use Rattle.rules.specs.Plan.{planOf};
 ghost use Rattle.rules.specs.Ledger.{isAwake};
-ghost use Rattle.ledger.specs.Words.{trackOf, Room};
-ghost use Rattle.lookup.specs.Checked.{Accepts, ledgerOf, hostTrack};
+ghost use Rattle.ledger.specs.Ladder.{Room, Accepts, ledgerOf};
+ghost use Rattle.lookup.specs.HostTrack.{hostTrack};
+ghost use Rattle.ledger.specs.Words.{trackOf};
 
 // A track of the ledger.
 pub fn track(c: Counts, ledger: &[u16], t: usize) -> Track

@@ -8,7 +8,7 @@ ghost use Prim.Native.Nat.{_<_};
 ghost use Rattle.rules.specs.Plan.{planOf};
 ghost use Rattle.rules.specs.Scope.{hasOpenScope};
 ghost use Rattle.rules.specs.Fire.{mayFire};
-ghost use Rattle.lookup.specs.Checked.{ledgerOf, Lent};
+ghost use Rattle.ledger.specs.Ladder.{Lent, ledgerOf};
 ghost use Rattle.lookup.specs.Figures.{Figures};
 
 // "it must be undoing, hold an entry and have no open scope", under the plan that says whose scopes are open

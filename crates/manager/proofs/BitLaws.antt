@@ -13,7 +13,7 @@ use Rattle.rules.specs.Plan.{planOf, trackCount}
 use Rattle.rules.specs.Fire.{mayFire, ready}
 use Rattle.rules.proofs.Folds.{sum-more}
 use Rattle.plan.proofs.FieldLaws.{track-count}
-use Rattle.lookup.specs.Checked.{ledgerOf}
+use Rattle.ledger.specs.Ladder.{ledgerOf}
 
 -- the bit of each number that passes
 unfoldable pub bitsBelow : ℕ → (ℕ → Bool) → ℕ

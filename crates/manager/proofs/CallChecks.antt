@@ -9,7 +9,7 @@ use Rattle.rules.specs.Acceptance.{turnedBack, accepted}
 use Rattle.rules.specs.Layout.{entryLimit}
 use Rattle.rules.specs.Ledger.{ledgerAt, written}
 use Rattle.rules.specs.Call.{refusal, done, Call, ledgerRefusals, callRefusals, figures, after, callOutcome}
-use Rattle.lookup.specs.Checked.{Checked}
+use Rattle.ledger.specs.Ladder.{Checked}
 use Rattle.manager.specs.Checked.{checked}
 use Rattle.manager.proofs.Checks.{checked-facts, lent-holds, refused-outcome}
 

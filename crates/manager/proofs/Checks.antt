@@ -20,12 +20,11 @@ use Rattle.rules.specs.Fire.{ready}
 use Rattle.rules.specs.Soundness.{areTidy, isSound}
 use Rattle.rules.specs.Call.{Answer, refusal, done, Outcome, refusedOr, underPlan, tooShort, ledgerRefusals, beginOutcome, readyOutcome, heldPart, entriesPart, HandsBack, Meets}
 use Rattle.plan.proofs.FieldLaws.{track-count}
+use Rattle.ledger.specs.Ladder.{Room, Accepts, Lent, ledgerOf}
 use Rattle.plan_reader.proofs.Reader.{accepted-holds}
 use Rattle.rules.proofs.Tests.{look, and-true}
 use Rattle.ledger.proofs.Words.{in-room}
 use Rattle.ledger.proofs.ReadTracks.{count-within}
-use Rattle.ledger.specs.Words.{Room}
-use Rattle.lookup.specs.Checked.{Accepts, Lent, ledgerOf}
 use Rattle.manager.specs.Checked.{lent, checked, Span}
 
 -- the entries of a track end within its words

@@ -5,7 +5,7 @@ use rules::Counts;
 ghost use mathlib.Core.Path.{_≡_};
 ghost use Rattle.rules.specs.Plan.{planOf};
 ghost use Rattle.rules.specs.Fire.{ready};
-ghost use Rattle.lookup.specs.Checked.{ledgerOf, Lent};
+ghost use Rattle.ledger.specs.Ladder.{Lent, ledgerOf};
 
 // The number with bit n set exactly if track n may be fired.
 pub fn ready_bits(plan: &[u8], c: Counts, ledger: &[u16]) -> u32

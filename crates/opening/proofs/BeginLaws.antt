@@ -17,8 +17,7 @@ use Rattle.rules.proofs.Opening.{wakes-same, roots-to}
 use Rattle.rules.proofs.Scopes.{root-none}
 use Rattle.rules.proofs.Stored.{Storable, written-same, written-twice, length-written, tidy-written, read-written}
 use Rattle.plan.proofs.FieldLaws.{track-count, state-count}
-use Rattle.ledger.specs.Words.{Room, Tidy}
-use Rattle.lookup.specs.Checked.{Accepts, ledgerOf}
+use Rattle.ledger.specs.Ladder.{Room, Tidy, Accepts, ledgerOf}
 use Rattle.lookup.specs.Figures.{Numbers}
 use Rattle.lookup.proofs.Facts.{plan-facts}
 use Rattle.opening.specs.Entering.{statesOf, Sleepers}

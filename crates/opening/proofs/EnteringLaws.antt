@@ -18,8 +18,7 @@ use Rattle.rules.specs.Opening.{fresh, wakes, entered, enter}
 use Rattle.rules.proofs.Tests.{look, clash}
 use Rattle.rules.proofs.Stored.{written-same}
 use Rattle.rules.proofs.Passes.{upTo}
-use Rattle.ledger.specs.Words.{Tidy}
-use Rattle.lookup.specs.Checked.{ledgerOf}
+use Rattle.ledger.specs.Ladder.{Tidy, ledgerOf}
 use Rattle.lookup.specs.Figures.{Figures}
 use Rattle.lookup.specs.OneTrack.{withConfiguration, withMode}
 use Rattle.lookup.proofs.OneTrackLaws.{Stores, stores-at, holds, kept-track, Fitting, pass-start, pass-orderly, pass-length, pass-old, pass-more, pass-end}

@@ -14,7 +14,7 @@ use Rattle.rules.proofs.Acceptance.{passed-all, read-passed}
 use Rattle.plan.specs.Passes.{slots, firstAmong, firstMarks}
 use Rattle.plan.proofs.FieldLaws.{state-count}
 use Rattle.plan.proofs.PassedLaws.{first-read}
-use Rattle.lookup.specs.Checked.{Accepts}
+use Rattle.ledger.specs.Ladder.{Accepts}
 use Rattle.lookup.specs.Figures.{Figures}
 
 one-each : (p : Plan) (n : ℕ) → length (firstMarks p n) ≡ slots

@@ -11,7 +11,7 @@ use Rattle.rules.specs.Plan.{Plan, planOf, noState, optional, hostWord, owner, 
 use Rattle.rules.specs.Opening.{wakesIn, wakes}
 use Rattle.rules.proofs.Opening.{wakes-root, wakes-host}
 use Rattle.plan.proofs.Hosting.{host-none}
-use Rattle.lookup.specs.Checked.{Accepts}
+use Rattle.ledger.specs.Ladder.{Accepts}
 use Rattle.lookup.specs.Figures.{Figures}
 use Rattle.lookup.proofs.Facts.{plan-facts, host-is, host-low, owner-low}
 use Rattle.opening.specs.Entering.{statesOf}

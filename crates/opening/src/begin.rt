@@ -11,7 +11,7 @@ ghost use Rattle.rules.specs.Layout.{entryLimit};
 ghost use Rattle.rules.specs.Plan.{planOf, optional, firstState};
 ghost use Rattle.rules.specs.Ledger.{written};
 ghost use Rattle.rules.specs.Opening.{rootsFirst, begun};
-ghost use Rattle.lookup.specs.Checked.{Accepts, Lent};
+ghost use Rattle.ledger.specs.Ladder.{Accepts, Lent};
 ghost use Rattle.lookup.specs.Figures.{Figures, Numbers};
 
 // The state that a track enters of itself: a root its first state, another track none.

@@ -2,7 +2,7 @@
 use plan::passes;
 use rules::Counts;
 ghost use Rattle.rules.specs.Plan.{planOf, firstState};
-ghost use Rattle.lookup.specs.Checked.{Accepts};
+ghost use Rattle.ledger.specs.Ladder.{Accepts};
 ghost use Rattle.lookup.specs.Figures.{Figures};
 
 // The first state of each track.

@@ -7,7 +7,7 @@ ghost use mathlib.Core.Bool.{false};
 ghost use Prim.Native.Nat.{_<_};
 ghost use Rattle.rules.specs.Plan.{planOf, firstState};
 ghost use Rattle.rules.specs.Opening.{wakes};
-ghost use Rattle.lookup.specs.Checked.{Accepts};
+ghost use Rattle.ledger.specs.Ladder.{Accepts};
 ghost use Rattle.lookup.specs.Figures.{Figures};
 ghost use Rattle.opening.specs.Entering.{statesOf};
 

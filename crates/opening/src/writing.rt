@@ -6,8 +6,7 @@ use rules::Mode;
 use rules::Track;
 ghost use mathlib.Core.Path.{_≡_};
 ghost use Prim.Native.Nat.{_<_};
-ghost use Rattle.ledger.specs.Words.{Tidy};
-ghost use Rattle.lookup.specs.Checked.{ledgerOf};
+ghost use Rattle.ledger.specs.Ladder.{Tidy, ledgerOf};
 ghost use Rattle.lookup.specs.OneTrack.{withConfiguration, withMode};
 
 // A track's mode and state; it holds what it held.

@@ -115,7 +115,8 @@ fn write_answer(answers: &mut [u16], at: usize, told: EncodedAnswer)
 // Makes the calls, one after the other, and writes their answers.
 fn make_calls(plan: &[u8], ledger: &mut [u16], calls: &[u16], answers: &mut [u16])
     requires { ⌜ answerRoom (now calls) ≤ length (now answers) ⌝ }
-    ensures { λ r. ⌜ CallsMade (now (plan .entry)) (now (ledger .entry)) (now (calls .entry)) (now (answers .entry)) (now (ledger .exit)) (now (answers .exit)) ⌝ }
+    ensures { λ r. ⌜ CallsMade (now (plan .entry)) (now (ledger .entry)) (now (calls .entry)) (now (answers .entry))
+        (now (ledger .exit)) (now (answers .exit)) ⌝ }
 {
     let count = calls.len() / CALL_WIDTH;
     let mut i: usize = 0;
@@ -130,7 +131,8 @@ fn make_calls(plan: &[u8], ledger: &mut [u16], calls: &[u16], answers: &mut [u16
 
 // Begins, makes the calls after it, and writes the answer of each: where the begin is accepted, property 3 holds of them.
 pub fn run_calls(plan: &[u8], ledger: &mut [u16], calls: &[u16], answers: &mut [u16]) -> CallsAnswer
-    ensures { λ r. ⌜ CallsRun (now (plan .entry)) (now (ledger .entry)) (now (calls .entry)) (now (answers .entry)) r (now (ledger .exit)) (now (answers .exit)) ⌝ }
+    ensures { λ r. ⌜ CallsRun (now (plan .entry)) (now (ledger .entry)) (now (calls .entry)) (now (answers .entry)) r
+        (now (ledger .exit)) (now (answers .exit)) ⌝ }
 {
     if answers.len() / ANSWER_WIDTH < calls.len() / CALL_WIDTH {
         return CallsAnswer::NoRoom;

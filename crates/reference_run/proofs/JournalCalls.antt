@@ -10,7 +10,7 @@ use Rattle.rules.specs.Record.{sizeAt}
 use Rattle.rules.specs.Plan.{Plan}
 use Rattle.rules.specs.Layout.{entryLimit}
 use Rattle.rules.specs.Call.{Answer, Outcome, Call, event, signal, fire, callOutcome}
-use Rattle.rules.specs.Journal.{Entered, ended, broken, fireLowest, called, enteredAt, fireLowestCall}
+use Rattle.rules.specs.Journal.{Item, ended, broken, fireLowest, called, itemAt, fireLowestCall}
 use Rattle.rules.specs.Transcript.{callLine, firingsOf, ledgerOf, lastLine, callText, replay}
 use Rattle.rules.specs.ReferenceRun as clerk
 use Rattle.restoration.specs.Firings.{firingsIn}
@@ -26,7 +26,7 @@ size-some (fire a) = omega arith
 
 module _ (js : List ℕ) where
   -- after a whole record the next place is within the journal, and further on
-  next-within : (at : ℕ) (x : Entered) → enteredAt js at ≡ x → 0 < sizeOf x → (at + sizeAt js at ≤ length js) × (0 < sizeAt js at)
+  next-within : (at : ℕ) (x : Item) → itemAt js at ≡ x → 0 < sizeOf x → (at + sizeAt js at ≤ length js) × (0 < sizeAt js at)
   next-within at x e l =
       let s = stands js at x e l in
       let w = s .within in
@@ -42,9 +42,9 @@ module _ (bs js : List ℕ) (p : Plan) where
   pub same-words : (n at : ℕ) (ws : List ℕ) → left.wordsFrom bs js p n at ws ≡ clerk.wordsFrom entryLimit bs ws (callsFrom bs js p n at ws)
   unfolding left.wordsFrom clerk.wordsFrom callsFrom
   same-words zero at ws = refl
-  same-words (suc n) at ws = go (enteredAt js at) refl (λ c. same-words n (at + sizeAt js at) (outcome ws c .words))
+  same-words (suc n) at ws = go (itemAt js at) refl (λ c. same-words n (at + sizeAt js at) (outcome ws c .words))
     where
-      go : (x : Entered) → enteredAt js at ≡ x
+      go : (x : Item) → itemAt js at ≡ x
           → ((c : Call) → left.wordsFrom bs js p n (at + sizeAt js at) (outcome ws c .words)
           ≡ clerk.wordsFrom entryLimit bs (outcome ws c .words) (callsFrom bs js p n (at + sizeAt js at) (outcome ws c .words)))
           → left.wordsFrom bs js p (suc n) at ws ≡ clerk.wordsFrom entryLimit bs ws (callsFrom bs js p (suc n) at ws)
@@ -81,7 +81,7 @@ module _ (bs js : List ℕ) (p : Plan) where
       → replay bs js p n at ws fired ≡ textOf (callsFrom bs js p n at ws) (endsBroken js n at) ws fired
 
   one : (n at : ℕ) (ws : List ℕ) (fired : ℕ) → length js < at + suc n → Same n (at + sizeAt js at)
-      → (x : Entered) → enteredAt js at ≡ x → 0 < sizeOf x → (c : Call)
+      → (x : Item) → itemAt js at ≡ x → 0 < sizeOf x → (c : Call)
       → callText bs js p (replay bs js p n (at + sizeAt js at)) ws fired c
       ≡ textOf (c ∷ callsFrom bs js p n (at + sizeAt js at) (outcome ws c .words)) (endsBroken js n (at + sizeAt js at)) ws fired
   unfolding callText
@@ -94,9 +94,9 @@ module _ (bs js : List ℕ) (p : Plan) where
   pub same-text : (n at : ℕ) → Same n at
   unfolding replay callsFrom endsBroken brokenLine
   same-text zero at ws fired h k = absurd (omega arith)
-  same-text (suc n) at ws fired h k = go (enteredAt js at) refl (same-text n (at + sizeAt js at))
+  same-text (suc n) at ws fired h k = go (itemAt js at) refl (same-text n (at + sizeAt js at))
     where
-      go : (x : Entered) → enteredAt js at ≡ x → Same n (at + sizeAt js at)
+      go : (x : Item) → itemAt js at ≡ x → Same n (at + sizeAt js at)
           → replay bs js p (suc n) at ws fired ≡ textOf (callsFrom bs js p (suc n) at ws) (endsBroken js (suc n) at) ws fired
       go ended e rest = rw (e, replay, callsFrom, endsBroken) (sym (text-end false ws fired))
       go broken e rest = rw (e, replay, callsFrom, endsBroken) (sym (text-end true ws fired))

@@ -6,7 +6,7 @@ use Rattle.rules.specs.Record.{sizeAt}
 use Rattle.rules.specs.Plan.{Plan}
 use Rattle.rules.specs.Layout.{entryLimit}
 use Rattle.rules.specs.Call.{Answer, Call, callOutcome}
-use Rattle.rules.specs.Journal.{ended, broken, fireLowest, called, enteredAt, fireLowestCall}
+use Rattle.rules.specs.Journal.{ended, broken, fireLowest, called, itemAt, fireLowestCall}
 use Rattle.rules.specs.Transcript.{refusalLine, callLine, ledgerOf}
 
 -- a line for each call and its answer
@@ -24,7 +24,7 @@ module _ (js : List ℕ) where
   unfoldable pub endsBroken : ℕ → ℕ → Bool
   endsBroken zero at = false
   endsBroken (suc n) at =
-      elim (enteredAt js at) [
+      elim (itemAt js at) [
         | ended ↦ false
         | broken ↦ true
         | fireLowest ↦ endsBroken n (at + sizeAt js at)
@@ -36,7 +36,7 @@ module _ (bs js : List ℕ) (p : Plan) where
   unfoldable pub callsFrom : ℕ → ℕ → List ℕ → List Call
   callsFrom zero at ws = []
   callsFrom (suc n) at ws =
-      elim (enteredAt js at) [
+      elim (itemAt js at) [
         | ended ↦ []
         | broken ↦ []
         | fireLowest ↦

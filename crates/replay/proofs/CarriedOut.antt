@@ -10,10 +10,10 @@ use Rattle.rules.specs.Fold.{sumBelow}
 use Rattle.rules.specs.Plan.{planOf}
 use Rattle.rules.specs.Layout.{entryLimit}
 use Rattle.rules.specs.Call.{Answer, refusal, done, Call, event, signal, fire, EventArguments, SignalArguments, FireArguments, callOutcome, Meets}
-use Rattle.rules.specs.Journal.{Entered}
+use Rattle.rules.specs.Journal.{Item}
 use Rattle.rules.specs.Transcript.{refusalLine, callLine, firingsOf, heldTotal, tallyLine}
 use Rattle.plan.proofs.FieldLaws.{track-count}
-use Rattle.lookup.specs.Checked.{ledgerOf}
+use Rattle.ledger.specs.Ladder.{ledgerOf}
 use Rattle.journal.specs.declared.record.Record.{Record}
 use Rattle.journal.specs.declared.record.Record.the-variants.{Ended, Broken}
 use Rattle.journal.specs.Records.{recordTold, sizeOf}
@@ -64,7 +64,7 @@ pub broken-none : (x : Record) → x ≡ Broken → 0 < sizeOf (recordTold x) �
 broken-none x e l = let z : sizeOf (recordTold x) ≡ 0 = rw e in omega arith
 
 -- the last lines
-pub closed-broken : (x : Entered) (b : Bool) (out : List ℕ) (from : Progress) (mid out′ : List ℕ) (place end : ℕ) → b ≡ isBrokenRecord x → b ≡ true
+pub closed-broken : (x : Item) (b : Bool) (out : List ℕ) (from : Progress) (mid out′ : List ℕ) (place end : ℕ) → b ≡ isBrokenRecord x → b ≡ true
     → from .place ≤ length out → Lined out (from .place) (refusalLine 23) mid place
     → Lined mid place (tallyLine (from .tally .held) (from .tally .fired)) out′ end → Closed x out from out′ end
 closed-broken x b out from mid out′ place end e t h k l =
@@ -76,7 +76,7 @@ closed-broken x b out from mid out′ place end e t h k l =
       short = omega arith;
     }
 
-pub closed-whole : (x : Entered) (b : Bool) (out : List ℕ) (from : Progress) (out′ : List ℕ) (end : ℕ) → b ≡ isBrokenRecord x → b ≡ false
+pub closed-whole : (x : Item) (b : Bool) (out : List ℕ) (from : Progress) (out′ : List ℕ) (end : ℕ) → b ≡ isBrokenRecord x → b ≡ false
     → Lined out (from .place) (tallyLine (from .tally .held) (from .tally .fired)) out′ end → Closed x out from out′ end
 closed-whole x b out from out′ end e t l =
     let m = l .short in

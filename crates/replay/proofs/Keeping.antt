@@ -12,8 +12,7 @@ use Rattle.rules.specs.Ledger.{Ledger, ledgerAt, written}
 use Rattle.rules.specs.Opening.{begun}
 use Rattle.rules.specs.Call.{done, Outcome, Call, tooShort, next, callOutcome, beginOutcome}
 use Rattle.plan.proofs.FieldLaws.{track-count}
-use Rattle.ledger.specs.Words.{Room}
-use Rattle.lookup.specs.Checked.{Accepts, Checked}
+use Rattle.ledger.specs.Ladder.{Room, Accepts, Checked}
 use Rattle.restoration.proofs.SoundWords.{Holds, sound-holds, call-holds, begin-accepted, begin-holds}
 
 module _ (bs : List ℕ) (c : Counts) where

@@ -10,7 +10,7 @@ use Rattle.rules.specs.Record.{sizeAt}
 use Rattle.rules.specs.Layout.{entryLimit}
 use Rattle.rules.specs.Ledger.{Ledger}
 use Rattle.rules.specs.Call.{Answer, Outcome, Call, callRefusal, next, callOutcome}
-use Rattle.rules.specs.Journal.{Entered, ended, broken, fireLowest, called, enteredAt, fireLowestCall}
+use Rattle.rules.specs.Journal.{Item, ended, broken, fireLowest, called, itemAt, fireLowestCall}
 use Rattle.rules.specs.Transcript.{refusalLine, callLine, firingsOf, heldTotal, tallyLine, ledgerOf, lastLine, callText, replay}
 use Rattle.restoration.proofs.SoundWords.{Holds, call-accepted, call-refused, call-holds}
 
@@ -52,7 +52,7 @@ module _ (bs js : List ℕ) (c : Counts) (read : readPlan bs ≡ accepted c) whe
       → replay bs js (planOf bs c) n at ws fired ≡ replay bs js (planOf bs c) n at ws′ fired
   unfolding replay
   replay-same zero at fired ws ws′ l h h′ = refl
-  replay-same (suc n) at fired ws ws′ l h h′ = go (λ m vs vs′ k g g′. replay-same n (at + sizeAt js at) m vs vs′ k g g′) (enteredAt js at) refl
+  replay-same (suc n) at fired ws ws′ l h h′ = go (λ m vs vs′ k g g′. replay-same n (at + sizeAt js at) m vs vs′ k g g′) (itemAt js at) refl
     where
       rest : ((m : ℕ) (vs vs′ : List ℕ) (k : Ledger) → Held vs k → Held vs′ k
           → replay bs js (planOf bs c) n (at + sizeAt js at) vs m ≡ replay bs js (planOf bs c) n (at + sizeAt js at) vs′ m)
@@ -66,7 +66,7 @@ module _ (bs js : List ℕ) (c : Counts) (read : readPlan bs ≡ accepted c) whe
 
       go : ((m : ℕ) (vs vs′ : List ℕ) (k : Ledger) → Held vs k → Held vs′ k
           → replay bs js (planOf bs c) n (at + sizeAt js at) vs m ≡ replay bs js (planOf bs c) n (at + sizeAt js at) vs′ m)
-          → (x : Entered) → enteredAt js at ≡ x → replay bs js (planOf bs c) (suc n) at ws fired ≡ replay bs js (planOf bs c) (suc n) at ws′ fired
+          → (x : Item) → itemAt js at ≡ x → replay bs js (planOf bs c) (suc n) at ws fired ≡ replay bs js (planOf bs c) (suc n) at ws′ fired
       go again ended e = rw (e, replay) (last-same ws ws′ l h h′ fired)
       go again broken e = rw (e, replay) (ap (λ (t : List ℕ). refusalLine 23 ++ t) (last-same ws ws′ l h h′ fired))
       go again fireLowest e =

@@ -14,11 +14,11 @@ use Rattle.rules.specs.Record.{sizeAt}
 use Rattle.rules.specs.Layout.{entryLimit}
 use Rattle.rules.specs.Ledger.{Ledger, ledgerAt}
 use Rattle.rules.specs.Call.{Answer, refusal, done, Call, event, signal, fire, callOutcome}
-use Rattle.rules.specs.Journal.{Entered, ended, broken, fireLowest, called, enteredAt}
+use Rattle.rules.specs.Journal.{Item, ended, broken, fireLowest, called, itemAt}
 use Rattle.rules.specs.Transcript.{refusalLine, callLine, tallyLine, heldTotal, firingsOf, lastLine, callText, replay, mostBytes}
 use Rattle.rules.specs.Transcript as text
 use Rattle.plan.proofs.FieldLaws.{track-count}
-use Rattle.lookup.specs.Checked.{Checked, ledgerOf}
+use Rattle.ledger.specs.Ladder.{Checked, ledgerOf}
 use Rattle.journal.specs.Records.{sizeOf, callOf}
 use Rattle.journal.specs.Writing.{Wrote, lineRoom}
 use Rattle.journal.proofs.Records.{stands}
@@ -35,7 +35,7 @@ unfolding ledgerOf text.ledgerOf
 ledgers bs js c ws = ap (ledgerAt entryLimit ws) (sym (track-count bs c))
 
 -- a record has four bytes or more, and does one firing at most
-size-least : (x : Entered) → 0 < sizeOf x → 4 ≤ sizeOf x
+size-least : (x : Item) → 0 < sizeOf x → 4 ≤ sizeOf x
 size-least ended l = absurd (omega arith)
 size-least broken l = absurd (omega arith)
 size-least fireLowest l = omega arith
@@ -52,7 +52,7 @@ firings-most (fire a) (done figures) = omega arith
 
 -- a visit, where the reading ends and where a call stands
 module _ (bs js : List ℕ) (p : Plan) (n at : ℕ) (ws : List ℕ) where
-  words-stopped : (x : Entered) → enteredAt js at ≡ x → sizeOf x ≡ 0 → wordsFrom bs js p (suc n) at ws ≡ ws
+  words-stopped : (x : Item) → itemAt js at ≡ x → sizeOf x ≡ 0 → wordsFrom bs js p (suc n) at ws ≡ ws
   unfolding wordsFrom
   words-stopped ended e z = rw (e, wordsFrom)
   words-stopped broken e z = rw (e, wordsFrom)
@@ -61,7 +61,7 @@ module _ (bs js : List ℕ) (p : Plan) (n at : ℕ) (ws : List ℕ) where
   words-stopped (called (signal a)) e z = absurd (omega arith)
   words-stopped (called (fire a)) e z = absurd (omega arith)
 
-  words-call : (x : Entered) → enteredAt js at ≡ x → 0 < sizeOf x
+  words-call : (x : Item) → itemAt js at ≡ x → 0 < sizeOf x
       → wordsFrom bs js p (suc n) at ws ≡ wordsFrom bs js p n (at + sizeAt js at) (callOutcome entryLimit bs ws (callOf p (text.ledgerOf p ws) x) .words)
   unfolding wordsFrom
   words-call ended e l = absurd (omega arith)
@@ -69,7 +69,7 @@ module _ (bs js : List ℕ) (p : Plan) (n at : ℕ) (ws : List ℕ) where
   words-call fireLowest e l = rw (e, wordsFrom)
   words-call (called d) e l = rw (e, wordsFrom)
 
-  text-stopped : (fired : ℕ) (last : List ℕ) → last ≡ lastLine p ws fired → (x : Entered) → enteredAt js at ≡ x → sizeOf x ≡ 0
+  text-stopped : (fired : ℕ) (last : List ℕ) → last ≡ lastLine p ws fired → (x : Item) → itemAt js at ≡ x → sizeOf x ≡ 0
       → replay bs js p (suc n) at ws fired ≡ cond (isBrokenRecord x) (refusalLine 23 ++ last) last
   unfolding replay
   text-stopped fired last f ended e z = rw (e, replay, f)
@@ -79,7 +79,7 @@ module _ (bs js : List ℕ) (p : Plan) (n at : ℕ) (ws : List ℕ) where
   text-stopped fired last f (called (signal a)) e z = absurd (omega arith)
   text-stopped fired last f (called (fire a)) e z = absurd (omega arith)
 
-  text-call : (fired : ℕ) (x : Entered) → enteredAt js at ≡ x → 0 < sizeOf x
+  text-call : (fired : ℕ) (x : Item) → itemAt js at ≡ x → 0 < sizeOf x
       → replay bs js p (suc n) at ws fired ≡ callText bs js p (replay bs js p n (at + sizeAt js at)) ws fired (callOf p (text.ledgerOf p ws) x)
   unfolding replay
   text-call fired ended e l = absurd (omega arith)
@@ -134,11 +134,11 @@ module _ (bs js : List ℕ) (c : Counts) (out : List ℕ) (start : ℕ) (whole w
         record { checked = u .checked; room = omega arith; few = omega arith }
 
     -- the place after the record
-    pub next-within : (x : Entered) (size : ℕ) → x ≡ enteredAt js at → size ≡ sizeOf x → (size ≡ 0 → ⊥) → at + size ≤ length js
+    pub next-within : (x : Item) (size : ℕ) → x ≡ itemAt js at → size ≡ sizeOf x → (size ≡ 0 → ⊥) → at + size ≤ length js
     next-within x size e s z = let w = stands js at x (sym e) (omega arith) .within in omega arith
 
     -- one record more
-    pub underway-next : (x : Entered) (size : ℕ) → x ≡ enteredAt js at → size ≡ sizeOf x → (size ≡ 0 → ⊥)
+    pub underway-next : (x : Item) (size : ℕ) → x ≡ itemAt js at → size ≡ sizeOf x → (size ≡ 0 → ⊥)
         → (ws′ out″ : List ℕ) (next : Progress) → CarriedOut bs c (callAt bs c ws x) ws out′ so-far ws′ out″ next
         → Underway (at + size) ws′ out″ next
     unfolding callText
@@ -193,7 +193,7 @@ module _ (bs js : List ℕ) (c : Counts) (out : List ℕ) (start : ℕ) (whole w
             }
 
     -- the reading ends, and the last lines are written
-    pub underway-done : (x : Entered) (size : ℕ) → x ≡ enteredAt js at → size ≡ sizeOf x → size ≡ 0 → (out″ : List ℕ) (end : ℕ)
+    pub underway-done : (x : Item) (size : ℕ) → x ≡ itemAt js at → size ≡ sizeOf x → size ≡ 0 → (out″ : List ℕ) (end : ℕ)
         → Closed x out′ so-far out″ end → RanFrom out start whole words ws out″ end
     unfolding lastLine
     underway-done x size e s z out″ end k =

@@ -18,9 +18,8 @@ use Rattle.rules.specs.Opening.{begun}
 use Rattle.rules.specs.Call.{beginOutcome}
 use Rattle.rules.specs.Transcript.{refusalLine, planLine, replay, mostBytes, ownWords, transcript}
 use Rattle.rules.proofs.Tests.{or-right}
+use Rattle.ledger.specs.Ladder.{Room, Accepts}
 use Rattle.plan_reader.proofs.Reader.{accepted-holds}
-use Rattle.ledger.specs.Words.{Room}
-use Rattle.lookup.specs.Checked.{Accepts}
 use Rattle.journal.specs.Writing.{Lined, lineRoom, writtenAt}
 use Rattle.journal.proofs.Written.{wrote-then}
 use Rattle.replay.specs.declared.RunAnswer.the-variants.{Written, TooSmall, ShortLedger}

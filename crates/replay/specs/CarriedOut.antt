@@ -9,9 +9,9 @@ use Rattle.rules.specs.Fold.{sumBelow}
 use Rattle.rules.specs.Plan.{planOf, firstState}
 use Rattle.rules.specs.Layout.{entryLimit}
 use Rattle.rules.specs.Call.{Call, callOutcome}
-use Rattle.rules.specs.Journal.{Entered, ended, broken, fireLowest, called}
+use Rattle.rules.specs.Journal.{Item, ended, broken, fireLowest, called}
 use Rattle.rules.specs.Transcript.{refusalLine, callLine, firingsOf, heldTotal, tallyLine}
-use Rattle.lookup.specs.Checked.{Checked, ledgerOf}
+use Rattle.ledger.specs.Ladder.{Checked, ledgerOf}
 use Rattle.lookup.specs.Figures.{Figures}
 use Rattle.transition_index.specs.Indexed.{Indexed}
 use Rattle.journal.specs.Records.{callOf}
@@ -19,7 +19,7 @@ use Rattle.journal.specs.Writing.{Wrote, Lined, lineRoom}
 use Rattle.replay.specs.declared.carry_out.Progress.{Progress}
 
 -- the call that a record asks for on the ledger that the words hold
-abbrev pub callAt : List ℕ → Counts → List ℕ → Entered → Call
+abbrev pub callAt : List ℕ → Counts → List ℕ → Item → Call
 callAt bs c ws x = callOf (planOf bs c) (ledgerOf c ws) x
 
 -- There is room for a line, and for one firing more in the tally.
@@ -47,14 +47,14 @@ pub record CarriedOut (bs : List ℕ) (c : Counts) (d : Call) (ws out : List ℕ
   pub held : next .tally .held ≡ heldTotal (planOf bs c) (ledgerOf c ws′)
 
 -- whether the reading ends at a broken record
-abbrev pub isBrokenRecord : Entered → Bool
+abbrev pub isBrokenRecord : Item → Bool
 isBrokenRecord ended = false
 isBrokenRecord broken = true
 isBrokenRecord fireLowest = false
 isBrokenRecord (called c) = false
 
 -- The last lines were written.
-pub record Closed (x : Entered) (out : List ℕ) (from : Progress) (out′ : List ℕ) (end : ℕ) : Type 0 where
+pub record Closed (x : Item) (out : List ℕ) (from : Progress) (out′ : List ℕ) (end : ℕ) : Type 0 where
   pub wrote : Wrote out (from .place)
       (cond (isBrokenRecord x) (refusalLine 23 ++ tallyLine (from .tally .held) (from .tally .fired)) (tallyLine (from .tally .held) (from .tally .fired)))
       out′ end

@@ -8,7 +8,7 @@ use rules::Counts;
 ghost use Prim.Native.Nat.{_+_, _<_, _^_};
 ghost use Rattle.rules.specs.Call.{event, signal, fire, nothing};
 ghost use Rattle.rules.specs.Journal.{fireLowest};
-ghost use Rattle.ledger.specs.Words.{Room};
+ghost use Rattle.ledger.specs.Ladder.{Room};
 ghost use Rattle.journal.specs.Records.{recordTold, sizeOf};
 ghost use Rattle.replay.specs.CarriedOut.{callAt, Prepared, Tables, CameTo, CarriedOut};
 

@@ -12,7 +12,7 @@ ghost use mathlib.Core.Path.{_≡_};
 ghost use Prim.Native.Nat.{_+_, _*_, _≤_};
 ghost use lib.ListN.{length};
 ghost use Rattle.rules.specs.Transcript.{mostBytes};
-ghost use Rattle.lookup.specs.Checked.{Lent};
+ghost use Rattle.ledger.specs.Ladder.{Lent};
 ghost use Rattle.replay.specs.Runs.{textRoom, runOutcome, Ran, RanPlan};
 
 // The most bytes of a plan or a journal.

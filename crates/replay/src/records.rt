@@ -14,7 +14,7 @@ ghost use mathlib.Core.Path.{_≡_};
 ghost use Prim.Native.Nat.{_+_, _*_, _≤_};
 ghost use lib.ListN.{length};
 ghost use Rattle.rules.specs.Transcript.{mostBytes};
-ghost use Rattle.lookup.specs.Checked.{Checked};
+ghost use Rattle.ledger.specs.Ladder.{Checked};
 ghost use Rattle.journal.specs.Records.{recordTold};
 ghost use Rattle.journal.specs.Writing.{lineRoom};
 ghost use Rattle.replay.specs.Runs.{RanRecords};
@@ -56,7 +56,8 @@ pub fn run_records(
     output: &mut [u8],
     start: usize,
 ) -> usize
-    requires { ⌜ Checked (now plan) c (now ledger) × (length (now journal) ≤ mostBytes) × (start + 6 * length (now journal) + 2 * lineRoom ≤ length (now output)) ⌝ }
+    requires { ⌜ Checked (now plan) c (now ledger) × (length (now journal) ≤ mostBytes)
+        × (start + 6 * length (now journal) + 2 * lineRoom ≤ length (now output)) ⌝ }
     ensures { λ r. ⌜ RanRecords (now (plan .entry)) (now (journal .entry)) c
         (now (ledger .entry)) (now (output .entry)) start (now (ledger .exit)) (now (output .exit)) r ⌝ }
 {

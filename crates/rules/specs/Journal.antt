@@ -28,9 +28,9 @@ unfoldable pub journalLength : Kind → ℕ
 journalLength kind = cond (ltb kind eventKind) 0 (getD (6 ∷ 4 ∷ 6 ∷ 4 ∷ []) (kind - eventKind) 0)
 
 -- what stands at a place of the journal
-pub data Entered : Type 0 where
-  ended broken fireLowest : Entered
-  called : Call → Entered
+pub data Item : Type 0 where
+  ended broken fireLowest : Item
+  called : Call → Item
 
 -- 23 "1 to 3 bytes left where it starts (none left is the journal's end), unknown kind, wrong length, or cut short"
 unfoldable pub isBroken : Bytes → Place → Bool
@@ -40,14 +40,14 @@ isBroken js at =
     || not (eqb (sizeAt js at) (journalLength (kindAt js at)))
     || ltb (length js) (at + sizeAt js at)
 
-unfoldable pub recordOf : Kind → ℕ → Entered
+unfoldable pub recordOf : Kind → ℕ → Item
 recordOf kind field =
     cond (eqb kind eventKind) (called (event (record { event = field })))
     (cond (eqb kind signalKind) (called (signal nothing))
     (cond (eqb kind fireKind) (called (fire (record { track = field }))) fireLowest))
 
-unfoldable pub enteredAt : Bytes → Place → Entered
-enteredAt js at =
+unfoldable pub itemAt : Bytes → Place → Item
+itemAt js at =
     cond (leb (length js) at) ended (cond (isBroken js at) broken (recordOf (kindAt js at) (word js (at + 4))))
 
 -- "fire the lowest ready track (.. refused as 20 or 22)": where none is ready, a track that does not exist is refused so

@@ -14,7 +14,7 @@ use Rattle.rules.specs.Layout.{entryLimit, wordCount}
 use Rattle.rules.specs.Ledger.{Ledger, ledgerAt}
 use Rattle.rules.specs.Call.{Answer, refusal, done, Outcome, Call, event, signal, fire, beginOutcome, callOutcome}
 use Rattle.rules.specs.Text.{ascii, decimal, line}
-use Rattle.rules.specs.Journal.{ended, broken, fireLowest, called, enteredAt, fireLowestCall}
+use Rattle.rules.specs.Journal.{ended, broken, fireLowest, called, itemAt, fireLowestCall}
 
 -- "`R` number"
 unfoldable pub refusalLine : Refusal → Bytes
@@ -73,7 +73,7 @@ module _ (bs js : Bytes) (p : Plan) where
   unfoldable pub replay : ℕ → Place → Words → ℕ → Bytes
   replay zero at ws fired = []
   replay (suc n) at ws fired =
-      elim (enteredAt js at) [
+      elim (itemAt js at) [
         | ended ↦ lastLine p ws fired
         | broken ↦ refusalLine 23 ++ lastLine p ws fired
         | fireLowest ↦ callText (replay n (at + sizeAt js at)) ws fired (fireLowestCall p (ledgerOf p ws))

@@ -19,9 +19,9 @@ use Rattle.rules.proofs.Tests.{look-option}
 use Rattle.rules.proofs.TrackWords.{length-heldAt}
 use Rattle.rules.proofs.Stored.{read-at}
 use Rattle.plan.proofs.Hosting.{host-none}
+use Rattle.ledger.specs.Ladder.{ledgerOf}
 use Rattle.ledger.specs.Words.{trackOf, entryPlace}
 use Rattle.ledger.proofs.ReadTracks.{mode-as, state-as}
-use Rattle.lookup.specs.Checked.{ledgerOf}
 use Rattle.lookup.proofs.Facts.{host-is}
 use Rattle.soundness.specs.Parts.{goodEntry, soundTrack}
 
@@ -50,11 +50,12 @@ held-asked c ws t k f h e =
     let i : k ≡ n = e ∙ ap (λ (x : Configuration). length (x .held)) q ∙ length-heldAt ws (at + headWords) n in
     held-below f ws (at + headWords) k ∙ ap (λ (i : ℕ). everyHeld f (heldAt ws (at + headWords) i)) i ∙ sym (ap (λ (x : Configuration). everyHeld f (x .held)) q)
 
-module _ (p : Plan) (l : Ledger) (t : ℕ) where
-  pub entry-asked : (e : Entry) {a d : ℕ} {g : Bool} → a ≡ e .code → d ≡ e .deviation → g ≡ goodDeviation p t d → (not (eqb a 0) && g) ≡ goodEntry p l t e
-  unfolding goodEntry
-  entry-asked e h k m = rw (h, m ∙ ap (goodDeviation p t) k)
+pub entry-asked : (p : Plan) (t : ℕ) (e : Entry) {a d : ℕ} {g : Bool} → a ≡ e .code → d ≡ e .deviation → g ≡ goodDeviation p t d
+    → (not (eqb a 0) && g) ≡ goodEntry p t e
+unfolding goodEntry
+entry-asked p t e h k m = rw (h, m ∙ ap (goodDeviation p t) k)
 
+module _ (p : Plan) (l : Ledger) (t : ℕ) where
   -- a host, by the word of its record
   pub root-well : {w : ℕ} → w ≡ hostWord p t → w ≡ noState → true ≡ isHostedWell p l t
   unfolding isHostedWell
@@ -94,7 +95,7 @@ module _ (p : Plan) (l : Ledger) (t : ℕ) where
         hosted true = refl
         hosted false = refl
 
-    pub awake-asked : {own good well : Bool} → not q ≡ false → own ≡ isStateOf p t (k .state) → good ≡ everyHeld (goodEntry p l t) (l t .held)
+    pub awake-asked : {own good well : Bool} → not q ≡ false → own ≡ isStateOf p t (k .state) → good ≡ everyHeld (goodEntry p t) (l t .held)
         → well ≡ isHostedWell p l t → ((own && good) && well) ≡ soundTrack p l t
     unfolding soundTrack
     awake-asked h o g w =

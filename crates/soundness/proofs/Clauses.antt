@@ -17,7 +17,7 @@ use Rattle.rules.specs.Signal.{isAbandoning}
 use Rattle.rules.specs.Soundness.{areTidy, everyHeld, rootsAwake, statesOwn, codesReal, goodDeviation, deviationsGood, isWhole, scopesWhole, isHostedWell, hostsAwake, closingDone, finishDone, abandoningDone, isLive, isSound}
 use Rattle.rules.proofs.Folds.{every-same}
 use Rattle.plan.proofs.FieldLaws.{track-count, state-count}
-use Rattle.lookup.specs.Checked.{ledgerOf}
+use Rattle.ledger.specs.Ladder.{ledgerOf}
 use Rattle.soundness.specs.Parts.{goodEntry, soundTrack, soundScope}
 
 and-and : (a b c d : Bool) → ((a && b) && (c && d)) ≡ ((a && c) && (b && d))

@@ -25,9 +25,9 @@ use Rattle.rules.proofs.Folds.{every-same, some-more}
 use Rattle.rules.proofs.Scopes.{host-in}
 use Rattle.plan.specs.Passes.{stateSlots}
 use Rattle.plan.proofs.Hosting.{host-none}
+use Rattle.ledger.specs.Ladder.{Accepts}
 use Rattle.ledger.specs.Words.{trackOf}
 use Rattle.ledger.proofs.ReadTracks.{empty-count}
-use Rattle.lookup.specs.Checked.{Accepts}
 use Rattle.lookup.proofs.Facts.{host-is, host-low}
 use Rattle.soundness.specs.Parts.{Scoped, Marked, soundScope}
 use Rattle.soundness.proofs.Clauses.{not-some}

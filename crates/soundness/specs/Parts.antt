@@ -18,16 +18,16 @@ pub record Scoped (p : Plan) (f : ℕ → Bool) (n : ℕ) (ms : List Bool) : Typ
   pub size : length ms ≡ stateSlots
   pub at : (s : ℕ) → s < stateSlots → getD ms s false ≡ someBelow n (λ t. isIn p s t && f t)
 
-module _ (p : Plan) (l : Ledger) where
-  -- of an entry of the track t: the code is not 0, and the deviation is good
-  unfoldable pub goodEntry : ℕ → Entry → Bool
-  goodEntry t e = not (eqb (e .code) 0) && goodDeviation p t (e .deviation)
+-- of an entry of the track t: the code is not 0, and the deviation is good
+unfoldable pub goodEntry : Plan → ℕ → Entry → Bool
+goodEntry p t e = not (eqb (e .code) 0) && goodDeviation p t (e .deviation)
 
+module _ (p : Plan) (l : Ledger) where
   -- of a track: awake if a root, its state its own if awake, its entries good, its host awake in that hosting state and in the same mode
   unfoldable pub soundTrack : ℕ → Bool
   soundTrack t =
       (not (isRoot p t) || isAwake (l t .mode)) && (not (isAwake (l t .mode)) || isStateOf p t (l t .state))
-      && everyHeld (goodEntry t) (l t .held) && isHostedWell p l t
+      && everyHeld (goodEntry p t) (l t .held) && isHostedWell p l t
 
   -- of the scope of s: whole, and neither closing nor abandoning is left to do
   unfoldable pub soundScope : ℕ → Bool

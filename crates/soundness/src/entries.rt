@@ -11,7 +11,7 @@ ghost use Rattle.rules.specs.Layout.{entryLimit};
 ghost use Rattle.rules.specs.Plan.{planOf, isFinal};
 ghost use Rattle.rules.specs.Soundness.{areTidy, everyHeld, goodDeviation};
 ghost use Rattle.plan.specs.Holds.{Holds};
-ghost use Rattle.lookup.specs.Checked.{Accepts, ledgerOf, Lent};
+ghost use Rattle.ledger.specs.Ladder.{Accepts, Lent, ledgerOf};
 ghost use Rattle.soundness.specs.Parts.{goodEntry};
 
 // Whether a number is a final state, whatever the number.
@@ -26,7 +26,7 @@ pub fn is_final(plan: &[u8], c: Counts, s: usize) -> bool
 }
 
 // "a deviation held is 65535, or, in a root, a non-final state of that root"
-fn good_deviation(plan: &[u8], c: Counts, ledger: &[u16], t: usize, deviation: u16) -> bool
+fn good_deviation(plan: &[u8], c: Counts, t: usize, deviation: u16) -> bool
     requires { ⌜ Accepts (now plan) c × (t < c .tracks) ⌝ }
     ensures { λ r. ⌜ r ≡ goodDeviation (planOf (now (plan .entry)) c) t deviation ⌝ }
 {
@@ -44,14 +44,14 @@ fn good_deviation(plan: &[u8], c: Counts, ledger: &[u16], t: usize, deviation: u
 pub fn good_entries(plan: &[u8], c: Counts, ledger: &[u16], t: usize, count: u16) -> bool
     requires { ⌜ Lent (now plan) c (now ledger) × (t < c .tracks) × (areTidy entryLimit (now ledger) (c .tracks) ≡ true)
         × (count ≡ length (ledgerOf c (now ledger) t .held)) ⌝ }
-    ensures { λ r. ⌜ r ≡ everyHeld (goodEntry (planOf (now (plan .entry)) c) (ledgerOf c (now (ledger .entry))) t) (ledgerOf c (now (ledger .entry)) t .held) ⌝ }
+    ensures { λ r. ⌜ r ≡ everyHeld (goodEntry (planOf (now (plan .entry)) c) t) (ledgerOf c (now (ledger .entry)) t .held) ⌝ }
 {
     let mut all = true;
     let held = count as usize;
     let mut k: usize = 0;
     while k < held {
         let real = words::entry_code(ledger, t, k) != 0;
-        let good = good_deviation(plan, c, ledger, t, words::entry_deviation(ledger, t, k));
+        let good = good_deviation(plan, c, t, words::entry_deviation(ledger, t, k));
         all = all & (real & good);
         k += 1;
     }

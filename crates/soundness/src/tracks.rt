@@ -17,7 +17,7 @@ ghost use Rattle.rules.specs.Ledger.{isAwake, isForward};
 ghost use Rattle.rules.specs.Event.{isFinishing};
 ghost use Rattle.rules.specs.Soundness.{areTidy, isHostedWell};
 ghost use Rattle.plan.specs.Holds.{Holds};
-ghost use Rattle.lookup.specs.Checked.{ledgerOf, Lent};
+ghost use Rattle.ledger.specs.Ladder.{Lent, ledgerOf};
 ghost use Rattle.soundness.specs.Parts.{soundTrack};
 
 // Whether an awake track in mode `m`, if it is hosted, has its host awake in the hosting state and in the same mode.

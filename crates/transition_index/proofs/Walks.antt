@@ -19,7 +19,7 @@ use Rattle.rules.proofs.Acceptance.{accepts, transition-for}
 use Rattle.plan.specs.Chain.{lastBelow, has, Chained, cell}
 use Rattle.plan.proofs.ChainLaws.{last-most, last-passes, last-skips}
 use Rattle.plan.proofs.FieldLaws.{transition-count}
-use Rattle.lookup.specs.Checked.{Accepts}
+use Rattle.ledger.specs.Ladder.{Accepts}
 use Rattle.transition_index.specs.Indexed.{isFor, cellOf, Indexed}
 
 pub cell-told : (p : Plan) (x s e : ℕ) → s ≡ transition p x .source → e ≡ transition p x .event → cellOf s e ≡ cell p x

@@ -7,7 +7,7 @@ ghost use mathlib.Core.Path.{_≡_};
 ghost use Prim.Native.Nat.{_<_};
 ghost use Rattle.rules.specs.Plan.{planOf, optional, transitionFor};
 ghost use Rattle.plan.specs.Holds.{Holds};
-ghost use Rattle.lookup.specs.Checked.{Accepts};
+ghost use Rattle.ledger.specs.Ladder.{Accepts};
 ghost use Rattle.transition_index.specs.Indexed.{cellOf, isFor, Indexed};
 
 const CELLS: usize = 256;

@@ -18,10 +18,10 @@ use Rattle.rules.specs.Signal.{abandoned}
 use Rattle.rules.proofs.Tests.{look, and-true}
 use Rattle.rules.proofs.Passes.{upTo}
 use Rattle.plan.proofs.FieldLaws.{track-count}
+use Rattle.ledger.specs.Ladder.{Tidy, Accepts, ledgerOf}
+use Rattle.lookup.specs.HostTrack.{hostTrack}
 use Rattle.ledger.specs.Words.{withAsleep}
-use Rattle.lookup.specs.Checked.{Accepts, ledgerOf, hostTrack}
 use Rattle.lookup.proofs.Facts.{plan-facts, few-tracks, no-host-track, host-of-track}
-use Rattle.ledger.specs.Words.{Tidy}
 use Rattle.lookup.specs.OneTrack.{withConfiguration}
 use Rattle.withdrawal.specs.declared.abandoning.Scopes.{Scopes}
 use Rattle.withdrawal.specs.Scopes.{Nested, Counted, keptBy, keeping, Due, Climbed, Cleared, LeftOpen}

@@ -23,9 +23,10 @@ use Rattle.rules.proofs.Folds.{count-same, count-more, count-most as most}
 use Rattle.rules.proofs.Scopes.{by-host, host-by}
 use Rattle.plan.specs.Passes.{slots}
 use Rattle.plan.proofs.FieldLaws.{track-count}
+use Rattle.ledger.specs.Ladder.{Accepts}
+use Rattle.lookup.specs.HostTrack.{hostTrack}
 use Rattle.ledger.specs.Words.{trackOf}
 use Rattle.ledger.proofs.ReadTracks.{mode-as, empty-as, held-as}
-use Rattle.lookup.specs.Checked.{Accepts, hostTrack}
 use Rattle.lookup.specs.Figures.{Figures}
 use Rattle.lookup.proofs.Facts.{no-host-track, host-of-track, host-track-low}
 use Rattle.withdrawal.specs.Scopes.{isBusy, busyBelow, Counted}

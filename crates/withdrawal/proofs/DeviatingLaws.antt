@@ -19,8 +19,7 @@ use Rattle.rules.proofs.Opening.{wakes-same, enter-none}
 use Rattle.rules.proofs.Stored.{written-same, written-read}
 use Rattle.plan.specs.Passes.{slots}
 use Rattle.plan.proofs.FieldLaws.{track-count}
-use Rattle.ledger.specs.Words.{Tidy}
-use Rattle.lookup.specs.Checked.{Accepts, ledgerOf}
+use Rattle.ledger.specs.Ladder.{Tidy, Accepts, ledgerOf}
 use Rattle.lookup.proofs.Facts.{plan-facts}
 use Rattle.opening.specs.Entering.{statesOf, Sleepers}
 use Rattle.withdrawal.specs.Deviating.{deviating}

@@ -28,10 +28,10 @@ use Rattle.rules.proofs.Soundness.{Live}
 use Rattle.rules.proofs.TrackWords.{length-heldAt}
 use Rattle.rules.proofs.Stored.{Storable, read-at, written-same}
 use Rattle.plan.proofs.FieldLaws.{track-count}
-use Rattle.ledger.specs.Words.{Within, trackOf, trackAt, entryPlace, withRemoved, Tidy}
+use Rattle.ledger.specs.Ladder.{Within, Tidy, Checked, ledgerOf}
+use Rattle.ledger.specs.Words.{trackOf, trackAt, entryPlace, withRemoved}
 use Rattle.ledger.proofs.ReadTracks.{empty-count, count-as}
 use Rattle.ledger.proofs.Words.{in-room}
-use Rattle.lookup.specs.Checked.{Checked, ledgerOf}
 use Rattle.lookup.specs.OneTrack.{withConfiguration}
 use Rattle.lookup.proofs.Facts.{plan-facts, live-of-going, track-read}
 use Rattle.lookup.proofs.OneTrackLaws.{Stores, stores-at, storable-of, holds, put-removed, read-back, orderly-after, then}

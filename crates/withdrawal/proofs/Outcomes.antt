@@ -16,8 +16,7 @@ use Rattle.rules.specs.Scope.{isOver}
 use Rattle.rules.specs.Signal.{turned, turnings, abandoned, afterSignal}
 use Rattle.rules.specs.Call.{refusal, done, Outcome, nothing, Call, signal, refusedOr, underPlan, tooShort, ledgerRefusals, callRefusals, callRefusal, figures, after, callOutcome, signalOutcome, Meets}
 use Rattle.plan.proofs.FieldLaws.{track-count}
-use Rattle.ledger.specs.Words.{Tidy}
-use Rattle.lookup.specs.Checked.{Checked, Going, ledgerOf}
+use Rattle.ledger.specs.Ladder.{Tidy, Checked, Going, ledgerOf}
 use Rattle.lookup.proofs.Facts.{tidy-words, live-of-going}
 use Rattle.lookup.proofs.OneTrackLaws.{holds, read-back, orderly-after, then}
 use Rattle.withdrawal.specs.Scopes.{Nested}

@@ -15,8 +15,8 @@ use Rattle.rules.specs.Ledger.{Configuration, isForward, written}
 use Rattle.rules.specs.Signal.{turnedTrack, turned}
 use Rattle.rules.proofs.Folds.{count-more}
 use Rattle.rules.proofs.Passes.{upTo}
-use Rattle.ledger.specs.Words.{trackOf, Tidy}
-use Rattle.lookup.specs.Checked.{ledgerOf}
+use Rattle.ledger.specs.Ladder.{Tidy, ledgerOf}
+use Rattle.ledger.specs.Words.{trackOf}
 use Rattle.lookup.specs.OneTrack.{withConfiguration, withMode}
 use Rattle.lookup.proofs.OneTrackLaws.{holds, kept-track, Fitting, pass-start, pass-orderly, pass-length, pass-old, pass-more, pass-end}
 use Rattle.lookup.proofs.OneTrackLaws.{Stores, stores-at}

@@ -16,8 +16,7 @@ ghost use Rattle.rules.specs.Plan.{planOf};
 ghost use Rattle.rules.specs.Ledger.{isUndoing, isEmpty, written};
 ghost use Rattle.rules.specs.Scope.{hasOpenScope};
 ghost use Rattle.rules.specs.Signal.{abandoned};
-ghost use Rattle.ledger.specs.Words.{Room, Tidy};
-ghost use Rattle.lookup.specs.Checked.{Accepts, Lent, ledgerOf};
+ghost use Rattle.ledger.specs.Ladder.{Room, Tidy, Accepts, Lent, ledgerOf};
 ghost use Rattle.lookup.specs.OneTrack.{withConfiguration};
 ghost use Rattle.withdrawal.specs.Scopes.{Nested, isBusy, Counted, keptBy, Due, Climbed, Cleared, LeftOpen};
 

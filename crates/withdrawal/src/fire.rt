@@ -18,8 +18,7 @@ ghost use Rattle.rules.specs.Opening.{enter};
 ghost use Rattle.rules.specs.Fire.{mayFire};
 ghost use Rattle.rules.specs.Call.{fireOutcome, Meets};
 ghost use Rattle.rules.specs.Answers.{fireTold};
-ghost use Rattle.ledger.specs.Words.{Tidy};
-ghost use Rattle.lookup.specs.Checked.{Accepts, Checked, ledgerOf, Lent};
+ghost use Rattle.ledger.specs.Ladder.{Tidy, Accepts, Lent, Checked, ledgerOf};
 ghost use Rattle.opening.specs.Entering.{Sleepers};
 ghost use Rattle.withdrawal.specs.Deviating.{deviating};
 

@@ -15,8 +15,7 @@ ghost use Rattle.rules.specs.Ledger.{isForward, written};
 ghost use Rattle.rules.specs.Signal.{turnedTrack, turned};
 ghost use Rattle.rules.specs.Call.{nothing, signalOutcome, Meets};
 ghost use Rattle.rules.specs.Answers.{signalTold};
-ghost use Rattle.ledger.specs.Words.{Tidy};
-ghost use Rattle.lookup.specs.Checked.{Checked, ledgerOf};
+ghost use Rattle.ledger.specs.Ladder.{Tidy, Checked, ledgerOf};
 ghost use Rattle.lookup.specs.OneTrack.{withConfiguration};
 
 // Turns a track if it is forward, and tells how many turned: 1 or 0.

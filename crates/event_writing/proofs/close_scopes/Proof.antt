@@ -6,7 +6,7 @@ use Rattle.rules.specs.Layout.{entryLimit}
 use Rattle.rules.specs.Plan.{planOf}
 use Rattle.rules.specs.Ledger.{written}
 use Rattle.rules.proofs.Passes.{upTo}
-use Rattle.lookup.specs.Checked.{ledgerOf}
+use Rattle.ledger.specs.Ladder.{ledgerOf}
 use Rattle.lookup.proofs.OneTrackLaws.{pass-orderly, pass-length, pass-more, pass-end}
 use Rattle.event_writing.specs.Writing.{closedBy}
 use Rattle.event_writing.proofs.Closing.{closing-start, closing-fits, closing-needs, closing-all}

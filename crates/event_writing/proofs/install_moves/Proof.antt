@@ -7,7 +7,7 @@ use Rattle.rules.specs.Plan.{planOf, noState}
 use Rattle.rules.specs.Ledger.{written}
 use Rattle.rules.specs.Event.{installedBy, destinationOf}
 use Rattle.rules.proofs.Passes.{upTo}
-use Rattle.lookup.specs.Checked.{ledgerOf}
+use Rattle.ledger.specs.Ladder.{ledgerOf}
 use Rattle.lookup.specs.Figures.{Numbers}
 use Rattle.lookup.proofs.FiguresLaws.{numbers-empty, number-more, numbers-all}
 use Rattle.lookup.proofs.OneTrackLaws.{pass-orderly, pass-length, pass-end}

@@ -13,7 +13,7 @@ use Rattle.rules.specs.Plan.{planOf, noState}
 use Rattle.rules.specs.Ledger.{Ledger}
 use Rattle.rules.specs.Scope.{hasOpenScope}
 use Rattle.plan.proofs.FieldLaws.{track-count}
-use Rattle.lookup.specs.Checked.{ledgerOf}
+use Rattle.ledger.specs.Ladder.{ledgerOf}
 use Rattle.lookup.specs.Figures.{Figures}
 use Rattle.lookup.proofs.FiguresLaws.{visit-none, visit-one}
 use Rattle.event_choice.specs.Next.{movesOf, closesNext}

@@ -3,9 +3,9 @@ use mathlib.Core.Path.{sym, ap, _∙_}
 use denote.Ref.{now}
 use Rattle.rules.specs.Plan.{planOf, noState}
 use Rattle.rules.specs.Ledger.{isAwake}
+use Rattle.ledger.specs.Ladder.{ledgerOf}
 use Rattle.ledger.proofs.Branches.{holds, fails}
 use Rattle.ledger.proofs.ReadTracks.{mode-as}
-use Rattle.lookup.specs.Checked.{ledgerOf}
 use Rattle.lookup.proofs.Facts.{host-if, host-unless}
 use Rattle.event_choice.proofs.Visits.{state-low, ends-read, asleep-leaves, ending-leaves, staying-keeps}
 use borrow.Author.Needs.{needs}

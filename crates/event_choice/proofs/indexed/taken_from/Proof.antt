@@ -3,7 +3,7 @@ use Prim.Native.Nat.{_≤_, _-_}
 use native.Mathlib.Omega.{arith}
 use Rattle.rules.specs.Plan.{planOf}
 use Rattle.rules.specs.Event.{move}
-use Rattle.lookup.specs.Checked.{ledgerOf}
+use Rattle.ledger.specs.Ladder.{ledgerOf}
 use Rattle.lookup.specs.Figures.{Numbers}
 use Rattle.lookup.proofs.FiguresLaws.{numbers-empty, numbers-all, number-more}
 use borrow.Author.Needs.{needs}

@@ -7,7 +7,7 @@ use denote.Ref.{now}
 use Rattle.rules.specs.Fold.{everyBelow, someBelow, countBelow}
 use Rattle.rules.specs.Layout.{entryLimit}
 use Rattle.rules.specs.Plan.{planOf, noState, isRoot}
-use Rattle.lookup.specs.Checked.{ledgerOf}
+use Rattle.ledger.specs.Ladder.{ledgerOf}
 use Rattle.event_choice.specs.Next.{movesOf, endsNext, closesNext, fullNext}
 use Rattle.event_choice.proofs.Visits.{state-low, one-more, finishes-more, full-more, finishes-all}
 use borrow.Author.Needs.{needs}

@@ -11,7 +11,7 @@ use Rattle.rules.specs.Fold.{someBelow, countBelow}
 use Rattle.rules.specs.Layout.{entryLimit}
 use Rattle.rules.specs.Plan.{planOf, noState, optional}
 use Rattle.rules.specs.Event.{hasCode}
-use Rattle.lookup.specs.Checked.{ledgerOf}
+use Rattle.ledger.specs.Ladder.{ledgerOf}
 use Rattle.event_choice.specs.Next.{isLast}
 use Rattle.event_choice.proofs.Visits.{word-some, last-none, fills-none, fills-some, one-more, none-more, some-or-more}
 use borrow.Author.Needs.{needs}

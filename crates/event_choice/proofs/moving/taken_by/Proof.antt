@@ -4,7 +4,7 @@ use Prim.Native.Nat.{_≤_, _-_}
 use native.Mathlib.Omega.{arith}
 use denote.Ref.{now}
 use Rattle.rules.specs.Plan.{planOf, noState}
-use Rattle.lookup.specs.Checked.{ledgerOf}
+use Rattle.ledger.specs.Ladder.{ledgerOf}
 use Rattle.lookup.specs.Figures.{Numbers}
 use Rattle.lookup.proofs.FiguresLaws.{numbers-none, number-none, number-one}
 use Rattle.event_choice.proofs.Visits.{word-small}

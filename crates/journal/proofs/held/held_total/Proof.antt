@@ -1,4 +1,5 @@
 -- The sum after t tracks is the definition's at t; a count is a 16-bit number, so the sum fits. Assumes nothing.
+use Rattle.ledger.specs.Ladder.{ledgerOf}
 use Rattle.ledger.proofs.ReadTracks.{count-as}
 use Rattle.journal.proofs.OfLedger.{summed}
 use borrow.Author.Needs.{needs}
@@ -7,7 +8,6 @@ use Prim.Native.Nat.{_≤_, _-_, _*_}
 use native.Mathlib.Omega.{arith}
 use lib.ListN.{length}
 use Rattle.rules.specs.Fold.{sumBelow}
-use Rattle.lookup.specs.Checked.{ledgerOf}
 use Rattle.journal.proofs.held.held_total.Statement.{statement}
 use Rattle.journal.proofs.held.held_total.Tie as tie
 

@@ -7,7 +7,7 @@ use Rattle.rules.specs.Fold.{firstBelow}
 use Rattle.rules.specs.Plan.{planOf}
 use Rattle.rules.specs.Fire.{mayFire}
 use Rattle.rules.proofs.Folds.{first-more-none}
-use Rattle.lookup.specs.Checked.{ledgerOf}
+use Rattle.ledger.specs.Ladder.{ledgerOf}
 use Rattle.journal.proofs.OfLedger.{lowest-is, lowest-lacks}
 use Rattle.journal.proofs.held.lowest_ready.Statement.{statement}
 use Rattle.journal.proofs.held.lowest_ready.Tie as tie

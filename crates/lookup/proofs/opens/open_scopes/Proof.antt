@@ -12,7 +12,7 @@ use Rattle.rules.specs.Ledger.{Ledger, isAwake}
 use Rattle.rules.specs.Scope.{hasOpenScope}
 use Rattle.rules.proofs.Folds.{some-more}
 use Rattle.plan.proofs.FieldLaws.{track-count}
-use Rattle.lookup.specs.Checked.{ledgerOf}
+use Rattle.ledger.specs.Ladder.{ledgerOf}
 use Rattle.lookup.specs.Figures.{Figures}
 use Rattle.lookup.proofs.FiguresLaws.{figure-each, visit-none, visit-one}
 use borrow.Author.Needs.{needs}

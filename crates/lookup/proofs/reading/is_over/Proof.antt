@@ -5,7 +5,7 @@ use mathlib.Core.Bool.{true, not}
 use Prim.Native.Nat.{_-_, _≤_}
 use Rattle.rules.specs.Fold.{everyBelow}
 use Rattle.rules.specs.Ledger.{isAwake}
-use Rattle.lookup.specs.Checked.{ledgerOf}
+use Rattle.ledger.specs.Ladder.{ledgerOf}
 use Rattle.ledger.proofs.Loops.{every-next, every-stops, every-ends}
 use Rattle.lookup.proofs.reading.is_over.Statement.{statement}
 use Rattle.lookup.proofs.reading.is_over.Tie as tie

@@ -6,7 +6,7 @@ use Prim.Native.Nat.{_-_, _^_, _≤_}
 use native.Mathlib.Omega.{arith}
 use Rattle.rules.specs.Plan.{planOf}
 use Rattle.rules.specs.Fire.{mayFire}
-use Rattle.lookup.specs.Checked.{ledgerOf}
+use Rattle.ledger.specs.Ladder.{ledgerOf}
 use Rattle.manager.proofs.BitLaws.{bitsBelow, bits-none, twice, bit-small, bits-fit, bits-yes, bits-no, bits-ready}
 use Rattle.manager.proofs.bits.ready_bits.Statement.{statement}
 use Rattle.manager.proofs.bits.ready_bits.Tie as tie

@@ -7,7 +7,7 @@ use lib.ListN.{getD}
 use Rattle.rules.specs.Layout.{entryLimit}
 use Rattle.rules.specs.Ledger.{written}
 use Rattle.rules.proofs.Passes.{upTo}
-use Rattle.lookup.specs.Checked.{ledgerOf}
+use Rattle.ledger.specs.Ladder.{ledgerOf}
 use Rattle.opening.specs.Entering.{enteredBy}
 use Rattle.opening.proofs.EnteringLaws.{entering-start, entering-tidy, entering-length, entering-asleep, entering-more, entering-end}
 use borrow.Author.Needs.{needs}

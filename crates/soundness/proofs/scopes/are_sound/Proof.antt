@@ -4,8 +4,8 @@ use Prim.Native.Nat.{_-_, _≤_}
 use Rattle.rules.specs.Fold.{everyBelow}
 use Rattle.rules.specs.Plan.{planOf}
 use Rattle.plan.proofs.FieldLaws.{track-count}
+use Rattle.ledger.specs.Ladder.{ledgerOf}
 use Rattle.ledger.proofs.Loops.{every-visit, every-done}
-use Rattle.lookup.specs.Checked.{ledgerOf}
 use Rattle.soundness.specs.Parts.{soundScope}
 use Rattle.soundness.proofs.Marks.{scope-asked}
 use borrow.Author.Needs.{needs}

@@ -4,7 +4,7 @@ use mathlib.Core.Logic.{inl, inr}
 use Prim.Native.Nat.{_-_, _≤_}
 use native.Mathlib.Omega.{arith}
 use Rattle.rules.specs.Plan.{noState, planOf}
-use Rattle.lookup.specs.Checked.{ledgerOf}
+use Rattle.ledger.specs.Ladder.{ledgerOf}
 use Rattle.soundness.specs.Parts.{Marked}
 use Rattle.soundness.proofs.Marks.{slot, marked-none, marked-root, marked-hosted}
 use borrow.Author.Needs.{needs}

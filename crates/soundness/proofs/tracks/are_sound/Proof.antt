@@ -3,8 +3,8 @@ use mathlib.Core.Path.{_≡_, refl}
 use Prim.Native.Nat.{_-_, _≤_}
 use Rattle.rules.specs.Fold.{everyBelow}
 use Rattle.rules.specs.Plan.{planOf}
+use Rattle.ledger.specs.Ladder.{ledgerOf}
 use Rattle.ledger.proofs.Loops.{every-visit, every-done}
-use Rattle.lookup.specs.Checked.{ledgerOf}
 use Rattle.soundness.specs.Parts.{soundTrack}
 use borrow.Author.Needs.{needs}
 use Rattle.soundness.proofs.tracks.are_sound.Statement.{statement}

@@ -7,8 +7,8 @@ use Rattle.rules.specs.Plan.{planOf, isRoot, isFinal}
 use Rattle.rules.specs.Ledger.{isForward}
 use Rattle.rules.specs.Event.{isFinishing}
 use Rattle.plan.proofs.FieldLaws.{track-count}
+use Rattle.ledger.specs.Ladder.{ledgerOf}
 use Rattle.ledger.proofs.Loops.{every-next, every-stops, every-ends}
-use Rattle.lookup.specs.Checked.{ledgerOf}
 use Rattle.soundness.proofs.Asking.{finish-asked}
 use borrow.Author.Needs.{needs}
 use Rattle.soundness.proofs.tracks.is_finishing.Statement.{statement}

@@ -7,7 +7,7 @@ use Rattle.rules.specs.Layout.{entryLimit}
 use Rattle.rules.specs.Plan.{planOf}
 use Rattle.rules.specs.Ledger.{written}
 use Rattle.rules.proofs.Passes.{upTo}
-use Rattle.lookup.specs.Checked.{ledgerOf}
+use Rattle.ledger.specs.Ladder.{ledgerOf}
 use Rattle.withdrawal.specs.Scopes.{keptBy}
 use Rattle.withdrawal.proofs.AbandoningLaws.{leaving-start, leaving-orderly, leaving-length, leaving-more, leaving-end}
 use Rattle.withdrawal.proofs.abandoning.abandon.Statement.{statement}

@@ -1,7 +1,7 @@
 -- Not undoing, or undoing and then what it holds. Assumes nothing.
 use denote.Ref.{now}
 use borrow.Author.Needs.{needs}
-use Rattle.lookup.specs.Checked.{ledgerOf}
+use Rattle.ledger.specs.Ladder.{ledgerOf}
 use Rattle.withdrawal.proofs.Counted.{back-not, back-empty}
 use Rattle.withdrawal.proofs.abandoning.is_taken_back.Statement.{statement}
 use Rattle.withdrawal.proofs.abandoning.is_taken_back.Tie as tie

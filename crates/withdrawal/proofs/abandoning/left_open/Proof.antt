@@ -5,7 +5,7 @@ use Prim.Native.Nat.{_≤_, _-_}
 use native.Mathlib.Omega.{arith}
 use borrow.Author.Needs.{needs}
 use Rattle.rules.specs.Plan.{planOf}
-use Rattle.lookup.specs.Checked.{ledgerOf}
+use Rattle.ledger.specs.Ladder.{ledgerOf}
 use Rattle.withdrawal.specs.Scopes.{Cleared}
 use Rattle.withdrawal.proofs.AbandoningLaws.{visit-start, visit-none, visit-due, visit-climb, visit-end}
 use Rattle.withdrawal.proofs.abandoning.left_open.Statement.{statement}

@@ -4,7 +4,7 @@ use Prim.Native.Nat.{_≤_, _-_}
 use native.Mathlib.Omega.{arith}
 use borrow.Author.Needs.{needs}
 use Rattle.rules.specs.Plan.{planOf}
-use Rattle.lookup.specs.Checked.{ledgerOf}
+use Rattle.ledger.specs.Ladder.{ledgerOf}
 use Rattle.withdrawal.specs.Scopes.{Counted}
 use Rattle.withdrawal.proofs.Counted.{count-start}
 use Rattle.withdrawal.proofs.abandoning.open_scopes.Statement.{statement}

@@ -9,7 +9,7 @@ use Rattle.rules.specs.Ledger.{isForward, written}
 use Rattle.rules.specs.Signal.{turned}
 use Rattle.rules.proofs.Passes.{upTo}
 use Rattle.rules.proofs.Folds.{count-most}
-use Rattle.lookup.specs.Checked.{ledgerOf}
+use Rattle.ledger.specs.Ladder.{ledgerOf}
 use Rattle.withdrawal.proofs.TrackVisits.{one-most, turn-count, turning-start, turning-orderly, turning-length, turning-old, turning-more, turning-end}
 use Rattle.withdrawal.proofs.signal.turn_all.Statement.{statement}
 use Rattle.withdrawal.proofs.signal.turn_all.Tie as tie
