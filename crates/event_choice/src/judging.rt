@@ -63,24 +63,6 @@ fn one_where(test: bool) -> u16
     if test { 1 } else { 0 }
 }
 
-fn both(a: bool, b: bool) -> bool
-    ensures { λ r. ⌜ r ≡ (a && b) ⌝ }
-{
-    if a {
-        return b;
-    }
-    false
-}
-
-fn either(a: bool, b: bool) -> bool
-    ensures { λ r. ⌜ r ≡ (a || b) ⌝ }
-{
-    if a {
-        return true;
-    }
-    b
-}
-
 // Whether a transition leads to a final state.
 fn is_last(plan: &[u8], c: Counts, x: u16) -> bool
     requires { ⌜ Accepts (now plan) c × (x < c .transitions) ⌝ }
@@ -123,8 +105,8 @@ pub fn moves(plan: &[u8], c: Counts, ledger: &[u16], taken: &[u16; 32]) -> Surve
         let x = taken[t];
         if x != NO_STATE {
             n += 1;
-            ends = either(ends, is_last(plan, c, x));
-            full = either(full, overfills(plan, c, ledger, x, t));
+            ends = ends | is_last(plan, c, x);
+            full = full | overfills(plan, c, ledger, x, t);
         }
         t += 1;
     }
@@ -164,8 +146,8 @@ pub fn judge(
         let x = taken[t];
         let closes = closing[t];
         closed += one_where(closes);
-        finishing = both(finishing, root_ends(plan, c, k, x, t));
-        full = either(full, is_full(plan, c, k, x, closes));
+        finishing = finishing & root_ends(plan, c, k, x, t);
+        full = full | is_full(plan, c, k, x, closes);
         t += 1;
     }
     Verdict {

@@ -16,11 +16,11 @@ ghost use Rattle.event_choice.specs.Chosen.{Chosen};
 ghost use Rattle.event_step.specs.Outcome.{goingOutcome};
 
 // The first state of each track, where some track moves.
-fn firsts_where(plan: &[u8], c: Counts, movers: u16) -> [u16; 32]
+fn firsts_where(plan: &[u8], c: Counts, moved: u16) -> [u16; 32]
     requires { ⌜ Accepts (now plan) c ⌝ }
-    ensures { λ r. ⌜ ((movers ≡ 0 → ⊥) → Figures 0 r (c .tracks) (firstState (planOf (now (plan .entry)) c))) ⌝ }
+    ensures { λ r. ⌜ ((moved ≡ 0 → ⊥) → Figures 0 r (c .tracks) (firstState (planOf (now (plan .entry)) c))) ⌝ }
 {
-    if movers == 0 {
+    if moved == 0 {
         return [0; 32];
     }
     firsts::first_states(plan, c)

@@ -39,24 +39,24 @@ root-ends-requires c κs =
 is-full-requires : tie.Need-is-full-requires Inv-loop μ-loop
 unfolding noState
 is-full-requires c κs =
-    let a = c .before .before .before .before .before .before .before .before .before .before .pre in
-    let b = c .before .before .before .before .before .before .loop-test .taken in
-    (a .0 .checked .lent .accepts, state-low _ _ _ _ (a .0) b (c .before .before .before .before .before .track .ensures), a .1 .low _ b)
+    let a = c .before .before .before .before .before .before .before .before .before .pre in
+    let b = c .before .before .before .before .before .loop-test .taken in
+    (a .0 .checked .lent .accepts, state-low _ _ _ _ (a .0) b (c .before .before .before .before .track .ensures), a .1 .low _ b)
 
 loop-again : tie.Need-loop-again Inv-loop μ-loop
 loop-again c =
-    let a = c .before .before .before .before .before .before .before .before .before .before .before .before in
+    let a = c .before .before .before .before .before .before .before .before .before .before in
     let p = planOf (now (a .args .plan)) (a .args .c) in
     let l = ledgerOf (a .args .c) (now (a .args .ledger)) in
-    let inv = c .before .before .before .before .before .before .before .before .before .loop .inv in
-    let b = c .before .before .before .before .before .before .before .before .loop-test .taken in
-    let k = c .before .before .before .before .before .before .before .track .ensures in
+    let inv = c .before .before .before .before .before .before .before .loop .inv in
+    let b = c .before .before .before .before .before .before .loop-test .taken in
+    let k = c .before .before .before .before .before .track .ensures in
     let m = a .pre .2 .at _ b in (
       omega arith,
-      omega (arith, inv .1, c .before .before .before .before .one-where .ensures .1),
-      one-more (closesNext p l _) _ _ _ (inv .2) (c .before .before .before .before .one-where .ensures .0 ∙ ap (λ x. cond x 1 0) m),
-      finishes-more p l _ _ _ b k (inv .3) (c .before .before .before .root-ends .ensures) (c .before .before .both .ensures),
-      full-more p l _ _ _ b k (inv .4) m (c .before .is-full .ensures) (c .either .ensures),
+      omega (arith, inv .1, c .before .before .one-where .ensures .1),
+      one-more (closesNext p l _) _ _ _ (inv .2) (c .before .before .one-where .ensures .0 ∙ ap (λ x. cond x 1 0) m),
+      finishes-more p l _ _ _ b k (inv .3) (c .before .root-ends .ensures) refl,
+      full-more p l _ _ _ b k (inv .4) m (c .is-full .ensures) refl,
     )
 
 returns : tie.Need-returns Inv-loop μ-loop
@@ -74,5 +74,5 @@ pub judge-spec : {M : Type 1} → statement M
 judge-spec =
     tie.close
     (tie.spec Inv-loop μ-loop loop-holds (λ c κs. search needs) (λ c. search needs) (λ c. search needs) (λ c. search needs) (λ c κs. search needs)
-    (λ c. search needs) root-ends-requires (λ c κs. search needs) is-full-requires (λ c κs. search needs) (λ c. search needs) (λ c. search needs)
+    (λ c. search needs) root-ends-requires is-full-requires (λ c. search needs) (λ c. search needs)
     loop-again returns)

@@ -38,7 +38,10 @@ is-last-requires c κs = let a = c .before .before .before .before .before .befo
 
 overfills-requires : tie.Need-overfills-requires Inv-loop μ-loop
 unfolding noState
-overfills-requires c κs = let a = c .before .before .before .before .before .before .before .before .pre in (a .0, c .before .before .before .before .loop-test .taken, a .1 .low _ (c .before .before .before .before .loop-test .taken) (c .before .before .if1 .taken))
+overfills-requires c κs =
+    let a = c .before .before .before .before .before .before .before .pre in
+    let b = c .before .before .before .loop-test .taken in
+    (a .0, b, a .1 .low _ b (c .before .if1 .taken))
 
 loop-again : tie.Need-loop-again Inv-loop μ-loop
 unfolding noState
@@ -47,10 +50,10 @@ loop-again c =
     elim (c .if1 .came) [
       | inl w ↦ (
         omega arith,
-        omega (arith, inv .1, w .5),
-        w .5 ∙ one-more _ _ _ 1 (inv .2) (rw (ne-eqb _ noState (w .0 .taken))),
-        w .6 ∙ some-or-more _ (inv .3) (w .1 .ensures ∙ ap (isLast _) (sym (word-some (w .0 .taken)))) (w .2 .ensures),
-        w .7 ∙ some-or-more _ (inv .4) (w .3 .ensures ∙ fills-some _ _ (w .0 .taken)) (w .4 .ensures),
+        omega (arith, inv .1, w .3),
+        w .3 ∙ one-more _ _ _ 1 (inv .2) (rw (ne-eqb _ noState (w .0 .taken))),
+        w .4 ∙ some-or-more _ (inv .3) (w .1 .ensures ∙ ap (isLast _) (sym (word-some (w .0 .taken)))) refl,
+        w .5 ∙ some-or-more _ (inv .4) (w .2 .ensures ∙ fills-some _ _ (w .0 .taken)) refl,
       )
       | inr w ↦ (
         omega arith,
@@ -70,4 +73,4 @@ returns c =
 pub moves-spec : {M : Type 1} → statement M
 moves-spec =
     tie.close
-    (tie.spec Inv-loop μ-loop loop-holds (λ c. search needs) (λ c. search needs) (λ c. search needs) is-last-requires (λ c κs. search needs) overfills-requires (λ c κs. search needs) (λ c. search needs) (λ c. search needs) loop-again returns)
+    (tie.spec Inv-loop μ-loop loop-holds (λ c. search needs) (λ c. search needs) (λ c. search needs) is-last-requires overfills-requires (λ c. search needs) (λ c. search needs) loop-again returns)
