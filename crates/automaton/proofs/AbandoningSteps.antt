@@ -12,7 +12,7 @@ use Rattle.rules.specs.Plan.{Plan, trackCount, host, owner, isHostedBy, everyIn
 use Rattle.rules.specs.Ledger.{Configuration, Ledger, isAwake, isForward, isUndoing, isEmpty}
 use Rattle.rules.specs.Scope.{isOpen, hasOpenScope}
 use Rattle.rules.specs.Signal.{isSpent, isLeft, isAbandoned, abandoned}
-use Rattle.rules.proofs.Tests.{look, clash, none-some, refuted, and-true, and-both, or-right}
+use Rattle.rules.proofs.Tests.{look, clash, none-some, refuted, and-holds, and-both, or-right}
 use Rattle.rules.proofs.Acceptance.{Accepted}
 use Rattle.rules.proofs.Scopes.{in-host, host-in, host-by, by-host, every-in-at, every-in-of, open-find, busy-find}
 use Rattle.rules.proofs.Abandoning.{spent-parts, abandoned-host, left-kept}
@@ -45,7 +45,7 @@ module _ (p : Plan) (ρ : FailReading) (ok : Accepted p) (l : Ledger) (n : Neste
 
   leaves-parts : (t : ℕ) → leavesScope p l t ≡ true → Awake l t × (isLeft p l (l t .state) ≡ true)
   unfolding leavesScope
-  leaves-parts t h = and-true (isAwake (l t .mode)) (isLeft p l (l t .state)) h
+  leaves-parts t h = and-holds (isAwake (l t .mode)) (isLeft p l (l t .state)) h
 
   leaves-of : (t : ℕ) → Awake l t → isLeft p l (l t .state) ≡ true → leavesScope p l t ≡ true
   unfolding leavesScope
@@ -54,7 +54,7 @@ module _ (p : Plan) (ρ : FailReading) (ok : Accepted p) (l : Ledger) (n : Neste
   left-parts : (s : ℕ) → isLeft p l s ≡ true → (isOpen p l s ≡ true) × ((u : ℕ) → host p u ≡ some s → isSpent p l u ≡ true)
   unfolding isLeft
   left-parts s h =
-      let (o, q) = and-true (isOpen p l s) (everyIn p s (isSpent p l)) h in
+      let (o, q) = and-holds (isOpen p l s) (everyIn p s (isSpent p l)) h in
       (o, λ u e. every-in-at p s (isSpent p l) q u (ok .hosted u s e) (host-in p s u e))
 
   left-of : (s : ℕ) → isOpen p l s ≡ true → ((u : ℕ) → host p u ≡ some s → isSpent p l u ≡ true) → isLeft p l s ≡ true

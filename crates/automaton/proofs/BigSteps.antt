@@ -15,7 +15,7 @@ use Rattle.rules.specs.Event.{moves, moved, closesScope, closed, afterEvent}
 use Rattle.rules.specs.Signal.{turned, abandoned, afterSignal}
 use Rattle.rules.specs.Fire.{newest, fired, afterFire}
 use Rattle.rules.specs.Call.{SignalArguments, FireArguments, nothing, Call, event, signal, fire, callRefusal, after}
-use Rattle.rules.proofs.Tests.{look, clash, refuted, and-true, and-both, or-true, or-right}
+use Rattle.rules.proofs.Tests.{look, clash, refuted, and-holds, and-both, or-holds, or-right}
 use Rattle.rules.proofs.Acceptance.{Accepted}
 use Rattle.rules.proofs.Closing.{closed-done}
 use Rattle.theory.proofs.Nesting.{Nested}
@@ -66,7 +66,7 @@ module _ (f : ℕ → Bool) where
       go : (x : Bool) → f i ≡ x → has (cond x (i ∷ listedFrom n (suc i) f (λ t. t)) (listedFrom n (suc i) f (λ t. t))) A ≡ true
           → (has (listedFrom n (suc i) f (λ t. t)) A ≡ true → (i ≤ A) × (f A ≡ true)) → (i ≤ A) × (f A ≡ true)
       go true e r ih =
-          elim (or-true (eqb i A) (has (listedFrom n (suc i) f (λ t. t)) A) r) [
+          elim (or-holds (eqb i A) (has (listedFrom n (suc i) f (λ t. t)) A) r) [
             | inl q ↦ let z = eqb-true i A q in (omega arith, subst (λ w. f w ≡ true) z e)
             | inr q ↦ ih q
           ]
@@ -107,7 +107,7 @@ every-join : {A : Type 0} (test : A → Bool) (v w : List A) → everyOf test v 
 unfolding everyOf
 every-join test [] w h k = k
 every-join test (x ∷ v) w h k =
-    let (a, b) = and-true (test x) (everyOf test v) h in and-both (test x) (everyOf test (v ++ w)) a (every-join test v w b k)
+    let (a, b) = and-holds (test x) (everyOf test v) h in and-both (test x) (everyOf test (v ++ w)) a (every-join test v w b k)
 
 leave-silent : (ρ : FailReading) (k : ℕ) → isSilent (leaveAt ρ k) ≡ true
 unfolding leaveAt isSilent isMute trace

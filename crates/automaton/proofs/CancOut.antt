@@ -5,7 +5,7 @@ use mathlib.Core.Bool.{false}
 use mathlib.Core.List.{List, [], _∷_, _++_, append-nil}
 use Prim.Native.Nat.{ℕ}
 use borrow.Author.Tests.{eq-eqb}
-use Rattle.rules.proofs.Tests.{or-false}
+use Rattle.rules.proofs.Tests.{or-fails}
 use Rattle.automaton.specs.SelfCancelling.{Symbol, activity, action, isPair, hasPair, leftAfter, leftOf, onto, cancOut}
 
 module _ (comp : ℕ → ℕ) where
@@ -45,7 +45,7 @@ module _ (comp : ℕ → ℕ) where
   unfolding leftOf onto leftAfter hasPair
   left-none [] x v h = refl
   left-none (y ∷ w) x v h =
-      let (a, b) = or-false (isPair comp x y) (hasPair comp (y ∷ w)) h in
+      let (a, b) = or-fails (isPair comp x y) (hasPair comp (y ∷ w)) h in
       rw a (left-none w y (x ∷ v) b)
 
   left-whole : (w : List Symbol) → hasPair comp w ≡ false → leftOf comp [] w ≡ onto w []

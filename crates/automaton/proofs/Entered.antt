@@ -15,7 +15,7 @@ use Rattle.rules.specs.Plan.{Plan, trackCount, host, owner, isRoot, isStateOf, 
 use Rattle.rules.specs.Ledger.{Entry, Configuration, Ledger, isAwake, isForward, sleeping}
 use Rattle.rules.specs.Scope.{hasOpenScope}
 use Rattle.rules.specs.Opening.{fresh, wakes, enter, rootsFirst, begun}
-use Rattle.rules.proofs.Tests.{look, look-option, clash, refuted, and-true, and-both}
+use Rattle.rules.proofs.Tests.{look, look-option, clash, refuted, and-holds, and-both}
 use Rattle.rules.proofs.Folds.{some-same}
 use Rattle.rules.proofs.Acceptance.{Accepted}
 use Rattle.rules.proofs.Scopes.{in-host, host-in, by-host, host-by, root-none}
@@ -165,8 +165,8 @@ module _ (p : Plan) (ok : Accepted p) where
       ap Vect
       (listed-same (trackCount p) (isOnTop p (begun p)) (isRoot p) (viewOf p ρ (begun p)) (λ A. goto p A (firstState p A) [])
       (λ t b.
-      alike (isOnTop p (begun p) t) (isRoot p t) (λ h. and-true (isRoot p t) (isAwake (begun p t .mode)) h .0)
+      alike (isOnTop p (begun p) t) (isRoot p t) (λ h. and-holds (isRoot p t) (isAwake (begun p t .mode)) h .0)
       (λ r. and-both (isRoot p t) (isAwake (begun p t .mode)) r (ap (λ (c : Configuration). isAwake (c .mode)) (begun-root p ok t b (root-none p t r)) ∙ fresh-awake p t)))
       (λ t b h.
-      let e = root-none p t (and-true (isRoot p t) (isAwake (begun p t .mode)) h .0) in
+      let e = root-none p t (and-holds (isRoot p t) (isAwake (begun p t .mode)) h .0) in
       (unfold begun stackOf in goes (all-asleep 0 p ok) (asleep-formed 0 p ok .nested) (rootsFirst p) (roots-free 0 p ok) ρ t b .enters (firstState p t) (roots-to p ok t b e))))

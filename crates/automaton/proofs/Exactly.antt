@@ -17,7 +17,7 @@ use Rattle.rules.specs.Ledger.{Ledger}
 use Rattle.rules.specs.Event.{moves, moved, closesScope, closings}
 use Rattle.rules.specs.Fire.{newest, fired}
 use Rattle.rules.specs.Call.{EventArguments, SignalArguments, FireArguments, Call, event, signal, fire, callRefusal, figures}
-use Rattle.rules.proofs.Tests.{look, clash, and-true, or-right}
+use Rattle.rules.proofs.Tests.{look, clash, and-holds, or-right}
 use Rattle.rules.proofs.Folds.{count-same}
 use Rattle.rules.proofs.Acceptance.{Accepted}
 use Rattle.theory.proofs.Nesting.{Nested}
@@ -70,7 +70,7 @@ once-length : (n : ℕ) (order : List ℕ) → isOnceEach order ≡ true → ((A
 unfolding has isOnceEach
 once-length n [] o b = count-nothing n
 once-length n (B ∷ order) o b =
-    let (x, y) = and-true (not (has order B)) (isOnceEach order) o in
+    let (x, y) = and-holds (not (has order B)) (isOnceEach order) o in
     count-one-more n (has order) B (b B (ap (λ z. z || has order B) (eq-eqb B B refl))) (not-true (has order B) x)
     ∙ ap suc (once-length n order y (λ A h. b A (or-right (eqb B A) (has order A) h)))
 

@@ -10,7 +10,7 @@ use Rattle.rules.specs.Plan.{Plan, trackCount}
 use Rattle.rules.specs.Ledger.{Ledger}
 use Rattle.rules.specs.Signal.{turnings}
 use Rattle.rules.specs.Call.{SignalArguments, signal, figures}
-use Rattle.rules.proofs.Tests.{clash, and-true}
+use Rattle.rules.proofs.Tests.{clash, and-holds}
 use Rattle.rules.proofs.Acceptance.{Accepted}
 use Rattle.theory.proofs.Nesting.{Nested}
 use Rattle.automaton.specs.Listing.{everyOf}

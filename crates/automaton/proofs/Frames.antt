@@ -11,7 +11,7 @@ use borrow.Author.Tests.{ltb-true, ltb-false}
 use Rattle.rules.specs.Plan.{Plan, trackCount, host, owner, isRoot, isHostedBy, isAbove}
 use Rattle.rules.specs.Ledger.{Ledger, isAwake, isForward}
 use Rattle.rules.specs.Scope.{hasOpenScope}
-use Rattle.rules.proofs.Tests.{look, look-option, none-some, and-true, and-both, strong}
+use Rattle.rules.proofs.Tests.{look, look-option, none-some, and-holds, and-both, strong}
 use Rattle.rules.proofs.Folds.{some-same}
 use Rattle.rules.proofs.Acceptance.{Accepted}
 use Rattle.rules.proofs.Scopes.{by-host, host-by, root-of, root-none}
@@ -89,7 +89,7 @@ module _ (p : Plan) (l : Ledger) where
   -- within a track's open scope
   pub within-parts : (t u : ℕ) → isWithin p l t u ≡ true → (isHostedBy p t u ≡ true) × Awake l u
   unfolding isWithin
-  within-parts t u h = and-true (isHostedBy p t u) (isAwake (l u .mode)) h
+  within-parts t u h = and-holds (isHostedBy p t u) (isAwake (l u .mode)) h
 
   pub within-of : (t u : ℕ) → isHostedBy p t u ≡ true → Awake l u → isWithin p l t u ≡ true
   unfolding isWithin
@@ -97,7 +97,7 @@ module _ (p : Plan) (l : Ledger) where
 
   pub top-parts : (t : ℕ) → isOnTop p l t ≡ true → (host p t ≡ none) × Awake l t
   unfolding isOnTop
-  top-parts t h = let (r, a) = and-true (isRoot p t) (isAwake (l t .mode)) h in (root-none p t r, a)
+  top-parts t h = let (r, a) = and-holds (isRoot p t) (isAwake (l t .mode)) h in (root-none p t r, a)
 
   pub top-of : (t : ℕ) → host p t ≡ none → Awake l t → isOnTop p l t ≡ true
   unfolding isOnTop

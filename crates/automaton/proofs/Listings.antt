@@ -13,7 +13,7 @@ use borrow.Author.Tests.{eqb-true, eqb-false}
 use Rattle.rules.specs.Fold.{countBelow}
 use Rattle.rules.specs.Plan.{Plan}
 use Rattle.rules.proofs.Folds.{count-same}
-use Rattle.rules.proofs.Tests.{look, clash, and-true, and-both, or-true, or-right}
+use Rattle.rules.proofs.Tests.{look, clash, and-holds, and-both, or-holds, or-right}
 use Rattle.automaton.specs.Listing.{listedFrom, listed, listedDown, someOf, everyOf}
 use Rattle.automaton.specs.Configuration.{NConf, Conf, Vect}
 use Rattle.automaton.specs.Semantics.{FailReading, Act, Step, VStep, VECT, Run, stop, step}
@@ -74,7 +74,7 @@ module _ {A : Type 0} where
         go : (x : Bool) → f i ≡ x → everyOf test (cond x (g i ∷ listedFrom n (suc i) f g) (listedFrom n (suc i) f g)) ≡ true
             → (everyOf test (listedFrom n (suc i) f g) ≡ true → suc i ≤ k → test (g k) ≡ true) → test (g k) ≡ true
         go true e r ih =
-            let (s, t) = and-true (test (g i)) (everyOf test (listedFrom n (suc i) f g)) r in
+            let (s, t) = and-holds (test (g i)) (everyOf test (listedFrom n (suc i) f g)) r in
             elim (look (eqb i k)) [
               | inl q ↦ subst (λ z. test (g z) ≡ true) (eqb-true i k q) s
               | inr q ↦ let d = eqb-false i k q in ih t (omega arith)
@@ -113,7 +113,7 @@ module _ {A : Type 0} where
             → (someOf test (listedFrom n (suc i) f g) ≡ true → (k : ℕ) × (k < i + suc n) × (f k ≡ true) × (test (g k) ≡ true))
             → (k : ℕ) × (k < i + suc n) × (f k ≡ true) × (test (g k) ≡ true)
         go true e r ih =
-            elim (or-true (test (g i)) (someOf test (listedFrom n (suc i) f g)) r) [ inl q ↦ (i, omega arith, e, q) | inr q ↦ ih q ]
+            elim (or-holds (test (g i)) (someOf test (listedFrom n (suc i) f g)) r) [ inl q ↦ (i, omega arith, e, q) | inr q ↦ ih q ]
         go false e r ih = ih r
 
     pub listed-every : (n : ℕ) (f : ℕ → Bool) (g : ℕ → A) → ((k : ℕ) → k < n → f k ≡ true → test (g k) ≡ true) → everyOf test (listed n f g) ≡ true

@@ -13,7 +13,7 @@ use borrow.Author.Tests.{eqb-true, eqb-false, eq-eqb, ne-eqb, not-true}
 use Rattle.rules.specs.Plan.{Plan, trackCount, transitionCount, transition, optional, mover, isStateOf, isIn, isHostedBy, isHosting, isAbove, firstState, transitionFor}
 use Rattle.rules.specs.Ledger.{Ledger}
 use Rattle.rules.specs.Scope.{hasOpenScope}
-use Rattle.rules.proofs.Tests.{look, look-option, clash, refuted, and-true, and-both, or-right}
+use Rattle.rules.proofs.Tests.{look, look-option, clash, refuted, and-holds, and-both, or-right}
 use Rattle.rules.proofs.Folds.{first-none, some-at}
 use Rattle.rules.proofs.Acceptance.{Accepted, transition-for}
 use Rattle.rules.proofs.Scopes.{in-host, host-by}
@@ -349,7 +349,7 @@ module _ (p : Plan) (ρ : FailReading) (ok : Accepted p) where
   suc-run i {c} (step {d = d} {a = a} {w = w} s r) (A ∷ order) e o one apart =
       let ea : a ≡ sucAt A i = cc in
       let ew : w ≡ sucs i order = cc in
-      let (x, y) = and-true (not (has order A)) (isOnceEach order) o in
+      let (x, y) = and-holds (not (has order A)) (isOnceEach order) o in
       let here : (eqb A A || has order A) ≡ true = rw (eq-eqb A A refl) in
       let later : (B : ℕ) → has order B ≡ true → (eqb A B || has order B) ≡ true = λ B h. or-right (eqb A B) (has order B) h in
       let u =

@@ -18,7 +18,7 @@ use Rattle.rules.specs.Soundness.{everyHeld}
 use Rattle.rules.specs.Call.{Call, event, signal, fire, callRefusal, next}
 use Rattle.rules.specs.FinishedRun.{Reached}
 use Rattle.rules.specs.FinishedRun as run
-use Rattle.rules.proofs.Tests.{look, look-option, clash, and-true, and-both}
+use Rattle.rules.proofs.Tests.{look, look-option, clash, and-holds, and-both}
 use Rattle.rules.proofs.Acceptance.{Accepted}
 use Rattle.rules.proofs.Closing.{closed-asleep, closed-replaced, closed-kept}
 use Rattle.rules.proofs.Abandoning.{left-asleep, left-kept}
@@ -45,7 +45,7 @@ module _ (p : Plan) where
   older-own : (t : ℕ) (es : List Entry) → own t es ≡ true → own t (older es) ≡ true
   unfolding own everyHeld older
   older-own t [] h = h
-  older-own t (e ∷ es) h = and-true (isCodeOf p t (e .code)) (everyHeld (λ e. isCodeOf p t (e .code)) es) h .1
+  older-own t (e ∷ es) h = and-holds (isCodeOf p t (e .code)) (everyHeld (λ e. isCodeOf p t (e .code)) es) h .1
 
   install-own : (t c d : ℕ) (es : List Entry) → (eqb c 0 ≡ false → isCodeOf p t c ≡ true) → own t es ≡ true → own t (install c d es) ≡ true
   unfolding own everyHeld install
@@ -59,7 +59,7 @@ module _ (p : Plan) where
   pub newest-own : (t : ℕ) (es : List Entry) → everyHeld (λ e. isCodeOf p t (e .code)) es ≡ true → isEmpty es ≡ false → isCodeOf p t (newest es .code) ≡ true
   unfolding everyHeld newest isEmpty
   newest-own t [] h e = clash refl e
-  newest-own t (x ∷ es) h e = and-true (isCodeOf p t (x .code)) (everyHeld (λ e. isCodeOf p t (e .code)) es) h .0
+  newest-own t (x ∷ es) h e = and-holds (isCodeOf p t (x .code)) (everyHeld (λ e. isCodeOf p t (e .code)) es) h .0
 
   module _ (ok : Accepted p) where
     enter-own : (l : Ledger) (to : ℕ → Option ℕ) → ((t : ℕ) → own t (l t .held) ≡ true) → (t : ℕ) → own t (enter p to l t .held) ≡ true

@@ -12,7 +12,7 @@ use Rattle.rules.specs.Ledger.{Entry, Ledger}
 use Rattle.rules.specs.Scope.{hasOpenScope}
 use Rattle.rules.specs.Event.{isClosing}
 use Rattle.rules.specs.Signal.{isAbandoning}
-use Rattle.rules.proofs.Tests.{look, clash, and-true}
+use Rattle.rules.proofs.Tests.{look, clash, and-holds}
 use Rattle.rules.proofs.Acceptance.{Accepted}
 use Rattle.rules.proofs.Abandoning.{hosts-higher}
 use Rattle.theory.proofs.Nesting.{Awake, Nested, state-of}
@@ -47,8 +47,8 @@ module _ (p : Plan) (ρ : FailReading) where
 
   member-calm : (α β : List NConf) (n : NConf) → calms (Vect (α ++ (n ∷ β))) ≡ true → calm n ≡ true
   unfolding calms Vect
-  member-calm [] β n h = and-true (calm n) (calms (Vect β)) h .0
-  member-calm (x ∷ α) β n h = member-calm α β n (and-true (calm x) (calms (Vect (α ++ (n ∷ β)))) h .1)
+  member-calm [] β n h = and-holds (calm n) (calms (Vect β)) h .0
+  member-calm (x ∷ α) β n h = member-calm α β n (and-holds (calm x) (calms (Vect (α ++ (n ∷ β)))) h .1)
 
   record Waits (c : Conf) : Type 0 where
     unterminated : hasTerminated p c ≡ false
@@ -58,8 +58,8 @@ module _ (p : Plan) (ρ : FailReading) where
   calm-nest : (A q : ℕ) (r : Direction) (S : Stack) (c : Conf) → calm (Nest A q r S c) ≡ true → Waits c
   unfolding calm
   calm-nest A q r S c h =
-      let (x, d) = and-true (not (hasTerminated p c) && not (hasCompensated p c)) (calms c) h in
-      let (t, u) = and-true (not (hasTerminated p c)) (not (hasCompensated p c)) x in
+      let (x, d) = and-holds (not (hasTerminated p c) && not (hasCompensated p c)) (calms c) h in
+      let (t, u) = and-holds (not (hasTerminated p c)) (not (hasCompensated p c)) x in
       record { unterminated = not-true (hasTerminated p c) t; uncompensated = not-true (hasCompensated p c) u; inner = d }
 
   neither : (a b : Bool) → a ≡ false → b ≡ false → (a || b) ≡ false

@@ -7,7 +7,7 @@ use mathlib.Core.List.{List, [], _∷_, _++_}
 use Prim.Native.Nat.{ℕ, zero, suc, _+_}
 use native.Mathlib.Omega.{arith}
 use Rattle.rules.specs.Plan.{Plan, trackCount, isFinal, isIn, isHosting, firstState}
-use Rattle.rules.proofs.Tests.{look, clash, refuted, and-true, or-true}
+use Rattle.rules.proofs.Tests.{look, clash, refuted, and-holds, or-holds}
 use Rattle.rules.proofs.Acceptance.{Accepted}
 use Rattle.automaton.specs.Listing.{listedFrom, listed, someOf, everyOf}
 use Rattle.automaton.specs.Configuration.{Direction, forward, backward, Comp, Dev, Stack, NConf, Basic, Nest, Conf, end, next, Vect, members, isForwards, isBackwards, isEmptyStack, isTerminated, isCompensated, hasTerminated, hasCompensated, initBy, gotoTo, goto}
@@ -74,13 +74,13 @@ module _ (p : Plan) (ρ : FailReading) (f : Act → Bool) where
   unfolding settlingOfAll members everyOf
   every-none end h = refl
   every-none (next n c) h =
-      let (x, y) = and-true (isTerminated p n || isCompensated p n) (everyOf (λ n. isTerminated p n || isCompensated p n) (members c)) h in
+      let (x, y) = and-holds (isTerminated p n || isCompensated p n) (everyOf (λ n. isTerminated p n || isCompensated p n) (members c)) h in
       both-none (settlingOf n) (settlingOfAll c) (over-none n x) (every-none c y)
 
   terminated-none : (c : Conf) → hasTerminated p c ≡ true → settlingOfAll c ≡ 0
   unfolding hasTerminated
   terminated-none c h =
-      every-none c (and-true (someOf (isTerminated p) (members c)) (everyOf (λ n. isTerminated p n || isCompensated p n) (members c)) h .1)
+      every-none c (and-holds (someOf (isTerminated p) (members c)) (everyOf (λ n. isTerminated p n || isCompensated p n) (members c)) h .1)
 
   compensated-none : (c : Conf) → hasCompensated p c ≡ true → settlingOfAll c ≡ 0
   unfolding hasCompensated
@@ -164,7 +164,7 @@ module _ (p : Plan) (ρ : FailReading) (f : Act → Bool) where
         leaves A S c t = unfold hostSteps in ap (hostSteps A forward S) (compensated-still p ρ c t) ∙ rw (not-both p ρ c t, t)
 
         finished-none : (c : Conf) → (hasTerminated p c || hasCompensated p c) ≡ true → settlingOfAll c ≡ 0
-        finished-none c t = elim (or-true (hasTerminated p c) (hasCompensated p c) t) [ inl x ↦ terminated-none c x | inr x ↦ compensated-none c x ]
+        finished-none c t = elim (or-holds (hasTerminated p c) (hasCompensated p c) t) [ inl x ↦ terminated-none c x | inr x ↦ compensated-none c x ]
 
   -- where no silent rule applies
   mutual

@@ -11,7 +11,7 @@ use native.Mathlib.Omega.{arith}
 use lib.Dec.{eqb}
 use borrow.Author.Tests.{eq-eqb, ne-eqb}
 use Rattle.rules.specs.Plan.{Plan, trackCount, transition, optional, replacement, isStateOf, isIn, isHostedBy, isHosting, isAbove, firstState}
-use Rattle.rules.proofs.Tests.{look, none-some, and-true, and-both}
+use Rattle.rules.proofs.Tests.{look, none-some, and-holds, and-both}
 use Rattle.rules.proofs.Acceptance.{Accepted}
 use Rattle.rules.proofs.Forest.{Reaches, above-lower}
 use Rattle.rules.proofs.Scopes.{in-host, host-by}
@@ -79,18 +79,18 @@ module _ (p : Plan) where
   member-tidy : (A : ℕ) (α β : List NConf) (n : NConf) → tidyAll (Vect (α ++ (n ∷ β))) A ≡ true → (isHostedBy p A (automatonOf n) ≡ true) × (tidy n ≡ true)
   unfolding tidyAll Vect
   member-tidy A [] β n h =
-      let (x, y) = and-true (isHostedBy p A (automatonOf n) && tidy n) (tidyAll (Vect β) A) h in
-      and-true (isHostedBy p A (automatonOf n)) (tidy n) x
+      let (x, y) = and-holds (isHostedBy p A (automatonOf n) && tidy n) (tidyAll (Vect β) A) h in
+      and-holds (isHostedBy p A (automatonOf n)) (tidy n) x
   member-tidy A (z ∷ α) β n h =
-      member-tidy A α β n (and-true (isHostedBy p A (automatonOf z) && tidy z) (tidyAll (Vect (α ++ (n ∷ β))) A) h .1)
+      member-tidy A α β n (and-holds (isHostedBy p A (automatonOf z) && tidy z) (tidyAll (Vect (α ++ (n ∷ β))) A) h .1)
 
   tidy-member : (A : ℕ) (α β : List NConf) (n m : NConf) → tidyAll (Vect (α ++ (n ∷ β))) A ≡ true → isHostedBy p A (automatonOf m) ≡ true → tidy m ≡ true
       → tidyAll (Vect (α ++ (m ∷ β))) A ≡ true
   unfolding tidyAll Vect
   tidy-member A [] β n m h i t =
-      let (x, y) = and-true (isHostedBy p A (automatonOf n) && tidy n) (tidyAll (Vect β) A) h in rw (i, t, y)
+      let (x, y) = and-holds (isHostedBy p A (automatonOf n) && tidy n) (tidyAll (Vect β) A) h in rw (i, t, y)
   tidy-member A (z ∷ α) β n m h i t =
-      let (x, y) = and-true (isHostedBy p A (automatonOf z) && tidy z) (tidyAll (Vect (α ++ (n ∷ β))) A) h in
+      let (x, y) = and-holds (isHostedBy p A (automatonOf z) && tidy z) (tidyAll (Vect (α ++ (n ∷ β))) A) h in
       and-both (isHostedBy p A (automatonOf z) && tidy z) (tidyAll (Vect (α ++ (m ∷ β))) A) x (tidy-member A α β n m y i t)
 
   own-push : (A c : ℕ) (d : Option ℕ) (S : Stack) → ((e : ℕ) → d ≡ some e → isStateOf p A e ≡ true) → ownDevs A S ≡ true → ownDevs A (push c d S) ≡ true
@@ -204,7 +204,7 @@ module _ (p : Plan) where
                 let c = transition p x .code in
                 let d = optional (transition p x .deviation) in
                 let t = transition p x .destination in
-                let (o, k) = and-true (isStateOf p A q) (ownDevs A S) h in
+                let (o, k) = and-holds (isStateOf p A q) (ownDevs A S) h in
                 let dev : (z : ℕ) → d ≡ some z → isStateOf p A z ≡ true = λ z k. subst (λ y. isStateOf p y z ≡ true) e (ok .deviation-own x z b k) in
                 record {
                   tidied = goto-tidy-own A t (push c d S) (subst (λ y. isStateOf p y t ≡ true) e (ok .destination-own x b)) (own-push A c d S dev k);
@@ -221,8 +221,8 @@ module _ (p : Plan) where
                 λ h. record { tidied = and-both (isStateOf p A q && ownDevs A S) true h refl; same = refl; reach = inl refl; keeps = λ z v r. comp-records A c S v r }
             | DEV A q d S ↦
                 λ h.
-                let (u, g) = and-true (isStateOf p A q) (isStateOf p A d && ownDevs A S) h in
-                let (o, k) = and-true (isStateOf p A d) (ownDevs A S) g in
+                let (u, g) = and-holds (isStateOf p A q) (isStateOf p A d && ownDevs A S) h in
+                let (o, k) = and-holds (isStateOf p A d) (ownDevs A S) g in
                 record {
                   tidied = goto-tidy-own A d S o k;
                   same = goto-automaton A d S;
@@ -231,7 +231,7 @@ module _ (p : Plan) where
                 }
             | NESTSUC A q S c t ↦
                 λ h.
-                let (u, k) = and-true (isStateOf p A q) (ownDevs A S) (and-true (isStateOf p A q && ownDevs A S) (tidyAll c A) h .0) in
+                let (u, k) = and-holds (isStateOf p A q) (ownDevs A S) (and-holds (isStateOf p A q && ownDevs A S) (tidyAll c A) h .0) in
                 record {
                   tidied = and-both (isStateOf p A q) (ownDevs A (push (replacement p q) none S)) u (own-push A (replacement p q) none S (λ e z. none-some refl z) k);
                   same = refl;
@@ -244,7 +244,7 @@ module _ (p : Plan) where
             | NESTFAIL A q S c t ↦
                 λ h.
                 record {
-                  tidied = and-true (isStateOf p A q && ownDevs A S) (tidyAll c A) h .0;
+                  tidied = and-holds (isStateOf p A q && ownDevs A S) (tidyAll c A) h .0;
                   same = refl;
                   reach = inl refl;
                   keeps = λ z v r. kept A (nestfailAt A) S v refl r;
@@ -252,14 +252,14 @@ module _ (p : Plan) where
             | NESTCOMP A q S c t ↦
                 λ h.
                 record {
-                  tidied = and-true (isStateOf p A q && ownDevs A S) (tidyAll c A) h .0;
+                  tidied = and-holds (isStateOf p A q && ownDevs A S) (tidyAll c A) h .0;
                   same = refl;
                   reach = inl refl;
                   keeps = λ z v r. kept A (nestcompAt A) S v refl r;
                 }
             | NEST A q r S {c = c} {d = d} {a = a} (s → ih) ↦
                 λ h.
-                let (o, k) = and-true (isStateOf p A q && ownDevs A S) (tidyAll c A) h in
+                let (o, k) = and-holds (isStateOf p A q && ownDevs A S) (tidyAll c A) h in
                 let (t, b) = ih A k in
                 record {
                   tidied = and-both (isStateOf p A q && ownDevs A S) (tidyAll d A) o t;

@@ -15,7 +15,7 @@ use Rattle.rules.specs.Call.{event}
 use Rattle.rules.specs.FinishedRun.{taken, movesBelow, movesOf, Running, by-begin, by-call, over-event, over-signal, over-fire, Finished}
 use Rattle.rules.specs.FinishedRun as run
 use Rattle.rules.specs.Books.{act, Apart, Deed, change, retraction, replacing, does, Books}
-use Rattle.rules.proofs.Tests.{look, look-option, clash, refuted, and-true, and-both}
+use Rattle.rules.proofs.Tests.{look, look-option, clash, refuted, and-holds, and-both}
 use Rattle.rules.proofs.Folds.{some-at, some-find}
 use Rattle.rules.proofs.Acceptance.{Accepted}
 use Rattle.rules.proofs.Forest.{inside-root}
@@ -40,7 +40,7 @@ module _ (p : Plan) where
   unfolding isCodeOf
   code-find t c h =
       let (x, b, q) = some-find (transitionCount p) (λ x. eqb (mover p x) t && eqb (transition p x .code) c) h in
-      let (u, v) = and-true (eqb (mover p x) t) (eqb (transition p x .code) c) q in
+      let (u, v) = and-holds (eqb (mover p x) t) (eqb (transition p x .code) c) q in
       (x, b, eqb-true (mover p x) t u, eqb-true (transition p x .code) c v)
 
   module _ (ok : Accepted p) (comp : ℕ → ℕ) (perfect : Perfect comp p) (tagged : Tagged p) (A : ℕ) (root : isRoot p A ≡ true) (limit : ℕ) where

@@ -15,7 +15,7 @@ use Rattle.rules.specs.Scope.{isOpen, hasOpenScope}
 use Rattle.rules.specs.Event.{isClosing}
 use Rattle.rules.specs.Signal.{isAbandoning}
 use Rattle.rules.specs.Signal as signal
-use Rattle.rules.proofs.Tests.{look, clash, refuted, and-true, and-both, or-true}
+use Rattle.rules.proofs.Tests.{look, clash, refuted, and-holds, and-both, or-holds}
 use Rattle.rules.proofs.Acceptance.{Accepted}
 use Rattle.rules.proofs.Scopes.{by-host, host-by, open-at, open-find, busy-find}
 use Rattle.rules.proofs.Closing.{closing-final}
@@ -92,7 +92,7 @@ module _ (p : Plan) where
     terminated-at h =
         let q : (someOf (isTerminated p) (listed (trackCount p) f g) && everyOf (λ n. isTerminated p n || isCompensated p n) (listed (trackCount p) f g)) ≡ true =
         ap (λ z. someOf (isTerminated p) z && everyOf (λ n. isTerminated p n || isCompensated p n) z) (sym (members-vect (listed (trackCount p) f g))) ∙ h in
-        let (x, y) = and-true (someOf (isTerminated p) (listed (trackCount p) f g)) (everyOf (λ n. isTerminated p n || isCompensated p n) (listed (trackCount p) f g)) q in
+        let (x, y) = and-holds (someOf (isTerminated p) (listed (trackCount p) f g)) (everyOf (λ n. isTerminated p n || isCompensated p n) (listed (trackCount p) f g)) q in
         (listed-some-find (isTerminated p) (trackCount p) f g x, listed-every-at (λ n. isTerminated p n || isCompensated p n) (trackCount p) f g y)
 
     pub compensated-of : ((u : ℕ) → u < trackCount p → f u ≡ true → isCompensated p (g u) ≡ true) → hasCompensated p v ≡ true
@@ -141,7 +141,7 @@ module _ (p : Plan) (ρ : FailReading) (ok : Accepted p) (l : Ledger) (n : Neste
         | inl b ↦
             ap (isTerminated p) (shown-busy p ρ l t (viewOf p ρ l) b) ∙ nested-terminated p ρ l t (scope t)
             ∙ sym (refuted (isForward (l t .mode) && isFinal p (l t .state))
-            (λ h. clash b (final-free p ok l n t (and-true (isForward (l t .mode)) (isFinal p (l t .state)) h .1))))
+            (λ h. clash b (final-free p ok l n t (and-holds (isForward (l t .mode)) (isFinal p (l t .state)) h .1))))
       ]
     where
       scope : ℕ → Conf
@@ -152,7 +152,7 @@ module _ (p : Plan) (ρ : FailReading) (ok : Accepted p) (l : Ledger) (n : Neste
   view-compensated t a =
       ap (isCompensated p) (view-law p ρ l ok t (n .below t a))
       ∙ elim (look (hasOpenScope p l t)) [
-        | inr b ↦ ap (isCompensated p) (shown-free p ρ l t (viewOf p ρ l) b) ∙ basic-compensated p l t a ∙ sym (rw b (bool.and-true (isUndoing (l t .mode) && isEmpty (l t .held))))
+        | inr b ↦ ap (isCompensated p) (shown-free p ρ l t (viewOf p ρ l) b) ∙ basic-compensated p l t a ∙ sym (rw b (bool.and-holds (isUndoing (l t .mode) && isEmpty (l t .held))))
         | inl b ↦
             ap (isCompensated p) (shown-busy p ρ l t (viewOf p ρ l) b) ∙ nested-compensated p ρ l t (scope t)
             ∙ sym (rw b (and-false (isUndoing (l t .mode) && isEmpty (l t .held))))
@@ -179,14 +179,14 @@ module _ (p : Plan) (ρ : FailReading) (ok : Accepted p) (l : Ledger) (n : Neste
         let (q, all) = terminated-at p (isWithin p l (owner p s)) (viewOf p ρ l) h in
         let (w, b, y, k) = q in
         let (e, a) = within-host p ok l n s open-s w y in
-        let fw = and-true (isForward (l w .mode)) (isFinal p (l w .state)) (sym (view-terminated w a) ∙ k) .0 in
+        let fw = and-holds (isForward (l w .mode)) (isFinal p (l w .state)) (sym (view-terminated w a) ∙ k) .0 in
         closing-of p l s open-s
         (λ u f.
         let y′ = host-within p ok l n s open-s u f in
         let a′ = within-host p ok l n s open-s u y′ .1 in
         let same : l u .mode ≡ l w .mode = sym (n .hosted u s a′ f .1) ∙ n .hosted w s a e .1 in
-        elim (or-true (isTerminated p (viewOf p ρ l u)) (isCompensated p (viewOf p ρ l u)) (all u (ok .hosted u s f) y′)) [
-          | inl g ↦ and-true (isForward (l u .mode)) (isFinal p (l u .state)) (sym (view-terminated u a′) ∙ g)
+        elim (or-holds (isTerminated p (viewOf p ρ l u)) (isCompensated p (viewOf p ρ l u)) (all u (ok .hosted u s f) y′)) [
+          | inl g ↦ and-holds (isForward (l u .mode)) (isFinal p (l u .state)) (sym (view-terminated u a′) ∙ g)
           | inr g ↦ clash (ap isForward same ∙ fw) (undoing-forward (l u .mode) (bare-parts p ok l u (sym (view-compensated u a′) ∙ g) .0))
         ]))
 

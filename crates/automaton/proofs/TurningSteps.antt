@@ -15,7 +15,7 @@ use Rattle.rules.specs.Ledger.{Ledger, isAwake, isForward}
 use Rattle.rules.specs.Scope.{hasOpenScope}
 use Rattle.rules.specs.Signal.{turned, afterSignal}
 use Rattle.rules.specs.Call.{nothing}
-use Rattle.rules.proofs.Tests.{look, clash, none-some, refuted, and-true}
+use Rattle.rules.proofs.Tests.{look, clash, none-some, refuted, and-holds}
 use Rattle.rules.proofs.Acceptance.{Accepted}
 use Rattle.rules.proofs.Abandoning.{hosts-higher}
 use Rattle.rules.proofs.Modes.{forward-awake}
@@ -35,7 +35,7 @@ use Rattle.automaton.proofs.AbandoningSteps.{abandoning-run}
 module _ (p : Plan) (l : Ledger) where
   pub going-forward : (ρ : FailReading) (t : ℕ) → isGoing p ρ l t ≡ true → isForward (l t .mode) ≡ true
   unfolding isGoing
-  going-forward basicAlone t h = and-true (isForward (l t .mode)) (not (hasOpenScope p l t)) h .0
+  going-forward basicAlone t h = and-holds (isForward (l t .mode)) (not (hasOpenScope p l t)) h .0
   going-forward nestedToo t h = h
 
   pub going-of : (ρ : FailReading) (t : ℕ) → isForward (l t .mode) ≡ true → hasOpenScope p l t ≡ false → isGoing p ρ l t ≡ true
@@ -46,7 +46,7 @@ module _ (p : Plan) (l : Ledger) where
   -- a host only where nested configurations are turned too
   going-host : (ρ : FailReading) (t : ℕ) → isGoing p ρ l t ≡ true → hasOpenScope p l t ≡ true → ρ ≡ nestedToo
   unfolding isGoing
-  going-host basicAlone t h b = clash b (not-true (hasOpenScope p l t) (and-true (isForward (l t .mode)) (not (hasOpenScope p l t)) h .1))
+  going-host basicAlone t h b = clash b (not-true (hasOpenScope p l t) (and-holds (isForward (l t .mode)) (not (hasOpenScope p l t)) h .1))
   going-host nestedToo t h b = refl
 
   still-facing : (ρ : FailReading) (t : ℕ) (m : Mode) → isGoing p ρ l t ≡ false → isForward m ≡ false → facing ρ (l t .mode) ≡ facing ρ m

@@ -12,7 +12,7 @@ use Rattle.rules.specs.Plan.{Plan, trackCount, stateCount, transition, isRoot, 
 use Rattle.rules.specs.Ledger.{Configuration, Ledger, isAwake, isForward}
 use Rattle.rules.specs.Opening.{fresh, wakes}
 use Rattle.rules.specs.Event.{destinationOf, hasCode, move, moved, isClosing, closesScope, closed, closings, isFinishing, isReplaced, isFull}
-use Rattle.rules.proofs.Tests.{look, look-option, clash, refuted, and-true}
+use Rattle.rules.proofs.Tests.{look, look-option, clash, refuted, and-holds}
 use Rattle.rules.proofs.Folds.{every-at, every-same, some-same}
 use Rattle.rules.proofs.Acceptance.{Accepted}
 use Rattle.rules.proofs.Closing.{closing-alike, closing-final, closed-steady}
@@ -68,7 +68,7 @@ module _ (p : Plan) (ok : Accepted p) (l : Ledger) (live : Live p l) (e : ℕ)
         | inl r ↦
             let f : (isForward (m t .mode) && isFinal p (m t .state)) ≡ true =
             rw r at (every-at (trackCount p) (λ t. not (isRoot p t) || (isForward (m t .mode) && isFinal p (m t .state))) k t b) in
-            ap (λ (c : Configuration). not (isRoot p t) || (isForward (c .mode) && isFinal p (c .state))) (kept t b (and-true (isForward (m t .mode)) _ f .1))
+            ap (λ (c : Configuration). not (isRoot p t) || (isForward (c .mode) && isFinal p (c .state))) (kept t b (and-holds (isForward (m t .mode)) _ f .1))
       ])
       ∙ live .finish)))
 

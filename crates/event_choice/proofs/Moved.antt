@@ -16,7 +16,7 @@ use Rattle.rules.specs.Scope.{isOpen, hasOpenScope}
 use Rattle.rules.specs.Opening.{fresh, wakes}
 use Rattle.rules.specs.Event.{install, installed, destinationOf, installedBy, hasCode, move, moved, isClosing, closesScope, closed, closings, isFinishing, isReplaced, isFull}
 use Rattle.rules.proofs.Modes.{forward-awake, forward-is}
-use Rattle.rules.proofs.Tests.{look, look-option, clash, none-some, refuted, and-true, and-both, implies, implied, strong, same-test}
+use Rattle.rules.proofs.Tests.{look, look-option, clash, none-some, refuted, and-holds, and-both, implies, implied, strong, same-test}
 use Rattle.rules.proofs.Folds.{every-at, every-of, every-same, some-same, count-same}
 use Rattle.rules.proofs.Counting.{count-pairs}
 use Rattle.rules.proofs.Acceptance.{Accepted, transition-for}
@@ -46,7 +46,7 @@ module _ (p : Plan) (ok : Accepted p) (l : Ledger) (live : Live p l) (event : �
   mover-facts t x h =
       elim (look (isForward (l t .mode) && not (hasOpenScope p l t))) [
         | inl g ↦
-            let (a, b) = and-true (isForward (l t .mode)) (not (hasOpenScope p l t)) g in
+            let (a, b) = and-holds (isForward (l t .mode)) (not (hasOpenScope p l t)) g in
             record { ahead = a; free = not-true _ b; taken = rw g at h }
         | inr g ↦ let q : none ≡ some x = rw g at h in none-some refl q
       ]
@@ -68,7 +68,7 @@ module _ (p : Plan) (ok : Accepted p) (l : Ledger) (live : Live p l) (event : �
           free-at p l (owner p h) t (mover-facts (owner p h) x q .free) (ok .hosted t h e) (host-by p t h e)
       at t h e ih w none q =
           let z : to (owner p h) ≡ none = rw (q, destinationOf) in
-          let (a, b) = and-true (wakes p to (owner p h)) (eqb h (firstState p (owner p h))) (sym (wakes-woken p ok to t h e z) ∙ w) in
+          let (a, b) = and-holds (wakes p to (owner p h)) (eqb h (firstState p (owner p h))) (sym (wakes-woken p ok to t h e z) ∙ w) in
           refuted (isAwake (l t .mode)) (λ c. clash (ap isAwake (live .up t h e c .1) ∙ c) (ih a))
 
   -- a track after the moves: it moved, it woke, or it is as it was
@@ -159,7 +159,7 @@ module _ (p : Plan) (ok : Accepted p) (l : Ledger) (live : Live p l) (event : �
           let k = eqb-true h (transition p x .destination) (sym (wakes-entered p ok to t h (transition p x .destination) e (rw (q, destinationOf))) ∙ w) in
           (ap (λ (c : Configuration). isAwake (c .mode)) r ∙ (unfold isAwake in refl), ap (λ (c : Configuration). c .state) r ∙ sym k)
       woken w none q =
-          let (a, k) = and-true (wakes p to (owner p h)) (eqb h (firstState p (owner p h))) (sym (wakes-woken p ok to t h e (rw (q, destinationOf))) ∙ w) in
+          let (a, k) = and-holds (wakes p to (owner p h)) (eqb h (firstState p (owner p h))) (sym (wakes-woken p ok to t h e (rw (q, destinationOf))) ∙ w) in
           let r = moved-woken (owner p h) q a in
           (ap (λ (c : Configuration). isAwake (c .mode)) r ∙ (unfold isAwake in refl), ap (λ (c : Configuration). c .state) r ∙ sym (eqb-true h (firstState p (owner p h)) k))
 
@@ -169,7 +169,7 @@ module _ (p : Plan) (ok : Accepted p) (l : Ledger) (live : Live p l) (event : �
     parts : (isOpen p m s ≡ true) × ((t : ℕ) → t < trackCount p → host p t ≡ some s → (isForward (m t .mode) && isFinal p (m t .state)) ≡ true)
     unfolding isClosing
     parts =
-        let (o, q) = and-true (isOpen p m s) _ c in
+        let (o, q) = and-holds (isOpen p m s) _ c in
         (o, λ t b e. every-in-at p s (λ t. isForward (m t .mode) && isFinal p (m t .state)) q t b (host-in p s t e))
 
     closing-host : (isAwake (m (owner p s) .mode) ≡ true) × (m (owner p s) .state ≡ s)
@@ -182,7 +182,7 @@ module _ (p : Plan) (ok : Accepted p) (l : Ledger) (live : Live p l) (event : �
           | inl o ↦ o
           | inr n ↦
               let (t, b, e, a) = open-find p m s (parts .0) in
-              let f = and-true (isForward (m t .mode)) (isFinal p (m t .state)) (parts .1 t b e) .1 in
+              let f = and-holds (isForward (m t .mode)) (isFinal p (m t .state)) (parts .1 t b e) .1 in
               elim (moved-sleeper t (shut-at p l s t n b e)) [
                 | inl z ↦ clash a z
                 | inr z ↦ clash f (ap (λ (c : Configuration). isFinal p (c .state)) (z .1) ∙ ok .first-open t b)
@@ -196,7 +196,7 @@ module _ (p : Plan) (ok : Accepted p) (l : Ledger) (live : Live p l) (event : �
   closes-was : (t : ℕ) → t < trackCount p → closesScope p m t ≡ true → closesNext p l (move p l event) t ≡ true
   unfolding closesScope closesNext
   closes-was t b k =
-      let (a, c) = and-true (isAwake (m t .mode)) (isClosing p m (m t .state)) k in
+      let (a, c) = and-holds (isAwake (m t .mode)) (isClosing p m (m t .state)) k in
       let (u, d, e, x) = open-find p l (m t .state) (was-open (m t .state) c) in
       let o = is-owner p t (m t .state) (moved-own t b a) in
       and-both (hasOpenScope p l t) (everyBelow (trackCount p) (settled t)) (subst (λ z. hasOpenScope p l z ≡ true) o (busy-at p l u (m t .state) d e x))
@@ -204,7 +204,7 @@ module _ (p : Plan) (ok : Accepted p) (l : Ledger) (live : Live p l) (event : �
       (λ v bv.
       implied (isHostedBy p t v && isAwake (l v .mode)) (endsNext p l (move p l event) v)
       (λ j.
-      let (i, w) = and-true (isHostedBy p t v) (isAwake (l v .mode)) j in
+      let (i, w) = and-holds (isHostedBy p t v) (isAwake (l v .mode)) j in
       let (h, g, q) = by-host p t v i in
       let hs : host p v ≡ some (m t .state) = g ∙ ap some (sym (live .up v h g w .0) ∙ ap (λ z. l z .state) (q ∙ sym o) ∙ live .up u (m t .state) e x .0) in
       sym (ends v w) ∙ parts (m t .state) c .1 v bv hs)))
@@ -212,7 +212,7 @@ module _ (p : Plan) (ok : Accepted p) (l : Ledger) (live : Live p l) (event : �
   closes-is : (t : ℕ) → closesNext p l (move p l event) t ≡ true → closesScope p m t ≡ true
   unfolding closesScope closesNext isClosing
   closes-is t k =
-      let (o, all) = and-true (hasOpenScope p l t) (everyBelow (trackCount p) (settled t)) k in
+      let (o, all) = and-holds (hasOpenScope p l t) (everyBelow (trackCount p) (settled t)) k in
       let (u, h, d, e, w, x) = busy-find p l t o in
       let (a, r) = open-still t o in
       let st : m t .state ≡ h = ap (λ (c : Configuration). c .state) r ∙ ap (λ z. l z .state) (sym w) ∙ live .up u h e x .0 in
@@ -233,7 +233,7 @@ module _ (p : Plan) (ok : Accepted p) (l : Ledger) (live : Live p l) (event : �
   -- a host whose scope closes stays as it is
   pub closing-still : (t : ℕ) → closesNext p l (move p l event) t ≡ true → m t ≡ l t
   unfolding closesNext
-  closing-still t c = open-still t (and-true (hasOpenScope p l t) _ c .0) .1
+  closing-still t c = open-still t (and-holds (hasOpenScope p l t) _ c .0) .1
 
   -- each closing scope has one host
   pub closings-before : closings p m ≡ countBelow (trackCount p) (closesNext p l (move p l event))
@@ -247,13 +247,13 @@ module _ (p : Plan) (ok : Accepted p) (l : Ledger) (live : Live p l) (event : �
       })
       (record {
         below = λ t b c. own-low p t (m t .state) (mine t b c);
-        passes = λ t b c. and-true (isAwake (m t .mode)) _ c .1;
+        passes = λ t b c. and-holds (isAwake (m t .mode)) _ c .1;
         own = λ r s b c f g e. sym (is-owner p r (m r .state) (mine r b f)) ∙ ap (owner p) e ∙ is-owner p s (m s .state) (mine s c g);
       })
       ∙ count-same (trackCount p) _ _ closes-before
     where
       mine : (t : ℕ) → t < trackCount p → closesScope p m t ≡ true → isStateOf p t (m t .state) ≡ true
-      mine t b c = moved-own t b (and-true (isAwake (m t .mode)) (isClosing p m (m t .state)) (unfold closesScope in c) .0)
+      mine t b c = moved-own t b (and-holds (isAwake (m t .mode)) (isClosing p m (m t .state)) (unfold closesScope in c) .0)
 
   -- finish: a root is in its next state, in its mode
   pub finishes-before : isFinishing p (closed p m) ≡ finishesNext p l (move p l event)

@@ -1,6 +1,6 @@
 -- A track's move by the tests of the code. Assumes nothing.
 use mathlib.Core.Path.{_≡_, refl, ap, _∙_}
-use mathlib.Core.Bool.{Bool, true, false, not, _&&_}
+use mathlib.Core.Bool.{Bool, true, false, not, _&&_, and-false}
 use mathlib.Core.Option.{Option, none}
 use Prim.Native.Nat.{ℕ}
 use borrow.Author.Tests.{not-true, not-false}
@@ -10,10 +10,6 @@ use Rattle.rules.specs.Ledger.{Ledger, isForward}
 use Rattle.rules.specs.Scope.{hasOpenScope}
 use Rattle.rules.specs.Event.{move}
 use Rattle.ledger.specs.Words.{trackOf}
-
-and-false : (b : Bool) → (b && false) ≡ false
-and-false true = refl
-and-false false = refl
 
 module _ (p : Plan) (l : Ledger) (event t : ℕ) (o : Bool) (busy : o ≡ hasOpenScope p l t) where
   pub move-open : o ≡ true → none ≡ move p l event t

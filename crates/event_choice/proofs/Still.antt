@@ -14,7 +14,7 @@ use Rattle.rules.specs.Plan.{Plan, trackCount, stateCount}
 use Rattle.rules.specs.Ledger.{Ledger, isAwake, isForward, sleeping}
 use Rattle.rules.specs.Scope.{isOpen}
 use Rattle.rules.specs.Event.{destinationOf, installedBy, hasCode, isMove, move, moves, moved, isClosing, closesScope, closed, closings, isFinishing, finished, isReplaced, isFull, afterEvent}
-use Rattle.rules.proofs.Tests.{look, clash, refuted, and-true}
+use Rattle.rules.proofs.Tests.{look, clash, refuted, and-holds}
 use Rattle.rules.proofs.Folds.{some-none}
 use Rattle.rules.proofs.Acceptance.{Accepted}
 use Rattle.rules.proofs.Scopes.{open-find}
@@ -64,7 +64,7 @@ none-close p ok l h =
       | inr q ↦
           refuted (isClosing p l s)
           (λ k.
-          let (t, b, e, a) = open-find p l s (and-true (isOpen p l s) _ k .0) in
+          let (t, b, e, a) = open-find p l s (and-holds (isOpen p l s) _ k .0) in
           let z = ok .host-state t s e in
           absurd (omega (arith, ltb-false s (stateCount p) q)))
     ])

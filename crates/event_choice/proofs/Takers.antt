@@ -17,7 +17,7 @@ use Rattle.rules.specs.Ledger.{Ledger, isForward}
 use Rattle.rules.specs.Scope.{hasOpenScope}
 use Rattle.rules.specs.Event.{move}
 use Rattle.rules.proofs.Modes.{forward-awake}
-use Rattle.rules.proofs.Tests.{look, look-option, clash, refuted, and-true, same-test}
+use Rattle.rules.proofs.Tests.{look, look-option, clash, refuted, and-holds, same-test}
 use Rattle.rules.proofs.Folds.{first-found, first-more-none, first-more-here, first-stays}
 use Rattle.plan.proofs.FieldLaws.{track-count, transition-count}
 use Rattle.ledger.specs.Ladder.{Going, ledgerOf}
@@ -31,7 +31,7 @@ use Rattle.event_choice.proofs.Visits.{mover-low}
 
 pub is-owner : (p : Plan) (t s : ℕ) → isStateOf p t s ≡ true → owner p s ≡ t
 unfolding isStateOf
-is-owner p t s h = eqb-true (owner p s) t (and-true (ltb s (stateCount p)) (eqb (owner p s) t) h .1)
+is-owner p t s h = eqb-true (owner p s) t (and-holds (ltb s (stateCount p)) (eqb (owner p s) t) h .1)
 
 -- what the pass over the transitions has found among those below n
 abbrev answers : Plan → Ledger → ℕ → ℕ → ℕ → Bool
@@ -60,9 +60,9 @@ module _ (bs : List ℕ) (c : Counts) (ws : List ℕ) (g : Going bs c ws) (event
         → ((isForward (l t .mode) ≡ true) × (not (hasOpenScope p l t) ≡ true)) × ((transition p x .source ≡ l t .state) × (transition p x .event ≡ event))
     unfolding isTaken
     parts t h =
-        let (q, r) = and-true (isForward (l t .mode) && not (hasOpenScope p l t)) _ h in
-        let (s, e) = and-true (eqb (transition p x .source) (l t .state)) (eqb (transition p x .event) event) r in
-        (and-true (isForward (l t .mode)) (not (hasOpenScope p l t)) q, (eqb-true _ _ s, eqb-true _ _ e))
+        let (q, r) = and-holds (isForward (l t .mode) && not (hasOpenScope p l t)) _ h in
+        let (s, e) = and-holds (eqb (transition p x .source) (l t .state)) (eqb (transition p x .event) event) r in
+        (and-holds (isForward (l t .mode)) (not (hasOpenScope p l t)) q, (eqb-true _ _ s, eqb-true _ _ e))
 
     taken-there : (t : ℕ) → t < c .tracks → isTaken p l event x t ≡ true → t ≡ mover p x
     unfolding mover
@@ -136,7 +136,7 @@ module _ (bs : List ℕ) (c : Counts) (ws : List ℕ) (g : Going bs c ws) (event
     where
       halves : (x : ℕ) → answers p l event t x ≡ true → (transition p x .source ≡ l t .state) × (transition p x .event ≡ event)
       halves x a =
-          let (s, e) = and-true (eqb (transition p x .source) (l t .state)) (eqb (transition p x .event) event) a in
+          let (s, e) = and-holds (eqb (transition p x .source) (l t .state)) (eqb (transition p x .event) event) a in
           (eqb-true _ _ s, eqb-true _ _ e)
 
       twice : (i : ℕ) → (i < n) × (answers p l event t i ≡ true) → answers p l event t n ≡ true → ⊥

@@ -17,7 +17,7 @@ use Rattle.rules.specs.Plan.{Plan, planOf, trackCount, stateCount, noState, opt
 use Rattle.rules.specs.Ledger.{Configuration, Ledger, isAwake, sleeping}
 use Rattle.rules.specs.Scope.{hasOpenScope}
 use Rattle.rules.specs.Event.{hasCode}
-use Rattle.rules.proofs.Tests.{look, and-true}
+use Rattle.rules.proofs.Tests.{look, and-holds}
 use Rattle.rules.proofs.Folds.{every-more, some-more, count-more}
 use Rattle.plan.proofs.FieldLaws.{track-count, state-count, transition-count}
 use Rattle.ledger.specs.Ladder.{Accepts, Going, ledgerOf}
@@ -46,7 +46,7 @@ moves-at ts n t b = rw (lt-ltb t n b)
 -- a track's state is one of the plan's, and so is a destination
 pub own-low : (p : Plan) (t s : ℕ) → isStateOf p t s ≡ true → s < stateCount p
 unfolding isStateOf
-own-low p t s h = ltb-true s (stateCount p) (and-true (ltb s (stateCount p)) (eqb (owner p s) t) h .0)
+own-low p t s h = ltb-true s (stateCount p) (and-holds (ltb s (stateCount p)) (eqb (owner p s) t) h .0)
 
 pub source-low : (bs : List ℕ) (c : Counts) {x s : ℕ} → Accepts bs c → x < c .transitions → s ≡ transition (planOf bs c) x .source → s < c .states
 source-low bs c {x} a b e =
@@ -167,10 +167,10 @@ module _ (p : Plan) (l : Ledger) (goes : ℕ → Option ℕ) where
       ∙ ap (λ b. hasOpenScope p l t && b) (sym (every-more n (λ u. not (isHostedBy p t u && isAwake (l u .mode)) || endsNext p l goes u)))
     where
       leaves : (o v h a e : Bool) → cond (h && (a && not e)) false (o && v) ≡ (o && (v && (not (h && a) || e)))
-      leaves o v true true true = ap (λ b. o && b) (sym (mathlib.Core.Bool.and-true v))
+      leaves o v true true true = ap (λ b. o && b) (sym (mathlib.Core.Bool.and-holds v))
       leaves o v true true false = sym (ap (λ b. o && b) (mathlib.Core.Bool.and-false v) ∙ mathlib.Core.Bool.and-false o)
-      leaves o v true false e = ap (λ b. o && b) (sym (mathlib.Core.Bool.and-true v))
-      leaves o v false a e = ap (λ b. o && b) (sym (mathlib.Core.Bool.and-true v))
+      leaves o v true false e = ap (λ b. o && b) (sym (mathlib.Core.Bool.and-holds v))
+      leaves o v false a e = ap (λ b. o && b) (sym (mathlib.Core.Bool.and-holds v))
 
 -- one track more
 pub one-more : (f : ℕ → Bool) (n t r : ℕ) → n ≡ countBelow t f → r ≡ cond (f t) 1 0 → n + r ≡ countBelow (t + 1) f

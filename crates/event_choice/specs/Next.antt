@@ -6,6 +6,7 @@ use mathlib.Core.Option.{Option, none, some}
 use Prim.Native.Nat.{ℕ, _<_}
 use lib.Dec.{eqb, leb, ltb}
 use lib.ListN.{length, getD}
+use Rattle.rules.specs.Names.{TrackNumber, StateNumber, TransitionNumber, EventNumber, Code}
 use Rattle.rules.specs.declared.Counts.{Counts}
 use Rattle.rules.specs.declared.Mode.{Mode}
 use Rattle.rules.specs.Fold.{everyBelow}
@@ -14,7 +15,7 @@ use Rattle.rules.specs.Ledger.{Ledger, isAwake, isForward}
 use Rattle.rules.specs.Scope.{hasOpenScope}
 
 -- the moves that words name: a transition for each track below n, 65535 for none
-unfoldable pub movesOf : List ℕ → ℕ → ℕ → Option ℕ
+unfoldable pub movesOf : List ℕ → ℕ → TrackNumber → Option TransitionNumber
 movesOf ts n t = cond (ltb t n) (optional (getD ts t 0)) none
 
 -- each transition is one of the plan's
@@ -22,21 +23,21 @@ pub record InRange (c : Counts) (ts : List ℕ) : Type 0 where
   pub low : (t : ℕ) → t < c .tracks → (getD ts t 0 ≡ noState → ⊥) → getD ts t 0 < c .transitions
 
 -- the event's transition is the track's: it is forward in the source, without an open scope
-unfoldable pub isTaken : Plan → Ledger → ℕ → ℕ → ℕ → Bool
+unfoldable pub isTaken : Plan → Ledger → EventNumber → TransitionNumber → TrackNumber → Bool
 isTaken p l event x t =
     isForward (l t .mode) && not (hasOpenScope p l t) && (eqb (transition p x .source) (l t .state) && eqb (transition p x .event) event)
 
 -- the state after a move, if there is one
-unfoldable pub nextOf : Plan → ℕ → Option ℕ → ℕ
+unfoldable pub nextOf : Plan → StateNumber → Option TransitionNumber → StateNumber
 nextOf p s none = s
 nextOf p s (some x) = transition p x .destination
 
 -- a track in this mode and state will be forward in a final state
-unfoldable pub endsBy : Plan → Mode → ℕ → Option ℕ → Bool
+unfoldable pub endsBy : Plan → Mode → StateNumber → Option TransitionNumber → Bool
 endsBy p m s o = isForward m && isFinal p (nextOf p s o)
 
 -- the code that a track is given: its transition's, or the replacement if its scope closes; 0 for none
-unfoldable pub codeBy : Plan → ℕ → Option ℕ → Bool → ℕ
+unfoldable pub codeBy : Plan → StateNumber → Option TransitionNumber → Bool → Code
 codeBy p s none closes = cond closes (replacement p s) 0
 codeBy p s (some x) closes = transition p x .code
 

@@ -1,6 +1,6 @@
 -- What an event answers and leaves once its number and the ledger are known to be fit. Assumes nothing.
-use mathlib.Core.List.{List, [], _∷_}
-use Prim.Native.Nat.{ℕ}
+use mathlib.Core.List.{[], _∷_}
+use Rattle.rules.specs.Names.{Words, EventNumber}
 use Rattle.rules.specs.Fold.{firstRefusal}
 use Rattle.rules.specs.Layout.{entryLimit}
 use Rattle.rules.specs.Plan.{Plan, trackCount}
@@ -9,7 +9,7 @@ use Rattle.rules.specs.Event.{isFull, afterEvent}
 use Rattle.rules.specs.Call.{Outcome, event, done, figures, refusedOr}
 
 -- An event other than 0 on a ledger that is not over: 21, or the step.
-unfoldable pub goingOutcome : Plan → List ℕ → ℕ → Outcome
+unfoldable pub goingOutcome : Plan → Words → EventNumber → Outcome
 goingOutcome p ws e =
     refusedOr ws
     (record {

@@ -1,5 +1,5 @@
 -- Laws of an event's writing.
 pub mod OneTrack
-pub mod Installing
-pub mod Closing
-pub mod Written
+pub mod InstallingPass
+pub mod ClosingPass
+pub mod EventWritten

@@ -22,7 +22,7 @@ use Rattle.lookup.specs.OneTrack.{withConfiguration}
 use Rattle.lookup.proofs.Facts.{track-read, no-host-track, host-of-track}
 use Rattle.lookup.proofs.OneTrackLaws.{kept-track, put-installed, put-asleep}
 use Rattle.event_choice.proofs.Visits.{word-none, word-some, word-small}
-use Rattle.event_writing.specs.Writing.{isClosedBy, closedBy}
+use Rattle.event_writing.specs.EventParts.{isClosedBy, closedBy}
 
 -- a code given
 module _ (c : Counts) (ws : List ℕ) (o : Tidy ws (c .tracks)) (t : ℕ) (b : t < c .tracks) (code deviation : ℕ) where

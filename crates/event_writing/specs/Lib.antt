@@ -1,2 +1,2 @@
 -- What the writing of an event needs, and what it comes to for one track.
-pub mod Writing
+pub mod EventParts

@@ -20,7 +20,7 @@ ghost use Rattle.lookup.specs.Figures.{Figures, Numbers};
 ghost use Rattle.lookup.specs.OneTrack.{withConfiguration};
 ghost use Rattle.event_choice.specs.Next.{InRange, movesOf};
 ghost use Rattle.event_choice.specs.Chosen.{Chosen};
-ghost use Rattle.event_writing.specs.Writing.{Movers, Closings, isClosedBy, closedBy};
+ghost use Rattle.event_writing.specs.EventParts.{Movers, Closings, isClosedBy, closedBy};
 
 // Installs a code, if it is not 0, as a track's newest entry.
 fn give(c: Counts, ledger: &mut [u16], t: usize, code: u16, deviation: u16)

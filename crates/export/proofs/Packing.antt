@@ -16,7 +16,7 @@ use Rattle.rules.specs.Acceptance.{Reading, turnedBack, accepted, readPlan}
 use Rattle.rules.specs.Ledger.{ledgerAt}
 use Rattle.rules.specs.Soundness.{areTidy, isSound}
 use Rattle.rules.specs.Call.{Answer, Outcome, Meets, tooShort, ledgerRefusals, heldPart, entriesPart}
-use Rattle.rules.proofs.Tests.{and-true}
+use Rattle.rules.proofs.Tests.{and-holds}
 use Rattle.plan.proofs.FieldLaws.{track-count}
 use Rattle.plan_reader.proofs.Reader.{accepted-holds}
 use Rattle.ledger.proofs.ReadTracks.{count-within}
@@ -61,9 +61,9 @@ module _ (bs ws : List ℕ) (t : ℕ) where
   held-under : (c : Counts) → readPlan bs ≡ accepted c → (eqb (firstRefusal (ledgerRefusals entryLimit (planOf bs c) ws)) 0 && ltb t (trackCount (planOf bs c))) ≡ true → Held
   unfolding entriesPart heldPart ledgerRefusals firstRefusal isSound
   held-under c a e =
-      let (f, l) = and-true (eqb (firstRefusal (ledgerRefusals entryLimit (planOf bs c) ws)) 0) (ltb t (trackCount (planOf bs c))) e in
+      let (f, l) = and-holds (eqb (firstRefusal (ledgerRefusals entryLimit (planOf bs c) ws)) 0) (ltb t (trackCount (planOf bs c))) e in
       let s : isSound entryLimit (planOf bs c) ws ≡ true = sound-if-unrefused (tooShort entryLimit (planOf bs c) ws) (isSound entryLimit (planOf bs c) ws) f in
-      let y = and-true (areTidy entryLimit ws (trackCount (planOf bs c))) _ s .0 in
+      let y = and-holds (areTidy entryLimit ws (trackCount (planOf bs c))) _ s .0 in
       let b = ltb-true t (trackCount (planOf bs c)) l in
       held-at
       (length (ledgerAt entryLimit ws (trackCount (planOf bs c)) t .held))

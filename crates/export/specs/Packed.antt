@@ -5,6 +5,7 @@ use mathlib.Core.List.{List, [], _∷_}
 use Prim.Native.Nat.{ℕ, _+_, _*_}
 use lib.ListN.{length}
 use lib.Dec.{eqb}
+use Rattle.rules.specs.Names.{Words}
 use Rattle.rules.specs.Layout.{entryLimit, entriesPlace}
 use Rattle.rules.specs.declared.Counts.{Counts}
 use Rattle.rules.specs.Acceptance.{Reading, turnedBack, accepted}
@@ -43,6 +44,6 @@ unfoldable pub packedPart : List ℕ → ℕ → ℕ
 packedPart part t = cond (eqb (length part) 0) 0 (length part + entriesPlace entryLimit t * bit16)
 
 -- What a contract promises: the number is the outcome's answer, packed, and every lent word is the outcome's.
-pub record Returns (pack : Answer → ℕ) (o : Outcome) (number : ℕ) (words : List ℕ) : Type 0 where
+pub record Returns (pack : Answer → ℕ) (o : Outcome) (number : ℕ) (words : Words) : Type 0 where
   pub answered : number ≡ pack (o .answer)
   pub left : words ≡ o .words

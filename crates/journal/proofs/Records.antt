@@ -11,7 +11,7 @@ use lib.ListN.{length, List·getD-eq-default}
 use borrow.Author.Tests.{le-leb, lt-leb, lt-ltb, le-ltb, eq-eqb, ne-eqb, leb-true, leb-false, ltb-false, eqb-true, eqb-false, not-false}
 use Rattle.rules.specs.Record.{word, sizeAt, kindAt}
 use Rattle.rules.specs.Journal.{Item, ended, broken, journalLength, isBroken, recordOf, itemAt}
-use Rattle.rules.proofs.Tests.{look, or-false}
+use Rattle.rules.proofs.Tests.{look, or-fails}
 use Rattle.journal.specs.Records.{sizeOf}
 
 pub length-none : (k : ℕ) → (k ≡ 16 → ⊥) → (k ≡ 17 → ⊥) → (k ≡ 18 → ⊥) → (k ≡ 19 → ⊥) → journalLength k ≡ 0
@@ -102,9 +102,9 @@ module _ (js : List ℕ) (at : ℕ) where
   unbroken : isBroken js at ≡ false → Stands js at (recordOf kind (word js (at + 4)))
   unfolding isBroken
   unbroken e =
-      let (p, d) = or-false (ltb (length js) (at + 4) || eqb (journalLength kind) 0 || not (eqb size (journalLength kind))) (ltb (length js) (at + size)) e in
-      let (q, c) = or-false (ltb (length js) (at + 4) || eqb (journalLength kind) 0) (not (eqb size (journalLength kind))) p in
-      let (a, b) = or-false (ltb (length js) (at + 4)) (eqb (journalLength kind) 0) q in
+      let (p, d) = or-fails (ltb (length js) (at + 4) || eqb (journalLength kind) 0 || not (eqb size (journalLength kind))) (ltb (length js) (at + size)) e in
+      let (q, c) = or-fails (ltb (length js) (at + 4) || eqb (journalLength kind) 0) (not (eqb size (journalLength kind))) p in
+      let (a, b) = or-fails (ltb (length js) (at + 4)) (eqb (journalLength kind) 0) q in
       let s : sizeOf (recordOf kind (word js (at + 4))) ≡ journalLength kind = size-of-kind kind (word js (at + 4)) (eqb-false (journalLength kind) 0 b) in
       let t : size ≡ journalLength kind = eqb-true size (journalLength kind) (not-false _ c) in
       let u : at + size ≤ length js = ltb-false (length js) (at + size) d in

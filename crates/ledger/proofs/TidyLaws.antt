@@ -14,14 +14,14 @@ use borrow.Author.Tests.{eqb-true, eq-eqb, ne-eqb, ltb-false, le-ltb, le-leb, lt
 use Rattle.rules.specs.Fold.{everyBelow}
 use Rattle.rules.specs.Layout.{entryWidth, headWords, trackWidth}
 use Rattle.rules.specs.Soundness.{goodMode, goodCount, unusedZero, asleepZero, isTidy}
-use Rattle.rules.proofs.Tests.{look, same-test, and-true, and-both, or-right, implies}
+use Rattle.rules.proofs.Tests.{look, same-test, and-holds, and-both, or-right, implies}
 use Rattle.rules.proofs.Folds.{every-at, every-of, every-same}
 
 pub or-zero : (a b : ℕ) → eqb (bitOr a b) 0 ≡ (eqb a 0 && eqb b 0)
 or-zero a b =
     same-test _ _
     (λ h. let e = eqb-true (bitOr a b) 0 h in and-both _ _ (eq-eqb a 0 (omega (arith, sum, and-le-r a b))) (eq-eqb b 0 (omega (arith, sum, and-le-l a b))))
-    (λ h. let (x, y) = and-true _ _ h in let i = eqb-true a 0 x in let j = eqb-true b 0 y in eq-eqb (bitOr a b) 0 (omega (arith, sum)))
+    (λ h. let (x, y) = and-holds _ _ h in let i = eqb-true a 0 x in let j = eqb-true b 0 y in eq-eqb (bitOr a b) 0 (omega (arith, sum)))
   where
     sum : bitOr a b + bitAnd a b ≡ a + b
     sum = or-add-and a b
@@ -52,7 +52,7 @@ module _ (limit : ℕ) (ws : List ℕ) (at : ℕ) where
       let k : getD ws (at + 2) 0 ≡ 0 = eqb-true _ 0 (zero 2 (omega arith)) in
       let u = every-of (2 * limit) (λ j. ltb j (2 * getD ws (at + 2) 0) || eqb (getD ws (at + 3 + j) 0) 0) (λ j b. or-right (ltb j (2 * getD ws (at + 2) 0)) (eqb (getD ws (at + 3 + j) 0) 0) (rw add-assoc (zero (3 + j) (omega arith)))) in
       rw (le-leb (getD ws at 0) 2 (omega arith), le-leb (getD ws (at + 2) 0) limit (omega arith), u, h, eq-eqb (getD ws at 0) 0 z))
-      (λ h. implies (eqb (getD ws at 0) 0) _ (and-true (goodMode ws at && goodCount limit ws at && unusedZero limit ws at) (asleepZero limit ws at) h .1) (eq-eqb (getD ws at 0) 0 z))
+      (λ h. implies (eqb (getD ws at 0) 0) _ (and-holds (goodMode ws at && goodCount limit ws at && unusedZero limit ws at) (asleepZero limit ws at) h .1) (eq-eqb (getD ws at 0) 0 z))
 
   pub bad-mode : 2 < getD ws at 0 → false ≡ isTidy limit ws at
   unfolding isTidy goodMode
@@ -72,4 +72,4 @@ module _ (limit : ℕ) (ws : List ℕ) (at : ℕ) where
         ∙ every-same (2 * limit - m) _ _ (λ j b. ap (λ k. eqb (getD ws k 0) 0) (add-assoc (at + headWords) m j))
         ∙ every-from m (2 * limit) f (omega arith)
         ∙ ap (λ k. everyBelow (2 * limit) (λ j. ltb j k || f j)) i
-        ∙ rw (le-leb (getD ws at 0) 2 low, le-leb (getD ws (at + 2) 0) limit l, ne-eqb (getD ws at 0) 0 n) (sym (mathlib.Core.Bool.and-true _))
+        ∙ rw (le-leb (getD ws at 0) 2 low, le-leb (getD ws (at + 2) 0) limit l, ne-eqb (getD ws at 0) 0 n) (sym (mathlib.Core.Bool.and-holds _))

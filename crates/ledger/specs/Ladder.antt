@@ -2,9 +2,9 @@
 -- bytes: a plan that is accepted. Over both: lent (checks 2 to 17 are passed), checked (2 to 18), going (and not over). Assumes nothing.
 use mathlib.Core.Path.{_≡_}
 use mathlib.Core.Bool.{true, false}
-use mathlib.Core.List.{List}
 use Prim.Native.Nat.{ℕ, _+_, _<_, _≤_}
 use lib.ListN.{length}
+use Rattle.rules.specs.Names.{Bytes, Words, TrackNumber}
 use Rattle.rules.specs.declared.Counts.{Counts}
 use Rattle.rules.specs.Plan.{planOf}
 use Rattle.rules.specs.Acceptance.{accepted, readPlan}
@@ -15,40 +15,40 @@ use Rattle.rules.specs.Soundness.{areTidy, isSound}
 use Rattle.plan.specs.Holds.{Holds}
 
 -- the ledger has room for the words of the track
-pub record Within (ws : List ℕ) (t : ℕ) : Type 0 where
+pub record Within (ws : Words) (t : TrackNumber) : Type 0 where
   pub number : t < 32
   pub room : trackPlace entryLimit t + trackWidth entryLimit ≤ length ws
 
 -- it has room for the words of so many tracks
-pub record Room (ws : List ℕ) (tracks : ℕ) : Type 0 where
+pub record Room (ws : Words) (tracks : ℕ) : Type 0 where
   pub few : tracks ≤ 32
   pub words : wordCount entryLimit tracks ≤ length ws
 
 -- and each track's words are as the paper describes them
-pub record Tidy (ws : List ℕ) (tracks : ℕ) : Type 0 where
+pub record Tidy (ws : Words) (tracks : ℕ) : Type 0 where
   pub room : Room ws tracks
   pub tidy : areTidy entryLimit ws tracks ≡ true
 
 -- the plan is accepted, with these counts
-pub record Accepts (bs : List ℕ) (c : Counts) : Type 0 where
+pub record Accepts (bs : Bytes) (c : Counts) : Type 0 where
   pub read : readPlan bs ≡ accepted c
   pub holds : Holds bs c
 
 -- and the ledger has the words of its tracks: checks 2 to 17 are passed
-pub record Lent (bs : List ℕ) (c : Counts) (ws : List ℕ) : Type 0 where
+pub record Lent (bs : Bytes) (c : Counts) (ws : Words) : Type 0 where
   pub accepts : Accepts bs c
   pub room : Room ws (c .tracks)
 
 -- checks 2 to 18 are passed
-pub record Checked (bs : List ℕ) (c : Counts) (ws : List ℕ) : Type 0 where
+pub record Checked (bs : Bytes) (c : Counts) (ws : Words) : Type 0 where
   pub lent : Lent bs c ws
   pub sound : isSound entryLimit (planOf bs c) ws ≡ true
 
 -- the ledger that words hold under a plan with these counts
-unfoldable pub ledgerOf : Counts → List ℕ → Ledger
+unfoldable pub ledgerOf : Counts → Words → Ledger
 ledgerOf c ws = ledgerAt entryLimit ws (c .tracks)
 
 -- and it is not over
-pub record Going (bs : List ℕ) (c : Counts) (ws : List ℕ) : Type 0 where
+pub record Going (bs : Bytes) (c : Counts) (ws : Words) : Type 0 where
   pub checked : Checked bs c ws
   pub goes-on : isOver (planOf bs c) (ledgerOf c ws) ≡ false

@@ -1,7 +1,8 @@
 -- The words of one track, read and written. Assumes nothing.
-use mathlib.Core.List.{List, _++_}
+use mathlib.Core.List.{_++_}
 use Prim.Native.Nat.{ℕ, suc, pred, _+_, _*_}
 use lib.ListN.{length, set, take, drop, replicate}
+use Rattle.rules.specs.Names.{Words, Place, TrackNumber, StateNumber, Code}
 use Rattle.rules.specs.declared.Track.{Track}
 use Rattle.rules.specs.Layout.{entryLimit, statePlace, countPlace, entryWidth, deviationPlace, trackWidth, trackPlace, entriesPlace}
 use Rattle.rules.specs.Ledger.{Configuration, modeWord, configurationAt}
@@ -11,30 +12,30 @@ unfoldable pub trackOf : Configuration → Track
 trackOf c = record { mode = c .mode; state = c .state; count = length (c .held) }
 
 -- the track as its words tell it
-unfoldable pub trackAt : List ℕ → ℕ → Track
+unfoldable pub trackAt : Words → TrackNumber → Track
 trackAt ws t = trackOf (configurationAt ws (trackPlace entryLimit t))
 
 -- the words with a track's first three replaced
-unfoldable pub withTrack : List ℕ → ℕ → Track → List ℕ
+unfoldable pub withTrack : Words → TrackNumber → Track → Words
 withTrack ws t k =
     set (set (set ws (trackPlace entryLimit t) (modeWord (k .mode))) (statePlace (trackPlace entryLimit t)) (k .state)) (countPlace (trackPlace entryLimit t)) (k .count)
 
 -- the words with a track's entry replaced, counted from its oldest
-unfoldable pub entryPlace : ℕ → ℕ → ℕ
+unfoldable pub entryPlace : TrackNumber → ℕ → Place
 entryPlace t k = entriesPlace entryLimit t + entryWidth * k
 
-unfoldable pub withEntry : List ℕ → ℕ → ℕ → ℕ → ℕ → List ℕ
+unfoldable pub withEntry : Words → TrackNumber → ℕ → Code → StateNumber → Words
 withEntry ws t k code deviation = set (set ws (entryPlace t k) code) (deviationPlace (entryPlace t k)) deviation
 
 -- the words with one more entry, and with one less
-unfoldable pub withInstalled : List ℕ → ℕ → ℕ → ℕ → List ℕ
+unfoldable pub withInstalled : Words → TrackNumber → Code → StateNumber → Words
 withInstalled ws t code deviation =
     set (withEntry ws t (trackAt ws t .count) code deviation) (countPlace (trackPlace entryLimit t)) (suc (trackAt ws t .count))
 
-unfoldable pub withRemoved : List ℕ → ℕ → List ℕ
+unfoldable pub withRemoved : Words → TrackNumber → Words
 withRemoved ws t =
     set (withEntry ws t (pred (trackAt ws t .count)) 0 0) (countPlace (trackPlace entryLimit t)) (pred (trackAt ws t .count))
 
 -- the words with a track's all zero
-unfoldable pub withAsleep : List ℕ → ℕ → List ℕ
+unfoldable pub withAsleep : Words → TrackNumber → Words
 withAsleep ws t = take (trackPlace entryLimit t) ws ++ (replicate (trackWidth entryLimit) 0 ++ drop (trackWidth entryLimit) (drop (trackPlace entryLimit t) ws))

@@ -15,7 +15,7 @@ use Rattle.rules.specs.Ledger.{Ledger, isUndoing, isEmpty, sleeping, ledgerAt}
 use Rattle.rules.specs.Scope.{isOver, hasOpenScope}
 use Rattle.rules.specs.Fire.{mayFire}
 use Rattle.rules.specs.Soundness.{areTidy, isLive, isSound}
-use Rattle.rules.proofs.Tests.{look-option, clash, and-true, or-true, same-test}
+use Rattle.rules.proofs.Tests.{look-option, clash, and-holds, or-holds, same-test}
 use Rattle.rules.proofs.Acceptance.{Accepted, accepts}
 use Rattle.rules.proofs.Soundness.{Live, live-facts}
 use Rattle.rules.proofs.Stored.{Storable, read-at, read-beyond, storable-read}
@@ -39,7 +39,7 @@ pub tidy-words : (bs : List ℕ) (c : Counts) (ws : List ℕ) → Checked bs c w
 unfolding isSound
 tidy-words bs c ws k =
     let n = trackCount (planOf bs c) in
-    let q = and-true (areTidy entryLimit ws n) (isOver (planOf bs c) (ledgerAt entryLimit ws n) || isLive (planOf bs c) (ledgerAt entryLimit ws n)) (k .sound) .0 in
+    let q = and-holds (areTidy entryLimit ws n) (isOver (planOf bs c) (ledgerAt entryLimit ws n) || isLive (planOf bs c) (ledgerAt entryLimit ws n)) (k .sound) .0 in
     record { room = k .lent .room; tidy = ap (areTidy entryLimit ws) (sym (track-count bs c)) ∙ q }
 
 pub live-of-going : (bs : List ℕ) (c : Counts) (ws : List ℕ) → Going bs c ws → Live (planOf bs c) (ledgerOf c ws)
@@ -47,10 +47,10 @@ unfolding isSound ledgerOf
 live-of-going bs c ws g =
     let p = planOf bs c in
     let l : ℕ → Ledger = ledgerAt entryLimit ws in
-    let q = and-true (areTidy entryLimit ws (trackCount (planOf bs c))) (isOver p (l (trackCount p)) || isLive p (l (trackCount p))) (g .checked .sound) .1 in
+    let q = and-holds (areTidy entryLimit ws (trackCount (planOf bs c))) (isOver p (l (trackCount p)) || isLive p (l (trackCount p))) (g .checked .sound) .1 in
     let r : (isOver p (l (c .tracks)) || isLive p (l (c .tracks))) ≡ true = ap (λ (m : ℕ). isOver p (l m) || isLive p (l m)) (sym (track-count bs c)) ∙ q in
     live-facts p (plan-facts bs c (g .checked .lent .accepts)) (ledgerOf c ws)
-    (elim (or-true (isOver p (l (c .tracks))) (isLive p (l (c .tracks))) r) [ inl o ↦ clash o (g .goes-on) | inr v ↦ v ])
+    (elim (or-holds (isOver p (l (c .tracks))) (isLive p (l (c .tracks))) r) [ inl o ↦ clash o (g .goes-on) | inr v ↦ v ])
 
 pub storable : (bs : List ℕ) (c : Counts) (ws : List ℕ) → Going bs c ws → Storable entryLimit (c .tracks) (ledgerOf c ws)
 unfolding ledgerOf
@@ -129,7 +129,7 @@ module _ (bs : List ℕ) (c : Counts) (t : ℕ) (a : Accepts bs c) where
               low = host-track-low bs c t u a e;
               at = λ v b.
                   let q : u ≡ owner (planOf bs c) (z .0) = e ∙ (rw (z .1, hostTrack)) in
-                  rw (z .1, isHostedBy, q, y) (mathlib.Core.Bool.and-true (eqb (owner (planOf bs c) (z .0)) v) ∙ eqb-turned (owner (planOf bs c) (z .0)) v);
+                  rw (z .1, isHostedBy, q, y) (mathlib.Core.Bool.and-holds (eqb (owner (planOf bs c) (z .0)) v) ∙ eqb-turned (owner (planOf bs c) (z .0)) v);
             }
       ]
     where

@@ -22,7 +22,7 @@ use Rattle.rules.specs.Call.{Answer, refusal, done, Outcome, refusedOr, underPl
 use Rattle.plan.proofs.FieldLaws.{track-count}
 use Rattle.ledger.specs.Ladder.{Room, Accepts, Lent, ledgerOf}
 use Rattle.plan_reader.proofs.Reader.{accepted-holds}
-use Rattle.rules.proofs.Tests.{look, and-true}
+use Rattle.rules.proofs.Tests.{look, and-holds}
 use Rattle.ledger.proofs.Words.{in-room}
 use Rattle.ledger.proofs.ReadTracks.{count-within}
 use Rattle.manager.specs.Checked.{lent, checked, Span}
@@ -236,7 +236,7 @@ module _ (bs ws : List ℕ) where
   unfolding isSound
   tidy-found c e =
       let h = checked-facts c e .1 in
-      let q = and-true (areTidy entryLimit ws (trackCount (planOf bs c))) _ h .0 in
+      let q = and-holds (areTidy entryLimit ws (trackCount (planOf bs c))) _ h .0 in
       rw track-count at q
 
   pub span-held : (t from k : ℕ) (c : Counts) → accepted c ≡ checked bs ws → t < c .tracks → from ≡ entriesPlace entryLimit t + entryWidth * 0

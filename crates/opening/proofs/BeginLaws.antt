@@ -12,7 +12,7 @@ use Rattle.rules.specs.Layout.{entryLimit}
 use Rattle.rules.specs.Plan.{Plan, planOf, trackCount, stateCount, noState, optional, isRoot, isStateOf, firstState}
 use Rattle.rules.specs.Ledger.{Ledger, sleeping, written}
 use Rattle.rules.specs.Opening.{fresh, entered, enter, rootsFirst, begun}
-use Rattle.rules.proofs.Tests.{and-true}
+use Rattle.rules.proofs.Tests.{and-holds}
 use Rattle.rules.proofs.Opening.{wakes-same, roots-to}
 use Rattle.rules.proofs.Scopes.{root-none}
 use Rattle.rules.proofs.Stored.{Storable, written-same, written-twice, length-written, tidy-written, read-written}
@@ -35,7 +35,7 @@ module _ (bs : List ℕ) (c : Counts) (a : Accepts bs c) (t : ℕ) (b : t < c .t
   unfolding optional isStateOf noState
   rooted h f =
       let d : t < trackCount p = omega (arith, track-count bs c) in
-      let l = ltb-true (firstState p t) (stateCount p) (and-true _ _ (plan-facts bs c a .first-own t d) .0) in
+      let l = ltb-true (firstState p t) (stateCount p) (and-holds _ _ (plan-facts bs c a .first-own t d) .0) in
       ap optional f
       ∙ (rw (ne-eqb (firstState p t) 65535 (λ (z : firstState p t ≡ 65535). absurd (omega (arith, state-count bs c, a .holds .states)))))
       ∙ sym (roots-to p (plan-facts bs c a) t d (root-none p t (sym e ∙ not-false _ h)))

@@ -14,7 +14,7 @@ use Rattle.rules.specs.declared.Counts.{Counts}
 use Rattle.rules.specs.Fold.{someBelow, greatestBelow}
 use Rattle.rules.specs.Plan.{Plan, planOf, trackCount, stateCount, noState, hostWord, owner, isIn, isStateOf, isHosting, reachBy, heightTo}
 use Rattle.rules.specs.Acceptance.{mostHeight, badHost, tooHigh}
-use Rattle.rules.proofs.Tests.{look, and-true, and-both}
+use Rattle.rules.proofs.Tests.{look, and-holds, and-both}
 use Rattle.rules.proofs.Folds.{some-at, some-find, some-none, some-not, greatest-same, greatest-le}
 use Rattle.rules.proofs.Heights.{reachesBy, isHighRoot, height-suc, hosted-by, in-host, owner-is, nine-levels, roots-decide}
 use Rattle.plan.specs.Passes.{slots, stateSlots, isHostOf, Last, Chains}
@@ -94,7 +94,7 @@ module _ (p : Plan) where
 
   pub one-track : (s t : ℕ) → t ≡ owner p s → (u : ℕ) → isHostOf p u s ≡ true → u ≡ t
   unfolding isHostOf
-  one-track s t e u h = sym (owner-is p u s (and-true (isStateOf p u s) (isHosting p s) h .0)) ∙ sym e
+  one-track s t e u h = sym (owner-is p u s (and-holds (isStateOf p u s) (isHosting p s) h .0)) ∙ sym e
 
   pub hosting-owner : someBelow (trackCount p) (badHost p) ≡ false → (s : ℕ) → isHosting p s ≡ true → owner p s < trackCount p
   unfolding isHosting

@@ -1,6 +1,6 @@
 -- The tests of refusals 9 to 14, part by part, in the order in which the code looks at a record's fields. Assumes nothing.
 use mathlib.Core.Path.{_≡_, refl, sym, _∙_}
-use mathlib.Core.Bool.{Bool, true, false, not, _&&_, _||_}
+use mathlib.Core.Bool.{Bool, true, false, not, _&&_, _||_, or-false, and-true, and-false}
 use mathlib.Core.List.{List}
 use mathlib.Core.Option.{Option, none, some}
 use Prim.Native.Nat.{ℕ, _<_, _≤_}
@@ -11,7 +11,7 @@ use Rattle.rules.specs.declared.Counts.{Counts}
 use Rattle.rules.specs.Fold.{someBelow}
 use Rattle.rules.specs.Plan.{Plan, planOf, stateCount, trackCount, noState, hostWord, state, owner, replacement, transition, mover, isRoot, isStateOf, isFinal, isHosting, first, firstState}
 use Rattle.rules.specs.Acceptance.{badState, badHost, badFirst, badHosting, badTransition, badDeviation}
-use Rattle.rules.proofs.Tests.{and-true, or-false}
+use Rattle.rules.proofs.Tests.{and-holds, or-fails}
 use Rattle.rules.proofs.Folds.{first-found, some-not}
 use Rattle.plan.proofs.FieldLaws.{track-count, state-count}
 use Rattle.plan.proofs.Hosting.{host-none, host-some}
@@ -22,22 +22,6 @@ not-ltb a b = go (ltb a b) refl
     go : (e : Bool) → ltb a b ≡ e → not (ltb a b) ≡ leb b a
     go true e = rw (e, lt-leb b a (ltb-true a b e))
     go false e = rw (e, le-leb b a (ltb-false a b e))
-
-or-last : (b : Bool) → (b || false) ≡ b
-or-last true = refl
-or-last false = refl
-
-and-last : (b : Bool) → (b && true) ≡ b
-and-last true = refl
-and-last false = refl
-
-and-none : (b : Bool) → (b && false) ≡ false
-and-none true = refl
-and-none false = refl
-
-or-all : (b : Bool) → (b || true) ≡ true
-or-all true = refl
-or-all false = refl
 
 module _ (p : Plan) where
   -- 9
@@ -95,11 +79,11 @@ module _ (p : Plan) where
   -- 12
   pub hosting-here : (s : ℕ) → isHosting p s ≡ true → badHosting p s ≡ isFinal p s
   unfolding badHosting
-  hosting-here s h = rw h (rw (and-last (isFinal p s)) (or-last (isFinal p s)))
+  hosting-here s h = rw h (rw (and-true (isFinal p s)) (or-false (isFinal p s)))
 
   pub hosting-none : (s : ℕ) → isHosting p s ≡ false → badHosting p s ≡ not (eqb (replacement p s) 0)
   unfolding badHosting
-  hosting-none s h = rw h (rw (and-none (isFinal p s)))
+  hosting-none s h = rw h (rw (and-false (isFinal p s)))
 
   -- 13
   module _ (x s d : ℕ) (es : s ≡ transition p x .source) (ed : d ≡ transition p x .destination) where
@@ -155,7 +139,7 @@ module _ (p : Plan) where
 
   pub state-within : (t s : ℕ) → isStateOf p t s ≡ true → s < stateCount p
   unfolding isStateOf
-  state-within t s h = ltb-true s (stateCount p) (and-true (ltb s (stateCount p)) (eqb (owner p s) t) h .0)
+  state-within t s h = ltb-true s (stateCount p) (and-holds (ltb s (stateCount p)) (eqb (owner p s) t) h .0)
 
   -- where 9 and 13 pass, a transition's source is a state, and its track is a track
   pub source-passed : (x : ℕ) → badTransition p x ≡ false → transition p x .source < stateCount p
@@ -167,12 +151,12 @@ module _ (p : Plan) where
       let B = leb (stateCount p) d in
       let C = not (eqb (owner p s) (owner p d)) in
       let D = isFinal p s in
-      let q = or-false (A || B || C || D) (eqb (transition p x .event) 0) h .0 in
-      leb-false (stateCount p) s (or-false A B (or-false (A || B) C (or-false (A || B || C) D q .0) .0) .0)
+      let q = or-fails (A || B || C || D) (eqb (transition p x .event) 0) h .0 in
+      leb-false (stateCount p) s (or-fails A B (or-fails (A || B) C (or-fails (A || B || C) D q .0) .0) .0)
 
   pub owner-passed : (s : ℕ) → badState p s ≡ false → owner p s < trackCount p
   unfolding badState
-  owner-passed s h = leb-false (trackCount p) (owner p s) (or-false (leb (trackCount p) (owner p s)) (ltb 1 (state p s .final)) h .0)
+  owner-passed s h = leb-false (trackCount p) (owner p s) (or-fails (leb (trackCount p) (owner p s)) (ltb 1 (state p s .final)) h .0)
 
 pub source-within : (bs : List ℕ) (c : Counts) → someBelow (c .transitions) (badTransition (planOf bs c)) ≡ false → (x : ℕ)
     → x < c .transitions → transition (planOf bs c) x .source < c .states

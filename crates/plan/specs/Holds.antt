@@ -1,10 +1,10 @@
 -- Bytes that hold so many records of each kind and an end record, within the limits of the paper. Assumes nothing.
-use mathlib.Core.List.{List}
-use Prim.Native.Nat.{ℕ, _+_, _*_, _≤_}
+use Prim.Native.Nat.{_+_, _*_, _≤_}
 use lib.ListN.{length}
+use Rattle.rules.specs.Names.{Bytes}
 use Rattle.rules.specs.declared.Counts.{Counts}
 
-pub record Holds (bs : List ℕ) (c : Counts) : Type 0 where
+pub record Holds (bs : Bytes) (c : Counts) : Type 0 where
   pub tracks : c .tracks ≤ 32
   pub states : c .states ≤ 128
   pub transitions : c .transitions ≤ 256

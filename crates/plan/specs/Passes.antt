@@ -5,6 +5,7 @@ use mathlib.Core.List.{List}
 use mathlib.Core.Option.{none, some}
 use Prim.Native.Nat.{ℕ, suc, _<_, _≤_}
 use lib.ListN.{getD}
+use Rattle.rules.specs.Names.{Bytes}
 use Rattle.rules.specs.declared.Counts.{Counts}
 use Rattle.rules.specs.Fold.{someBelow, firstBelow, tabulate}
 use Rattle.rules.specs.Plan.{Plan, planOf, noState, isStateOf, isIn, isHosting}
@@ -47,7 +48,7 @@ pub record Chains (isOf : ℕ → ℕ → Bool) (owners n : ℕ) (last before : 
   pub links : (a k : ℕ) → k < n → isOf a k ≡ true → Last k (isOf a) (getD before k 0)
 
 -- a plan's forest in chains, where every host is a state of a lower-numbered track: the tracks of each scope, the hosting states of each track
-pub record Forest (bs : List ℕ) (c : Counts) (scopes beside hosts earlier : List ℕ) : Type 0 where
+pub record Forest (bs : Bytes) (c : Counts) (scopes beside hosts earlier : List ℕ) : Type 0 where
   pub holds : Holds bs c
   pub hosted : someBelow (c .tracks) (badHost (planOf bs c)) ≡ false
   pub tracks : Chains (isIn (planOf bs c)) stateSlots (c .tracks) scopes beside

@@ -1,7 +1,7 @@
 -- Transitions with one source and one event have one key, so a walk along the chain of x meets every earlier transition with the source and the
 -- event of x, if there is one. Assumes nothing.
 use mathlib.Core.Path.{_≡_, refl, sym, ap, _∙_}
-use mathlib.Core.Bool.{Bool, true, false, _&&_}
+use mathlib.Core.Bool.{Bool, true, false, _&&_, and-false}
 use mathlib.Core.Logic.{⊎-elim}
 use mathlib.Core.List.{List}
 use Prim.Native.Nat.{ℕ, zero, suc, _+_, _*_, _-_, _%_, _<_, _≤_}
@@ -38,11 +38,7 @@ module _ (p : Plan) where
 
   pub other-event : (x y : ℕ) → (transition p y .event ≡ transition p x .event → ⊥) → shares x y ≡ false
   unfolding shares
-  other-event x y h = rw (ne-eqb _ _ h) (go (eqb (transition p y .source) (transition p x .source)))
-    where
-      go : (b : Bool) → (b && false) ≡ false
-      go true = refl
-      go false = refl
+  other-event x y h = rw (ne-eqb _ _ h) (and-false (eqb (transition p y .source) (transition p x .source)))
 
   -- told by source and event as one number
   pub same-step : (x y a b : ℕ) → Step p x a → Step p y b → b ≡ a → shares x y ≡ true

@@ -13,7 +13,7 @@ use borrow.Author.Tests.{le-ltb, ne-eqb}
 use Rattle.rules.specs.declared.Counts.{Counts}
 use Rattle.rules.specs.Record.{sizeAt, kindAt, lengthOf, mostOf, countOf, oneMore, noCounts, endKind, judgeRecord, counted, scan}
 use Rattle.plan_reader.specs.Scanned.{Stands}
-use Rattle.plan_reader.specs.Runs.{Whole, Run, InRuns, EndsAfter}
+use Rattle.plan_reader.specs.RecordRuns.{Whole, Run, InRuns, EndsAfter}
 use Rattle.plan_reader.proofs.KindTables.{by-kind}
 use Rattle.plan_reader.proofs.RecordTable.{in-words, table-0, table-0-end}
 use Rattle.plan_reader.proofs.Scanning.{scanRest, start-stands, rest-start, rest-end, next}

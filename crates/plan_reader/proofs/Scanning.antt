@@ -11,7 +11,7 @@ use borrow.Author.Tests.{eqb-true, eqb-false, ltb-false, leb-false, lt-ltb, eq-e
 use Rattle.rules.specs.declared.Counts.{Counts}
 use Rattle.rules.specs.Fold.{firstRefusal}
 use Rattle.rules.specs.Record.{sizeAt, kindAt, lengthOf, mostOf, countOf, oneMore, noCounts, endKind, judgeRecord, Scan, refused, counted, scanFrom, scan}
-use Rattle.rules.proofs.Tests.{or-false, passed}
+use Rattle.rules.proofs.Tests.{or-fails, passed}
 use Rattle.plan.specs.Holds.{Holds}
 use Rattle.plan_reader.specs.Scanned.{Stands}
 use Rattle.plan_reader.proofs.KindTables.{by-kind}
@@ -38,7 +38,7 @@ module _ (bs : List ℕ) where
       let f : at + sizeAt bs at ≤ length bs = ltb-false (length bs) (at + sizeAt bs at) (a5 .0) in
       record {
         head = ltb-false (length bs) (at + 4) (a2 .0);
-        real = eqb-false (lengthOf k) 0 (or-false (eqb (lengthOf k) 0) (ltb k last) (a3 .0) .0);
+        real = eqb-false (lengthOf k) 0 (or-fails (eqb (lengthOf k) 0) (ltb k last) (a3 .0) .0);
         size = e;
         fits = rw e at f;
         most = leb-false (mostOf k) (countOf c k) (a6 .0);

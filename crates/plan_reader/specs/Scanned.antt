@@ -1,8 +1,8 @@
 -- Each case of the scan's answer as the rules' reading of the records, and the facts that a cursor keeps. Assumes nothing.
 use mathlib.Core.Path.{_≡_}
-use mathlib.Core.List.{List}
-use Prim.Native.Nat.{ℕ, _+_, _*_, _≤_}
+use Prim.Native.Nat.{_+_, _*_, _≤_}
 use lib.ListN.{length}
+use Rattle.rules.specs.Names.{Bytes, Place}
 use Rattle.rules.specs.declared.Counts.{Counts}
 use Rattle.rules.specs.Record.{Scan, refused, counted}
 use Rattle.plan_reader.specs.declared.records.Scanned.{Scanned}
@@ -13,7 +13,7 @@ scanTold (Counted c) = counted c
 scanTold (Refused n) = refused n
 
 -- after so many records of each kind the next one starts at a place within the bytes
-pub record Stands (bs : List ℕ) (at : ℕ) (c : Counts) : Type 0 where
+pub record Stands (bs : Bytes) (at : Place) (c : Counts) : Type 0 where
   pub tracks : c .tracks ≤ 32
   pub states : c .states ≤ 128
   pub transitions : c .transitions ≤ 256

@@ -3,6 +3,7 @@ use mathlib.Core.Path.{_≡_}
 use mathlib.Core.Bool.{false}
 use mathlib.Core.List.{List}
 use Prim.Native.Nat.{ℕ}
+use Rattle.rules.specs.Names.{Bytes}
 use Rattle.rules.specs.declared.Counts.{Counts}
 use Rattle.rules.specs.Fold.{someBelow}
 use Rattle.rules.specs.Plan.{planOf, isIn}
@@ -11,7 +12,7 @@ use Rattle.plan.specs.Holds.{Holds}
 use Rattle.plan.specs.Passes.{stateSlots, Chains}
 
 -- no refusal so far, before the transitions are judged
-pub record TracksPass (bs : List ℕ) (c : Counts) (scopes beside : List ℕ) : Type 0 where
+pub record TracksPass (bs : Bytes) (c : Counts) (scopes beside : List ℕ) : Type 0 where
   pub holds : Holds bs c
   pub some-track : noTrack (planOf bs c) ≡ false
   pub states : someBelow (c .states) (badState (planOf bs c)) ≡ false

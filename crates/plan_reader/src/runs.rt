@@ -9,7 +9,7 @@ ghost use mathlib.Core.Bool.{true};
 ghost use Prim.Native.Nat.{_+_, _*_, _≤_};
 ghost use lib.ListN.{length};
 ghost use Rattle.rules.specs.Record.{sizeAt, kindAt, lengthOf};
-ghost use Rattle.plan_reader.specs.Runs.{Run, InRuns, EndsAfter};
+ghost use Rattle.plan_reader.specs.RecordRuns.{Run, InRuns, EndsAfter};
 
 // A record's length and kind as one number.
 fn head(size: usize, kind: u16) -> usize

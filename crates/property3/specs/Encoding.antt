@@ -5,6 +5,7 @@ use mathlib.Core.List.{List, [], _∷_, _++_}
 use Prim.Native.Nat.{ℕ, zero, suc, _*_, _/_}
 use lib.ListN.{length}
 use lib.Dec.{eqb, ltb}
+use Rattle.rules.specs.Names.{Words}
 use Rattle.rules.specs.Call.{Answer, refusal, done, Outcome, Call, event, signal, fire, nothing}
 use Rattle.rules.specs.Journal.{eventKind, signalKind, fireKind}
 use Rattle.property3.specs.declared.EncodedAnswer.{EncodedAnswer}
@@ -76,6 +77,6 @@ unfoldable pub encodedWords : EncodedAnswer → List ℕ
 encodedWords r = r .refusal ∷ r .first ∷ r .second ∷ []
 
 -- What making one call promises: its answer, encoded, and every lent word afterwards.
-pub record CallMade (o : Outcome) (told : EncodedAnswer) (words : List ℕ) : Type 0 where
+pub record CallMade (o : Outcome) (told : EncodedAnswer) (words : Words) : Type 0 where
   pub answered : encodedWords told ≡ encodedAnswer (o .answer)
   pub left : words ≡ o .words

@@ -4,6 +4,7 @@ use mathlib.Core.Path.{_≡_}
 use mathlib.Core.Bool.{true, false}
 use mathlib.Core.List.{List}
 use Prim.Native.Nat.{ℕ, _<_}
+use Rattle.rules.specs.Names.{Bytes, Words}
 use Rattle.rules.specs.declared.Mode.the-variants.{Undoing}
 use Rattle.rules.specs.Plan.{Plan, trackCount}
 use Rattle.rules.specs.Ledger.{isEmpty}
@@ -12,8 +13,8 @@ use Rattle.rules.specs.Call.{Answer, Call}
 use Rattle.rules.specs.ReferenceRun.{wordsAfter, answersAfter, booksAfter, ledgerAfter, AllWithdrawn}
 use Rattle.property3.specs.FreeBooks.{FreeState, freeBooks}
 
-module _ (limit : ℕ) (bs : List ℕ) where
-  abbrev pub FreeRestored : Plan → List ℕ → List Call → Type 0
+module _ (limit : ℕ) (bs : Bytes) where
+  abbrev pub FreeRestored : Plan → Words → List Call → Type 0
   FreeRestored p lent cs =
       AllWithdrawn p (ledgerAfter limit bs p lent cs)
       → booksAfter limit bs p (freeBooks p limit) lent cs FreeState.at-begin ≡ FreeState.at-begin

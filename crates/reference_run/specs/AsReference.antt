@@ -3,6 +3,7 @@ use mathlib.Core.Path.{_≡_}
 use mathlib.Core.List.{List, _++_}
 use Prim.Native.Nat.{ℕ, suc}
 use lib.ListN.{length}
+use Rattle.rules.specs.Names.{Bytes}
 use Rattle.rules.specs.declared.Counts.{Counts}
 use Rattle.rules.specs.Plan.{Plan, planOf}
 use Rattle.rules.specs.Layout.{entryLimit}
@@ -13,7 +14,7 @@ use Rattle.rules.specs.History.{Property3}
 use Rattle.restoration.specs.Firings.{firingsIn}
 use Rattle.reference_run.specs.JournalCalls.{callLines, brokenLine, endsBroken, callsFrom}
 
-module _ (bs js : List ℕ) (c : Counts) (lent : List ℕ) where
+module _ (bs js : Bytes) (c : Counts) (lent : List ℕ) where
   abbrev p : Plan
   p = planOf bs c
 

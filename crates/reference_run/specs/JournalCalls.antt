@@ -2,6 +2,7 @@
 use mathlib.Core.Bool.{Bool, true, false, cond}
 use mathlib.Core.List.{List, [], _∷_, _++_}
 use Prim.Native.Nat.{ℕ, zero, suc, _+_}
+use Rattle.rules.specs.Names.{Bytes, Words, Place}
 use Rattle.rules.specs.Record.{sizeAt}
 use Rattle.rules.specs.Plan.{Plan}
 use Rattle.rules.specs.Layout.{entryLimit}
@@ -10,16 +11,16 @@ use Rattle.rules.specs.Journal.{ended, broken, fireLowest, called, itemAt, fire
 use Rattle.rules.specs.Transcript.{refusalLine, callLine, ledgerOf}
 
 -- a line for each call and its answer
-unfoldable pub callLines : List Call → List Answer → List ℕ
+unfoldable pub callLines : List Call → List Answer → Bytes
 callLines [] rs = []
 callLines (c ∷ cs) [] = []
 callLines (c ∷ cs) (r ∷ rs) = callLine c r ++ callLines cs rs
 
 -- "23 prints its `R` line and ends the reading, then `H` follows."
-unfoldable pub brokenLine : Bool → List ℕ
+unfoldable pub brokenLine : Bool → Bytes
 brokenLine b = cond b (refusalLine 23) []
 
-module _ (js : List ℕ) where
+module _ (js : Bytes) where
   -- whether the reading from a place on ends at a broken record
   unfoldable pub endsBroken : ℕ → ℕ → Bool
   endsBroken zero at = false
@@ -31,9 +32,9 @@ module _ (js : List ℕ) where
         | called c ↦ endsBroken n (at + sizeAt js at)
       ]
 
-module _ (bs js : List ℕ) (p : Plan) where
+module _ (bs js : Bytes) (p : Plan) where
   -- the calls that the records from a place on are, from the words ws; kind 19 is the firing that it comes to on the ledger before it
-  unfoldable pub callsFrom : ℕ → ℕ → List ℕ → List Call
+  unfoldable pub callsFrom : ℕ → Place → Words → List Call
   callsFrom zero at ws = []
   callsFrom (suc n) at ws =
       elim (itemAt js at) [

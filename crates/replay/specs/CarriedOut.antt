@@ -4,6 +4,7 @@ use mathlib.Core.Bool.{Bool, true, false, cond}
 use mathlib.Core.List.{List, _++_}
 use Prim.Native.Nat.{ℕ, _+_, _*_, _<_, _≤_, _^_}
 use lib.ListN.{length}
+use Rattle.rules.specs.Names.{Bytes, Words, Place}
 use Rattle.rules.specs.declared.Counts.{Counts}
 use Rattle.rules.specs.Fold.{sumBelow}
 use Rattle.rules.specs.Plan.{planOf, firstState}
@@ -19,28 +20,28 @@ use Rattle.journal.specs.Writing.{Wrote, Lined, lineRoom}
 use Rattle.replay.specs.declared.carry_out.Progress.{Progress}
 
 -- the call that a record asks for on the ledger that the words hold
-abbrev pub callAt : List ℕ → Counts → List ℕ → Item → Call
+abbrev pub callAt : Bytes → Counts → Words → Item → Call
 callAt bs c ws x = callOf (planOf bs c) (ledgerOf c ws) x
 
 -- There is room for a line, and for one firing more in the tally.
-pub record Prepared (bs : List ℕ) (c : Counts) (ws out : List ℕ) (from : Progress) : Type 0 where
+pub record Prepared (bs : Bytes) (c : Counts) (ws : Words) (out : Bytes) (from : Progress) : Type 0 where
   pub checked : Checked bs c ws
   pub room : from .place + lineRoom ≤ length out
   pub few : from .tally .fired + 1 < 2 ^ 32
 
 -- What is read of the plan once: the first state of each track, and the index of its transitions.
-pub record Tables (bs : List ℕ) (c : Counts) (firsts head next : List ℕ) : Type 0 where
+pub record Tables (bs : Bytes) (c : Counts) (firsts head next : List ℕ) : Type 0 where
   pub started : Figures 0 firsts (c .tracks) (firstState (planOf bs c))
   pub indexed : Indexed bs c head next
 
 -- The place is reached, and the tally has n firings more and the ledger's entries.
-pub record CameTo (c : Counts) (ws : List ℕ) (from : Progress) (end n : ℕ) (next : Progress) : Type 0 where
+pub record CameTo (c : Counts) (ws : Words) (from : Progress) (end : Place) (n : ℕ) (next : Progress) : Type 0 where
   pub place : next .place ≡ end
   pub fired : next .tally .fired ≡ from .tally .fired + n
   pub held : next .tally .held ≡ sumBelow (c .tracks) (λ t. length (ledgerOf c ws t .held))
 
 -- The call was made, and its line written.
-pub record CarriedOut (bs : List ℕ) (c : Counts) (d : Call) (ws out : List ℕ) (from : Progress) (ws′ out′ : List ℕ) (next : Progress) : Type 0 where
+pub record CarriedOut (bs : Bytes) (c : Counts) (d : Call) (ws : Words) (out : Bytes) (from : Progress) (ws′ : Words) (out′ : Bytes) (next : Progress) : Type 0 where
   pub words : ws′ ≡ callOutcome entryLimit bs ws d .words
   pub line : Lined out (from .place) (callLine d (callOutcome entryLimit bs ws d .answer)) out′ (next .place)
   pub fired : next .tally .fired ≡ from .tally .fired + firingsOf d (callOutcome entryLimit bs ws d .answer)
@@ -54,7 +55,7 @@ isBrokenRecord fireLowest = false
 isBrokenRecord (called c) = false
 
 -- The last lines were written.
-pub record Closed (x : Item) (out : List ℕ) (from : Progress) (out′ : List ℕ) (end : ℕ) : Type 0 where
+pub record Closed (x : Item) (out : Bytes) (from : Progress) (out′ : Bytes) (end : Place) : Type 0 where
   pub wrote : Wrote out (from .place)
       (cond (isBrokenRecord x) (refusalLine 23 ++ tallyLine (from .tally .held) (from .tally .fired)) (tallyLine (from .tally .held) (from .tally .fired)))
       out′ end

@@ -1,10 +1,11 @@
 -- What a run answers, and what it leaves in the lent output and the lent ledger. Assumes nothing.
 use mathlib.Core.Path.{_≡_}
 use mathlib.Core.Bool.{cond}
-use mathlib.Core.List.{List, _++_}
+use mathlib.Core.List.{_++_}
 use Prim.Native.Nat.{ℕ, suc, _+_, _*_, _≤_}
 use lib.ListN.{length}
 use lib.Dec.{ltb}
+use Rattle.rules.specs.Names.{Bytes, Words, Place}
 use Rattle.rules.specs.declared.Counts.{Counts}
 use Rattle.rules.specs.Record.{mostOf}
 use Rattle.rules.specs.Plan.{planOf}
@@ -17,16 +18,16 @@ use Rattle.replay.specs.declared.RunAnswer.the-variants.{Written, TooSma
 use Rattle.replay.specs.Left.{wordsFrom, wordsLeft}
 
 -- the bytes that hold any text of a journal
-unfoldable pub textRoom : List ℕ → ℕ
+unfoldable pub textRoom : Bytes → ℕ
 textRoom js = cond (ltb mostBytes (length js)) 72 (6 * length js + 72)
 
 pub record Result : Type 0 where
   pub answer : RunAnswer
-  pub words : List ℕ
-  pub bytes : List ℕ
+  pub words : Words
+  pub bytes : Bytes
 
 -- The text stands at the output's start, and the bytes beyond are as they were. Where the output or the ledger is too small nothing changes.
-unfoldable pub runOutcome : List ℕ → List ℕ → List ℕ → List ℕ → Result
+unfoldable pub runOutcome : Bytes → Bytes → Words → Bytes → Result
 runOutcome bs js ws out =
     cond (ltb (length out) (textRoom js)) (record { answer = TooSmall (textRoom js); words = ws; bytes = out })
     (cond (ltb (length ws) (wordCount entryLimit (mostOf 1))) (record { answer = ShortLedger; words = ws; bytes = out })
@@ -37,24 +38,24 @@ runOutcome bs js ws out =
     }))
 
 -- What a run promises of its answer, of every lent word and of every lent byte.
-pub record Ran (o : Result) (told : RunAnswer) (ws out : List ℕ) : Type 0 where
+pub record Ran (o : Result) (told : RunAnswer) (ws : Words) (out : Bytes) : Type 0 where
   pub answered : told ≡ o .answer
   pub left : ws ≡ o .words
   pub written : out ≡ o .bytes
   pub within : (n : ℕ) → told ≡ Written n → n ≤ length out
 
 -- The same of a text that is written from a place on, and of the words that are left.
-pub record RanFrom (out : List ℕ) (start : ℕ) (text words ws out′ : List ℕ) (end : ℕ) : Type 0 where
+pub record RanFrom (out : Bytes) (start : Place) (text : Bytes) (words ws : Words) (out′ : Bytes) (end : Place) : Type 0 where
   pub wrote : Wrote out start text out′ end
   pub left : ws ≡ words
   pub short : end ≤ length out
 
 -- The same of the journal's records and the last line, on a ledger that was begun, and of a plan's line before them.
-abbrev pub RanRecords : List ℕ → List ℕ → Counts → List ℕ → List ℕ → ℕ → List ℕ → List ℕ → ℕ → Type 0
+abbrev pub RanRecords : Bytes → Bytes → Counts → Words → Bytes → Place → Words → Bytes → Place → Type 0
 RanRecords bs js c ws out start ws′ out′ end =
     RanFrom out start (replay bs js (planOf bs c) (suc (length js)) 0 ws 0) (wordsFrom bs js (planOf bs c) (suc (length js)) 0 ws) ws′ out′ end
 
-abbrev pub RanPlan : List ℕ → List ℕ → Counts → List ℕ → List ℕ → List ℕ → List ℕ → ℕ → Type 0
+abbrev pub RanPlan : Bytes → Bytes → Counts → Words → Bytes → Words → Bytes → Place → Type 0
 RanPlan bs js c ws out ws′ out′ end =
-    let vs : List ℕ = beginOutcome entryLimit bs ws .words in
+    let vs : Words = beginOutcome entryLimit bs ws .words in
     RanFrom out 0 (planLine c ++ replay bs js (planOf bs c) (suc (length js)) 0 vs 0) (wordsFrom bs js (planOf bs c) (suc (length js)) 0 vs) ws′ out′ end

@@ -23,7 +23,7 @@ use Rattle.rules.specs.Fire.{newest, mayFire, removed, deviatesTo, fired, after
 use Rattle.rules.specs.Call as call
 use Rattle.rules.specs.Call.{EventArguments, SignalArguments, FireArguments, callRefusals, callRefusal, after, next}
 use Rattle.rules.specs.FinishedRun.{taken, movesBelow, movesOf}
-use Rattle.rules.proofs.Tests.{look, look-option, clash, none-some, and-true, or-false, passed, implies, implied}
+use Rattle.rules.proofs.Tests.{look, look-option, clash, none-some, and-holds, or-fails, passed, implies, implied}
 use Rattle.rules.proofs.Modes.{undoing-forward}
 use Rattle.rules.proofs.Folds.{some-not, every-at, every-of}
 use Rattle.rules.proofs.Acceptance.{Accepted, transition-for}
@@ -96,7 +96,7 @@ module _ (p : Plan) (l : Ledger) (e : ℕ) where
     where
       go : (b : Bool) → (isForward (l t .mode) && not (hasOpenScope p l t)) ≡ b → Takes p l t x
       go true k =
-          let (f, n) = and-true (isForward (l t .mode)) (not (hasOpenScope p l t)) k in
+          let (f, n) = and-holds (isForward (l t .mode)) (not (hasOpenScope p l t)) k in
           let q : transitionFor p (l t .state) e ≡ some x = rw k at h in
           let (r, s, v) = transition-for p (l t .state) e x q in
           record { forward = f; free = not-true (hasOpenScope p l t) n; real = r; from = s }
@@ -234,7 +234,7 @@ laws01 =
       closed-kept = λ p l a. closing.closed-kept p l;
       moves-are = moves-are;
       turned-up = λ p ok a t h e. refl;
-      goes-on = λ p l t b e n. not-ended p l t b e (or-false (ended p l t) (isBare p l t) n .0);
+      goes-on = λ p l t b e n. not-ended p l t b e (or-fails (ended p l t) (isBare p l t) n .0);
       settled = λ limit p h l c z. settled limit p l c z;
       refused = λ limit p h l c n. (next-refused limit p l (asRules c) n, refl);
       event-accepted = λ limit p h l a z. let (o, r) = event-accepted limit p l a z in (o, has-spare limit p l a r);
@@ -253,7 +253,7 @@ module _ (limit : ℕ) (p : Plan) (ok : Accepted p) (l : Ledger) (s : Sound docu
       let T = turned document01 p l a in
       finish-back p l (abandoned p T)
       (λ t e h.
-      let f = and-true (isForward (abandoned p T t .mode)) (isFinal p (abandoned p T t .state)) h .0 in
+      let f = and-holds (isForward (abandoned p T t .mode)) (isFinal p (abandoned p T t .state)) h .0 in
       ap (λ (c : Configuration). isForward (c .mode) && isFinal p (c .state)) (sym (track-untouched laws01 limit p ok l s a t f)) ∙ h)
       (s .finish)
 

@@ -16,7 +16,7 @@ use Rattle.rules.specs.Scope.{isOver}
 use Rattle.rules.specs.Fire.{mayFire}
 use Rattle.rules.specs.Soundness.{areTidy, isLive, isSound}
 use Rattle.rules.specs.Call.{Call, next}
-use Rattle.rules.proofs.Tests.{look, clash, and-true, and-both, or-true, or-right, same-test}
+use Rattle.rules.proofs.Tests.{look, clash, and-holds, and-both, or-holds, or-right, same-test}
 use Rattle.rules.proofs.Folds.{every-at}
 use Rattle.rules.proofs.Acceptance.{Accepted}
 use Rattle.rules.proofs.Soundness.{Live, live-facts, live-of}
@@ -135,9 +135,9 @@ module _ (limit : ℕ) (p : Plan) (ok : Accepted p) where
   unfolding isSound isOver
   words-kept ws s =
       let l = ledgerAt limit ws (trackCount p) in
-      let (tidy, v) = and-true (areTidy limit ws (trackCount p)) (isOver p l || isLive p l) s in
+      let (tidy, v) = and-holds (areTidy limit ws (trackCount p)) (isOver p l || isLive p l) s in
       let st = storable-read limit (trackCount p) ws tidy in
-      elim (or-true (isOver p l) (isLive p l) v) [
+      elim (or-holds (isOver p l) (isLive p l) v) [
         | inr h ↦ inr (sound-of limit p ok l st h)
         | inl o ↦
             inl

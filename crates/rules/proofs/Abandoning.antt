@@ -15,7 +15,7 @@ use Rattle.rules.specs.Plan.{Plan, trackCount, host, owner, isIn, isHost
 use Rattle.rules.specs.Ledger.{Configuration, Ledger, isAwake, isUndoing, isEmpty, sleeping}
 use Rattle.rules.specs.Scope.{isOpen, hasOpenScope}
 use Rattle.rules.specs.Signal.{isBare, isAbandoning, isSpentTo, isSpent, isLeft, isAbandoned, abandoned}
-use Rattle.rules.proofs.Tests.{look, look-option, clash, refuted, and-true, and-both, or-right, implies, implied}
+use Rattle.rules.proofs.Tests.{look, look-option, clash, refuted, and-holds, and-both, or-right, implies, implied}
 use Rattle.rules.proofs.Folds.{every-at, every-of, every-same}
 use Rattle.rules.proofs.Acceptance.{Accepted}
 use Rattle.rules.proofs.Scopes.{in-host, host-in, by-host, host-by, every-in-at, every-in-of, every-in-same, some-in-same, open-at, open-find, busy-find, free-at}
@@ -60,8 +60,8 @@ module _ (p : Plan) (ok : Accepted p) where
 
     pub spent-parts : (t : ℕ) → t < trackCount p → isSpent p l t ≡ true → Spent t
     spent-parts t b h =
-        let (x, y) = and-true (isUndoing (l t .mode) && isEmpty (l t .held)) (inner (isSpent p l) t) (sym (spent-law t b) ∙ h) in
-        let (u, e) = and-true (isUndoing (l t .mode)) (isEmpty (l t .held)) x in
+        let (x, y) = and-holds (isUndoing (l t .mode) && isEmpty (l t .held)) (inner (isSpent p l) t) (sym (spent-law t b) ∙ h) in
+        let (u, e) = and-holds (isUndoing (l t .mode)) (isEmpty (l t .held)) x in
         record {
           undoing = u;
           empty = e;
@@ -79,13 +79,13 @@ module _ (p : Plan) (ok : Accepted p) where
         (every-of (trackCount p) _
         (λ u c.
         implied (isHostedBy p t u && isAwake (l u .mode)) (isSpent p l u)
-        (λ k. let (i, a) = and-true (isHostedBy p t u) (isAwake (l u .mode)) k in s .hosted u c i a)))
+        (λ k. let (i, a) = and-holds (isHostedBy p t u) (isAwake (l u .mode)) k in s .hosted u c i a)))
 
     pub bare-parts : (t : ℕ) → isBare p l t ≡ true → (isUndoing (l t .mode) ≡ true) × (isEmpty (l t .held) ≡ true) × (hasOpenScope p l t ≡ false)
     unfolding isBare
     bare-parts t h =
-        let (x, y) = and-true (isUndoing (l t .mode) && isEmpty (l t .held)) (not (hasOpenScope p l t)) h in
-        let (u, e) = and-true (isUndoing (l t .mode)) (isEmpty (l t .held)) x in
+        let (x, y) = and-holds (isUndoing (l t .mode) && isEmpty (l t .held)) (not (hasOpenScope p l t)) h in
+        let (u, e) = and-holds (isUndoing (l t .mode)) (isEmpty (l t .held)) x in
         (u, e, not-true (hasOpenScope p l t) y)
 
     -- a bare track is spent
@@ -126,7 +126,7 @@ module _ (p : Plan) (ok : Accepted p) where
         elim (look-option (host p t)) [
           | inl e ↦ clash a (abandoned-root t e)
           | inr e ↦
-              let q = and-true (isOpen p l (e .0)) (everyIn p (e .0) (isSpent p l)) (sym (abandoned-host t (e .0) (e .1)) ∙ a) .1 in
+              let q = and-holds (isOpen p l (e .0)) (everyIn p (e .0) (isSpent p l)) (sym (abandoned-host t (e .0) (e .1)) ∙ a) .1 in
               every-in-at p (e .0) (isSpent p l) q t (ok .hosted t (e .0) (e .1)) (host-in p (e .0) t (e .1))
         ]
 
@@ -136,7 +136,7 @@ module _ (p : Plan) (ok : Accepted p) where
   abandoned-done l s =
       refuted _
       (λ h.
-      let (o, q) = and-true (isOpen p (abandoned p l) s) (everyIn p s (isBare p (abandoned p l))) h in
+      let (o, q) = and-holds (isOpen p (abandoned p l) s) (everyIn p s (isBare p (abandoned p l))) h in
       let (t, b, e, a) = open-find p (abandoned p l) s o in
       let (n, k) = awake-kept l t a in
       let no : isLeft p l s ≡ false = sym (abandoned-host l t s e) ∙ n in
@@ -194,7 +194,7 @@ module _ (p : Plan) (ok : Accepted p) where
     none-left s =
         refuted (isLeft p l s)
         (λ h.
-        let (o, q) = and-true (isOpen p l s) (everyIn p s (isSpent p l)) h in
+        let (o, q) = and-holds (isOpen p l s) (everyIn p s (isSpent p l)) h in
         clash
         (and-both (isOpen p l s) (everyIn p s (isBare p l)) o
         (every-in-of p s (isBare p l) (λ t b i. spent-bare (trackCount p) t b (omega arith) (every-in-at p s (isSpent p l) q t b i))))
@@ -229,7 +229,7 @@ module _ (p : Plan) (ok : Accepted p) where
       due-spent : (t : ℕ) → t < trackCount p → host p t ≡ some s → isSpent p l t ≡ true
       unfolding isAbandoning
       due-spent t b e =
-          bare-spent l t b (every-in-at p s (isBare p l) (and-true (isOpen p l s) (everyIn p s (isBare p l)) due .1) t b (host-in p s t e))
+          bare-spent l t b (every-in-at p s (isBare p l) (and-holds (isOpen p l s) (everyIn p s (isBare p l)) due .1) t b (host-in p s t e))
 
       -- outside the scope a track is spent afterwards exactly if it was before: from the highest number down
       same-spent : (n t : ℕ) → t < trackCount p → trackCount p ≤ n + t → isIn p s t ≡ false → isSpent p (abandonedOne l s) t ≡ isSpent p l t
@@ -280,7 +280,7 @@ module _ (p : Plan) (ok : Accepted p) where
       scope-left : isLeft p l s ≡ true
       unfolding isLeft isAbandoning
       scope-left =
-          and-both (isOpen p l s) (everyIn p s (isSpent p l)) (and-true (isOpen p l s) (everyIn p s (isBare p l)) due .0)
+          and-both (isOpen p l s) (everyIn p s (isSpent p l)) (and-holds (isOpen p l s) (everyIn p s (isBare p l)) due .0)
           (every-in-of p s (isSpent p l) (λ u c j. due-spent u c (in-host p s u j)))
 
       -- a single step leaves the outcome as it was

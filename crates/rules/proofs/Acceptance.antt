@@ -14,7 +14,7 @@ use Rattle.rules.specs.Fold.{someBelow, firstRefusal}
 use Rattle.rules.specs.Record.{Scan, refused, counted, scan}
 use Rattle.rules.specs.Plan.{Plan, planOf, trackCount, stateCount, transitionCount, noState, optional, hostWord, host, owner, replacement, state, transition, mover, isRoot, isStateOf, isFinal, isIn, isHosting, first, firstState, transitionFor}
 use Rattle.rules.specs.Acceptance.{noTrack, badState, badHost, badFirst, badHosting, badTransition, badDeviation, repeatsEvent, tooHigh, judgePlan, turnedBack, accepted, judged, readPlan}
-use Rattle.rules.proofs.Tests.{look, clash, and-true, and-both, or-false, passed}
+use Rattle.rules.proofs.Tests.{look, clash, and-holds, and-both, or-fails, passed}
 use Rattle.rules.proofs.Folds.{some-not, some-at, first-found}
 
 -- 8 to 16, as each record passed them
@@ -123,7 +123,7 @@ module _ (p : Plan) (a : Passed p) where
       let w = host-word t h e in
       let q : (isRoot p t || (ltb (hostWord p t) (stateCount p) && ltb (owner p (hostWord p t)) t)) ≡ true = not-false _ (a .hosts t (hosted t h e)) in
       let r : (ltb h (stateCount p) && ltb (owner p h) t) ≡ true = rw (not-root t h e, w) at q in
-      let (x, y) = and-true (ltb h (stateCount p)) (ltb (owner p h) t) r in
+      let (x, y) = and-holds (ltb h (stateCount p)) (ltb (owner p h) t) r in
       (ltb-true h (stateCount p) x, ltb-true (owner p h) t y)
 
   is-in : (t h : ℕ) → host p t ≡ some h → isIn p h t ≡ true
@@ -134,13 +134,13 @@ module _ (p : Plan) (a : Passed p) where
   unfolding badHosting isHosting
   host-open t h e =
       let x = some-at (trackCount p) (isIn p h) t (hosted t h e) (is-in t h e) in
-      let q = or-false (isFinal p h && isHosting p h) (not (isHosting p h) && not (eqb (replacement p h) 0)) (a .hostings h (host-facts t h e .0)) .0 in
+      let q = or-fails (isFinal p h && isHosting p h) (not (isHosting p h) && not (eqb (replacement p h) 0)) (a .hostings h (host-facts t h e .0)) .0 in
       ⊎-elim (λ f. clash (and-both (isFinal p h) (isHosting p h) f x) q) (λ f. f) (look (isFinal p h))
 
   unhosting : (s : ℕ) → s < stateCount p → isHosting p s ≡ false → replacement p s ≡ 0
   unfolding badHosting
   unhosting s l n =
-      let q = or-false (isFinal p s && isHosting p s) (not (isHosting p s) && not (eqb (replacement p s) 0)) (a .hostings s l) .1 in
+      let q = or-fails (isFinal p s && isHosting p s) (not (isHosting p s) && not (eqb (replacement p s) 0)) (a .hostings s l) .1 in
       let r : not (eqb (replacement p s) 0) ≡ false = rw n at q in
       eqb-true (replacement p s) 0 (not-false _ r)
 
@@ -158,7 +158,7 @@ module _ (p : Plan) (a : Passed p) where
 
   owned : (s : ℕ) → s < stateCount p → owner p s < trackCount p
   unfolding badState
-  owned s l = leb-false (trackCount p) (owner p s) (or-false (leb (trackCount p) (owner p s)) (ltb 1 (state p s .final)) (a .states s l) .0)
+  owned s l = leb-false (trackCount p) (owner p s) (or-fails (leb (trackCount p) (owner p s)) (ltb 1 (state p s .final)) (a .states s l) .0)
 
   -- the four parts of 13 that are used
   pub record Sane (x : ℕ) : Type 0 where
@@ -177,10 +177,10 @@ module _ (p : Plan) (a : Passed p) where
       let C = not (eqb (owner p s) (owner p d)) in
       let D = isFinal p s in
       let E = eqb (transition p x .event) 0 in
-      let q4 = or-false (A || B || C || D) E (a .transitions x l) in
-      let q3 = or-false (A || B || C) D (q4 .0) in
-      let q2 = or-false (A || B) C (q3 .0) in
-      let q1 = or-false A B (q2 .0) in
+      let q4 = or-fails (A || B || C || D) E (a .transitions x l) in
+      let q3 = or-fails (A || B || C) D (q4 .0) in
+      let q2 = or-fails (A || B) C (q3 .0) in
+      let q1 = or-fails A B (q2 .0) in
       let e : owner p s ≡ owner p d = eqb-true (owner p s) (owner p d) (not-false _ (q2 .1)) in
       let m : d < stateCount p = leb-false (stateCount p) d (q1 .1) in
       record {
@@ -200,9 +200,9 @@ module _ (p : Plan) (a : Passed p) where
       let C = not (isRoot p (mover p x)) in
       let D = eqb (transition p x .code) 0 in
       let r : (A || B || C || D) ≡ false = rw (n, e) at (a .deviations x l) in
-      let q3 = or-false (A || B || C) D r in
-      let q2 = or-false (A || B) C (q3 .0) in
-      let q1 = or-false A B (q2 .0) in
+      let q3 = or-fails (A || B || C) D r in
+      let q2 = or-fails (A || B) C (q3 .0) in
+      let q1 = or-fails A B (q2 .0) in
       (not-false _ (q1 .0), q1 .1, not-false _ (q2 .1))
 
   repeated : (x y : ℕ) → x < y → transition p x .source ≡ transition p y .source → transition p x .event ≡ transition p y .event
@@ -254,5 +254,5 @@ pub transition-for : (p : Plan) (s e x : ℕ) → transitionFor p s e ≡ some x
 unfolding transitionFor
 transition-for p s e x h =
     let (l, q) = first-found (transitionCount p) (λ x. eqb (transition p x .source) s && eqb (transition p x .event) e) x h in
-    let (a, b) = and-true (eqb (transition p x .source) s) (eqb (transition p x .event) e) q in
+    let (a, b) = and-holds (eqb (transition p x .source) s) (eqb (transition p x .event) e) q in
     (l, eqb-true _ _ a, eqb-true _ _ b)

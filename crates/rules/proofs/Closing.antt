@@ -11,7 +11,7 @@ use Rattle.rules.specs.Plan.{Plan, trackCount, noState, host, owner, rep
 use Rattle.rules.specs.Ledger.{Configuration, Ledger, isAwake, isForward, sleeping}
 use Rattle.rules.specs.Scope.{isOpen}
 use Rattle.rules.specs.Event.{installed, isClosing, isClosed, closesScope, closed}
-use Rattle.rules.proofs.Tests.{look, look-option, clash, refuted, and-true}
+use Rattle.rules.proofs.Tests.{look, look-option, clash, refuted, and-holds}
 use Rattle.rules.proofs.Acceptance.{Accepted}
 use Rattle.rules.proofs.Scopes.{in-host, host-in, every-in-at, every-in-same, some-in-same, open-find}
 
@@ -39,7 +39,7 @@ module _ (p : Plan) where
   closing-asleep l s h =
       refuted (isClosing p l s)
       (λ c.
-      let (o, e) = and-true (isOpen p l s) _ c in
+      let (o, e) = and-holds (isOpen p l s) _ c in
       let (t, b, i, a) = open-find p l s o in
       let q : isAwake (sleeping .mode) ≡ true = rw (h t b i) at a in
       clash q refl)
@@ -48,8 +48,8 @@ module _ (p : Plan) where
       → (isForward (l t .mode) ≡ true) × (isFinal p (l t .state) ≡ true)
   unfolding isClosing
   closing-final l s t c b e =
-      let q = and-true (isOpen p l s) _ c .1 in
-      and-true (isForward (l t .mode)) (isFinal p (l t .state)) (every-in-at p s (λ t. isForward (l t .mode) && isFinal p (l t .state)) q t b (host-in p s t e))
+      let q = and-holds (isOpen p l s) _ c .1 in
+      and-holds (isForward (l t .mode)) (isFinal p (l t .state)) (every-in-at p s (λ t. isForward (l t .mode) && isFinal p (l t .state)) q t b (host-in p s t e))
 
   pub closed-host : (l : Ledger) (t h : ℕ) → host p t ≡ some h → isClosed p l t ≡ isClosing p l h
   unfolding isClosed
@@ -92,7 +92,7 @@ module _ (p : Plan) where
   pub closed-steady : (l : Ledger) → ((s : ℕ) → isClosing p l s ≡ false) → closed p l ≡ l
   unfolding closesScope
   closed-steady l n =
-      fun-ext (λ t. closed-kept l t (not-closed t (look-option (host p t))) (refuted (closesScope p l t) (λ k. clash (and-true (isAwake (l t .mode)) _ k .1) (n (l t .state)))))
+      fun-ext (λ t. closed-kept l t (not-closed t (look-option (host p t))) (refuted (closesScope p l t) (λ k. clash (and-holds (isAwake (l t .mode)) _ k .1) (n (l t .state)))))
     where
       not-closed : (t : ℕ) → (host p t ≡ none) ⊎ ((h : ℕ) × (host p t ≡ some h)) → isClosed p l t ≡ false
       not-closed t (inl e) = closed-root l t e
@@ -147,7 +147,7 @@ module _ (p : Plan) where
   closing-host : (l : Ledger) → Placed l → (s : ℕ) → isClosing p l s ≡ true → (isAwake (l (owner p s) .mode) ≡ true) × (l (owner p s) .state ≡ s)
   unfolding isClosing
   closing-host l w s c =
-      let (o, q) = and-true (isOpen p l s) _ c in
+      let (o, q) = and-holds (isOpen p l s) _ c in
       let (t, b, e, a) = open-find p l s o in w .up t s a e
 
   -- a single closing leaves the outcome of the one pass as it was
@@ -183,7 +183,7 @@ module _ (p : Plan) where
           let shut : closesScope p (closedOne l s) t ≡ false =
           refuted _
           (λ z.
-          clash (and-true (isAwake (closedOne l s t .mode)) _ z .1)
+          clash (and-holds (isAwake (closedOne l s t .mode)) _ z .1)
           (ap (isClosing p (closedOne l s)) (q .1 ∙ st) ∙ one-same l s)) in
           let due : closesScope p l t ≡ true = rw (aw, st) c in
           closed-kept (closedOne l s) t (same-closed n ∙ d) shut ∙ r

@@ -2,7 +2,7 @@
 -- Assumes nothing.
 use mathlib.Core.Path.{_≡_, refl, sym, ap, _∙_}
 use mathlib.Core.Logic.{inl, inr}
-use mathlib.Core.Bool.{Bool, true, false, not, _&&_}
+use mathlib.Core.Bool.{Bool, true, false, not, _&&_, and-true, and-false}
 use Prim.Native.Nat.{ℕ, zero, suc, _+_, _<_, _≤_}
 use native.Mathlib.Nat.{not-suc-le-zero}
 use native.Mathlib.Omega.{arith}
@@ -15,14 +15,6 @@ use Rattle.rules.proofs.Folds.{count-same}
 without : (ℕ → Bool) → ℕ → ℕ → Bool
 without g t u = g u && not (eqb u t)
 
-still : (b : Bool) → (b && true) ≡ b
-still true = refl
-still false = refl
-
-gone : (b : Bool) → (b && false) ≡ false
-gone true = refl
-gone false = refl
-
 -- one number taken out
 count-without : (k : ℕ) (g : ℕ → Bool) (t : ℕ) → t < k → g t ≡ true → countBelow k g ≡ countBelow k (without g t) + 1
 unfolding countBelow without
@@ -32,14 +24,14 @@ count-without (suc k) g t l h =
       | inl e ↦
           let q = eqb-true t k e in
           let same : countBelow k g ≡ countBelow k (without g t) =
-          count-same k g (without g t) (λ u b. sym (ap (λ z. g u && not z) (ne-eqb u t (λ f. let z : u ≡ t = f in absurd (omega arith))) ∙ still (g u))) in
+          count-same k g (without g t) (λ u b. sym (ap (λ z. g u && not z) (ne-eqb u t (λ f. let z : u ≡ t = f in absurd (omega arith))) ∙ and-true (g u))) in
           let here : g k ≡ true = ap g (sym q) ∙ h in
-          let left : (g k && not (eqb k t)) ≡ false = ap (λ z. g k && not z) (eq-eqb k t (sym q)) ∙ gone (g k) in
+          let left : (g k && not (eqb k t)) ≡ false = ap (λ z. g k && not z) (eq-eqb k t (sym q)) ∙ and-false (g k) in
           rw (left, here) (omega arith)
       | inr e ↦
           let n : t ≡ k → ⊥ = eqb-false t k e in
           let i = count-without k g t (omega arith) h in
-          let last : (g k && not (eqb k t)) ≡ g k = ap (λ z. g k && not z) (ne-eqb k t (λ f. n (sym f))) ∙ still (g k) in
+          let last : (g k && not (eqb k t)) ≡ g k = ap (λ z. g k && not z) (ne-eqb k t (λ f. n (sym f))) ∙ and-true (g k) in
           rw last (omega arith)
     ]
 

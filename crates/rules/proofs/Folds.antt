@@ -10,14 +10,14 @@ use native.Mathlib.Numerals.{add-one}
 use native.Mathlib.Omega.{arith}
 use lib.ListN.{length, getD}
 use Rattle.rules.specs.Fold.{someBelow, everyBelow, countBelow, sumBelow, greatestBelow, firstBelow, tabulateFrom, tabulate}
-use Rattle.rules.proofs.Tests.{look, clash, and-true, or-true, or-right}
+use Rattle.rules.proofs.Tests.{look, clash, and-holds, or-holds, or-right}
 
 -- Every number below n.
 pub every-at : (n : ℕ) (f : ℕ → Bool) → everyBelow n f ≡ true → (k : ℕ) → k < n → f k ≡ true
 unfolding everyBelow
 every-at zero f h k lt = absurd (not-suc-le-zero lt)
 every-at (suc n) f h k lt =
-    let (a, b) = and-true (everyBelow n f) (f n) h in
+    let (a, b) = and-holds (everyBelow n f) (f n) h in
     ⊎-elim (λ e. ap f e ∙ b) (λ l. every-at n f a k l) (eq-or-lt-of-le (le-of-suc-le-suc lt))
 
 pub every-of : (n : ℕ) (f : ℕ → Bool) → ((k : ℕ) → k < n → f k ≡ true) → everyBelow n f ≡ true
@@ -46,7 +46,7 @@ pub some-find : (n : ℕ) (f : ℕ → Bool) → someBelow n f ≡ true → (k :
 unfolding someBelow
 some-find zero f h = clash h refl
 some-find (suc n) f h =
-    ⊎-elim (λ e. let (k, lt, q) = some-find n f e in (k, omega arith, q)) (λ e. (n, omega arith, e)) (or-true (someBelow n f) (f n) h)
+    ⊎-elim (λ e. let (k, lt, q) = some-find n f e in (k, omega arith, q)) (λ e. (n, omega arith, e)) (or-holds (someBelow n f) (f n) h)
 
 -- where none passes, each fails
 pub some-not : (n : ℕ) (f : ℕ → Bool) → someBelow n f ≡ false → (k : ℕ) → k < n → f k ≡ false

@@ -11,7 +11,7 @@ use lib.Dec.{eqb}
 use borrow.Author.Tests.{eqb-true, eq-eqb}
 use Rattle.rules.specs.Plan.{Plan, host, owner, climbTo, climb, isInside, isAbove}
 use Rattle.rules.specs.Books.{Apart}
-use Rattle.rules.proofs.Tests.{look-option, clash, refuted, or-true, or-right, strong}
+use Rattle.rules.proofs.Tests.{look-option, clash, refuted, or-holds, or-right, strong}
 use Rattle.rules.proofs.Acceptance.{Accepted}
 
 module _ (p : Plan) (ok : Accepted p) where
@@ -59,7 +59,7 @@ module _ (p : Plan) (ok : Accepted p) where
 
   pub above-up : (u t h : ℕ) → host p t ≡ some h → isAbove p u t ≡ true → Reaches u (owner p h)
   above-up u t h e k =
-      elim (or-true (eqb (owner p h) u) (isAbove p u (owner p h)) (sym (above-host u t h e) ∙ k))
+      elim (or-holds (eqb (owner p h) u) (isAbove p u (owner p h)) (sym (above-host u t h e) ∙ k))
       [ inl f ↦ inl (sym (eqb-true (owner p h) u f)) | inr f ↦ inr f ]
 
   pub above-down : (u t h : ℕ) → host p t ≡ some h → Reaches u (owner p h) → isAbove p u t ≡ true
@@ -79,7 +79,7 @@ module _ (p : Plan) (ok : Accepted p) where
         | inr e ↦ (
           e .0,
           e .1,
-          elim (or-true (eqb (e .0) s) (isInside p s (owner p (e .0))) (sym (inside-host s t (e .0) (e .1)) ∙ k))
+          elim (or-holds (eqb (e .0) s) (isInside p s (owner p (e .0))) (sym (inside-host s t (e .0) (e .1)) ∙ k))
               [ inl f ↦ inl (eqb-true (e .0) s f) | inr f ↦ inr f ],
         )
       ]

@@ -12,7 +12,7 @@ use borrow.Author.Tests.{eqb-true, ltb-true, lt-ltb, le-ltb, eq-eqb, not-false}
 use Rattle.rules.specs.Fold.{someBelow, greatestBelow}
 use Rattle.rules.specs.Plan.{Plan, trackCount, stateCount, hostWord, host, owner, isRoot, isStateOf, isIn, reachBy, heightTo, height}
 use Rattle.rules.specs.Acceptance.{mostHeight, badHost, tooHigh}
-use Rattle.rules.proofs.Tests.{look, look-option, clash, and-true, and-both, and-not, strong}
+use Rattle.rules.proofs.Tests.{look, look-option, clash, and-holds, and-both, and-not, strong}
 use Rattle.rules.proofs.Folds.{some-at, some-find, some-not, some-none, greatest-same, greatest-le, greatest-at, greatest-min}
 use Rattle.rules.proofs.Acceptance.{optional-some}
 
@@ -70,7 +70,7 @@ module _ (p : Plan) where
 
   pub owner-is : (t s : ℕ) → isStateOf p t s ≡ true → owner p s ≡ t
   unfolding isStateOf
-  owner-is t s o = eqb-true (owner p s) t (and-true (ltb s (stateCount p)) (eqb (owner p s) t) o .1)
+  owner-is t s o = eqb-true (owner p s) t (and-holds (ltb s (stateCount p)) (eqb (owner p s) t) o .1)
 
   unfoldable pub isHighRoot : ℕ → Bool
   isHighRoot t = isRoot p t && tooHigh p t
@@ -96,7 +96,7 @@ module _ (p : Plan) where
       let r : isRoot p t ≡ false = rw (e, isRoot) in
       let n : (isRoot p t || (ltb (hostWord p t) (stateCount p) && ltb (owner p (hostWord p t)) t)) ≡ true = not-false _ b in
       let q : (ltb h (stateCount p) && ltb (owner p h) t) ≡ true = rw (r, w) at n in
-      let (x, y) = and-true (ltb h (stateCount p)) (ltb (owner p h) t) q in
+      let (x, y) = and-holds (ltb h (stateCount p)) (ltb (owner p h) t) q in
       (ltb-true h (stateCount p) x, ltb-true (owner p h) t y)
 
   module _ (passed : someBelow (trackCount p) (badHost p) ≡ false) where

@@ -10,7 +10,7 @@ use Rattle.rules.specs.Plan.{Plan, trackCount}
 use Rattle.rules.specs.Ledger.{Ledger, isAwake, isUndoing, isEmpty}
 use Rattle.rules.specs.Scope.{hasOpenScope, isOver}
 use Rattle.rules.specs.Fire.{mayFire, ready}
-use Rattle.rules.proofs.Tests.{clash, refuted, and-true}
+use Rattle.rules.proofs.Tests.{clash, refuted, and-holds}
 use Rattle.rules.proofs.Folds.{every-at, sum-same}
 use Rattle.rules.proofs.Abandoning.{undoing-awake}
 
@@ -28,9 +28,9 @@ module _ (p : Plan) (l : Ledger) where
       let A = ltb t (trackCount p) in
       let B = isUndoing (l t .mode) in
       let C = not (isEmpty (l t .held)) in
-      let (x, d) = and-true (A && B && C) (not (hasOpenScope p l t)) h in
-      let (y, c) = and-true (A && B) C x in
-      let (a, b) = and-true A B y in
+      let (x, d) = and-holds (A && B && C) (not (hasOpenScope p l t)) h in
+      let (y, c) = and-holds (A && B) C x in
+      let (a, b) = and-holds A B y in
       (ltb-true t (trackCount p) a, b, not-true (isEmpty (l t .held)) c, not-true (hasOpenScope p l t) d)
 
   pub fire-may : (t : ℕ) → t < trackCount p → isUndoing (l t .mode) ≡ true → isEmpty (l t .held) ≡ false → hasOpenScope p l t ≡ false

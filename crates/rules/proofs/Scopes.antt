@@ -8,7 +8,7 @@ use borrow.Author.Tests.{eqb-true, eq-eqb}
 use Rattle.rules.specs.Plan.{Plan, trackCount, host, owner, isIn, isHostedBy, isRoot, everyIn, someIn}
 use Rattle.rules.specs.Ledger.{Ledger, isAwake}
 use Rattle.rules.specs.Scope.{isOpen, hasOpenScope}
-use Rattle.rules.proofs.Tests.{look, clash, and-true, and-both, implies, implied}
+use Rattle.rules.proofs.Tests.{look, clash, and-holds, and-both, implies, implied}
 use Rattle.rules.proofs.Folds.{every-at, every-of, every-same, some-at, some-find, some-same}
 
 module _ (p : Plan) where
@@ -84,7 +84,7 @@ module _ (p : Plan) where
   unfolding someIn
   some-in-find s f h =
       let (t, l, q) = some-find (trackCount p) (λ t. isIn p s t && f t) h in
-      let (a, b) = and-true (isIn p s t) (f t) q in (t, l, a, b)
+      let (a, b) = and-holds (isIn p s t) (f t) q in (t, l, a, b)
 
   pub some-in-same : (s : ℕ) (f g : ℕ → Bool) → ((t : ℕ) → t < trackCount p → isIn p s t ≡ true → f t ≡ g t) → someIn p s f ≡ someIn p s g
   unfolding someIn
@@ -116,7 +116,7 @@ module _ (p : Plan) where
     unfolding hasOpenScope
     busy-find t k =
         let (u, b, q) = some-find (trackCount p) (λ u. isHostedBy p t u && isAwake (l u .mode)) k in
-        let (x, a) = and-true (isHostedBy p t u) (isAwake (l u .mode)) q in
+        let (x, a) = and-holds (isHostedBy p t u) (isAwake (l u .mode)) q in
         let (h, e, o) = by-host t u x in (u, h, b, e, o, a)
 
     pub free-at : (t u : ℕ) → hasOpenScope p l t ≡ false → u < trackCount p → isHostedBy p t u ≡ true → isAwake (l u .mode) ≡ false

@@ -15,7 +15,7 @@ use Rattle.rules.specs.Scope.{isOpen}
 use Rattle.rules.specs.Event.{isClosing, isFinishing}
 use Rattle.rules.specs.Signal.{isAbandoning}
 use Rattle.rules.specs.Soundness.{everyHeld, sameMode, rootsAwake, statesOwn, codesReal, goodDeviation, deviationsGood, isWhole, scopesWhole, isHostedWell, hostsAwake, closingDone, finishDone, abandoningDone, isLive}
-use Rattle.rules.proofs.Tests.{look, clash, refuted, and-true, and-both, or-true, or-right, implies, implied}
+use Rattle.rules.proofs.Tests.{look, clash, refuted, and-holds, and-both, or-holds, or-right, implies, implied}
 use Rattle.rules.proofs.Folds.{every-at, every-of, some-not, some-none}
 use Rattle.rules.proofs.Acceptance.{Accepted}
 use Rattle.rules.proofs.Scopes.{in-host, host-in, root-of, root-none, every-in-at, every-in-of, open-find, shut-at}
@@ -58,14 +58,14 @@ module _ (p : Plan) (ok : Accepted p) (l : Ledger) where
   pub live-facts : isLive p l ≡ true → Live p l
   unfolding isLive rootsAwake statesOwn codesReal deviationsGood scopesWhole isWhole hostsAwake isHostedWell closingDone finishDone abandoningDone isClosing isAbandoning
   live-facts h =
-      let q8 = and-true (rootsAwake p l && statesOwn p l && codesReal p l && deviationsGood p l && scopesWhole p l && hostsAwake p l && closingDone p l && finishDone p l) (abandoningDone p l) h in
-      let q7 = and-true (rootsAwake p l && statesOwn p l && codesReal p l && deviationsGood p l && scopesWhole p l && hostsAwake p l && closingDone p l) (finishDone p l) (q8 .0) in
-      let q6 = and-true (rootsAwake p l && statesOwn p l && codesReal p l && deviationsGood p l && scopesWhole p l && hostsAwake p l) (closingDone p l) (q7 .0) in
-      let q5 = and-true (rootsAwake p l && statesOwn p l && codesReal p l && deviationsGood p l && scopesWhole p l) (hostsAwake p l) (q6 .0) in
-      let q4 = and-true (rootsAwake p l && statesOwn p l && codesReal p l && deviationsGood p l) (scopesWhole p l) (q5 .0) in
-      let q3 = and-true (rootsAwake p l && statesOwn p l && codesReal p l) (deviationsGood p l) (q4 .0) in
-      let q2 = and-true (rootsAwake p l && statesOwn p l) (codesReal p l) (q3 .0) in
-      let q1 = and-true (rootsAwake p l) (statesOwn p l) (q2 .0) in
+      let q8 = and-holds (rootsAwake p l && statesOwn p l && codesReal p l && deviationsGood p l && scopesWhole p l && hostsAwake p l && closingDone p l && finishDone p l) (abandoningDone p l) h in
+      let q7 = and-holds (rootsAwake p l && statesOwn p l && codesReal p l && deviationsGood p l && scopesWhole p l && hostsAwake p l && closingDone p l) (finishDone p l) (q8 .0) in
+      let q6 = and-holds (rootsAwake p l && statesOwn p l && codesReal p l && deviationsGood p l && scopesWhole p l && hostsAwake p l) (closingDone p l) (q7 .0) in
+      let q5 = and-holds (rootsAwake p l && statesOwn p l && codesReal p l && deviationsGood p l && scopesWhole p l) (hostsAwake p l) (q6 .0) in
+      let q4 = and-holds (rootsAwake p l && statesOwn p l && codesReal p l && deviationsGood p l) (scopesWhole p l) (q5 .0) in
+      let q3 = and-holds (rootsAwake p l && statesOwn p l && codesReal p l) (deviationsGood p l) (q4 .0) in
+      let q2 = and-holds (rootsAwake p l && statesOwn p l) (codesReal p l) (q3 .0) in
+      let q1 = and-holds (rootsAwake p l) (statesOwn p l) (q2 .0) in
       record {
         roots = λ t b e. implies (isRoot p t) (isAwake (l t .mode)) (every-at (trackCount p) _ (q1 .0) t b) (root-of p t e);
         own = λ t b a. implies (isAwake (l t .mode)) (isStateOf p t (l t .state)) (every-at (trackCount p) _ (q1 .1) t b) a;
@@ -74,15 +74,15 @@ module _ (p : Plan) (ok : Accepted p) (l : Ledger) where
         whole = λ s t u e f a.
             ⊎-elim (λ w. every-in-at p s (λ t. isAwake (l t .mode)) w u (ok .hosted u s f) (host-in p s u f))
             (λ w. clash a (not-true _ (every-in-at p s (λ t. not (isAwake (l t .mode))) w t (ok .hosted t s e) (host-in p s t e))))
-            (or-true (everyIn p s (λ t. isAwake (l t .mode))) (everyIn p s (λ t. not (isAwake (l t .mode)))) (every-at (stateCount p) _ (q4 .1) s (ok .host-state t s e)));
+            (or-holds (everyIn p s (λ t. isAwake (l t .mode))) (everyIn p s (λ t. not (isAwake (l t .mode)))) (every-at (stateCount p) _ (q4 .1) s (ok .host-state t s e)));
         up = λ t h′ e a.
             let x : isHostedWell p l t ≡ true = every-at (trackCount p) (isHostedWell p l) (q5 .1) t (ok .hosted t h′ e) in
             let y : (not (isAwake (l t .mode)) || (eqb (l (owner p h′) .state) h′ && sameMode (l (owner p h′) .mode) (l t .mode))) ≡ true = rw (e, isHostedWell) at x in
-            let (u, v) = and-true (eqb (l (owner p h′) .state) h′) (sameMode (l (owner p h′) .mode) (l t .mode)) (implies (isAwake (l t .mode)) _ y a) in
+            let (u, v) = and-holds (eqb (l (owner p h′) .state) h′) (sameMode (l (owner p h′) .mode) (l t .mode)) (implies (isAwake (l t .mode)) _ y a) in
             (eqb-true _ _ u, same-mode _ _ v);
-        closing = λ s. settled s (isClosing p l) (not-true _ (q6 .1)) (λ c. and-true (isOpen p l s) _ c .0);
+        closing = λ s. settled s (isClosing p l) (not-true _ (q6 .1)) (λ c. and-holds (isOpen p l s) _ c .0);
         finish = not-true _ (q7 .1);
-        abandoning = λ s. settled s (isAbandoning p l) (not-true _ (q8 .1)) (λ c. and-true (isOpen p l s) _ c .0);
+        abandoning = λ s. settled s (isAbandoning p l) (not-true _ (q8 .1)) (λ c. and-holds (isOpen p l s) _ c .0);
       }
     where
       settled : (s : ℕ) (f : ℕ → Bool) → someBelow (stateCount p) f ≡ false → (f s ≡ true → isOpen p l s ≡ true) → f s ≡ false

@@ -27,9 +27,9 @@ pub refuted : (b : Bool) → (b ≡ true → ⊥) → b ≡ false
 refuted true f = absurd (f refl)
 refuted false f = refl
 
-pub and-true : (a b : Bool) → (a && b) ≡ true → (a ≡ true) × (b ≡ true)
-and-true true b h = (refl, h)
-and-true false b h = (h, clash h refl)
+pub and-holds : (a b : Bool) → (a && b) ≡ true → (a ≡ true) × (b ≡ true)
+and-holds true b h = (refl, h)
+and-holds false b h = (h, clash h refl)
 
 pub and-both : (a b : Bool) → a ≡ true → b ≡ true → (a && b) ≡ true
 and-both a b h k = rw (h, k)
@@ -39,13 +39,13 @@ and-not true true h = absurd (h refl refl)
 and-not true false h = refl
 and-not false b h = refl
 
-pub or-true : (a b : Bool) → (a || b) ≡ true → (a ≡ true) ⊎ (b ≡ true)
-or-true true b h = inl refl
-or-true false b h = inr h
+pub or-holds : (a b : Bool) → (a || b) ≡ true → (a ≡ true) ⊎ (b ≡ true)
+or-holds true b h = inl refl
+or-holds false b h = inr h
 
-pub or-false : (a b : Bool) → (a || b) ≡ false → (a ≡ false) × (b ≡ false)
-or-false true b h = (h, clash refl h)
-or-false false b h = (refl, h)
+pub or-fails : (a b : Bool) → (a || b) ≡ false → (a ≡ false) × (b ≡ false)
+or-fails true b h = (h, clash refl h)
+or-fails false b h = (refl, h)
 
 pub or-right : (a b : Bool) → b ≡ true → (a || b) ≡ true
 or-right true b h = refl

@@ -16,7 +16,7 @@ use Rattle.rules.specs.declared.Mode.the-variants.{Asleep, Forward, Undo
 use Rattle.rules.specs.Layout.{leadingWords, headWords, entryWidth, trackWidth, trackPlace}
 use Rattle.rules.specs.Ledger.{Entry, Configuration, isAwake, sleeping, modeWord, heldWords, modeOf, entryAt, heldAt, configurationAt, configurationWords}
 use Rattle.rules.specs.Soundness.{goodMode, goodCount, unusedZero, asleepZero, isTidy}
-use Rattle.rules.proofs.Tests.{look, clash, and-true, or-true, or-right, implies, implied}
+use Rattle.rules.proofs.Tests.{look, clash, and-holds, or-holds, or-right, implies, implied}
 use Rattle.rules.proofs.Folds.{every-at, every-of}
 
 pub length-heldWords : (es : List Entry) → length (heldWords es) ≡ entryWidth * length es
@@ -282,9 +282,9 @@ module _ (limit : ℕ) where
     tidy-parts : (goodMode ws at ≡ true) × (goodCount limit ws at ≡ true) × (unusedZero limit ws at ≡ true) × (asleepZero limit ws at ≡ true)
     unfolding isTidy
     tidy-parts =
-        let (a, d) = and-true (goodMode ws at && goodCount limit ws at && unusedZero limit ws at) (asleepZero limit ws at) h in
-        let (a, c) = and-true (goodMode ws at && goodCount limit ws at) (unusedZero limit ws at) a in
-        let (a, b) = and-true (goodMode ws at) (goodCount limit ws at) a in
+        let (a, d) = and-holds (goodMode ws at && goodCount limit ws at && unusedZero limit ws at) (asleepZero limit ws at) h in
+        let (a, c) = and-holds (goodMode ws at && goodCount limit ws at) (unusedZero limit ws at) a in
+        let (a, b) = and-holds (goodMode ws at) (goodCount limit ws at) a in
         (a, b, c, d)
 
     pub tidy-mode : getD ws at 0 ≤ 2
@@ -305,7 +305,7 @@ module _ (limit : ℕ) where
     unfolding unusedZero
     tidy-unused j l m =
         eqb-true _ _
-        (elim (or-true (ltb j (entryWidth * getD ws (at + 2) 0)) _ (every-at _ _ (tidy-parts .2) j l)) [
+        (elim (or-holds (ltb j (entryWidth * getD ws (at + 2) 0)) _ (every-at _ _ (tidy-parts .2) j l)) [
           | inl e ↦ let k = ltb-true j _ e in absurd (omega arith)
           | inr e ↦ e
         ])

@@ -9,7 +9,7 @@ use Rattle.rules.specs.Plan.{Plan, noState, replacement, host, owner, isStateOf
 use Rattle.rules.specs.Ledger.{Ledger, isAwake, isForward, isUndoing}
 use Rattle.rules.specs.Scope.{isOpen, hasOpenScope}
 use Rattle.rules.specs.Event.{isClosing, isClosed, closesScope}
-use Rattle.rules.proofs.Tests.{look, look-option, clash, refuted, and-true, and-both, strong}
+use Rattle.rules.proofs.Tests.{look, look-option, clash, refuted, and-holds, and-both, strong}
 use Rattle.rules.proofs.Modes.{forward-awake, undoing-forward}
 use Rattle.rules.proofs.Acceptance.{Accepted}
 use Rattle.rules.proofs.Forest.{above-hosted}
@@ -26,7 +26,7 @@ module _ (p : Plan) (l : Ledger) where
   -- closing is due: the scope is open, and each of its tracks is forward in a final state
   pub closing-open : (s : ℕ) → isClosing p l s ≡ true → isOpen p l s ≡ true
   unfolding isClosing
-  closing-open s c = and-true (isOpen p l s) (everyIn p s (λ t. isForward (l t .mode) && isFinal p (l t .state))) c .0
+  closing-open s c = and-holds (isOpen p l s) (everyIn p s (λ t. isForward (l t .mode) && isFinal p (l t .state))) c .0
 
   pub closing-of : (s : ℕ) → isOpen p l s ≡ true
       → ((t : ℕ) → host p t ≡ some s → (isForward (l t .mode) ≡ true) × (isFinal p (l t .state) ≡ true))
@@ -48,7 +48,7 @@ module _ (p : Plan) (l : Ledger) where
 
   pub closes-known : (t : ℕ) → closesScope p l t ≡ true → Awake l t × (isClosing p l (l t .state) ≡ true)
   unfolding closesScope
-  closes-known t c = and-true (isAwake (l t .mode)) (isClosing p l (l t .state)) c
+  closes-known t c = and-holds (isAwake (l t .mode)) (isClosing p l (l t .state)) c
 
   pub closes-of : (t : ℕ) → Awake l t → isClosing p l (l t .state) ≡ true → closesScope p l t ≡ true
   unfolding closesScope

@@ -13,7 +13,7 @@ use Rattle.rules.specs.Plan.{Plan, trackCount, host, owner, isStateOf, firstSta
 use Rattle.rules.specs.Ledger.{Configuration, Ledger, isAwake, sleeping}
 use Rattle.rules.specs.Scope.{hasOpenScope}
 use Rattle.rules.specs.Opening.{fresh, wakes, enter}
-use Rattle.rules.proofs.Tests.{look, look-option, clash, none-some, and-true, or-right, strong}
+use Rattle.rules.proofs.Tests.{look, look-option, clash, none-some, and-holds, or-right, strong}
 use Rattle.rules.proofs.Modes.{forward-awake, is-forward}
 use Rattle.rules.proofs.Acceptance.{Accepted}
 use Rattle.rules.proofs.Opening.{wakes-root, wakes-together, wakes-entered, wakes-woken, enter-to, enter-woken, enter-kept}
@@ -80,7 +80,7 @@ module _ (p : Plan) (ok : Accepted p) (l : Ledger) (to : ℕ → Option ℕ) whe
           elim (look-option (to (owner p (e .0)))) [
             | inr d ↦ inl (d .1 ∙ ap some (sym (eqb-true (e .0) (d .0) (sym (wakes-entered p ok to t (e .0) (d .0) (e .1) (d .1)) ∙ k))))
             | inl d ↦
-                let (a, b) = and-true (wakes p to (owner p (e .0))) (eqb (e .0) (firstState p (owner p (e .0)))) (sym (wakes-woken p ok to t (e .0) (e .1) d) ∙ k) in
+                let (a, b) = and-holds (wakes p to (owner p (e .0))) (eqb (e .0) (firstState p (owner p (e .0)))) (sym (wakes-woken p ok to t (e .0) (e .1) d) ∙ k) in
                 inr (d, a, eqb-true (e .0) (firstState p (owner p (e .0))) b)
           ],
         )

@@ -14,7 +14,7 @@ use Rattle.rules.specs.Plan.{Plan, transitionCount, noState, optional, host, tr
 use Rattle.rules.specs.Ledger.{Entry, Ledger, isEmpty}
 use Rattle.rules.specs.Fire.{newest, older}
 use Rattle.rules.specs.Soundness.{everyHeld, goodDeviation}
-use Rattle.rules.proofs.Tests.{look, look-option, clash, and-true, or-right}
+use Rattle.rules.proofs.Tests.{look, look-option, clash, and-holds, or-right}
 use Rattle.rules.proofs.Acceptance.{Accepted, optional-some}
 use Rattle.rules.proofs.Scopes.{root-none}
 
@@ -47,8 +47,8 @@ module _ (p : Plan) where
   good-older t [] g = g
   good-older t (e ∷ es) g =
       record {
-        codes = and-true (isReal e) (everyHeld isReal es) (g .codes) .1;
-        deviations = and-true (mayDeviate t (e .deviation)) (everyHeld (λ e. mayDeviate t (e .deviation)) es) (g .deviations) .1;
+        codes = and-holds (isReal e) (everyHeld isReal es) (g .codes) .1;
+        deviations = and-holds (mayDeviate t (e .deviation)) (everyHeld (λ e. mayDeviate t (e .deviation)) es) (g .deviations) .1;
       }
 
   -- no deviation may always be held, and a transition's own by its track
@@ -85,10 +85,10 @@ module _ (p : Plan) where
       let q = optional-some noState d h .1 in clash (eq-eqb noState noState refl) q
   deviates t d (e ∷ es) g h =
       let (q, n) = optional-some (e .deviation) d h in
-      let (x, y) = and-true (mayDeviate t (e .deviation)) (everyHeld (λ e. mayDeviate t (e .deviation)) es) (g .deviations) in
+      let (x, y) = and-holds (mayDeviate t (e .deviation)) (everyHeld (λ e. mayDeviate t (e .deviation)) es) (g .deviations) in
       let z : (isRoot p t && isStateOf p t d && not (isFinal p d)) ≡ true = rw (n, q) at x in
-      let (u, f) = and-true (isRoot p t && isStateOf p t d) (not (isFinal p d)) z in
-      let (r, o) = and-true (isRoot p t) (isStateOf p t d) u in
+      let (u, f) = and-holds (isRoot p t && isStateOf p t d) (not (isFinal p d)) z in
+      let (r, o) = and-holds (isRoot p t) (isStateOf p t d) u in
       (root-none p t r, o, not-true (isFinal p d) f)
 
 -- how many entries

@@ -17,7 +17,7 @@ use Rattle.rules.specs.Opening.{enter}
 use Rattle.rules.specs.Signal.{isAbandoned, abandoned}
 use Rattle.rules.specs.Fire.{mayFire, older, removed, deviatesTo, fired}
 use Rattle.rules.specs.Transcript.{heldTotal}
-use Rattle.rules.proofs.Tests.{look, clash, and-true}
+use Rattle.rules.proofs.Tests.{look, clash, and-holds}
 use Rattle.rules.proofs.Acceptance.{Accepted}
 use Rattle.rules.proofs.Abandoning.{left-asleep, left-kept}
 use Rattle.rules.proofs.Ready.{may-fire}
@@ -129,7 +129,7 @@ module _ {σ : Seams} (ω : Laws σ) (limit : ℕ) (p : Plan) (ok : Accepted p) 
   firings-held [] h l n = omega arith
   firings-held (c ∷ cs) h l n =
       let (x, y) =
-      and-true (not (eqb (refusal limit p h l c) 0 && isEvent c)) (isEventless σ p limit (nextHead limit p h l c) (next limit p h l c) cs) n in
+      and-holds (not (eqb (refusal limit p h l c) 0 && isEvent c)) (isEventless σ p limit (nextHead limit p h l c) (next limit p h l c) cs) n in
       let i = firings-held cs (nextHead limit p h l c) (next limit p h l c) y in
       elim (look (eqb (refusal limit p h l c) 0)) [
         | inl z ↦

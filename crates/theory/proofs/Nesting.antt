@@ -11,7 +11,7 @@ use borrow.Author.Tests.{eqb-true, ltb-true}
 use Rattle.rules.specs.Plan.{Plan, trackCount, stateCount, host, owner, isStateOf, isHostedBy, isInside, isAbove}
 use Rattle.rules.specs.Ledger.{Ledger, isAwake, sleeping}
 use Rattle.rules.specs.Scope.{isOpen, hasOpenScope}
-use Rattle.rules.proofs.Tests.{look, look-option, clash, and-true, strong}
+use Rattle.rules.proofs.Tests.{look, look-option, clash, and-holds, strong}
 use Rattle.rules.proofs.Folds.{some-same}
 use Rattle.rules.proofs.Acceptance.{Accepted}
 use Rattle.rules.proofs.Forest.{above-hosted, inside-hosted}
@@ -36,7 +36,7 @@ pub record Nested (p : Plan) (l : Ledger) : Type 0 where
 pub state-of : (p : Plan) (t s : ℕ) → isStateOf p t s ≡ true → (s < stateCount p) × (owner p s ≡ t)
 unfolding isStateOf
 state-of p t s h =
-    let (a, b) = and-true (ltb s (stateCount p)) (eqb (owner p s) t) h in
+    let (a, b) = and-holds (ltb s (stateCount p)) (eqb (owner p s) t) h in
     (ltb-true s (stateCount p) a, eqb-true (owner p s) t b)
 
 -- a track that has a state exists

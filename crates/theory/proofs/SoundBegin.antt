@@ -13,7 +13,7 @@ use Rattle.rules.specs.Scope.{isOpen, hasOpenScope}
 use Rattle.rules.specs.Opening.{fresh, wakes, rootsFirst, begun}
 use Rattle.rules.specs.Event.{isClosing}
 use Rattle.rules.specs.Signal.{isBare, isAbandoning}
-use Rattle.rules.proofs.Tests.{look, look-option, clash, none-some, refuted, and-true}
+use Rattle.rules.proofs.Tests.{look, look-option, clash, none-some, refuted, and-holds}
 use Rattle.rules.proofs.Modes.{is-forward, undoing-forward}
 use Rattle.rules.proofs.Acceptance.{Accepted}
 use Rattle.rules.proofs.Scopes.{root-none, host-in, every-in-at, open-find, busy-find}
@@ -31,12 +31,12 @@ use Rattle.theory.proofs.Forming.{enter-formed}
 -- abandoning is due: the scope is open, and each of its tracks is bare
 pub abandoning-open : (p : Plan) (l : Ledger) (s : ℕ) → isAbandoning p l s ≡ true → isOpen p l s ≡ true
 unfolding isAbandoning
-abandoning-open p l s h = and-true (isOpen p l s) (everyIn p s (isBare p l)) h .0
+abandoning-open p l s h = and-holds (isOpen p l s) (everyIn p s (isBare p l)) h .0
 
 pub abandoning-bare : (p : Plan) → Accepted p → (l : Ledger) (s t : ℕ) → isAbandoning p l s ≡ true → host p t ≡ some s → isBare p l t ≡ true
 unfolding isAbandoning
 abandoning-bare p ok l s t h e =
-    every-in-at p s (isBare p l) (and-true (isOpen p l s) (everyIn p s (isBare p l)) h .1) t (ok .hosted t s e) (host-in p s t e)
+    every-in-at p s (isBare p l) (and-holds (isOpen p l s) (everyIn p s (isBare p l)) h .1) t (ok .hosted t s e) (host-in p s t e)
 
 -- track 0 is a root
 pub root-zero : (p : Plan) → Accepted p → host p 0 ≡ none
@@ -68,7 +68,7 @@ module _ (limit : ℕ) (p : Plan) (ok : Accepted p) where
   roots-known t s h =
       elim (look (ltb t (trackCount p) && isRoot p t)) [
         | inl k ↦
-            let (b, r) = and-true (ltb t (trackCount p)) (isRoot p t) k in
+            let (b, r) = and-holds (ltb t (trackCount p)) (isRoot p t) k in
             let q : some (firstState p t) ≡ some s = rw k at h in
             (ltb-true t (trackCount p) b, root-none p t r, cc)
         | inr k ↦ let q : none ≡ some s = rw k at h in none-some refl q

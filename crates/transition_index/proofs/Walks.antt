@@ -13,7 +13,7 @@ use lib.Dec.{eqb, ltb}
 use borrow.Author.Tests.{eqb-true, eqb-false, ltb-true, ltb-false, eq-eqb, ne-eqb}
 use Rattle.rules.specs.declared.Counts.{Counts}
 use Rattle.rules.specs.Plan.{Plan, planOf, noState, optional, transition, transitionCount, transitionFor}
-use Rattle.rules.proofs.Tests.{look, look-option, clash, and-true, and-not}
+use Rattle.rules.proofs.Tests.{look, look-option, clash, and-holds, and-not}
 use Rattle.rules.proofs.Folds.{some-not, first-none}
 use Rattle.rules.proofs.Acceptance.{accepts, transition-for}
 use Rattle.plan.specs.Chain.{lastBelow, has, Chained, cell}
@@ -29,7 +29,7 @@ cell-told p x s e h k = rw (h, k)
 module _ (p : Plan) (s e : ℕ) where
   for-told : (x : ℕ) → isFor p s e x ≡ true → (transition p x .source ≡ s) × (transition p x .event ≡ e)
   unfolding isFor
-  for-told x h = let (a, b) = and-true _ _ h in (eqb-true _ _ a, eqb-true _ _ b)
+  for-told x h = let (a, b) = and-holds _ _ h in (eqb-true _ _ a, eqb-true _ _ b)
 
   for-shown : (x : ℕ) → transition p x .source ≡ s → transition p x .event ≡ e → isFor p s e x ≡ true
   unfolding isFor

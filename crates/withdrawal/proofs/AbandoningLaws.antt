@@ -15,7 +15,7 @@ use Rattle.rules.specs.Plan.{Plan, planOf, trackCount, noState, host, owner}
 use Rattle.rules.specs.Layout.{entryLimit}
 use Rattle.rules.specs.Ledger.{Configuration, Ledger, isAwake, isUndoing, isEmpty, written}
 use Rattle.rules.specs.Signal.{abandoned}
-use Rattle.rules.proofs.Tests.{look, and-true}
+use Rattle.rules.proofs.Tests.{look, and-holds}
 use Rattle.rules.proofs.Passes.{upTo}
 use Rattle.plan.proofs.FieldLaws.{track-count}
 use Rattle.ledger.specs.Ladder.{Tidy, Accepts, ledgerOf}
@@ -107,7 +107,7 @@ module _ (bs : List ℕ) (c : Counts) (acc : Accepts bs c) (ws : List ℕ) where
 
       pub visit-due : (getD (x .opens) t false && eqb (getD (x .busy) t 0) 0) ≡ true → Due (planOf bs c) (ledgerOf c ws) x t
       visit-due z =
-          let q = and-true _ _ z in record { low = there; figures = k .figures; marked = q .0; idle = eqb-true _ _ (q .1) }
+          let q = and-holds _ _ z in record { low = there; figures = k .figures; marked = q .0; idle = eqb-true _ _ (q .1) }
 
       pub visit-climb : {y : Scopes} → Climbed (planOf bs c) (ledgerOf c ws) x y t → Cleared (planOf bs c) (ledgerOf c ws) y (t + 1)
       visit-climb d = cleared-more (planOf bs c) (plan-facts bs c acc) (ledgerOf c ws) x t there k d

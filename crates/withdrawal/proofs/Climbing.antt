@@ -3,7 +3,7 @@
 -- A climb is such steps, each to a lower track. Where nothing is due the ledger is the outcome of abandoning. Assumes nothing.
 use mathlib.Core.Path.{_≡_, refl, sym, ap, ap₂, _∙_, subst, fun-ext}
 use mathlib.Core.Logic.{_⊎_, inl, inr, ⊎-elim}
-use mathlib.Core.Bool.{Bool, true, false, not, _&&_}
+use mathlib.Core.Bool.{Bool, true, false, not, _&&_, and-true}
 use mathlib.Core.List.{List}
 use mathlib.Core.Option.{none, some}
 use Prim.Native.Nat.{ℕ, _+_, _-_, _<_, _≤_}
@@ -16,7 +16,7 @@ use Rattle.rules.specs.Plan.{Plan, trackCount, host, owner, isIn, isHostedBy, e
 use Rattle.rules.specs.Ledger.{Configuration, Ledger, isAwake, isUndoing, isEmpty, sleeping}
 use Rattle.rules.specs.Scope.{isOpen, hasOpenScope}
 use Rattle.rules.specs.Signal.{isBare, isAbandoning, abandoned}
-use Rattle.rules.proofs.Tests.{look, look-option, clash, none-some, refuted, and-true, and-both, and-not}
+use Rattle.rules.proofs.Tests.{look, look-option, clash, none-some, refuted, and-holds, and-both, and-not}
 use Rattle.rules.proofs.Folds.{some-same, some-none, count-same}
 use Rattle.rules.proofs.Acceptance.{Accepted}
 use Rattle.rules.proofs.Scopes.{in-host, host-in, by-host, host-by, every-in-at, every-in-of, open-at, open-find, busy-at, busy-find, free-at}
@@ -45,15 +45,11 @@ module _ (p : Plan) (l : Ledger) where
 
   shut-bare : (t : ℕ) → hasOpenScope p l t ≡ false → isBare p l t ≡ (isUndoing (l t .mode) && isEmpty (l t .held))
   unfolding isBare
-  shut-bare t o = rw o (go (isUndoing (l t .mode) && isEmpty (l t .held)))
-    where
-      go : (b : Bool) → (b && true) ≡ b
-      go true = refl
-      go false = refl
+  shut-bare t o = rw o (and-true (isUndoing (l t .mode) && isEmpty (l t .held)))
 
   due-parts : (s : ℕ) → isAbandoning p l s ≡ true → (isOpen p l s ≡ true) × (everyIn p s (isBare p l) ≡ true)
   unfolding isAbandoning
-  due-parts s d = and-true (isOpen p l s) (everyIn p s (isBare p l)) d
+  due-parts s d = and-holds (isOpen p l s) (everyIn p s (isBare p l)) d
 
   due-of : (s : ℕ) → isOpen p l s ≡ true → ((t : ℕ) → t < trackCount p → isIn p s t ≡ true → isBare p l t ≡ true) → isAbandoning p l s ≡ true
   unfolding isAbandoning

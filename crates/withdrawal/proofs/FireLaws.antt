@@ -11,7 +11,7 @@ use Rattle.rules.specs.Ledger.{Ledger, isAwake, isUndoing, isEmpty}
 use Rattle.rules.specs.Scope.{hasOpenScope}
 use Rattle.rules.specs.Opening.{wakes}
 use Rattle.rules.specs.Fire.{mayFire, removed, deviatesTo}
-use Rattle.rules.proofs.Tests.{look, look-option, clash, refuted, and-true, strong}
+use Rattle.rules.proofs.Tests.{look, look-option, clash, refuted, and-holds, strong}
 use Rattle.rules.proofs.Acceptance.{Accepted}
 use Rattle.rules.proofs.Scopes.{host-by, free-at}
 use Rattle.rules.proofs.Opening.{wakes-root, wakes-woken}
@@ -30,9 +30,9 @@ fire-parts p l t h =
     let A = ltb t (trackCount p) in
     let B = isUndoing (l t .mode) in
     let C = not (isEmpty (l t .held)) in
-    let q2 = and-true (A && B && C) (not (hasOpenScope p l t)) h in
-    let q1 = and-true (A && B) C (q2 .0) in
-    let q0 = and-true A B (q1 .0) in
+    let q2 = and-holds (A && B && C) (not (hasOpenScope p l t)) h in
+    let q1 = and-holds (A && B) C (q2 .0) in
+    let q0 = and-holds A B (q1 .0) in
     record { low = ltb-true t (trackCount p) (q0 .0); undoing = q0 .1; holding = not-true _ (q1 .1); free = not-true _ (q2 .1) }
 
 module _ (p : Plan) (l : Ledger) (t : ℕ) where
@@ -66,6 +66,6 @@ module _ (p : Plan) (ok : Accepted p) (l : Ledger) (live : Live p l) (t : ℕ) (
                 free-at p l t u (may .free) (ok .hosted u h e) b
             | inr q ↦
                 let z = to-other p l t (owner p h) (eqb-false (owner p h) t q) in
-                let (a, b) = and-true (wakes p to (owner p h)) (eqb h (firstState p (owner p h))) (sym (wakes-woken p ok to u h e z) ∙ w) in
+                let (a, b) = and-holds (wakes p to (owner p h)) (eqb h (firstState p (owner p h))) (sym (wakes-woken p ok to u h e z) ∙ w) in
                 refuted (isAwake (l u .mode)) (λ c. clash (ap isAwake (live .up u h e c .1) ∙ c) (ih a))
           ]

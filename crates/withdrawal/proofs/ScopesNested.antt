@@ -13,7 +13,7 @@ use Rattle.rules.specs.Ledger.{Configuration, Ledger, isAwake}
 use Rattle.rules.specs.Opening.{fresh, wakes}
 use Rattle.rules.specs.Signal.{turned}
 use Rattle.rules.specs.Fire.{removed, deviatesTo, fired}
-use Rattle.rules.proofs.Tests.{look, look-option, clash, refuted, and-true}
+use Rattle.rules.proofs.Tests.{look, look-option, clash, refuted, and-holds}
 use Rattle.rules.proofs.Acceptance.{Accepted}
 use Rattle.rules.proofs.Scopes.{host-by, free-at}
 use Rattle.rules.proofs.Opening.{wakes-together, wakes-entered, wakes-woken, enter-to, enter-woken, enter-kept}
@@ -102,7 +102,7 @@ module _ (p : Plan) (l : Ledger) (live : Live p l) where
               let (x, y) = enters (owner p h) s (q .1) in
               (x ∙ sym (eqb-true h s (sym (wakes-entered p ok to u h s e (q .1)) ∙ w)), y)
           | inl q ↦
-              let (a, b) = and-true (wakes p to (owner p h)) (eqb h (firstState p (owner p h))) (sym (wakes-woken p ok to u h e q) ∙ w) in
+              let (a, b) = and-holds (wakes p to (owner p h)) (eqb h (firstState p (owner p h))) (sym (wakes-woken p ok to u h e q) ∙ w) in
               let (x, y) = woken (owner p h) q a in
               (x ∙ sym (eqb-true h (firstState p (owner p h)) b), y)
         ]

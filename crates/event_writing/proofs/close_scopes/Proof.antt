@@ -8,8 +8,8 @@ use Rattle.rules.specs.Ledger.{written}
 use Rattle.rules.proofs.Passes.{upTo}
 use Rattle.ledger.specs.Ladder.{ledgerOf}
 use Rattle.lookup.proofs.OneTrackLaws.{pass-orderly, pass-length, pass-more, pass-end}
-use Rattle.event_writing.specs.Writing.{closedBy}
-use Rattle.event_writing.proofs.Closing.{closing-start, closing-fits, closing-needs, closing-all}
+use Rattle.event_writing.specs.EventParts.{closedBy}
+use Rattle.event_writing.proofs.ClosingPass.{closing-start, closing-fits, closing-needs, closing-all}
 use borrow.Author.Needs.{needs}
 use Rattle.event_writing.proofs.close_scopes.Statement.{statement}
 use Rattle.event_writing.proofs.close_scopes.Tie as tie

@@ -12,7 +12,7 @@ use Rattle.lookup.specs.Figures.{Numbers}
 use Rattle.lookup.proofs.FiguresLaws.{numbers-empty, number-more, numbers-all}
 use Rattle.lookup.proofs.OneTrackLaws.{pass-orderly, pass-length, pass-end}
 use Rattle.event_choice.specs.Next.{movesOf}
-use Rattle.event_writing.proofs.Installing.{installing-start, installing-fits, installing-to, installing-room, installing-more}
+use Rattle.event_writing.proofs.InstallingPass.{installing-start, installing-fits, installing-to, installing-room, installing-more}
 use borrow.Author.Needs.{needs}
 use Rattle.event_writing.proofs.install_moves.Statement.{statement}
 use Rattle.event_writing.proofs.install_moves.Tie as tie

@@ -1,6 +1,6 @@
 -- Every track sleeps; or the three passes follow one another. Assumes nothing.
 use Rattle.lookup.proofs.Facts.{tidy-words}
-use Rattle.event_writing.proofs.Written.{in-range, movers, finish-written, first-tidy, sleepers, second-tidy, closings, none-closed, all-written}
+use Rattle.event_writing.proofs.EventWritten.{in-range, movers, finish-written, first-tidy, sleepers, second-tidy, closings, none-closed, all-written}
 use borrow.Author.Needs.{needs}
 use Rattle.event_writing.proofs.write.Statement.{statement}
 use Rattle.event_writing.proofs.write.Tie as tie

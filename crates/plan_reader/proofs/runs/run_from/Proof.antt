@@ -3,7 +3,7 @@
 use mathlib.Core.Path.{_≡_, sym, _∙_}
 use Prim.Native.Nat.{_+_, _*_, _-_, _≤_}
 use lib.ListN.{length}
-use Rattle.plan_reader.specs.Runs.{Run}
+use Rattle.plan_reader.specs.RecordRuns.{Run}
 use Rattle.plan_reader.proofs.RunLaws.{run-none, run-more, run-place, head-parts}
 use borrow.Author.Needs.{needs}
 use Rattle.plan_reader.proofs.runs.run_from.Statement.{statement}

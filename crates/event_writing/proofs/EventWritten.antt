@@ -17,7 +17,7 @@ use Rattle.rules.specs.Ledger.{Configuration, Ledger, isAwake, isForward, sleep
 use Rattle.rules.specs.Opening.{fresh, wakes, entered, enter}
 use Rattle.rules.specs.Event.{destinationOf, installedBy, hasCode, move, moved, closesScope, closed, finished, isReplaced, isFull, afterEvent}
 use Rattle.rules.proofs.Modes.{forward-awake}
-use Rattle.rules.proofs.Tests.{look, look-option, clash, refuted, and-true, and-both, or-right}
+use Rattle.rules.proofs.Tests.{look, look-option, clash, refuted, and-holds, and-both, or-right}
 use Rattle.rules.proofs.Folds.{some-not}
 use Rattle.rules.proofs.Acceptance.{Accepted}
 use Rattle.rules.proofs.Opening.{wakes-root, wakes-same}
@@ -37,8 +37,8 @@ use Rattle.event_choice.proofs.Visits.{own-low}
 use Rattle.event_choice.proofs.Moved.{mover-facts, woken-asleep, moved-kept, moved-own, moved-up, closes-before, closing-still}
 use Rattle.event_choice.proofs.Still.{none-close}
 use Rattle.event_choice.proofs.Choosing as choosing
-use Rattle.event_writing.specs.Writing.{Movers, Closings}
-use Rattle.event_writing.proofs.Installing.{installing-stores}
+use Rattle.event_writing.specs.EventParts.{Movers, Closings}
+use Rattle.event_writing.proofs.InstallingPass.{installing-stores}
 
 module _ (bs : List ℕ) (c : Counts) (ws : List ℕ) (g : Going bs c ws) (r : Choice) (ch : Chosen (planOf bs c) (ledgerOf c ws) r) where
   abbrev p : Plan
@@ -185,9 +185,9 @@ module _ (bs : List ℕ) (c : Counts) (ws : List ℕ) (g : Going bs c ws) (r : C
               subst (λ (k : Ledger). Closings p k (r .closing)) (sym read-second)
               (record {
                 marks = ch .closing;
-                state = λ t b h. own-low p t (m t .state) (moved-own p ok l live e t b (and-true (isAwake (m t .mode)) _ h .0));
+                state = λ t b h. own-low p t (m t .state) (moved-own p ok l live e t b (and-holds (isAwake (m t .mode)) _ h .0));
                 room = λ t b h.
-                    let s = closing-still p ok l live e t (sym (closes-before p ok l live e t b) ∙ and-true (closesScope p m t) _ h .0) in
+                    let s = closing-still p ok l live e t (sym (closes-before p ok l live e t b) ∙ and-holds (closesScope p m t) _ h .0) in
                     let k = spare t b (or-right (hasCode p (move p l e t)) (isReplaced p m t) h) in
                     omega (arith, ap (λ (x : Configuration). length (x .held)) s);
                 hosting = moved-up p ok l live e;

@@ -19,7 +19,7 @@ use Rattle.lookup.specs.OneTrack.{withConfiguration}
 use Rattle.lookup.proofs.OneTrackLaws.{Stores, stores-at, holds, Fitting, through, pass-start, pass-old, pass-more}
 use Rattle.event_choice.specs.Next.{movesOf}
 use Rattle.event_choice.proofs.Visits.{moves-at}
-use Rattle.event_writing.specs.Writing.{Movers}
+use Rattle.event_writing.specs.EventParts.{Movers}
 
 -- an entry given fits where there is room for it
 pub installed-stores : (code deviation : ℕ) (x : Configuration) → Stores entryLimit x → isAwake (x .mode) ≡ true

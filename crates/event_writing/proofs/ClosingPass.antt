@@ -15,15 +15,15 @@ use Rattle.rules.specs.Plan.{Plan, planOf, trackCount, noState, host, owner, re
 use Rattle.rules.specs.Ledger.{Configuration, Ledger, isAwake, sleeping, written}
 use Rattle.rules.specs.Event.{installed, isClosing, isClosed, closesScope, closed, isReplaced}
 use Rattle.rules.proofs.Modes.{forward-awake}
-use Rattle.rules.proofs.Tests.{look, look-option, clash, refuted, and-true, and-both}
+use Rattle.rules.proofs.Tests.{look, look-option, clash, refuted, and-holds, and-both}
 use Rattle.rules.proofs.Stored.{written-same}
 use Rattle.rules.proofs.Closing.{closed-host, closed-root, closing-final}
 use Rattle.plan.proofs.FieldLaws.{track-count, state-count}
 use Rattle.ledger.specs.Ladder.{Tidy, Accepts, ledgerOf}
 use Rattle.lookup.proofs.Facts.{plan-facts}
 use Rattle.lookup.proofs.OneTrackLaws.{Stores, stores-sleeping, stores-at, holds, Fitting, through, passed, pass-start, pass-old}
-use Rattle.event_writing.specs.Writing.{Closings, isClosedBy, closedBy}
-use Rattle.event_writing.proofs.Installing.{installed-stores}
+use Rattle.event_writing.specs.EventParts.{Closings, isClosedBy, closedBy}
+use Rattle.event_writing.proofs.InstallingPass.{installed-stores}
 
 module _ (bs : List ℕ) (c : Counts) (acc : Accepts bs c) (ws : List ℕ) (o : Tidy ws (c .tracks)) (ms : List Bool)
     (k : Closings (planOf bs c) (ledgerOf c ws) ms) where
@@ -62,7 +62,7 @@ module _ (bs : List ℕ) (c : Counts) (acc : Accepts bs c) (ws : List ℕ) (o : 
 
   marked-awake : {t : ℕ} → t < c .tracks → getD ms t false ≡ true → isAwake (l t .mode) ≡ true
   unfolding closesScope
-  marked-awake {t} b y = and-true (isAwake (l t .mode)) _ (sym (marked b) ∙ y) .0
+  marked-awake {t} b y = and-holds (isAwake (l t .mode)) _ (sym (marked b) ∙ y) .0
 
   abbrev pub closing : ℕ → Configuration → Configuration
   closing t x = closedBy p ms t x
