@@ -167,10 +167,10 @@ module _ (p : Plan) (l : Ledger) (goes : ℕ → Option ℕ) where
       ∙ ap (λ b. hasOpenScope p l t && b) (sym (every-more n (λ u. not (isHostedBy p t u && isAwake (l u .mode)) || endsNext p l goes u)))
     where
       leaves : (o v h a e : Bool) → cond (h && (a && not e)) false (o && v) ≡ (o && (v && (not (h && a) || e)))
-      leaves o v true true true = ap (λ b. o && b) (sym (mathlib.Core.Bool.and-holds v))
+      leaves o v true true true = ap (λ b. o && b) (sym (mathlib.Core.Bool.and-true v))
       leaves o v true true false = sym (ap (λ b. o && b) (mathlib.Core.Bool.and-false v) ∙ mathlib.Core.Bool.and-false o)
-      leaves o v true false e = ap (λ b. o && b) (sym (mathlib.Core.Bool.and-holds v))
-      leaves o v false a e = ap (λ b. o && b) (sym (mathlib.Core.Bool.and-holds v))
+      leaves o v true false e = ap (λ b. o && b) (sym (mathlib.Core.Bool.and-true v))
+      leaves o v false a e = ap (λ b. o && b) (sym (mathlib.Core.Bool.and-true v))
 
 -- one track more
 pub one-more : (f : ℕ → Bool) (n t r : ℕ) → n ≡ countBelow t f → r ≡ cond (f t) 1 0 → n + r ≡ countBelow (t + 1) f

@@ -72,4 +72,4 @@ module _ (limit : ℕ) (ws : List ℕ) (at : ℕ) where
         ∙ every-same (2 * limit - m) _ _ (λ j b. ap (λ k. eqb (getD ws k 0) 0) (add-assoc (at + headWords) m j))
         ∙ every-from m (2 * limit) f (omega arith)
         ∙ ap (λ k. everyBelow (2 * limit) (λ j. ltb j k || f j)) i
-        ∙ rw (le-leb (getD ws at 0) 2 low, le-leb (getD ws (at + 2) 0) limit l, ne-eqb (getD ws at 0) 0 n) (sym (mathlib.Core.Bool.and-holds _))
+        ∙ rw (le-leb (getD ws at 0) 2 low, le-leb (getD ws (at + 2) 0) limit l, ne-eqb (getD ws at 0) 0 n) (sym (mathlib.Core.Bool.and-true _))

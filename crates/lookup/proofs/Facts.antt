@@ -129,7 +129,7 @@ module _ (bs : List ℕ) (c : Counts) (t : ℕ) (a : Accepts bs c) where
               low = host-track-low bs c t u a e;
               at = λ v b.
                   let q : u ≡ owner (planOf bs c) (z .0) = e ∙ (rw (z .1, hostTrack)) in
-                  rw (z .1, isHostedBy, q, y) (mathlib.Core.Bool.and-holds (eqb (owner (planOf bs c) (z .0)) v) ∙ eqb-turned (owner (planOf bs c) (z .0)) v);
+                  rw (z .1, isHostedBy, q, y) (mathlib.Core.Bool.and-true (eqb (owner (planOf bs c) (z .0)) v) ∙ eqb-turned (owner (planOf bs c) (z .0)) v);
             }
       ]
     where
