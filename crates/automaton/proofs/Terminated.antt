@@ -152,7 +152,7 @@ module _ (p : Plan) (ρ : FailReading) (ok : Accepted p) (l : Ledger) (n : Neste
   view-compensated t a =
       ap (isCompensated p) (view-law p ρ l ok t (n .below t a))
       ∙ elim (look (hasOpenScope p l t)) [
-        | inr b ↦ ap (isCompensated p) (shown-free p ρ l t (viewOf p ρ l) b) ∙ basic-compensated p l t a ∙ sym (rw b (bool.and-holds (isUndoing (l t .mode) && isEmpty (l t .held))))
+        | inr b ↦ ap (isCompensated p) (shown-free p ρ l t (viewOf p ρ l) b) ∙ basic-compensated p l t a ∙ sym (rw b (bool.and-true (isUndoing (l t .mode) && isEmpty (l t .held))))
         | inl b ↦
             ap (isCompensated p) (shown-busy p ρ l t (viewOf p ρ l) b) ∙ nested-compensated p ρ l t (scope t)
             ∙ sym (rw b (and-false (isUndoing (l t .mode) && isEmpty (l t .held))))
