@@ -16,6 +16,7 @@ use Rattle.rules.specs.Plan.{Plan, planOf, trackCount}
 use Rattle.rules.specs.Acceptance.{Reading, turnedBack, accepted, readPlan}
 use Rattle.rules.specs.Ledger.{ledgerAt, written}
 use Rattle.rules.specs.Opening.{begun}
+use Rattle.rules.specs.Scope.{hasOpenScope, isOver}
 use Rattle.rules.specs.Fire.{ready}
 use Rattle.rules.specs.Soundness.{areTidy, isSound}
 use Rattle.rules.specs.Call.{Answer, refusal, done, Outcome, refusedOr, underPlan, tooShort, ledgerRefusals, beginOutcome, readyOutcome, heldPart, entriesPart, HandsBack, Meets}
@@ -23,6 +24,7 @@ use Rattle.plan.proofs.FieldLaws.{track-count}
 use Rattle.ledger.specs.Ladder.{Room, Accepts, Lent, ledgerOf}
 use Rattle.plan_reader.proofs.Reader.{accepted-holds}
 use Rattle.rules.proofs.Tests.{look, and-holds}
+use Rattle.lookup.specs.Figures.{Figures}
 use Rattle.ledger.proofs.Words.{in-room}
 use Rattle.ledger.proofs.ReadTracks.{count-within}
 use Rattle.manager.specs.Checked.{lent, checked, Span}
@@ -270,3 +272,15 @@ module _ (bs ws : List ℕ) where
             let e : b - a ≡ 0 = omega (arith, ltb-false a b l) in
             absurd (h (rw e))
       ]
+
+-- what is refused is not accepted, and what is accepted has one count of each
+pub reading-clash : {a : Reading} {r : ℕ} {c : Counts} {A : Type 0} → turnedBack r ≡ a → a ≡ accepted c → A
+reading-clash {a} {r} {c} e f =
+    let q : turnedBack r ≡ accepted c = e ∙ f in let z : _≡_ {A = ℕ} 0 1 = cc in absurd (omega arith)
+
+pub opens-found : {bs ws : List ℕ} {c d : Counts} {opens : List Bool} → accepted c ≡ accepted d
+    → (isOver (planOf bs c) (ledgerOf c ws) ≡ false → Figures false opens (c .tracks) (hasOpenScope (planOf bs c) (ledgerOf c ws)))
+    → isOver (planOf bs d) (ledgerOf d ws) ≡ false → Figures false opens (d .tracks) (hasOpenScope (planOf bs d) (ledgerOf d ws))
+opens-found {bs} {ws} {c} {d} {opens} e f =
+    let q : c ≡ d = cc in
+    subst (λ k. isOver (planOf bs k) (ledgerOf k ws) ≡ false → Figures false opens (k .tracks) (hasOpenScope (planOf bs k) (ledgerOf k ws))) q f

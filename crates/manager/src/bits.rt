@@ -1,24 +1,31 @@
 // The tracks that may be fired, as the bits of a number.
-use lookup::opens;
+use lookup::reading;
 use lookup::ready;
 use rules::Counts;
 ghost use mathlib.Core.Path.{_≡_};
+ghost use mathlib.Core.Bool.{false};
 ghost use Rattle.rules.specs.Plan.{planOf};
+ghost use Rattle.rules.specs.Scope.{hasOpenScope, isOver};
 ghost use Rattle.rules.specs.Fire.{ready};
-ghost use Rattle.ledger.specs.Ladder.{Lent, ledgerOf};
+ghost use Rattle.ledger.specs.Ladder.{Checked, ledgerOf};
+ghost use Rattle.lookup.specs.Figures.{Figures};
 
-// The number with bit n set exactly if track n may be fired.
-pub fn ready_bits(plan: &[u8], c: Counts, ledger: &[u16]) -> u32
-    requires { ⌜ Lent (now plan) c (now ledger) ⌝ }
+// The number with bit n set exactly if track n may be fired; none may where the ledger is over.
+pub fn ready_bits(plan: &[u8], c: Counts, ledger: &[u16], opens: &[bool; 32]) -> u32
+    requires { ⌜ Checked (now plan) c (now ledger)
+        × (isOver (planOf (now plan) c) (ledgerOf c (now ledger)) ≡ false
+        → Figures false (now opens) (c .tracks) (hasOpenScope (planOf (now plan) c) (ledgerOf c (now ledger)))) ⌝ }
     ensures { λ r. ⌜ r ≡ ready (planOf (now (plan .entry)) c) (ledgerOf c (now (ledger .entry))) ⌝ }
 {
-    let open = opens::open_scopes(plan, c, ledger);
+    if reading::is_over(plan, c, ledger) {
+        return 0;
+    }
     let tracks = c.tracks;
     let mut bits: u64 = 0;
     let mut bit: u64 = 1;
     let mut t: usize = 0;
     while t < tracks {
-        if ready::is_ready(plan, c, ledger, &open, t) {
+        if ready::is_ready(plan, c, ledger, opens, t) {
             bits += bit;
         }
         bit = bit * 2;

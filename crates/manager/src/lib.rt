@@ -24,11 +24,12 @@ ghost use Rattle.manager.specs.Checked.{Span};
 pub fn begin(plan: &[u8], ledger: &mut [u16]) -> BeginAnswer
     ensures { λ r. ⌜ Meets (beginOutcome entryLimit (now (plan .entry)) (now (ledger .entry))) (beginTold r) (now (ledger .exit)) ⌝ }
 {
-    let answer = verify::read_lent(plan, &ledger[..]);
+    let mut firsts: [u16; 32] = [0; 32];
+    let answer = verify::read_lent(plan, &ledger[..], &mut firsts);
     match answer {
         PlanAnswer::Refused(n) => BeginAnswer::Refused(n),
         PlanAnswer::Accepted(c) => {
-            opening::begin::begin_all(plan, c, &mut ledger[..]);
+            opening::begin::begin_all(plan, c, &mut ledger[..], &firsts);
             BeginAnswer::Begun
         }
     }
@@ -39,10 +40,14 @@ pub fn begin(plan: &[u8], ledger: &mut [u16]) -> BeginAnswer
 pub fn event(plan: &[u8], ledger: &mut [u16], event: u16) -> EventAnswer
     ensures { λ r. ⌜ Meets (eventOutcome entryLimit (now (plan .entry)) (now (ledger .entry)) (record { event = event })) (eventTold r) (now (ledger .exit)) ⌝ }
 {
-    let answer = verify::verify(plan, &ledger[..]);
+    let mut opens = [false; 32];
+    let mut firsts: [u16; 32] = [0; 32];
+    let answer = verify::verify(plan, &ledger[..], &mut opens, &mut firsts);
     match answer {
         PlanAnswer::Refused(n) => EventAnswer::Refused(n),
-        PlanAnswer::Accepted(c) => event_step::event::event(plan, c, &mut ledger[..], event),
+        PlanAnswer::Accepted(c) => {
+            event_step::event::event(plan, c, &mut ledger[..], event, &opens, &firsts)
+        }
     }
 }
 
@@ -50,7 +55,9 @@ pub fn event(plan: &[u8], ledger: &mut [u16], event: u16) -> EventAnswer
 pub fn signal(plan: &[u8], ledger: &mut [u16]) -> SignalAnswer
     ensures { λ r. ⌜ Meets (signalOutcome entryLimit (now (plan .entry)) (now (ledger .entry)) nothing) (signalTold r) (now (ledger .exit)) ⌝ }
 {
-    let answer = verify::verify(plan, &ledger[..]);
+    let mut opens = [false; 32];
+    let mut firsts: [u16; 32] = [0; 32];
+    let answer = verify::verify(plan, &ledger[..], &mut opens, &mut firsts);
     match answer {
         PlanAnswer::Refused(n) => SignalAnswer::Refused(n),
         PlanAnswer::Accepted(c) => withdrawal::signal::signal(plan, c, &mut ledger[..]),
@@ -62,10 +69,14 @@ pub fn signal(plan: &[u8], ledger: &mut [u16]) -> SignalAnswer
 pub fn fire(plan: &[u8], ledger: &mut [u16], track: u16) -> FireAnswer
     ensures { λ r. ⌜ Meets (fireOutcome entryLimit (now (plan .entry)) (now (ledger .entry)) (record { track = track })) (fireTold r) (now (ledger .exit)) ⌝ }
 {
-    let answer = verify::verify(plan, &ledger[..]);
+    let mut opens = [false; 32];
+    let mut firsts: [u16; 32] = [0; 32];
+    let answer = verify::verify(plan, &ledger[..], &mut opens, &mut firsts);
     match answer {
         PlanAnswer::Refused(n) => FireAnswer::Refused(n),
-        PlanAnswer::Accepted(c) => withdrawal::fire::fire(plan, c, &mut ledger[..], track),
+        PlanAnswer::Accepted(c) => {
+            withdrawal::fire::fire(plan, c, &mut ledger[..], track, &opens, &firsts)
+        }
     }
 }
 
@@ -73,11 +84,13 @@ pub fn fire(plan: &[u8], ledger: &mut [u16], track: u16) -> FireAnswer
 pub fn ready(plan: &[u8], ledger: &mut [u16]) -> ReadyAnswer
     ensures { λ r. ⌜ Meets (readyOutcome entryLimit (now (plan .entry)) (now (ledger .entry))) (readyTold r) (now (ledger .exit)) ⌝ }
 {
-    let answer = verify::verify(plan, &ledger[..]);
+    let mut opens = [false; 32];
+    let mut firsts: [u16; 32] = [0; 32];
+    let answer = verify::verify(plan, &ledger[..], &mut opens, &mut firsts);
     match answer {
         PlanAnswer::Refused(n) => ReadyAnswer::Refused(n),
         PlanAnswer::Accepted(c) => {
-            let bits = bits::ready_bits(plan, c, &ledger[..]);
+            let bits = bits::ready_bits(plan, c, &ledger[..], &opens);
             ReadyAnswer::Ready(bits)
         }
     }
@@ -93,7 +106,9 @@ struct Part {
 fn part_of(plan: &[u8], ledger: &[u16], track: u16) -> Part
     ensures { λ r. ⌜ Span (now (plan .entry)) (now (ledger .entry)) track (r .from) (r .to) ⌝ }
 {
-    let answer = verify::verify(plan, ledger);
+    let mut opens = [false; 32];
+    let mut firsts: [u16; 32] = [0; 32];
+    let answer = verify::verify(plan, ledger, &mut opens, &mut firsts);
     match answer {
         PlanAnswer::Refused(_) => Part { from: 0, to: 0 },
         PlanAnswer::Accepted(c) => {

@@ -1,16 +1,17 @@
-// Checks 2 to 18, which a call makes first.
+// Checks 2 to 18, which a call makes first. What they find beside their answer is lent out, so that no step works it out again: the first state
+// of each track of an accepted plan, and who has an open scope in a ledger that is not over.
 use ledger::layout;
 use rules::PlanAnswer;
 use soundness::sound;
 ghost use mathlib.Core.Path.{_≡_};
 ghost use Rattle.rules.specs.Answers.{planTold};
-ghost use Rattle.manager.specs.Checked.{lent, checked};
+ghost use Rattle.manager.specs.Checked.{lent, checked, FirstsFound, OpensFound};
 
 // 2 to 17: the plan is accepted, and the ledger has room for its tracks.
-pub fn read_lent(plan: &[u8], ledger: &[u16]) -> PlanAnswer
-    ensures { λ r. ⌜ planTold r ≡ lent (now (plan .entry)) (now (ledger .entry)) ⌝ }
+pub fn read_lent(plan: &[u8], ledger: &[u16], firsts: &mut [u16; 32]) -> PlanAnswer
+    ensures { λ r. ⌜ (planTold r ≡ lent (now (plan .entry)) (now (ledger .entry))) × FirstsFound (now (plan .entry)) (now (firsts .exit)) ⌝ }
 {
-    let answer = plan_reader::read_plan(plan);
+    let answer = plan_reader::read_plan_with(plan, firsts);
     match answer {
         PlanAnswer::Refused(n) => PlanAnswer::Refused(n),
         PlanAnswer::Accepted(c) => {
@@ -23,14 +24,15 @@ pub fn read_lent(plan: &[u8], ledger: &[u16]) -> PlanAnswer
 }
 
 // 2 to 18: and the ledger is sound.
-pub fn verify(plan: &[u8], ledger: &[u16]) -> PlanAnswer
-    ensures { λ r. ⌜ planTold r ≡ checked (now (plan .entry)) (now (ledger .entry)) ⌝ }
+pub fn verify(plan: &[u8], ledger: &[u16], opens: &mut [bool; 32], firsts: &mut [u16; 32]) -> PlanAnswer
+    ensures { λ r. ⌜ (planTold r ≡ checked (now (plan .entry)) (now (ledger .entry)))
+        × OpensFound (now (plan .entry)) (now (ledger .entry)) (now (opens .exit)) × FirstsFound (now (plan .entry)) (now (firsts .exit)) ⌝ }
 {
-    let answer = read_lent(plan, ledger);
+    let answer = read_lent(plan, ledger, firsts);
     match answer {
         PlanAnswer::Refused(n) => PlanAnswer::Refused(n),
         PlanAnswer::Accepted(c) => {
-            if !sound::is_sound(plan, c, ledger) {
+            if !sound::is_sound(plan, c, ledger, opens) {
                 return PlanAnswer::Refused(18);
             }
             PlanAnswer::Accepted(c)

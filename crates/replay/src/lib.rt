@@ -6,6 +6,7 @@ use crate::records::run_records;
 use journal::lines::plan_line;
 use journal::lines::refusal_line;
 use ledger::layout;
+use opening::firsts;
 use rules::Counts;
 use rules::PlanAnswer;
 ghost use mathlib.Core.Path.{_≡_};
@@ -55,8 +56,9 @@ fn run_plan(plan: &[u8], c: Counts, journal: &[u8], ledger: &mut [u16], output: 
         (now (ledger .entry)) (now (output .entry)) (now (ledger .exit)) (now (output .exit)) r ⌝ }
 {
     let start = plan_line(&mut output[..], 0, c);
-    opening::begin::begin_all(plan, c, &mut ledger[..]);
-    run_records(plan, c, journal, &mut ledger[..], &mut output[..], start)
+    let firsts = firsts::first_states(plan, c);
+    opening::begin::begin_all(plan, c, &mut ledger[..], &firsts);
+    run_records(plan, c, journal, &mut ledger[..], &mut output[..], start, &firsts)
 }
 
 // Writes the text of a plan and a journal into the output. Where the output or the ledger is too small, nothing is written.

@@ -8,13 +8,14 @@ use journal::record::Record;
 use journal::record::record_at;
 use journal::record::size_of;
 use journal::tally::Tally;
-use opening::firsts;
 use rules::Counts;
 ghost use mathlib.Core.Path.{_≡_};
 ghost use Prim.Native.Nat.{_+_, _*_, _≤_};
 ghost use lib.ListN.{length};
+ghost use Rattle.rules.specs.Plan.{planOf, firstState};
 ghost use Rattle.rules.specs.Transcript.{mostBytes};
 ghost use Rattle.ledger.specs.Ladder.{Checked};
+ghost use Rattle.lookup.specs.Figures.{Figures};
 ghost use Rattle.journal.specs.Records.{recordTold};
 ghost use Rattle.journal.specs.Writing.{lineRoom};
 ghost use Rattle.replay.specs.Runs.{RanRecords};
@@ -46,8 +47,8 @@ fn close(found: Record, output: &mut [u8], from: Progress) -> usize
     tally_line(output, from.place, last.held, last.fired)
 }
 
-// Writes the lines of the records and the last line from a place of the output on. Answers the place after them. What the plan alone tells is
-// read once, before the records.
+// Writes the lines of the records and the last line from a place of the output on, given the first state of each track. Answers the place after
+// them. The index of the plan is made once, before the records.
 pub fn run_records(
     plan: &[u8],
     c: Counts,
@@ -55,13 +56,14 @@ pub fn run_records(
     ledger: &mut [u16],
     output: &mut [u8],
     start: usize,
+    firsts: &[u16; 32],
 ) -> usize
     requires { ⌜ Checked (now plan) c (now ledger) × (length (now journal) ≤ mostBytes)
-        × (start + 6 * length (now journal) + 2 * lineRoom ≤ length (now output)) ⌝ }
+        × (start + 6 * length (now journal) + 2 * lineRoom ≤ length (now output))
+        × Figures 0 (now firsts) (c .tracks) (firstState (planOf (now plan) c)) ⌝ }
     ensures { λ r. ⌜ RanRecords (now (plan .entry)) (now (journal .entry)) c
         (now (ledger .entry)) (now (output .entry)) start (now (ledger .exit)) (now (output .exit)) r ⌝ }
 {
-    let firsts = firsts::first_states(plan, c);
     let index = transition_index::index(plan, c);
     let head = index.head;
     let chain = index.next;
@@ -88,7 +90,7 @@ pub fn run_records(
             &mut output[..],
             so_far,
             found,
-            &firsts,
+            firsts,
             &head,
             &chain,
         );

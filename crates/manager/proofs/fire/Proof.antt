@@ -4,17 +4,21 @@ use Rattle.rules.specs.Call.{fire, fireOutcome}
 use Rattle.rules.specs.Answers.{planTold, fireTold}
 use Rattle.manager.proofs.Checks.{meets}
 use Rattle.manager.proofs.CallChecks.{call-refused, call-checked}
+use Rattle.opening.proofs.FirstStates.{first-figures}
 use borrow.Author.Needs.{needs}
 use Rattle.manager.proofs.fire.Statement.{statement}
 use Rattle.manager.proofs.fire.Tie as tie
 
 fire-requires : tie.Need-fire-requires
 unfolding planTold
-fire-requires c κs = call-checked _ _ _ (sym (ap planTold (c .before .before .answer2 .given .1)) ∙ c .before .before .before .before .verify .ensures)
+fire-requires c κs =
+    let e = sym (ap planTold (c .before .before .answer2 .given .1)) ∙ c .before .before .before .before .verify .ensures .0 in
+    let k = call-checked _ _ _ e in
+    (k, c .verify .ensures .1 _ (sym e), first-figures _ _ (k .lent .accepts) (c .verify .ensures .2 _ (k .lent .accepts .read)))
 
 returns : tie.Need-returns
 unfolding planTold fireTold fireOutcome
-returns c = meets _ _ _ _ (call-refused _ _ (fire (record { track = _ })) _ (sym (ap planTold (c .before .answer .given .1)) ∙ c .before .before .before .verify .ensures)) refl
+returns c = meets _ _ _ _ (call-refused _ _ (fire (record { track = _ })) _ (sym (ap planTold (c .before .answer .given .1)) ∙ c .before .before .before .verify .ensures .0)) refl
 
 pub fire-spec : {M : Type 1} → statement M
 fire-spec =

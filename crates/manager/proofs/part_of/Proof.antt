@@ -13,27 +13,27 @@ use Rattle.manager.proofs.part_of.Tie as tie
 
 returns : tie.Need-returns
 unfolding planTold
-returns c = span-at _ _ _ _ _ _ (c .before .before .wide .ensures .0) (span-absent _ _ _ _ (sym (ap planTold (c .before .before .before .before .answer .given .1)) ∙ c .before .before .before .before .before .before .verify .ensures) (c .if1 .taken))
+returns c = span-at _ _ _ _ _ _ (c .before .before .wide .ensures .0) (span-absent _ _ _ _ (sym (ap planTold (c .before .before .before .before .answer .given .1)) ∙ c .before .before .before .before .before .before .verify .ensures .0) (c .if1 .taken))
 
 track-at-requires : tie.Need-track-at-requires
 unfolding planTold
-track-at-requires c κs = in-room _ _ _ (lent-room _ _ _ (checked-facts _ _ _ (sym (ap planTold (c .before .before .before .before .answer .given .1)) ∙ c .before .before .before .before .before .before .verify .ensures) .0)) (c .if1 .left)
+track-at-requires c κs = in-room _ _ _ (lent-room _ _ _ (checked-facts _ _ _ (sym (ap planTold (c .before .before .before .before .answer .given .1)) ∙ c .before .before .before .before .before .before .verify .ensures .0) .0)) (c .if1 .left)
 
 entry-place-requires : tie.Need-entry-place-requires
 unfolding planTold entryLimit
-entry-place-requires c κs = (omega (arith, lent-room _ _ _ (checked-facts _ _ _ (sym (ap planTold (c .before .before .before .before .before .answer .given .1)) ∙ c .before .before .before .before .before .before .before .verify .ensures) .0) .few, c .before .if1 .left), omega arith)
+entry-place-requires c κs = (omega (arith, lent-room _ _ _ (checked-facts _ _ _ (sym (ap planTold (c .before .before .before .before .before .answer .given .1)) ∙ c .before .before .before .before .before .before .before .verify .ensures .0) .0) .few, c .before .if1 .left), omega arith)
 
 add-t13 : tie.Need-add-t13
 unfolding planTold entriesPlace trackPlace trackWidth headWords entryWidth entryLimit leadingWords
-add-t13 c = omega (arith, c .before .entry-place .ensures, c .wide2 .ensures .1, lent-room _ _ _ (checked-facts _ _ _ (sym (ap planTold (c .before .before .before .before .before .before .before .answer .given .1)) ∙ c .before .before .before .before .before .before .before .before .before .verify .ensures) .0) .few, c .before .before .before .if1 .left)
+add-t13 c = omega (arith, c .before .entry-place .ensures, c .wide2 .ensures .1, lent-room _ _ _ (checked-facts _ _ _ (sym (ap planTold (c .before .before .before .before .before .before .before .answer .given .1)) ∙ c .before .before .before .before .before .before .before .before .before .verify .ensures .0) .0) .few, c .before .before .before .if1 .left)
 
 returns-2 : tie.Need-returns-2
 unfolding planTold
-returns-2 c = span-refused _ _ _ _ (sym (ap planTold (c .enum-told .given .1)) ∙ c .before .before .verify .ensures)
+returns-2 c = span-refused _ _ _ _ (sym (ap planTold (c .enum-told .given .1)) ∙ c .before .before .verify .ensures .0)
 
 returns-3 : tie.Need-returns-3
 unfolding planTold entryWidth
-returns-3 c = span-at _ _ _ _ _ _ (c .before .before .before .before .before .wide .ensures .0) (span-held _ _ _ _ _ _ (sym (ap planTold (c .before .before .before .before .before .before .before .answer .given .1)) ∙ c .before .before .before .before .before .before .before .before .before .verify .ensures) (c .before .before .before .if1 .left) (c .before .entry-place .ensures) (c .wide2 .ensures .0 ∙ count-as _ (c .before .before .track-at .ensures ∙ track-read _ _ _ (c .before .before .before .if1 .left))))
+returns-3 c = span-at _ _ _ _ _ _ (c .before .before .before .before .before .wide .ensures .0) (span-held _ _ _ _ _ _ (sym (ap planTold (c .before .before .before .before .before .before .before .answer .given .1)) ∙ c .before .before .before .before .before .before .before .before .before .verify .ensures .0) (c .before .before .before .if1 .left) (c .before .entry-place .ensures) (c .wide2 .ensures .0 ∙ count-as _ (c .before .before .track-at .ensures ∙ track-read _ _ _ (c .before .before .before .if1 .left))))
 
 pub part-of-spec : {M : Type 1} → statement M
 part-of-spec =

@@ -7,7 +7,7 @@ use Rattle.replay.proofs.run_plan.Statement.{statement}
 use Rattle.replay.proofs.run_plan.Tie as tie
 
 run-records-requires : tie.Need-run-records-requires
-run-records-requires c κs = (begun-checked _ _ (c .before .before .before .before .before .before .before .before .before .before .before .before .before .before .pre .0 .accepts) _ _ (c .before .before .before .before .before .before .before .before .before .before .before .before .before .before .pre .0 .room) (c .before .before .before .before .begin-all .ensures), c .before .before .before .before .before .before .before .before .before .before .before .before .before .before .pre .1, omega (arith, c .before .before .before .before .before .before .before .before .plan-line .ensures .short, c .before .before .before .before .before .before .before .before .plan-line .kept .0, c .before .before .before .before .before .before .before .before .before .before .before .before .before .before .pre .2))
+run-records-requires c κs = (begun-checked _ _ (c .before .before .before .before .before .before .before .before .before .before .before .before .before .before .pre .0 .accepts) _ _ (c .before .before .before .before .before .before .before .before .before .before .before .before .before .before .pre .0 .room) (c .before .before .before .before .begin-all .ensures), c .before .before .before .before .before .before .before .before .before .before .before .before .before .before .pre .1, omega (arith, c .before .before .before .before .before .before .before .before .plan-line .ensures .short, c .before .before .before .before .before .before .before .before .plan-line .kept .0, c .pre .2), c .first-states .ensures)
 
 returns : tie.Need-returns
 returns c = ran-after _ _ _ _ _ _ _ _ _ (c .before .before .before .before .before .before .before .before .before .before .before .before .before .plan-line .ensures) (search needs) (ran-begun _ _ _ (c .before .before .before .before .before .before .before .before .before .before .before .before .before .before .before .before .before .before .before .pre .0 .accepts) _ _ (c .before .before .before .before .before .before .before .before .before .before .before .before .before .before .before .before .before .before .before .pre .0 .room) (c .before .before .before .before .before .before .before .before .before .begin-all .ensures) _ _ _ _ _ (c .before .before .before .before .run-records .ensures))
@@ -16,6 +16,7 @@ pub run-plan-spec : {M : Type 1} → statement M
 run-plan-spec =
     tie.close
     (tie.spec
+    (λ c κs. search needs)
     (λ c κs. search needs)
     (λ c κs. search needs)
     run-records-requires

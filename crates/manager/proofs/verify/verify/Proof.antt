@@ -1,7 +1,8 @@
 -- The checks 2 to 17, and 18 where they pass. Assumes nothing.
 use mathlib.Core.Path.{sym, ap, _∙_}
 use Rattle.rules.specs.Answers.{planTold}
-use Rattle.manager.proofs.Checks.{lent-holds, checked-refused, checked-unsound, checked-accepted}
+use Rattle.manager.proofs.Checks.{lent-holds, checked-refused, checked-unsound, checked-accepted, reading-clash, opens-found}
+use borrow.Author.Tests.{not-false}
 use borrow.Author.Needs.{needs}
 use Rattle.manager.proofs.verify.verify.Statement.{statement}
 use Rattle.manager.proofs.verify.verify.Tie as tie
@@ -9,19 +10,19 @@ use Rattle.manager.proofs.verify.verify.Tie as tie
 is-sound-requires : tie.Need-is-sound-requires
 unfolding planTold
 is-sound-requires c κs =
-    let e = sym (ap planTold (c .before .answer2 .given .1)) ∙ c .before .before .before .read-lent .ensures in lent-holds _ _ _ e
+    let e = sym (ap planTold (c .before .answer2 .given .1)) ∙ c .before .before .before .read-lent .ensures .0 in lent-holds _ _ _ e
 
 returns : tie.Need-returns
 unfolding planTold
-returns c = checked-unsound _ _ _ (sym (ap planTold (c .before .before .before .answer2 .given .1)) ∙ c .before .before .before .before .before .read-lent .ensures) (c .before .is-sound .ensures) (c .if1 .taken)
+returns c = let q = checked-unsound _ _ _ (sym (ap planTold (c .before .before .before .answer2 .given .1)) ∙ c .before .before .before .before .before .read-lent .ensures .0) (c .before .is-sound .ensures .0) (c .if1 .taken) in (q, λ k e. reading-clash q e, c .read-lent .ensures .1)
 
 returns-2 : tie.Need-returns-2
 unfolding planTold
-returns-2 c = checked-refused _ _ _ (sym (ap planTold (c .before .answer .given .1)) ∙ c .before .before .before .read-lent .ensures)
+returns-2 c = let q = checked-refused _ _ _ (sym (ap planTold (c .before .answer .given .1)) ∙ c .before .before .before .read-lent .ensures .0) in (q, λ k e. reading-clash q e, c .read-lent .ensures .1)
 
 returns-3 : tie.Need-returns-3
 unfolding planTold
-returns-3 c = checked-accepted _ _ _ (sym (ap planTold (c .before .before .before .answer2 .given .1)) ∙ c .before .before .before .before .before .read-lent .ensures) (c .before .is-sound .ensures) (c .if1 .left)
+returns-3 c = let q = checked-accepted _ _ _ (sym (ap planTold (c .before .before .before .answer2 .given .1)) ∙ c .before .before .before .before .before .read-lent .ensures .0) (c .before .is-sound .ensures .0) (c .if1 .left) in (q, λ k e. opens-found (q ∙ e) (c .is-sound .ensures .1 (not-false _ (c .if1 .left))), c .read-lent .ensures .1)
 
 pub verify-spec : {M : Type 1} → statement M
 verify-spec =
