@@ -33,8 +33,8 @@ abbrev pub FirstsFound : Bytes → List ℕ → Type 0
 FirstsFound bs firsts = (c : Counts) → readPlan bs ≡ accepted c → firsts ≡ firstMarks (planOf bs c) (c .states)
 
 -- and who has an open scope, where the ledger is sound and not over
-abbrev pub OpensFound : Bytes → Words → List Bool → Type 0
-OpensFound bs ws opens =
+abbrev pub ScopesFound : Bytes → Words → List Bool → Type 0
+ScopesFound bs ws opens =
     (c : Counts) → checked bs ws ≡ accepted c → isOver (planOf bs c) (ledgerOf c ws) ≡ false
     → Figures false opens (c .tracks) (hasOpenScope (planOf bs c) (ledgerOf c ws))
 

@@ -5,7 +5,7 @@ use rules::PlanAnswer;
 use soundness::sound;
 ghost use mathlib.Core.Path.{_≡_};
 ghost use Rattle.rules.specs.Answers.{planTold};
-ghost use Rattle.manager.specs.Checked.{lent, checked, FirstsFound, OpensFound};
+ghost use Rattle.manager.specs.Checked.{lent, checked, FirstsFound, ScopesFound};
 
 // 2 to 17: the plan is accepted, and the ledger has room for its tracks.
 pub fn read_lent(plan: &[u8], ledger: &[u16], firsts: &mut [u16; 32]) -> PlanAnswer
@@ -26,7 +26,7 @@ pub fn read_lent(plan: &[u8], ledger: &[u16], firsts: &mut [u16; 32]) -> PlanAns
 // 2 to 18: and the ledger is sound.
 pub fn verify(plan: &[u8], ledger: &[u16], opens: &mut [bool; 32], firsts: &mut [u16; 32]) -> PlanAnswer
     ensures { λ r. ⌜ (planTold r ≡ checked (now (plan .entry)) (now (ledger .entry)))
-        × OpensFound (now (plan .entry)) (now (ledger .entry)) (now (opens .exit)) × FirstsFound (now (plan .entry)) (now (firsts .exit)) ⌝ }
+        × ScopesFound (now (plan .entry)) (now (ledger .entry)) (now (opens .exit)) × FirstsFound (now (plan .entry)) (now (firsts .exit)) ⌝ }
 {
     let answer = read_lent(plan, ledger, firsts);
     match answer {
