@@ -17,13 +17,15 @@ use crate::refusals::some_bad_hosting;
 use crate::refusals::some_bad_state;
 use crate::refusals::some_bad_transition;
 use plan::passes::chain_tracks;
+use plan::passes::first_states;
 use rules::Counts;
 use rules::PlanAnswer;
 ghost use mathlib.Core.Path.{_≡_};
 ghost use Rattle.rules.specs.Plan.{planOf};
-ghost use Rattle.rules.specs.Acceptance.{judgePlan, readPlan};
+ghost use Rattle.rules.specs.Acceptance.{accepted, judgePlan, readPlan};
 ghost use Rattle.rules.specs.Answers.{planTold};
 ghost use Rattle.plan.specs.Holds.{Holds};
+ghost use Rattle.plan.specs.Passes.{firstMarks};
 ghost use Rattle.plan_reader.specs.TracksPass.{TracksPass};
 
 // The lowest refusal 13 to 16 that applies anywhere in a plan in which none of 8 to 12 does, 0 where none does. `scopes` and `beside` chain the
@@ -47,10 +49,11 @@ fn judge_transitions(plan: &[u8], c: Counts, scopes: &[u8; 128], beside: &[u8; 3
     0
 }
 
-// The lowest refusal 8 to 16 that applies anywhere in the plan, 0 where none does.
-fn judge_plan(plan: &[u8], c: Counts) -> u8
+// The lowest refusal 8 to 16 that applies anywhere in the plan, 0 where none does: `firsts` then has each track's first state.
+fn judge_plan(plan: &[u8], c: Counts, firsts: &mut [u16; 32]) -> u8
     requires { ⌜ Holds (now plan) c ⌝ }
-    ensures { λ r. ⌜ r ≡ judgePlan (planOf (now (plan .entry)) c) ⌝ }
+    ensures { λ r. ⌜ (r ≡ judgePlan (planOf (now (plan .entry)) c))
+        × (r ≡ 0 → now (firsts .exit) ≡ firstMarks (planOf (now (plan .entry)) c) (c .states)) ⌝ }
 {
     if no_track(plan, c) {
         return 8;
@@ -61,7 +64,9 @@ fn judge_plan(plan: &[u8], c: Counts) -> u8
     if some_bad_host(plan, c) {
         return 10;
     }
-    if some_bad_first(plan, c) {
+    let found = first_states(plan, c);
+    *firsts = found;
+    if some_bad_first(plan, c, &found) {
         return 11;
     }
     let mut scopes: [u8; 128] = [0; 128];
@@ -73,19 +78,28 @@ fn judge_plan(plan: &[u8], c: Counts) -> u8
     judge_transitions(plan, c, &scopes, &beside)
 }
 
-// Reads a plan: its counts, or the first refusal 2 to 16.
-pub fn read_plan(plan: &[u8]) -> PlanAnswer
-    ensures { λ r. ⌜ planTold r ≡ readPlan (now (plan .entry)) ⌝ }
+// Reads a plan: its counts, or the first refusal 2 to 16. Where it is accepted, `firsts` has each track's first state.
+pub fn read_plan_with(plan: &[u8], firsts: &mut [u16; 32]) -> PlanAnswer
+    ensures { λ r. ⌜ (planTold r ≡ readPlan (now (plan .entry)))
+        × ((c : Counts) → planTold r ≡ accepted c → now (firsts .exit) ≡ firstMarks (planOf (now (plan .entry)) c) (c .states)) ⌝ }
 {
     let scanned = scan_records(plan);
     match scanned {
         Scanned::Refused(refusal) => PlanAnswer::Refused(refusal),
         Scanned::Counted(c) => {
-            let refusal = judge_plan(plan, c);
+            let refusal = judge_plan(plan, c, firsts);
             if refusal != 0 {
                 return PlanAnswer::Refused(refusal);
             }
             PlanAnswer::Accepted(c)
         }
     }
+}
+
+// Reads a plan: its counts, or the first refusal 2 to 16.
+pub fn read_plan(plan: &[u8]) -> PlanAnswer
+    ensures { λ r. ⌜ planTold r ≡ readPlan (now (plan .entry)) ⌝ }
+{
+    let mut firsts: [u16; 32] = [0; 32];
+    read_plan_with(plan, &mut firsts)
 }

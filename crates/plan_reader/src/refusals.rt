@@ -12,7 +12,6 @@ use plan::fields::is_state_of;
 use plan::fields::replacement_of;
 use plan::fields::source_of;
 use plan::fields::track_of;
-use plan::passes::first_states;
 use rules::Counts;
 ghost use mathlib.Core.Path.{_≡_};
 ghost use mathlib.Core.Bool.{false};
@@ -21,7 +20,7 @@ ghost use Rattle.rules.specs.Fold.{someBelow};
 ghost use Rattle.rules.specs.Plan.{planOf, firstState, isIn, isHosting, transition, mover};
 ghost use Rattle.rules.specs.Acceptance.{noTrack, badState, badHost, badFirst, badHosting, badTransition, badDeviation};
 ghost use Rattle.plan.specs.Holds.{Holds};
-ghost use Rattle.plan.specs.Passes.{Ends};
+ghost use Rattle.plan.specs.Passes.{firstMarks, Ends};
 
 // 8: there is no track.
 pub fn no_track(plan: &[u8], c: Counts) -> bool
@@ -99,12 +98,12 @@ pub fn bad_first(plan: &[u8], c: Counts, t: usize, first: u16) -> bool
     is_final(plan, c, s)
 }
 
-// Every state's track exists, as 9 has it.
-pub fn some_bad_first(plan: &[u8], c: Counts) -> bool
-    requires { ⌜ Holds (now plan) c × (someBelow (c .states) (badState (planOf (now plan) c)) ≡ false) ⌝ }
+// `firsts` has each track's first state. Every state's track exists, as 9 has it.
+pub fn some_bad_first(plan: &[u8], c: Counts, firsts: &[u16; 32]) -> bool
+    requires { ⌜ Holds (now plan) c × (someBelow (c .states) (badState (planOf (now plan) c)) ≡ false)
+        × (now firsts ≡ firstMarks (planOf (now plan) c) (c .states)) ⌝ }
     ensures { λ r. ⌜ r ≡ someBelow (c .tracks) (badFirst (planOf (now (plan .entry)) c)) ⌝ }
 {
-    let firsts = first_states(plan, c);
     let tracks = c.tracks;
     let mut t: usize = 0;
     while t < tracks {

@@ -6,9 +6,9 @@ use Rattle.rules.specs.Fold.{someBelow}
 use Rattle.rules.specs.Plan.{planOf}
 use Rattle.rules.proofs.Folds.{some-at}
 use Rattle.plan.proofs.Searches.{none-more, none-all}
-use native.Mathlib.Omega.{arith}
 use Rattle.rules.specs.Acceptance.{badFirst}
 use Rattle.plan.proofs.PassedLaws.{first-read}
+use native.Mathlib.Omega.{arith}
 use borrow.Author.Needs.{needs}
 use Rattle.plan_reader.proofs.refusals.some_bad_first.Statement.{statement}
 use Rattle.plan_reader.proofs.refusals.some_bad_first.Tie as tie
@@ -23,17 +23,17 @@ loop-holds : tie.Need-loop-holds Inv-loop μ-loop
 unfolding someBelow
 loop-holds c = (search needs, refl)
 
-array-read-first : tie.Need-array-read-first Inv-loop μ-loop
-array-read-first c = let n = c .before .before .before .before .pre .0 .tracks in omega arith
+element-copy-out-first : tie.Need-element-copy-out-first Inv-loop μ-loop
+element-copy-out-first c = let n = c .before .before .before .pre .0 .tracks in omega arith
 
 bad-first-requires : tie.Need-bad-first-requires Inv-loop μ-loop
-bad-first-requires c κs = (search needs, first-read _ _ (c .before .before .before .before .pre .0) (c .before .before .before .before .pre .1) _ _ _ (c .loop-test .taken) (c .before .before .first-states .ensures) refl)
+bad-first-requires c κs = (search needs, first-read _ _ (c .before .before .before .before .pre .0) (c .before .before .before .before .pre .1) _ _ _ (c .before .loop-test .taken) (c .before .before .before .before .pre .2) refl)
 
 returns : tie.Need-returns Inv-loop μ-loop
-returns c = sym (some-at _ _ (c .before .before .before .loop .t) (search needs) (sym (c .before .bad-first .ensures) ∙ c .if1 .taken))
+returns c = sym (some-at _ _ (c .before .before .before .before .loop .t) (search needs) (sym (c .before .bad-first .ensures) ∙ c .if1 .taken))
 
 loop-again : tie.Need-loop-again Inv-loop μ-loop
-loop-again c = (search needs, none-more _ _ (c .before .before .before .loop .inv .1) (sym (c .before .bad-first .ensures) ∙ c .if1 .left))
+loop-again c = (search needs, none-more _ _ (c .before .before .before .before .loop .inv .1) (sym (c .before .bad-first .ensures) ∙ c .if1 .left))
 
 returns-2 : tie.Need-returns-2 Inv-loop μ-loop
 returns-2 c = sym (none-all _ _ _ (search needs) (search needs) (c .before .loop .inv .1))
@@ -44,10 +44,9 @@ some-bad-first-spec =
     (tie.spec
     Inv-loop
     μ-loop
-    (λ c κs. search needs)
     loop-holds
     (λ c. search needs)
-    array-read-first
+    element-copy-out-first
     bad-first-requires
     returns
     (λ c. search needs)
