@@ -5,17 +5,19 @@ use mathlib.Core.Bool.{Bool, true, false, not, _&&_, _||_, and-false}
 use mathlib.Core.List.{List}
 use mathlib.Core.Option.{Option, none, some}
 use Prim.Native.Nat.{ℕ, _<_, _≤_}
+use native.Mathlib.Nat.{not-suc-le-zero}
 use native.Mathlib.Omega.{arith}
 use lib.Dec.{eqb, ltb}
 use borrow.Author.Tests.{eq-eqb, eqb-true, lt-ltb}
 use Rattle.rules.specs.declared.Counts.{Counts}
 use Rattle.rules.specs.Plan.{Plan, planOf, trackCount, noState, hostWord, host, owner, isHostedBy}
 use Rattle.rules.specs.Layout.{entryLimit}
-use Rattle.rules.specs.Ledger.{Ledger, isUndoing, isEmpty, sleeping, ledgerAt}
+use Rattle.rules.specs.Ledger.{Ledger, isAwake, isUndoing, isEmpty, sleeping, ledgerAt}
 use Rattle.rules.specs.Scope.{isOver, hasOpenScope}
 use Rattle.rules.specs.Fire.{mayFire}
 use Rattle.rules.specs.Soundness.{areTidy, isLive, isSound}
-use Rattle.rules.proofs.Tests.{look-option, clash, and-holds, or-holds, same-test}
+use Rattle.rules.proofs.Tests.{look, look-option, clash, and-holds, or-holds, same-test}
+use Rattle.rules.proofs.Folds.{every-at}
 use Rattle.rules.proofs.Acceptance.{Accepted, accepts}
 use Rattle.rules.proofs.Soundness.{Live, live-facts}
 use Rattle.rules.proofs.Stored.{Storable, read-at, read-beyond, storable-read}
@@ -51,6 +53,25 @@ live-of-going bs c ws g =
     let r : (isOver p (l (c .tracks)) || isLive p (l (c .tracks))) ≡ true = ap (λ (m : ℕ). isOver p (l m) || isLive p (l m)) (sym (track-count bs c)) ∙ q in
     live-facts p (plan-facts bs c (g .checked .lent .accepts)) (ledgerOf c ws)
     (elim (or-holds (isOver p (l (c .tracks))) (isLive p (l (c .tracks))) r) [ inl o ↦ clash o (g .goes-on) | inr v ↦ v ])
+
+-- a host is a state of a lower-numbered track, so the first track is a root; of a sound ledger it is awake unless all are asleep
+pub first-track : (bs : List ℕ) (c : Counts) → Accepts bs c → 0 < c .tracks
+first-track bs c a = rw (track-count bs c) at (plan-facts bs c a .some-track)
+
+first-root : (bs : List ℕ) (c : Counts) → Accepts bs c → host (planOf bs c) 0 ≡ none
+first-root bs c a =
+    elim (look-option (host (planOf bs c) 0)) [ inl z ↦ z | inr z ↦ absurd (not-suc-le-zero (plan-facts bs c a .lower 0 (z .0) (z .1))) ]
+
+pub over-by-first : (bs : List ℕ) (c : Counts) (ws : List ℕ) → Checked bs c ws → {r : Bool} → r ≡ isAwake (ledgerOf c ws 0 .mode)
+    → not r ≡ isOver (planOf bs c) (ledgerOf c ws)
+unfolding isOver
+over-by-first bs c ws k e =
+    let a = k .lent .accepts in
+    let some-track = plan-facts bs c a .some-track in
+    elim (look (isOver (planOf bs c) (ledgerOf c ws))) [
+      | inl o ↦ ap not e ∙ every-at (trackCount (planOf bs c)) _ o 0 some-track ∙ sym o
+      | inr n ↦ ap not (e ∙ live-of-going bs c ws (record { checked = k; goes-on = n }) .roots 0 some-track (first-root bs c a)) ∙ sym n
+    ]
 
 pub storable : (bs : List ℕ) (c : Counts) (ws : List ℕ) → Going bs c ws → Storable entryLimit (c .tracks) (ledgerOf c ws)
 unfolding ledgerOf

@@ -10,7 +10,8 @@ ghost use Prim.Native.Nat.{_<_};
 ghost use Rattle.rules.specs.Fold.{everyBelow};
 ghost use Rattle.rules.specs.Plan.{planOf};
 ghost use Rattle.rules.specs.Ledger.{isAwake};
-ghost use Rattle.ledger.specs.Ladder.{Room, Accepts, ledgerOf};
+ghost use Rattle.rules.specs.Scope.{isOver};
+ghost use Rattle.ledger.specs.Ladder.{Room, Accepts, Checked, ledgerOf};
 ghost use Rattle.lookup.specs.HostTrack.{hostTrack};
 ghost use Rattle.ledger.specs.Words.{trackOf};
 
@@ -32,8 +33,8 @@ pub fn is_awake(c: Counts, ledger: &[u16], t: usize) -> bool
     track::is_awake(m)
 }
 
-// "all asleep ("over")"
-pub fn is_over(c: Counts, ledger: &[u16]) -> bool
+// "all asleep ("over")", of any ledger.
+pub fn all_asleep(c: Counts, ledger: &[u16]) -> bool
     requires { ⌜ Room (now ledger) (c .tracks) ⌝ }
     ensures { λ r. ⌜ r ≡ everyBelow (c .tracks) (λ t. not (isAwake (ledgerOf c (now (ledger .entry)) t .mode))) ⌝ }
 {
@@ -46,6 +47,14 @@ pub fn is_over(c: Counts, ledger: &[u16]) -> bool
         t += 1;
     }
     true
+}
+
+// The same of a sound ledger: its first track is a root, and every root is awake unless it is over.
+pub fn is_over(plan: &[u8], c: Counts, ledger: &[u16]) -> bool
+    requires { ⌜ Checked (now plan) c (now ledger) ⌝ }
+    ensures { λ r. ⌜ r ≡ isOver (planOf (now (plan .entry)) c) (ledgerOf c (now (ledger .entry))) ⌝ }
+{
+    !is_awake(c, ledger, 0)
 }
 
 // The track of a track's host, 65535 for a root.

@@ -102,6 +102,10 @@ module _ (bs : List ℕ) (c : Counts) (ws : List ℕ) where
   unfolding isSound isOver
   counted = ap said (sym (track-count bs c))
 
+  pub over-asked : {r : Bool} → r ≡ everyBelow (c .tracks) (λ t. not (isAwake (ledgerOf c ws t .mode))) → r ≡ true → isOver (planOf bs c) (ledgerOf c ws) ≡ true
+  unfolding isOver
+  over-asked f k = ap (λ n. everyBelow n (λ t. not (isAwake (ledgerOf c ws t .mode)))) (track-count bs c) ∙ sym f ∙ k
+
   module _ {q : Bool} (e : q ≡ areTidy entryLimit ws (c .tracks)) where
     pub untidy : not q ≡ true → false ≡ isSound entryLimit (planOf bs c) ws
     untidy h = rw (sym e ∙ not-true q h) at counted

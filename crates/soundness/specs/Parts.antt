@@ -1,17 +1,23 @@
--- What the clauses of soundness ask of one entry, one track and one scope, and the marks by which a scope is judged. Assumes nothing.
+-- What the clauses of soundness ask of one entry, one track and one scope, the marks by which a scope is judged, and
+-- the open scopes found on the way. Assumes nothing.
 use mathlib.Core.Path.{_≡_}
-use mathlib.Core.Bool.{Bool, false, not, _&&_, _||_}
+use mathlib.Core.Bool.{Bool, true, false, not, _&&_, _||_}
 use mathlib.Core.List.{List}
 use Prim.Native.Nat.{ℕ, _<_}
 use lib.Dec.{eqb}
 use lib.ListN.{length, getD}
+use Rattle.rules.specs.Names.{Bytes, Words}
+use Rattle.rules.specs.declared.Counts.{Counts}
 use Rattle.rules.specs.Fold.{someBelow}
-use Rattle.rules.specs.Plan.{Plan, isRoot, isStateOf, isFinal, isIn}
+use Rattle.rules.specs.Plan.{Plan, planOf, isRoot, isStateOf, isFinal, isIn}
 use Rattle.rules.specs.Ledger.{Entry, Ledger, isAwake, isForward}
+use Rattle.rules.specs.Scope.{isOver, hasOpenScope}
 use Rattle.rules.specs.Event.{isClosing}
 use Rattle.rules.specs.Signal.{isBare, isAbandoning}
 use Rattle.rules.specs.Soundness.{everyHeld, goodDeviation, isWhole, isHostedWell}
 use Rattle.plan.specs.Passes.{stateSlots}
+use Rattle.ledger.specs.Ladder.{ledgerOf}
+use Rattle.lookup.specs.Figures.{Figures}
 
 -- for each state whether a track below n that is in its scope passes the test
 pub record Scoped (p : Plan) (f : ℕ → Bool) (n : ℕ) (ms : List Bool) : Type 0 where
@@ -39,3 +45,8 @@ module _ (p : Plan) (l : Ledger) where
     pub asleep-marks : Scoped p (λ t. not (isAwake (l t .mode))) n asleep
     pub unfinished-marks : Scoped p (λ t. not (isForward (l t .mode) && isFinal p (l t .state))) n unfinished
     pub busy-marks : Scoped p (λ t. not (isBare p l t)) n busy
+
+-- of a ledger found sound that is not over, the tracks that have an open scope are marked
+abbrev pub OpensFound : Bytes → Counts → Words → Bool → List Bool → Type 0
+OpensFound bs c ws r ms =
+    r ≡ true → isOver (planOf bs c) (ledgerOf c ws) ≡ false → Figures false ms (c .tracks) (hasOpenScope (planOf bs c) (ledgerOf c ws))

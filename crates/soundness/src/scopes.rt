@@ -1,19 +1,20 @@
 // What soundness asks of scopes, by marks that one pass over the tracks sets for the states that host them.
 use crate::tracks;
 use ledger::track as words;
-use lookup::opens;
 use lookup::reading;
 use plan::fields;
 use plan::fields::NO_STATE;
 use rules::Counts;
 use rules::Track;
 ghost use mathlib.Core.Path.{_≡_};
-ghost use mathlib.Core.Bool.{not, _&&_};
+ghost use mathlib.Core.Bool.{false, not, _&&_};
 ghost use lib.Dec.{eqb};
 ghost use Rattle.rules.specs.Fold.{everyBelow};
 ghost use Rattle.rules.specs.Plan.{planOf};
 ghost use Rattle.rules.specs.Ledger.{isUndoing};
+ghost use Rattle.rules.specs.Scope.{hasOpenScope};
 ghost use Rattle.ledger.specs.Ladder.{Lent, ledgerOf};
+ghost use Rattle.lookup.specs.Figures.{Figures};
 ghost use Rattle.soundness.specs.Parts.{Marked, soundScope};
 
 // For each state whether some track in its scope is awake, asleep, not forward in a final state, not bare.
@@ -35,15 +36,15 @@ fn is_bare(k: Track, inner: bool) -> bool
 }
 
 // The marks of every scope.
-fn mark_scopes(plan: &[u8], c: Counts, ledger: &[u16]) -> ScopeMarks
-    requires { ⌜ Lent (now plan) c (now ledger) ⌝ }
+fn mark_scopes(plan: &[u8], c: Counts, ledger: &[u16], opens: &[bool; 32]) -> ScopeMarks
+    requires { ⌜ Lent (now plan) c (now ledger)
+        × Figures false (now opens) (c .tracks) (hasOpenScope (planOf (now plan) c) (ledgerOf c (now ledger))) ⌝ }
     ensures { λ r. ⌜ Marked (planOf (now (plan .entry)) c) (ledgerOf c (now (ledger .entry))) (c .tracks) (r .awake) (r .asleep) (r .unfinished) (r .busy) ⌝ }
 {
     let mut awake = [false; 128];
     let mut asleep = [false; 128];
     let mut unfinished = [false; 128];
     let mut busy = [false; 128];
-    let opens = opens::open_scopes(plan, c, ledger);
     let tracks = c.tracks;
     let mut t: usize = 0;
     while t < tracks {
@@ -70,12 +71,13 @@ fn mark_scopes(plan: &[u8], c: Counts, ledger: &[u16]) -> ScopeMarks
     }
 }
 
-// Whether every scope is as the clauses on scopes have it. One that is not open is.
-pub fn are_sound(plan: &[u8], c: Counts, ledger: &[u16]) -> bool
-    requires { ⌜ Lent (now plan) c (now ledger) ⌝ }
+// Whether every scope is as the clauses on scopes have it, given which tracks have an open one. A scope that is not open is.
+pub fn are_sound(plan: &[u8], c: Counts, ledger: &[u16], opens: &[bool; 32]) -> bool
+    requires { ⌜ Lent (now plan) c (now ledger)
+        × Figures false (now opens) (c .tracks) (hasOpenScope (planOf (now plan) c) (ledgerOf c (now ledger))) ⌝ }
     ensures { λ r. ⌜ r ≡ everyBelow (c .states) (soundScope (planOf (now (plan .entry)) c) (ledgerOf c (now (ledger .entry)))) ⌝ }
 {
-    let marks = mark_scopes(plan, c, ledger);
+    let marks = mark_scopes(plan, c, ledger, opens);
     let mut all = true;
     let mut s: usize = 0;
     while s < c.states {

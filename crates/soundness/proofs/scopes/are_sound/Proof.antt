@@ -13,10 +13,10 @@ use Rattle.soundness.proofs.scopes.are_sound.Statement.{statement}
 use Rattle.soundness.proofs.scopes.are_sound.Tie as tie
 
 abbrev Inv-loop : tie.InvT-loop
-Inv-loop plan c ledger marks all₀ s₀ all s = (s ≤ c .states) × (all ≡ everyBelow s (soundScope (planOf plan c) (ledgerOf c ledger)))
+Inv-loop plan c ledger opens marks all₀ s₀ all s = (s ≤ c .states) × (all ≡ everyBelow s (soundScope (planOf plan c) (ledgerOf c ledger)))
 
 abbrev μ-loop : tie.MeasureT-loop
-μ-loop plan c ledger marks all₀ s₀ all s = c .states - s
+μ-loop plan c ledger opens marks all₀ s₀ all s = c .states - s
 
 loop-holds : tie.Need-loop-holds Inv-loop μ-loop
 unfolding everyBelow
