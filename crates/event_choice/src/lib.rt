@@ -4,7 +4,6 @@ pub mod indexed;
 pub mod judging;
 pub mod moving;
 
-use lookup::opens;
 use rules::Counts;
 ghost use mathlib.Core.Path.{_≡_};
 ghost use mathlib.Core.Bool.{false};
@@ -28,16 +27,16 @@ pub struct Choice {
     pub full: bool,
 }
 
-// What an event does, given its moves. Where none leads to a final state, no scope closes and nothing finishes.
+// What an event does, given which tracks have an open scope, and its moves. Where none leads to a final state, no scope closes and nothing finishes.
 fn choose_by(
     plan: &[u8],
     c: Counts,
     ledger: &[u16],
     event: u16,
-    scopes: &[bool; 32],
+    opens: &[bool; 32],
     taken: &[u16; 32],
 ) -> Choice
-    requires { ⌜ Going (now plan) c (now ledger) × Figures false (now scopes) (c .tracks) (hasOpenScope (planOf (now plan) c) (ledgerOf c (now ledger)))
+    requires { ⌜ Going (now plan) c (now ledger) × Figures false (now opens) (c .tracks) (hasOpenScope (planOf (now plan) c) (ledgerOf c (now ledger)))
         × Numbers (now taken) (c .tracks) (move (planOf (now plan) c) (ledgerOf c (now ledger)) event) ⌝ }
     ensures { λ r. ⌜ Chosen (planOf (now (plan .entry)) c) (ledgerOf c (now (ledger .entry))) r × (r .event ≡ event) ⌝ }
 {
@@ -53,7 +52,7 @@ fn choose_by(
             full: m.full,
         };
     }
-    let closing = closing::closing_scopes(plan, c, ledger, *scopes, taken);
+    let closing = closing::closing_scopes(plan, c, ledger, *opens, taken);
     let v = judging::judge(plan, c, ledger, taken, &closing);
     Choice {
         event: event,
@@ -66,14 +65,13 @@ fn choose_by(
     }
 }
 
-// What an event does.
-pub fn choose(plan: &[u8], c: Counts, ledger: &[u16], event: u16) -> Choice
-    requires { ⌜ Going (now plan) c (now ledger) ⌝ }
+// What an event does, given which tracks have an open scope.
+pub fn choose(plan: &[u8], c: Counts, ledger: &[u16], event: u16, opens: &[bool; 32]) -> Choice
+    requires { ⌜ Going (now plan) c (now ledger) × Figures false (now opens) (c .tracks) (hasOpenScope (planOf (now plan) c) (ledgerOf c (now ledger))) ⌝ }
     ensures { λ r. ⌜ Chosen (planOf (now (plan .entry)) c) (ledgerOf c (now (ledger .entry))) r × (r .event ≡ event) ⌝ }
 {
-    let scopes = opens::open_scopes(plan, c, ledger);
-    let taken = moving::taken_by(plan, c, ledger, event, &scopes);
-    choose_by(plan, c, ledger, event, &scopes, &taken)
+    let taken = moving::taken_by(plan, c, ledger, event, opens);
+    choose_by(plan, c, ledger, event, opens, &taken)
 }
 
 // The same by an index of the transitions.
@@ -82,13 +80,14 @@ pub fn choose_indexed(
     c: Counts,
     ledger: &[u16],
     event: u16,
+    opens: &[bool; 32],
     head: &[u16; 256],
     next: &[u16; 256],
 ) -> Choice
-    requires { ⌜ Going (now plan) c (now ledger) × Indexed (now plan) c (now head) (now next) ⌝ }
+    requires { ⌜ Going (now plan) c (now ledger) × Figures false (now opens) (c .tracks) (hasOpenScope (planOf (now plan) c) (ledgerOf c (now ledger)))
+        × Indexed (now plan) c (now head) (now next) ⌝ }
     ensures { λ r. ⌜ Chosen (planOf (now (plan .entry)) c) (ledgerOf c (now (ledger .entry))) r × (r .event ≡ event) ⌝ }
 {
-    let scopes = opens::open_scopes(plan, c, ledger);
-    let taken = indexed::taken_from(plan, c, ledger, event, &scopes, head, next);
-    choose_by(plan, c, ledger, event, &scopes, &taken)
+    let taken = indexed::taken_from(plan, c, ledger, event, opens, head, next);
+    choose_by(plan, c, ledger, event, opens, &taken)
 }

@@ -1,30 +1,21 @@
 // An event: its refusals, judged before a word is written, then its step and its figures.
 use event_choice::Choice;
+use lookup::opens;
 use lookup::reading;
-use opening::firsts;
 use rules::Counts;
 use rules::EventAnswer;
 ghost use mathlib.Core.Path.{_≡_};
+ghost use mathlib.Core.Bool.{false};
 ghost use Rattle.rules.specs.Layout.{entryLimit};
 ghost use Rattle.rules.specs.Plan.{planOf, firstState};
+ghost use Rattle.rules.specs.Scope.{hasOpenScope, isOver};
 ghost use Rattle.rules.specs.Call.{Meets, eventOutcome};
 ghost use Rattle.rules.specs.Answers.{eventTold};
-ghost use Rattle.ledger.specs.Ladder.{Accepts, Checked, Going, ledgerOf};
+ghost use Rattle.ledger.specs.Ladder.{Checked, Going, ledgerOf};
 ghost use Rattle.lookup.specs.Figures.{Figures};
 ghost use Rattle.transition_index.specs.Indexed.{Indexed};
 ghost use Rattle.event_choice.specs.Chosen.{Chosen};
 ghost use Rattle.event_step.specs.Outcome.{goingOutcome};
-
-// The first state of each track, where some track moves.
-fn firsts_where(plan: &[u8], c: Counts, moved: u16) -> [u16; 32]
-    requires { ⌜ Accepts (now plan) c ⌝ }
-    ensures { λ r. ⌜ ((moved ≡ 0 → ⊥) → Figures 0 r (c .tracks) (firstState (planOf (now (plan .entry)) c))) ⌝ }
-{
-    if moved == 0 {
-        return [0; 32];
-    }
-    firsts::first_states(plan, c)
-}
 
 // An event other than 0 on a ledger that is not over, its choice made, given the first state of each track. Where no track moves nothing changes.
 fn go_on(
@@ -35,7 +26,7 @@ fn go_on(
     firsts: &[u16; 32],
 ) -> EventAnswer
     requires { ⌜ Going (now plan) c (now ledger) × Chosen (planOf (now plan) c) (ledgerOf c (now ledger)) choice
-        × ((choice .moved ≡ 0 → ⊥) → Figures 0 (now firsts) (c .tracks) (firstState (planOf (now plan) c))) ⌝ }
+        × Figures 0 (now firsts) (c .tracks) (firstState (planOf (now plan) c)) ⌝ }
     ensures { λ r. ⌜ Meets (goingOutcome (planOf (now (plan .entry)) c) (now (ledger .entry)) (choice .event)) (eventTold r) (now (ledger .exit)) ⌝ }
 {
     if choice.full {
@@ -50,9 +41,19 @@ fn go_on(
     EventAnswer::Moved(movers, closed)
 }
 
-// An event under an accepted plan, on a sound ledger.
-pub fn event(plan: &[u8], c: Counts, ledger: &mut [u16], event: u16) -> EventAnswer
-    requires { ⌜ Checked (now plan) c (now ledger) ⌝ }
+// An event under an accepted plan, on a sound ledger, given which tracks have an open scope, unless it is over, and the first state of each.
+pub fn event(
+    plan: &[u8],
+    c: Counts,
+    ledger: &mut [u16],
+    event: u16,
+    opens: &[bool; 32],
+    firsts: &[u16; 32],
+) -> EventAnswer
+    requires { ⌜ Checked (now plan) c (now ledger)
+        × (isOver (planOf (now plan) c) (ledgerOf c (now ledger)) ≡ false
+        → Figures false (now opens) (c .tracks) (hasOpenScope (planOf (now plan) c) (ledgerOf c (now ledger))))
+        × Figures 0 (now firsts) (c .tracks) (firstState (planOf (now plan) c)) ⌝ }
     ensures { λ r. ⌜ Meets (eventOutcome entryLimit (now (plan .entry)) (now (ledger .entry)) (record { event = event })) (eventTold r) (now (ledger .exit)) ⌝ }
 {
     if event == 0 {
@@ -61,12 +62,11 @@ pub fn event(plan: &[u8], c: Counts, ledger: &mut [u16], event: u16) -> EventAns
     if reading::is_over(c, &ledger[..]) {
         return EventAnswer::Refused(20);
     }
-    let choice = event_choice::choose(plan, c, &ledger[..], event);
-    let firsts = firsts_where(plan, c, choice.moved);
-    go_on(plan, c, &mut ledger[..], choice, &firsts)
+    let choice = event_choice::choose(plan, c, &ledger[..], event, opens);
+    go_on(plan, c, &mut ledger[..], choice, firsts)
 }
 
-// The same, given the first state of each track and an index of the transitions: who has many events makes them once.
+// The same, given no open scope but the first state of each track and an index of the transitions: who has many events makes them once.
 pub fn event_indexed(
     plan: &[u8],
     c: Counts,
@@ -86,6 +86,7 @@ pub fn event_indexed(
     if reading::is_over(c, &ledger[..]) {
         return EventAnswer::Refused(20);
     }
-    let choice = event_choice::choose_indexed(plan, c, &ledger[..], event, head, next);
+    let opens = opens::open_scopes(plan, c, &ledger[..]);
+    let choice = event_choice::choose_indexed(plan, c, &ledger[..], event, &opens, head, next);
     go_on(plan, c, &mut ledger[..], choice, firsts)
 }

@@ -1,6 +1,5 @@
 // Begin: "roots forward in their first states and holding nothing, others asleep", and the scopes of the states entered open.
 use crate::entering;
-use crate::firsts;
 use ledger::track;
 use plan::fields;
 use plan::fields::NO_STATE;
@@ -40,13 +39,12 @@ fn root_words(plan: &[u8], c: Counts, firsts: &[u16; 32]) -> [u16; 32]
     to
 }
 
-// Overwrites the ledger: every track asleep, then the roots enter their first states.
-pub fn begin_all(plan: &[u8], c: Counts, ledger: &mut [u16])
-    requires { ⌜ Lent (now plan) c (now ledger) ⌝ }
+// Overwrites the ledger, given the first state of each track: every track asleep, then the roots enter their first states.
+pub fn begin_all(plan: &[u8], c: Counts, ledger: &mut [u16], firsts: &[u16; 32])
+    requires { ⌜ Lent (now plan) c (now ledger) × Figures 0 (now firsts) (c .tracks) (firstState (planOf (now plan) c)) ⌝ }
     ensures { λ _. ⌜ now (ledger .exit) ≡ written entryLimit (c .tracks) (begun (planOf (now (plan .entry)) c)) (now (ledger .entry)) ⌝ }
 {
     track::put_all_to_sleep(&mut ledger[..], c.tracks);
-    let firsts = firsts::first_states(plan, c);
-    let to = root_words(plan, c, &firsts);
-    entering::enter_all(plan, c, &mut ledger[..], firsts, to);
+    let to = root_words(plan, c, firsts);
+    entering::enter_all(plan, c, &mut ledger[..], *firsts, to);
 }

@@ -120,7 +120,7 @@ module _ {bs : List ℕ} {c : Counts} {ws : List ℕ} (g : Checked bs c ws) {r :
       let o : isOver (planOf bs c) (ledgerOf c ws) ≡ true = sym (over-as bs c ws g e) ∙ h in
       refused-call bs c ws g (fire (record { track = t })) 19 (rw o)
 
-  going-on : r ≡ false → isOver (planOf bs c) (ledgerOf c ws) ≡ false
+  pub going-on : r ≡ false → isOver (planOf bs c) (ledgerOf c ws) ≡ false
   going-on h = sym (over-as bs c ws g e) ∙ h
 
   module _ (h : r ≡ false) (t : ℕ) {q : Bool} (f : q ≡ mayFire (planOf bs c) (ledgerOf c ws) t) where

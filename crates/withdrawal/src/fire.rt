@@ -1,42 +1,42 @@
 // A firing: the newest entry of a track that may be fired, its deviation entered, and then abandoning.
 use crate::abandoning;
 use ledger::track as words;
-use lookup::opens;
 use lookup::reading;
 use lookup::ready;
 use opening::entering;
-use opening::firsts;
 use plan::fields::NO_STATE;
 use rules::Counts;
 use rules::FireAnswer;
 ghost use mathlib.Core.Path.{_≡_};
+ghost use mathlib.Core.Bool.{false};
 ghost use Prim.Native.Nat.{_<_};
 ghost use Rattle.rules.specs.Layout.{entryLimit};
-ghost use Rattle.rules.specs.Plan.{planOf};
+ghost use Rattle.rules.specs.Plan.{planOf, firstState};
 ghost use Rattle.rules.specs.Ledger.{written};
+ghost use Rattle.rules.specs.Scope.{hasOpenScope, isOver};
 ghost use Rattle.rules.specs.Opening.{enter};
 ghost use Rattle.rules.specs.Fire.{mayFire};
 ghost use Rattle.rules.specs.Call.{fireOutcome, Meets};
 ghost use Rattle.rules.specs.Answers.{fireTold};
 ghost use Rattle.ledger.specs.Ladder.{Tidy, Accepts, Lent, Checked, ledgerOf};
+ghost use Rattle.lookup.specs.Figures.{Figures};
 ghost use Rattle.opening.specs.Entering.{Sleepers};
 ghost use Rattle.withdrawal.specs.Deviating.{deviating};
 
-// Whether a track may be fired.
-fn may_fire(plan: &[u8], c: Counts, ledger: &[u16], t: usize) -> bool
-    requires { ⌜ Lent (now plan) c (now ledger) ⌝ }
+// Whether a track may be fired, given which tracks have an open scope.
+fn may_fire(plan: &[u8], c: Counts, ledger: &[u16], opens: &[bool; 32], t: usize) -> bool
+    requires { ⌜ Lent (now plan) c (now ledger) × Figures false (now opens) (c .tracks) (hasOpenScope (planOf (now plan) c) (ledgerOf c (now ledger))) ⌝ }
     ensures { λ r. ⌜ r ≡ mayFire (planOf (now (plan .entry)) c) (ledgerOf c (now (ledger .entry))) t ⌝ }
 {
     if c.tracks <= t {
         return false;
     }
-    let opens = opens::open_scopes(plan, c, ledger);
-    ready::is_ready(plan, c, ledger, &opens, t)
+    ready::is_ready(plan, c, ledger, opens, t)
 }
 
-// A track goes forward in a state, 65535 for none, and the scopes that it enters open.
-fn deviate(plan: &[u8], c: Counts, ledger: &mut [u16], t: usize, s: u16)
-    requires { ⌜ Accepts (now plan) c × Tidy (now ledger) (c .tracks) × (t < c .tracks)
+// A track goes forward in a state, 65535 for none, and the scopes that it enters open, given the first state of each track.
+fn deviate(plan: &[u8], c: Counts, ledger: &mut [u16], firsts: &[u16; 32], t: usize, s: u16)
+    requires { ⌜ Accepts (now plan) c × Tidy (now ledger) (c .tracks) × (t < c .tracks) × Figures 0 (now firsts) (c .tracks) (firstState (planOf (now plan) c))
         × Sleepers (planOf (now plan) c) (deviating t s) (ledgerOf c (now ledger)) ⌝ }
     ensures { λ _. ⌜ now (ledger .exit)
         ≡ written entryLimit (c .tracks) (enter (planOf (now (plan .entry)) c) (deviating t s) (ledgerOf c (now (ledger .entry)))) (now (ledger .entry)) ⌝ }
@@ -44,23 +44,32 @@ fn deviate(plan: &[u8], c: Counts, ledger: &mut [u16], t: usize, s: u16)
     if s == NO_STATE {
         return;
     }
-    let firsts = firsts::first_states(plan, c);
     let mut to = [NO_STATE; 32];
     to[t] = s;
-    entering::enter_all(plan, c, &mut ledger[..], firsts, to);
+    entering::enter_all(plan, c, &mut ledger[..], *firsts, to);
 }
 
-// A firing on a checked plan and ledger: the code and the deviation of the entry fired, 20 where the ledger is over, or 22 where the
+// A firing on a checked plan and ledger, given which tracks have an open scope, unless it is over, and the first state of each: the code and the deviation of the entry fired, 20 where the ledger is over, or 22 where the
 // track may not be fired or does not exist.
-pub fn fire(plan: &[u8], c: Counts, ledger: &mut [u16], track: u16) -> FireAnswer
-    requires { ⌜ Checked (now plan) c (now ledger) ⌝ }
+pub fn fire(
+    plan: &[u8],
+    c: Counts,
+    ledger: &mut [u16],
+    track: u16,
+    opens: &[bool; 32],
+    firsts: &[u16; 32],
+) -> FireAnswer
+    requires { ⌜ Checked (now plan) c (now ledger)
+        × (isOver (planOf (now plan) c) (ledgerOf c (now ledger)) ≡ false
+        → Figures false (now opens) (c .tracks) (hasOpenScope (planOf (now plan) c) (ledgerOf c (now ledger))))
+        × Figures 0 (now firsts) (c .tracks) (firstState (planOf (now plan) c)) ⌝ }
     ensures { λ r. ⌜ Meets (fireOutcome entryLimit (now (plan .entry)) (now (ledger .entry)) (record { track = track })) (fireTold r) (now (ledger .exit)) ⌝ }
 {
     if reading::is_over(c, &ledger[..]) {
         return FireAnswer::Refused(20);
     }
     let t = track as usize;
-    if !may_fire(plan, c, &ledger[..], t) {
+    if !may_fire(plan, c, &ledger[..], opens, t) {
         return FireAnswer::Refused(22);
     }
     let k = reading::track(c, &ledger[..], t);
@@ -68,7 +77,7 @@ pub fn fire(plan: &[u8], c: Counts, ledger: &mut [u16], track: u16) -> FireAnswe
     let code = words::entry_code(&ledger[..], t, newest);
     let deviation = words::entry_deviation(&ledger[..], t, newest);
     words::remove_newest(&mut ledger[..], t);
-    deviate(plan, c, &mut ledger[..], t, deviation);
+    deviate(plan, c, &mut ledger[..], firsts, t, deviation);
     abandoning::abandon(plan, c, &mut ledger[..]);
     FireAnswer::Fired(code, deviation)
 }

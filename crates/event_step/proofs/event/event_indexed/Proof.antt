@@ -11,15 +11,15 @@ returns-2 : tie.Need-returns-2
 returns-2 c = event-over _ _ _ (c .before .before .before .before .before .before .pre .0) _ (c .before .before .before .if1 .left) _ (c .before .is-over .ensures) (c .if2 .taken)
 
 choose-indexed-requires : tie.Need-choose-indexed-requires
-choose-indexed-requires c κs = (going-of _ _ _ (c .before .before .before .before .before .before .before .pre .0) _ (c .before .before .before .before .if1 .left) _ (c .before .before .is-over .ensures) (c .before .if2 .left), c .before .before .before .before .before .before .before .pre .2)
+choose-indexed-requires c κs = (going-of _ _ _ (c .before .before .before .before .before .before .before .before .before .before .pre .0) _ (c .before .before .before .before .before .before .before .if1 .left) _ (c .before .before .before .before .before .is-over .ensures) (c .before .before .before .before .if2 .left), c .before .before .open-scopes .ensures, c .before .before .before .before .before .before .before .before .before .before .pre .2)
 
 go-on-requires : tie.Need-go-on-requires
-go-on-requires c κs = (going-of _ _ _ (c .before .before .before .before .before .before .before .before .before .pre .0) _ (c .before .before .before .before .before .before .if1 .left) _ (c .before .before .before .before .is-over .ensures) (c .before .before .before .if2 .left), c .before .choose-indexed .ensures .0, λ _. c .before .before .before .before .before .before .before .before .before .pre .1)
+go-on-requires c κs = (going-of _ _ _ (c .before .before .before .before .before .before .before .before .before .before .before .before .pre .0) _ (c .before .before .before .before .before .before .before .before .before .if1 .left) _ (c .before .before .before .before .before .before .before .is-over .ensures) (c .before .before .before .before .before .before .if2 .left), c .before .choose-indexed .ensures .0, c .before .before .before .before .before .before .before .before .before .before .before .before .pre .1)
 
 returns-3 : tie.Need-returns-3
-returns-3 c = event-going _ _ _ (c .before .before .before .before .before .before .before .before .before .before .before .before .pre .0) _ (c .before .before .before .before .before .before .before .before .before .if1 .left) _ (c .before .before .before .before .before .before .before .is-over .ensures) (c .before .before .before .before .before .before .if2 .left) _ _ (rw (c .before .before .before .before .choose-indexed .ensures .1) at (c .before .before .go-on .ensures))
+returns-3 c = event-going _ _ _ (c .before .before .before .before .before .before .before .before .before .before .before .before .before .before .before .pre .0) _ (c .before .before .before .before .before .before .before .before .before .before .before .before .if1 .left) _ (c .before .before .before .before .before .before .before .before .before .before .is-over .ensures) (c .before .before .before .before .before .before .before .before .before .if2 .left) _ _ (rw (c .before .before .before .before .choose-indexed .ensures .1) at (c .before .before .go-on .ensures))
 
 pub event-indexed-spec : {M : Type 1} → statement M
 event-indexed-spec =
     tie.close
-    (tie.spec returns (λ c κs. search needs) (λ c. search needs) returns-2 choose-indexed-requires go-on-requires (λ c. search needs) returns-3)
+    (tie.spec returns (λ c κs. search needs) (λ c. search needs) returns-2 (λ c κs. search needs) choose-indexed-requires go-on-requires (λ c. search needs) returns-3)

@@ -14,7 +14,7 @@ returns-2 c = still-met _ _ _ (c .before .before .before .before .pre .0) _ (c .
 write-requires : tie.Need-write-requires
 write-requires c κs =
     let a = c .before .before .before .before .before .pre in
-    (a .0, a .1, c .before .before .if1 .left, a .2 (c .before .if2 .left))
+    (a .0, a .1, c .before .before .if1 .left, a .2)
 
 returns-3 : tie.Need-returns-3
 returns-3 c = step-met _ _ _ (c .before .before .before .before .before .before .before .before .pre .0) _ (c .before .before .before .before .before .before .before .before .pre .1, refl) (c .before .before .before .before .before .if1 .left) (c .before .before .write .ensures)

@@ -10,20 +10,18 @@ returns : tie.Need-returns
 unfolding noState
 returns c = deviates-not _ _ (c .before .before .before .pre .0) _ _ _ (c .before .before .before .pre .1) (c .if1 .taken)
 
-first-states-requires : tie.Need-first-states-requires
-first-states-requires c κs = c .before .before .before .pre .0
-
 array-write-to : tie.Need-array-write-to
-array-write-to c = let n = c .before .before .before .before .pre .0 .holds .tracks in omega arith
+array-write-to c = let n = c .before .before .before .pre .0 .holds .tracks in omega arith
 
 enter-all-requires : tie.Need-enter-all-requires
 unfolding noState
 enter-all-requires c κs =
-    (c .before .before .before .before .before .pre .0, c .before .before .before .before .before .pre .1, c .before .first-states .ensures, deviating-sleepers _ _ (c .before .before .before .before .before .pre .0) _ (c .before .before .before .before .before .pre .2) _ _ (c .before .before .before .before .before .pre .3))
+    let a = c .before .before .before .before .before .pre in
+    (a .0, a .1, a .3, deviating-sleepers _ _ (a .0) _ (a .2) _ _ (a .4))
 
 returns-2 : tie.Need-returns-2
 unfolding noState
 returns-2 c = deviating-done _ _ (c .before .before .before .before .before .before .before .before .pre .0) _ (c .before .before .before .before .before .before .before .before .pre .2) _ _ (c .before .before .enter-all .ensures)
 
 pub deviate-spec : {M : Type 1} → statement M
-deviate-spec = tie.close (tie.spec returns first-states-requires (λ c. search needs) array-write-to enter-all-requires (λ c. search needs) returns-2)
+deviate-spec = tie.close (tie.spec returns (λ c. search needs) array-write-to enter-all-requires (λ c. search needs) returns-2)

@@ -3,62 +3,65 @@
 use native.Mathlib.Omega.{arith}
 use borrow.Author.Needs.{needs}
 use Rattle.rules.specs.Answers.{fireTold}
-use Rattle.withdrawal.proofs.FiredWords.{fire-over, fire-not, fireable, low, counted, within-words, removable, removed-words, code-is, deviation-is, removed-orderly, sleepers, fired-orderly, fired-nested, fire-done}
+use Rattle.withdrawal.proofs.FiredWords.{fire-over, fire-not, going-on, fireable, low, counted, within-words, removable, removed-words, code-is, deviation-is, removed-orderly, sleepers, fired-orderly, fired-nested, fire-done}
 use Rattle.withdrawal.proofs.fire.fire.Statement.{statement}
 use Rattle.withdrawal.proofs.fire.fire.Tie as tie
 
 returns : tie.Need-returns
 unfolding fireTold
-returns c = fire-over (c .before .before .before .before .before .pre) (c .before .is-over .ensures) _ (c .if1 .taken)
+returns c = fire-over (c .before .before .before .before .before .pre .0) (c .before .is-over .ensures) _ (c .if1 .taken)
 
 returns-2 : tie.Need-returns-2
 unfolding fireTold
-returns-2 c = fire-not (c .before .before .before .before .before .before .before .before .pre) (c .before .before .before .before .is-over .ensures) (c .before .before .before .if1 .left) _ (c .before .may-fire .ensures) (c .if2 .taken)
+returns-2 c = fire-not (c .before .before .before .before .before .before .before .before .pre .0) (c .before .before .before .before .is-over .ensures) (c .before .before .before .if1 .left) _ (c .before .may-fire .ensures) (c .if2 .taken)
+
+may-fire-requires : tie.Need-may-fire-requires
+may-fire-requires c κs = let a = c .before .before .before .before .before .before .pre in (a .0 .lent, a .1 (going-on (a .0) (c .before .before .is-over .ensures) (c .before .if1 .left)))
 
 track-requires : tie.Need-track-requires
-track-requires c κs = (c .before .before .before .before .before .before .before .before .before .pre .lent .room, low (fireable (c .before .before .before .before .before .before .before .before .before .pre) (c .before .before .before .before .before .is-over .ensures) (c .before .before .before .before .if1 .left) _ (c .before .before .may-fire .ensures) (c .before .if2 .left)))
+track-requires c κs = (c .before .before .before .before .before .before .before .before .before .pre .0 .lent .room, low (fireable (c .before .before .before .before .before .before .before .before .before .pre .0) (c .before .before .before .before .before .is-over .ensures) (c .before .before .before .before .if1 .left) _ (c .before .before .may-fire .ensures) (c .before .if2 .left)))
 
 sub-newest : tie.Need-sub-newest
 sub-newest c =
-    let a = fireable (c .before .before .before .before .before .before .before .before .before .before .before .pre) (c .before .before .before .before .before .before .before .is-over .ensures) (c .before .before .before .before .before .before .if1 .left) _ (c .before .before .before .before .may-fire .ensures) (c .before .before .before .if2 .left) in
+    let a = fireable (c .before .before .before .before .before .before .before .before .before .before .before .pre .0) (c .before .before .before .before .before .before .before .is-over .ensures) (c .before .before .before .before .before .before .if1 .left) _ (c .before .before .before .before .may-fire .ensures) (c .before .before .before .if2 .left) in
     let n = counted a (c .before .track .ensures) in
     omega arith
 
 entry-code-requires : tie.Need-entry-code-requires
 entry-code-requires c κs =
-    let a = fireable (c .before .before .before .before .before .before .before .before .before .before .before .before .pre) (c .before .before .before .before .before .before .before .before .is-over .ensures) (c .before .before .before .before .before .before .before .if1 .left) _ (c .before .before .before .before .before .may-fire .ensures) (c .before .before .before .before .if2 .left) in
+    let a = fireable (c .before .before .before .before .before .before .before .before .before .before .before .before .pre .0) (c .before .before .before .before .before .before .before .before .is-over .ensures) (c .before .before .before .before .before .before .before .if1 .left) _ (c .before .before .before .before .before .may-fire .ensures) (c .before .before .before .before .if2 .left) in
     let n = counted a (c .before .before .track .ensures) in
     (within-words a, omega arith)
 
 entry-deviation-requires : tie.Need-entry-deviation-requires
 entry-deviation-requires c κs =
-    let a = fireable (c .before .before .before .before .before .before .before .before .before .before .before .before .before .before .pre) (c .before .before .before .before .before .before .before .before .before .before .is-over .ensures) (c .before .before .before .before .before .before .before .before .before .if1 .left) _ (c .before .before .before .before .before .before .before .may-fire .ensures) (c .before .before .before .before .before .before .if2 .left) in
+    let a = fireable (c .before .before .before .before .before .before .before .before .before .before .before .before .before .before .pre .0) (c .before .before .before .before .before .before .before .before .before .before .is-over .ensures) (c .before .before .before .before .before .before .before .before .before .if1 .left) _ (c .before .before .before .before .before .before .before .may-fire .ensures) (c .before .before .before .before .before .before .if2 .left) in
     let n = counted a (c .before .before .before .before .track .ensures) in
     (within-words a, omega arith)
 
 remove-newest-requires : tie.Need-remove-newest-requires
 remove-newest-requires c κs =
-    let a = fireable (c .before .before .before .before .before .before .before .before .before .before .before .before .before .before .before .before .pre) (c .before .before .before .before .before .before .before .before .before .before .before .before .is-over .ensures) (c .before .before .before .before .before .before .before .before .before .before .before .if1 .left) _ (c .before .before .before .before .before .before .before .before .before .may-fire .ensures) (c .before .before .before .before .before .before .before .before .if2 .left) in
+    let a = fireable (c .before .before .before .before .before .before .before .before .before .before .before .before .before .before .before .before .pre .0) (c .before .before .before .before .before .before .before .before .before .before .before .before .is-over .ensures) (c .before .before .before .before .before .before .before .before .before .before .before .if1 .left) _ (c .before .before .before .before .before .before .before .before .before .may-fire .ensures) (c .before .before .before .before .before .before .before .before .if2 .left) in
     (within-words a, removable a .0, removable a .1)
 
 deviate-requires : tie.Need-deviate-requires
 deviate-requires c κs =
-    let a = fireable (c .before .before .before .before .before .before .before .before .before .before .before .before .before .before .before .before .before .before .before .before .pre) (c .before .before .before .before .before .before .before .before .before .before .before .before .before .before .before .before .is-over .ensures) (c .before .before .before .before .before .before .before .before .before .before .before .before .before .before .before .if1 .left) _ (c .before .before .before .before .before .before .before .before .before .before .before .before .before .may-fire .ensures) (c .before .before .before .before .before .before .before .before .before .before .before .before .if2 .left) in
+    let a = fireable (c .before .before .before .before .before .before .before .before .before .before .before .before .before .before .before .before .before .before .before .before .pre .0) (c .before .before .before .before .before .before .before .before .before .before .before .before .before .before .before .before .is-over .ensures) (c .before .before .before .before .before .before .before .before .before .before .before .before .before .before .before .if1 .left) _ (c .before .before .before .before .before .before .before .before .before .before .before .before .before .may-fire .ensures) (c .before .before .before .before .before .before .before .before .before .before .before .before .if2 .left) in
     let d = removed-words a (c .before .before .before .before .before .before .before .before .before .before .track .ensures) (c .before .before .before .remove-newest .ensures) in
     let e = deviation-is a (c .before .before .before .before .before .before .before .before .before .before .track .ensures) (c .before .before .before .before .before .entry-deviation .ensures) in
-    (c .before .before .before .before .before .before .before .before .before .before .before .before .before .before .before .before .before .before .before .before .pre .lent .accepts, removed-orderly a d e, low a, sleepers a d e)
+    (c .before .before .before .before .before .before .before .before .before .before .before .before .before .before .before .before .before .before .before .before .pre .0 .lent .accepts, removed-orderly a d e, low a, c .before .before .before .before .before .before .before .before .before .before .before .before .before .before .before .before .before .before .before .before .pre .2, sleepers a d e)
 
 abandon-requires : tie.Need-abandon-requires
 abandon-requires c κs =
-    let a = fireable (c .before .before .before .before .before .before .before .before .before .before .before .before .before .before .before .before .before .before .before .before .before .before .before .before .pre) (c .before .before .before .before .before .before .before .before .before .before .before .before .before .before .before .before .before .before .before .before .is-over .ensures) (c .before .before .before .before .before .before .before .before .before .before .before .before .before .before .before .before .before .before .before .if1 .left) _ (c .before .before .before .before .before .before .before .before .before .before .before .before .before .before .before .before .before .may-fire .ensures) (c .before .before .before .before .before .before .before .before .before .before .before .before .before .before .before .before .if2 .left) in
+    let a = fireable (c .before .before .before .before .before .before .before .before .before .before .before .before .before .before .before .before .before .before .before .before .before .before .before .before .pre .0) (c .before .before .before .before .before .before .before .before .before .before .before .before .before .before .before .before .before .before .before .before .is-over .ensures) (c .before .before .before .before .before .before .before .before .before .before .before .before .before .before .before .before .before .before .before .if1 .left) _ (c .before .before .before .before .before .before .before .before .before .before .before .before .before .before .before .before .before .may-fire .ensures) (c .before .before .before .before .before .before .before .before .before .before .before .before .before .before .before .before .if2 .left) in
     let d = removed-words a (c .before .before .before .before .before .before .before .before .before .before .before .before .before .before .track .ensures) (c .before .before .before .before .before .before .before .remove-newest .ensures) in
     let e = deviation-is a (c .before .before .before .before .before .before .before .before .before .before .before .before .before .before .track .ensures) (c .before .before .before .before .before .before .before .before .before .entry-deviation .ensures) in
-    (c .before .before .before .before .before .before .before .before .before .before .before .before .before .before .before .before .before .before .before .before .before .before .before .before .pre .lent .accepts, fired-orderly a d e (c .before .before .before .deviate .ensures), fired-nested a d e (c .before .before .before .deviate .ensures))
+    (c .before .before .before .before .before .before .before .before .before .before .before .before .before .before .before .before .before .before .before .before .before .before .before .before .pre .0 .lent .accepts, fired-orderly a d e (c .before .before .before .deviate .ensures), fired-nested a d e (c .before .before .before .deviate .ensures))
 
 returns-3 : tie.Need-returns-3
 unfolding fireTold
 returns-3 c =
-    let a = fireable (c .before .before .before .before .before .before .before .before .before .before .before .before .before .before .before .before .before .before .before .before .before .before .before .before .before .before .before .pre) (c .before .before .before .before .before .before .before .before .before .before .before .before .before .before .before .before .before .before .before .before .before .before .before .is-over .ensures) (c .before .before .before .before .before .before .before .before .before .before .before .before .before .before .before .before .before .before .before .before .before .before .if1 .left) _ (c .before .before .before .before .before .before .before .before .before .before .before .before .before .before .before .before .before .before .before .before .may-fire .ensures) (c .before .before .before .before .before .before .before .before .before .before .before .before .before .before .before .before .before .before .before .if2 .left) in
+    let a = fireable (c .before .before .before .before .before .before .before .before .before .before .before .before .before .before .before .before .before .before .before .before .before .before .before .before .before .before .before .pre .0) (c .before .before .before .before .before .before .before .before .before .before .before .before .before .before .before .before .before .before .before .before .before .before .before .is-over .ensures) (c .before .before .before .before .before .before .before .before .before .before .before .before .before .before .before .before .before .before .before .before .before .before .if1 .left) _ (c .before .before .before .before .before .before .before .before .before .before .before .before .before .before .before .before .before .before .before .before .may-fire .ensures) (c .before .before .before .before .before .before .before .before .before .before .before .before .before .before .before .before .before .before .before .if2 .left) in
     let d = removed-words a (c .before .before .before .before .before .before .before .before .before .before .before .before .before .before .before .before .before .track .ensures) (c .before .before .before .before .before .before .before .before .before .before .remove-newest .ensures) in
     let e = deviation-is a (c .before .before .before .before .before .before .before .before .before .before .before .before .before .before .before .before .before .track .ensures) (c .before .before .before .before .before .before .before .before .before .before .before .before .entry-deviation .ensures) in
     fire-done a d e (c .before .before .before .before .before .before .deviate .ensures) (code-is a (c .before .before .before .before .before .before .before .before .before .before .before .before .before .before .before .before .before .track .ensures) (c .before .before .before .before .before .before .before .before .before .before .before .before .before .before .entry-code .ensures)) (c .before .before .abandon .ensures)
@@ -70,7 +73,7 @@ fire-spec =
     (λ c κs. search needs)
     (λ c. search needs)
     returns
-    (λ c κs. search needs)
+    may-fire-requires
     (λ c. search needs)
     returns-2
     track-requires

@@ -12,4 +12,4 @@ returns-2 : tie.Need-returns-2
 returns-2 c = c .is-ready .ensures
 
 pub may-fire-spec : {M : Type 1} → statement M
-may-fire-spec = tie.close (tie.spec returns (λ c κs. search needs) (λ c κs. search needs) returns-2)
+may-fire-spec = tie.close (tie.spec returns (λ c κs. search needs) returns-2)
