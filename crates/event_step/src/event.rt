@@ -59,7 +59,7 @@ pub fn event(
     if event == 0 {
         return EventAnswer::Refused(19);
     }
-    if reading::is_over(c, &ledger[..]) {
+    if reading::is_over(plan, c, &ledger[..]) {
         return EventAnswer::Refused(20);
     }
     let choice = event_choice::choose(plan, c, &ledger[..], event, opens);
@@ -83,7 +83,7 @@ pub fn event_indexed(
     if event == 0 {
         return EventAnswer::Refused(19);
     }
-    if reading::is_over(c, &ledger[..]) {
+    if reading::is_over(plan, c, &ledger[..]) {
         return EventAnswer::Refused(20);
     }
     let opens = opens::open_scopes(plan, c, &ledger[..]);

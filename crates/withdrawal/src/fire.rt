@@ -65,7 +65,7 @@ pub fn fire(
         × Figures 0 (now firsts) (c .tracks) (firstState (planOf (now plan) c)) ⌝ }
     ensures { λ r. ⌜ Meets (fireOutcome entryLimit (now (plan .entry)) (now (ledger .entry)) (record { track = track })) (fireTold r) (now (ledger .exit)) ⌝ }
 {
-    if reading::is_over(c, &ledger[..]) {
+    if reading::is_over(plan, c, &ledger[..]) {
         return FireAnswer::Refused(20);
     }
     let t = track as usize;
