@@ -49,8 +49,8 @@ fn deviate(plan: &[u8], c: Counts, ledger: &mut [u16], firsts: &[u16; 32], t: us
     entering::enter_all(plan, c, &mut ledger[..], *firsts, to);
 }
 
-// A firing on a checked plan and ledger, given which tracks have an open scope, unless it is over, and the first state of each: the code and the deviation of the entry fired, 20 where the ledger is over, or 22 where the
-// track may not be fired or does not exist.
+// A firing on a checked plan and ledger, given the first state of each track and, unless it is over, which have an open scope: the code
+// and the deviation of the entry fired, 20 where the ledger is over, or 22 where the track may not be fired or does not exist.
 pub fn fire(
     plan: &[u8],
     c: Counts,
