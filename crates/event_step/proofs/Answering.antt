@@ -1,6 +1,6 @@
 -- From the choice to the call's outcome: 21 or the step where the ledger is going, and before that 19 and 20. Assumes nothing.
 use mathlib.Core.Path.{_≡_, sym, ap, _∙_, subst}
-use mathlib.Core.Bool.{Bool, true, false, cond, not}
+use mathlib.Core.Bool.{Bool, true, false, cond}
 use mathlib.Core.List.{List, [], _∷_}
 use Prim.Native.Nat.{ℕ}
 use lib.Dec.{eqb, ltb}
@@ -8,10 +8,10 @@ use lib.ListN.{length}
 use borrow.Author.Tests.{eq-eqb, ne-eqb, le-ltb}
 use Rattle.rules.specs.declared.Counts.{Counts}
 use Rattle.rules.specs.declared.EventAnswer.the-variants.{Moved, Refused}
-use Rattle.rules.specs.Fold.{everyBelow, countBelow, firstRefusal}
+use Rattle.rules.specs.Fold.{countBelow, firstRefusal}
 use Rattle.rules.specs.Layout.{entryLimit, wordCount}
 use Rattle.rules.specs.Plan.{Plan, planOf, trackCount}
-use Rattle.rules.specs.Ledger.{Ledger, isAwake, ledgerAt, written}
+use Rattle.rules.specs.Ledger.{Ledger, ledgerAt, written}
 use Rattle.rules.specs.Scope.{isOver}
 use Rattle.rules.specs.Event.{moves, moved, closings, isFull, afterEvent}
 use Rattle.rules.specs.Call.{Answer, done, Outcome, event, Meets, refusedOr, underPlan, tooShort, ledgerRefusals, callRefusals, figures, after, callOutcome, eventOutcome}
@@ -83,9 +83,9 @@ module _ (bs : List ℕ) (c : Counts) (ws : List ℕ) (g : Going bs c ws) (e : �
 
 -- over, and 19 and 20
 module _ (bs : List ℕ) (c : Counts) (ws : List ℕ) (h : Checked bs c ws) (e : ℕ) where
-  over-is : everyBelow (c .tracks) (λ t. not (isAwake (ledgerOf c ws t .mode))) ≡ isOver (planOf bs c) (ledgerAt entryLimit ws (trackCount (planOf bs c)))
-  unfolding isOver ledgerOf
-  over-is = ap (λ (n : ℕ). everyBelow n (λ t. not (isAwake (ledgerAt entryLimit ws n t .mode)))) (sym (track-count bs c))
+  over-is : isOver (planOf bs c) (ledgerOf c ws) ≡ isOver (planOf bs c) (ledgerAt entryLimit ws (trackCount (planOf bs c)))
+  unfolding ledgerOf
+  over-is = ap (λ (n : ℕ). isOver (planOf bs c) (ledgerAt entryLimit ws n)) (sym (track-count bs c))
 
   long : ltb (length ws) (wordCount entryLimit (trackCount (planOf bs c))) ≡ false
   long = le-ltb (length ws) (wordCount entryLimit (trackCount (planOf bs c))) (rw (track-count bs c) (h .lent .room .words))
@@ -106,19 +106,14 @@ module _ (bs : List ℕ) (c : Counts) (ws : List ℕ) (h : Checked bs c ws) (e :
   unfolding refusedOr eventTold
   event-zero z = met (checked ∙ (rw (eq-eqb e 0 z)))
 
-  module _ (n : e ≡ 0 → ⊥) (r : Bool) (q : r ≡ everyBelow (c .tracks) (λ t. not (isAwake (ledgerOf c ws t .mode)))) where
+  module _ (n : e ≡ 0 → ⊥) (r : Bool) (q : r ≡ isOver (planOf bs c) (ledgerOf c ws)) where
     pub event-over : r ≡ true → Meets (eventOutcome entryLimit bs ws (record { event = e })) (eventTold (Refused 20)) ws
     unfolding refusedOr eventTold
     event-over z = met (checked ∙ (rw (ne-eqb e 0 n, sym over-is ∙ sym q ∙ z)))
 
     module _ (z : r ≡ false) where
       pub going-of : Going bs c ws
-      unfolding ledgerOf
-      going-of =
-          record {
-            checked = h;
-            goes-on = ap (λ (n : ℕ). isOver (planOf bs c) (ledgerAt entryLimit ws n)) (sym (track-count bs c)) ∙ sym over-is ∙ sym q ∙ z;
-          }
+      going-of = record { checked = h; goes-on = sym q ∙ z }
 
       pub event-going : (a : Answer) (v : List ℕ) → Meets (goingOutcome (planOf bs c) ws e) a v
           → Meets (eventOutcome entryLimit bs ws (record { event = e })) a v

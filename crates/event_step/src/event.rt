@@ -41,7 +41,7 @@ fn go_on(
     EventAnswer::Moved(movers, closed)
 }
 
-// An event under an accepted plan, on a sound ledger, given which tracks have an open scope, unless it is over, and the first state of each.
+// An event under an accepted plan, on a sound ledger, given the first state of each track and, unless it is over, which have an open scope.
 pub fn event(
     plan: &[u8],
     c: Counts,
@@ -59,14 +59,15 @@ pub fn event(
     if event == 0 {
         return EventAnswer::Refused(19);
     }
-    if reading::is_over(c, &ledger[..]) {
+    if reading::is_over(plan, c, &ledger[..]) {
         return EventAnswer::Refused(20);
     }
     let choice = event_choice::choose(plan, c, &ledger[..], event, opens);
     go_on(plan, c, &mut ledger[..], choice, firsts)
 }
 
-// The same, given no open scope but the first state of each track and an index of the transitions: who has many events makes them once.
+// The same, given the first state of each track and an index of the transitions: who has many events makes them once. The open scopes
+// it finds itself.
 pub fn event_indexed(
     plan: &[u8],
     c: Counts,
@@ -83,7 +84,7 @@ pub fn event_indexed(
     if event == 0 {
         return EventAnswer::Refused(19);
     }
-    if reading::is_over(c, &ledger[..]) {
+    if reading::is_over(plan, c, &ledger[..]) {
         return EventAnswer::Refused(20);
     }
     let opens = opens::open_scopes(plan, c, &ledger[..]);

@@ -11,7 +11,7 @@ use lib.ListN.{length, getD}
 use borrow.Author.Tests.{eqb-true, eqb-false, eq-eqb, le-ltb, not-true, not-false}
 use Rattle.rules.specs.declared.Counts.{Counts}
 use Rattle.rules.specs.declared.Track.{Track}
-use Rattle.rules.specs.Fold.{everyBelow, firstRefusal}
+use Rattle.rules.specs.Fold.{firstRefusal}
 use Rattle.rules.specs.Layout.{entryLimit, headWords, entryWidth, trackPlace, entriesPlace}
 use Rattle.rules.specs.Plan.{Plan, planOf, trackCount, host}
 use Rattle.rules.specs.Ledger.{Entry, Configuration, Ledger, isAwake, sleeping, entryAt, heldAt, configurationAt, ledgerAt, written}
@@ -40,7 +40,7 @@ use Rattle.withdrawal.specs.Deviating.{deviating}
 use Rattle.withdrawal.specs.Scopes.{Nested}
 use Rattle.withdrawal.proofs.FireLaws.{Fires, fire-parts, to-other, removed-other, woken-asleep}
 use Rattle.withdrawal.proofs.ScopesNested.{nested-fired}
-use Rattle.withdrawal.proofs.Outcomes.{orderly, over-as, refused-call, done-call, going}
+use Rattle.withdrawal.proofs.Outcomes.{orderly, refused-call, done-call, going}
 
 -- the newest entry stands last in the track's words
 pub newest-read : (c : Counts) (ws : List ℕ) (t k : ℕ) → t < c .tracks → length (ledgerOf c ws t .held) ≡ suc k
@@ -112,16 +112,15 @@ pub record Fireable (bs : List ℕ) (c : Counts) (ws : List ℕ) (t : ℕ) : Typ
   pub may : mayFire (planOf bs c) (ledgerOf c ws) t ≡ true
 
 -- the two refusals, and what holds after them
-module _ {bs : List ℕ} {c : Counts} {ws : List ℕ} (g : Checked bs c ws) {r : Bool}
-    (e : r ≡ everyBelow (c .tracks) (λ t. not (isAwake (ledgerOf c ws t .mode)))) where
+module _ {bs : List ℕ} {c : Counts} {ws : List ℕ} (g : Checked bs c ws) {r : Bool} (e : r ≡ isOver (planOf bs c) (ledgerOf c ws)) where
   pub fire-over : (t : ℕ) → r ≡ true → Meets (fireOutcome entryLimit bs ws (record { track = t })) (refusal 20) ws
   unfolding fireOutcome callRefusal callRefusals firstRefusal
   fire-over t h =
-      let o : isOver (planOf bs c) (ledgerOf c ws) ≡ true = sym (over-as bs c ws g e) ∙ h in
+      let o : isOver (planOf bs c) (ledgerOf c ws) ≡ true = sym e ∙ h in
       refused-call bs c ws g (fire (record { track = t })) 19 (rw o)
 
   pub going-on : r ≡ false → isOver (planOf bs c) (ledgerOf c ws) ≡ false
-  going-on h = sym (over-as bs c ws g e) ∙ h
+  going-on h = sym e ∙ h
 
   module _ (h : r ≡ false) (t : ℕ) {q : Bool} (f : q ≡ mayFire (planOf bs c) (ledgerOf c ws) t) where
     pub fire-not : not q ≡ true → Meets (fireOutcome entryLimit bs ws (record { track = t })) (refusal 22) ws

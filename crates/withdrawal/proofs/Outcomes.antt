@@ -2,16 +2,16 @@
 -- Assumes nothing.
 use mathlib.Core.Path.{_≡_, sym, ap, _∙_, subst}
 use mathlib.Core.Logic.{inl, inr}
-use mathlib.Core.Bool.{Bool, true, false, not, _||_}
+use mathlib.Core.Bool.{Bool, true, false, _||_}
 use mathlib.Core.List.{List, [], _∷_, _++_}
 use Prim.Native.Nat.{ℕ, suc}
 use lib.ListN.{length}
 use borrow.Author.Tests.{le-ltb}
 use Rattle.rules.specs.declared.Counts.{Counts}
-use Rattle.rules.specs.Fold.{everyBelow, countBelow, firstRefusal}
+use Rattle.rules.specs.Fold.{countBelow, firstRefusal}
 use Rattle.rules.specs.Plan.{Plan, trackCount, planOf}
 use Rattle.rules.specs.Layout.{entryLimit, wordCount}
-use Rattle.rules.specs.Ledger.{Ledger, isAwake, isForward, ledgerAt, written}
+use Rattle.rules.specs.Ledger.{Ledger, isForward, ledgerAt, written}
 use Rattle.rules.specs.Scope.{isOver}
 use Rattle.rules.specs.Signal.{turned, turnings, abandoned, afterSignal}
 use Rattle.rules.specs.Call.{refusal, done, Outcome, nothing, Call, signal, refusedOr, underPlan, tooShort, ledgerRefusals, callRefusals, callRefusal, figures, after, callOutcome, signalOutcome, Meets}
@@ -59,10 +59,6 @@ module _ (bs : List ℕ) (c : Counts) (ws : List ℕ) (g : Checked bs c ws) wher
 
   pub orderly : Tidy ws (c .tracks)
   orderly = tidy-words bs c ws g
-
-  pub over-as : {r : Bool} → r ≡ everyBelow (c .tracks) (λ t. not (isAwake (ledgerOf c ws t .mode))) → r ≡ isOver p (ledgerOf c ws)
-  unfolding isOver
-  over-as e = e ∙ ap (λ (n : ℕ). everyBelow n (λ t. not (isAwake (ledgerOf c ws t .mode)))) (sym (track-count bs c))
 
   pub going : isOver p (ledgerOf c ws) ≡ false → Going bs c ws
   going n = record { checked = g; goes-on = n }

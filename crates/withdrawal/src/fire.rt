@@ -49,8 +49,8 @@ fn deviate(plan: &[u8], c: Counts, ledger: &mut [u16], firsts: &[u16; 32], t: us
     entering::enter_all(plan, c, &mut ledger[..], *firsts, to);
 }
 
-// A firing on a checked plan and ledger, given which tracks have an open scope, unless it is over, and the first state of each: the code and the deviation of the entry fired, 20 where the ledger is over, or 22 where the
-// track may not be fired or does not exist.
+// A firing on a checked plan and ledger, given the first state of each track and, unless it is over, which have an open scope: the code
+// and the deviation of the entry fired, 20 where the ledger is over, or 22 where the track may not be fired or does not exist.
 pub fn fire(
     plan: &[u8],
     c: Counts,
@@ -65,7 +65,7 @@ pub fn fire(
         × Figures 0 (now firsts) (c .tracks) (firstState (planOf (now plan) c)) ⌝ }
     ensures { λ r. ⌜ Meets (fireOutcome entryLimit (now (plan .entry)) (now (ledger .entry)) (record { track = track })) (fireTold r) (now (ledger .exit)) ⌝ }
 {
-    if reading::is_over(c, &ledger[..]) {
+    if reading::is_over(plan, c, &ledger[..]) {
         return FireAnswer::Refused(20);
     }
     let t = track as usize;

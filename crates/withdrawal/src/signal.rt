@@ -55,7 +55,7 @@ pub fn signal(plan: &[u8], c: Counts, ledger: &mut [u16]) -> SignalAnswer
     requires { ⌜ Checked (now plan) c (now ledger) ⌝ }
     ensures { λ r. ⌜ Meets (signalOutcome entryLimit (now (plan .entry)) (now (ledger .entry)) nothing) (signalTold r) (now (ledger .exit)) ⌝ }
 {
-    if reading::is_over(c, &ledger[..]) {
+    if reading::is_over(plan, c, &ledger[..]) {
         return SignalAnswer::Refused(20);
     }
     let count = turn_all(c, &mut ledger[..]);

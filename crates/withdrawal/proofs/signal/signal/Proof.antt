@@ -1,24 +1,24 @@
 -- Over, or the tracks turned and then abandoning: the two outcomes of a signal. Assumes nothing.
 use mathlib.Core.Path.{sym, _∙_}
 use Rattle.rules.specs.Answers.{signalTold}
-use Rattle.withdrawal.proofs.Outcomes.{over-as, orderly, turned-orderly, turned-nested, signal-over, signal-done}
+use Rattle.withdrawal.proofs.Outcomes.{orderly, turned-orderly, turned-nested, signal-over, signal-done}
 use borrow.Author.Needs.{needs}
 use Rattle.withdrawal.proofs.signal.signal.Statement.{statement}
 use Rattle.withdrawal.proofs.signal.signal.Tie as tie
 
 returns : tie.Need-returns
 unfolding signalTold
-returns c = signal-over _ _ _ (c .before .before .before .before .before .pre) (sym (over-as _ _ _ (c .before .before .before .before .before .pre) (c .before .is-over .ensures)) ∙ c .if1 .taken)
+returns c = signal-over _ _ _ (c .before .before .before .before .before .pre) (sym (c .before .is-over .ensures) ∙ c .if1 .taken)
 
 turn-all-requires : tie.Need-turn-all-requires
 turn-all-requires c κs = orderly _ _ _ (c .before .before .before .before .before .before .pre)
 
 abandon-requires : tie.Need-abandon-requires
-abandon-requires c κs = (c .before .before .before .before .before .before .before .before .before .before .pre .lent .accepts, turned-orderly _ _ _ (c .before .before .before .before .before .before .before .before .before .before .pre) (c .before .before .before .turn-all .ensures .1), turned-nested _ _ _ (c .before .before .before .before .before .before .before .before .before .before .pre) (sym (over-as _ _ _ (c .before .before .before .before .before .before .before .before .before .before .pre) (c .before .before .before .before .before .before .is-over .ensures)) ∙ c .before .before .before .before .before .if1 .left) (c .before .before .before .turn-all .ensures .1))
+abandon-requires c κs = (c .before .before .before .before .before .before .before .before .before .before .pre .lent .accepts, turned-orderly _ _ _ (c .before .before .before .before .before .before .before .before .before .before .pre) (c .before .before .before .turn-all .ensures .1), turned-nested _ _ _ (c .before .before .before .before .before .before .before .before .before .before .pre) (sym (c .before .before .before .before .before .before .is-over .ensures) ∙ c .before .before .before .before .before .if1 .left) (c .before .before .before .turn-all .ensures .1))
 
 returns-2 : tie.Need-returns-2
 unfolding signalTold
-returns-2 c = signal-done _ _ _ (c .before .before .before .before .before .before .before .before .before .before .before .before .before .pre) (sym (over-as _ _ _ (c .before .before .before .before .before .before .before .before .before .before .before .before .before .pre) (c .before .before .before .before .before .before .before .before .before .is-over .ensures)) ∙ c .before .before .before .before .before .before .before .before .if1 .left) (c .before .before .before .before .before .before .turn-all .ensures .0) (c .before .before .before .before .before .before .turn-all .ensures .1) (c .before .before .abandon .ensures)
+returns-2 c = signal-done _ _ _ (c .before .before .before .before .before .before .before .before .before .before .before .before .before .pre) (sym (c .before .before .before .before .before .before .before .before .before .is-over .ensures) ∙ c .before .before .before .before .before .before .before .before .if1 .left) (c .before .before .before .before .before .before .turn-all .ensures .0) (c .before .before .before .before .before .before .turn-all .ensures .1) (c .before .before .abandon .ensures)
 
 pub signal-spec : {M : Type 1} → statement M
 signal-spec =
