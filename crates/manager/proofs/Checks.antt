@@ -278,9 +278,9 @@ pub reading-clash : {a : Reading} {r : ℕ} {c : Counts} {A : Type 0} → turned
 reading-clash {a} {r} {c} e f =
     let q : turnedBack r ≡ accepted c = e ∙ f in let z : _≡_ {A = ℕ} 0 1 = cc in absurd (omega arith)
 
-pub opens-found : {bs ws : List ℕ} {c d : Counts} {opens : List Bool} → accepted c ≡ accepted d
+pub opens-found : (bs ws : List ℕ) {c d : Counts} {opens : List Bool} → accepted c ≡ accepted d
     → (isOver (planOf bs c) (ledgerOf c ws) ≡ false → Figures false opens (c .tracks) (hasOpenScope (planOf bs c) (ledgerOf c ws)))
     → isOver (planOf bs d) (ledgerOf d ws) ≡ false → Figures false opens (d .tracks) (hasOpenScope (planOf bs d) (ledgerOf d ws))
-opens-found {bs} {ws} {c} {d} {opens} e f =
+opens-found bs ws {c} {d} {opens} e f =
     let q : c ≡ d = cc in
     subst (λ k. isOver (planOf bs k) (ledgerOf k ws) ≡ false → Figures false opens (k .tracks) (hasOpenScope (planOf bs k) (ledgerOf k ws))) q f

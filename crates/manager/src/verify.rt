@@ -24,7 +24,12 @@ pub fn read_lent(plan: &[u8], ledger: &[u16], firsts: &mut [u16; 32]) -> PlanAns
 }
 
 // 2 to 18: and the ledger is sound.
-pub fn verify(plan: &[u8], ledger: &[u16], opens: &mut [bool; 32], firsts: &mut [u16; 32]) -> PlanAnswer
+pub fn verify(
+    plan: &[u8],
+    ledger: &[u16],
+    opens: &mut [bool; 32],
+    firsts: &mut [u16; 32],
+) -> PlanAnswer
     ensures { λ r. ⌜ (planTold r ≡ checked (now (plan .entry)) (now (ledger .entry)))
         × ScopesFound (now (plan .entry)) (now (ledger .entry)) (now (opens .exit)) × FirstsFound (now (plan .entry)) (now (firsts .exit)) ⌝ }
 {

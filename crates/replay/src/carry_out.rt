@@ -4,11 +4,14 @@ use journal::lines;
 use journal::record::Record;
 use journal::tally;
 use journal::tally::Tally;
+use lookup::opens;
 use rules::Counts;
 ghost use Prim.Native.Nat.{_+_, _<_, _^_};
+ghost use Rattle.rules.specs.Plan.{planOf, firstState};
 ghost use Rattle.rules.specs.Call.{event, signal, fire, nothing};
 ghost use Rattle.rules.specs.Journal.{fireLowest};
 ghost use Rattle.ledger.specs.Ladder.{Room};
+ghost use Rattle.lookup.specs.Figures.{Figures};
 ghost use Rattle.journal.specs.Records.{recordTold, sizeOf};
 ghost use Rattle.replay.specs.CarriedOut.{callAt, Prepared, Tables, CameTo, CarriedOut};
 
@@ -83,12 +86,14 @@ fn carry_out_fire(
     output: &mut [u8],
     from: Progress,
     track: u16,
+    firsts: &[u16; 32],
 ) -> Progress
-    requires { ⌜ Prepared (now plan) c (now ledger) (now output) from ⌝ }
+    requires { ⌜ Prepared (now plan) c (now ledger) (now output) from × Figures 0 (now firsts) (c .tracks) (firstState (planOf (now plan) c)) ⌝ }
     ensures { λ r. ⌜ CarriedOut (now (plan .entry)) c (fire (record { track = track }))
         (now (ledger .entry)) (now (output .entry)) from (now (ledger .exit)) (now (output .exit)) r ⌝ }
 {
-    let answer = withdrawal::fire::fire(plan, c, &mut ledger[..], track);
+    let opens = opens::open_scopes(plan, c, &ledger[..]);
+    let answer = withdrawal::fire::fire(plan, c, &mut ledger[..], track, &opens, firsts);
     let place = lines::fire_line(&mut output[..], from.place, track, answer);
     let fired = tally::firings_of(answer);
     come_to(c, &ledger[..], from, place, fired)
@@ -101,13 +106,22 @@ fn carry_out_lowest(
     ledger: &mut [u16],
     output: &mut [u8],
     from: Progress,
+    firsts: &[u16; 32],
 ) -> Progress
-    requires { ⌜ Prepared (now plan) c (now ledger) (now output) from ⌝ }
+    requires { ⌜ Prepared (now plan) c (now ledger) (now output) from × Figures 0 (now firsts) (c .tracks) (firstState (planOf (now plan) c)) ⌝ }
     ensures { λ r. ⌜ CarriedOut (now (plan .entry)) c (callAt (now (plan .entry)) c (now (ledger .entry)) fireLowest)
         (now (ledger .entry)) (now (output .entry)) from (now (ledger .exit)) (now (output .exit)) r ⌝ }
 {
-    let track = held::lowest_ready(plan, c, &ledger[..]);
-    carry_out_fire(plan, c, &mut ledger[..], &mut output[..], from, track)
+    let lowest = held::lowest_ready(plan, c, &ledger[..]);
+    carry_out_fire(
+        plan,
+        c,
+        &mut ledger[..],
+        &mut output[..],
+        from,
+        lowest,
+        firsts,
+    )
 }
 
 // Does what the record asks for, given the first state of each track and the index of the transitions.
@@ -149,7 +163,10 @@ pub fn carry_out(
             &mut output[..],
             from,
             track,
+            firsts,
         ),
-        Record::FireLowest => carry_out_lowest(plan, c, &mut ledger[..], &mut output[..], from),
+        Record::FireLowest => {
+            carry_out_lowest(plan, c, &mut ledger[..], &mut output[..], from, firsts)
+        }
     }
 }

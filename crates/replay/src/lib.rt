@@ -58,7 +58,15 @@ fn run_plan(plan: &[u8], c: Counts, journal: &[u8], ledger: &mut [u16], output: 
     let start = plan_line(&mut output[..], 0, c);
     let firsts = firsts::first_states(plan, c);
     opening::begin::begin_all(plan, c, &mut ledger[..], &firsts);
-    run_records(plan, c, journal, &mut ledger[..], &mut output[..], start, &firsts)
+    run_records(
+        plan,
+        c,
+        journal,
+        &mut ledger[..],
+        &mut output[..],
+        start,
+        &firsts,
+    )
 }
 
 // Writes the text of a plan and a journal into the output. Where the output or the ledger is too small, nothing is written.

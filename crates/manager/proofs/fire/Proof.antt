@@ -12,9 +12,9 @@ use Rattle.manager.proofs.fire.Tie as tie
 fire-requires : tie.Need-fire-requires
 unfolding planTold
 fire-requires c κs =
-    let e = sym (ap planTold (c .before .before .answer2 .given .1)) ∙ c .before .before .before .before .verify .ensures .0 in
+    let e = sym (ap planTold (c .before .before .before .before .answer2 .given .1)) ∙ c .before .before .before .before .before .before .verify .ensures .0 in
     let k = call-checked _ _ _ e in
-    (k, c .verify .ensures .1 _ (sym e), first-figures _ _ (k .lent .accepts) (c .verify .ensures .2 _ (k .lent .accepts .read)))
+    (k, c .before .before .before .before .before .before .verify .ensures .1 _ (sym e), first-figures _ _ (k .lent .accepts) (c .before .before .before .before .before .before .verify .ensures .2 _ (k .lent .accepts .read)))
 
 returns : tie.Need-returns
 unfolding planTold fireTold fireOutcome

@@ -23,9 +23,9 @@ entry-place-requires : tie.Need-entry-place-requires
 unfolding planTold entryLimit
 entry-place-requires c κs = (omega (arith, lent-room _ _ _ (checked-facts _ _ _ (sym (ap planTold (c .before .before .before .before .before .answer .given .1)) ∙ c .before .before .before .before .before .before .before .verify .ensures .0) .0) .few, c .before .if1 .left), omega arith)
 
-add-t13 : tie.Need-add-t13
+add-t17 : tie.Need-add-t17
 unfolding planTold entriesPlace trackPlace trackWidth headWords entryWidth entryLimit leadingWords
-add-t13 c = omega (arith, c .before .entry-place .ensures, c .wide2 .ensures .1, lent-room _ _ _ (checked-facts _ _ _ (sym (ap planTold (c .before .before .before .before .before .before .before .answer .given .1)) ∙ c .before .before .before .before .before .before .before .before .before .verify .ensures .0) .0) .few, c .before .before .before .if1 .left)
+add-t17 c = omega (arith, c .before .entry-place .ensures, c .wide2 .ensures .1, lent-room _ _ _ (checked-facts _ _ _ (sym (ap planTold (c .before .before .before .before .before .before .before .answer .given .1)) ∙ c .before .before .before .before .before .before .before .before .before .verify .ensures .0) .0) .few, c .before .before .before .if1 .left)
 
 returns-2 : tie.Need-returns-2
 unfolding planTold
@@ -48,6 +48,6 @@ part-of-spec =
     entry-place-requires
     (λ c κs. search needs)
     (λ c. search needs)
-    add-t13
+    add-t17
     returns-2
     returns-3)

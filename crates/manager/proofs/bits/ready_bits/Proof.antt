@@ -25,19 +25,19 @@ loop-holds : tie.Need-loop-holds Inv-loop μ-loop
 loop-holds c = (search needs, refl, bits-none _)
 
 is-ready-requires : tie.Need-is-ready-requires Inv-loop μ-loop
-is-ready-requires c κs = (c .pre .0 .lent, search needs, c .pre .1 (sym (c .is-over .ensures) ∙ c .if1 .left))
+is-ready-requires c κs = (c .before .before .before .before .before .before .pre .0 .lent, search needs, c .before .before .before .before .before .before .pre .1 (sym (c .before .before .before .is-over .ensures) ∙ c .before .before .if1 .left))
 
 add-bits : tie.Need-add-bits Inv-loop μ-loop
-add-bits c = let h : c .before .before .before .before .loop .t ≤ 32 = omega (arith, c .before .before .before .before .before .before .before .before .pre .0 .lent .room .few) in omega (arith, bit-small _ _ (c .before .before .before .before .loop .inv .1) h, bits-fit _ _ _ (c .before .before .before .before .loop .inv .2) h)
+add-bits c = let h : c .before .before .before .loop .t ≤ 32 = omega (arith, c .before .before .before .before .before .before .before .before .pre .0 .lent .room .few) in omega (arith, bit-small _ _ (c .before .before .before .loop .inv .1) h, bits-fit _ _ _ (c .before .before .before .loop .inv .2) h)
 
 mul-bit : tie.Need-mul-bit Inv-loop μ-loop
-mul-bit c = let h : c .before .before .before .before .loop .t ≤ 32 = omega (arith, c .before .before .before .before .before .before .before .before .pre .0 .lent .room .few) in omega (arith, bit-small _ _ (c .before .before .before .before .loop .inv .1) h)
+mul-bit c = let h : c .before .before .before .loop .t ≤ 32 = omega (arith, c .before .before .before .before .before .before .before .before .pre .0 .lent .room .few) in omega (arith, bit-small _ _ (c .before .before .before .loop .inv .1) h)
 
 loop-again : tie.Need-loop-again Inv-loop μ-loop
-loop-again c = (search needs, twice _ _ (c .before .before .before .before .loop .inv .1), ⊎-elim (λ w. w .1 ∙ bits-yes _ _ _ _ (c .before .before .before .before .loop .inv .2) (c .before .before .before .before .loop .inv .1) (c .before .is-ready .ensures) (w .0 .taken)) (λ w. w .1 ∙ bits-no _ _ _ (c .before .before .before .before .loop .inv .2) (c .before .is-ready .ensures) (w .0 .left)) (c .if2 .came))
+loop-again c = (search needs, twice _ _ (c .before .before .before .loop .inv .1), ⊎-elim (λ w. w .1 ∙ bits-yes _ _ _ _ (c .before .before .before .loop .inv .2) (c .before .before .before .loop .inv .1) (c .before .is-ready .ensures) (w .0 .taken)) (λ w. w .1 ∙ bits-no _ _ _ (c .before .before .before .loop .inv .2) (c .before .is-ready .ensures) (w .0 .left)) (c .if2 .came))
 
 cast-result : tie.Need-cast-result Inv-loop μ-loop
-cast-result c = let h : c .before .loop .t ≤ 32 = omega (arith, c .before .before .before .before .before .pre .0 .lent .room .few) in omega (arith, bits-fit _ _ _ (c .before .loop .inv .2) h)
+cast-result c = let h : c .before .loop .t ≤ 32 = omega (arith, c .before .before .before .before .before .before .pre .0 .lent .room .few) in omega (arith, bits-fit _ _ _ (c .before .loop .inv .2) h)
 
 returns-2 : tie.Need-returns-2 Inv-loop μ-loop
 returns-2 c = bits-ready _ _ _ _ _ (c .before .loop .inv .2) (search needs) (search needs)

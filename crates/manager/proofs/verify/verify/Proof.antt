@@ -10,19 +10,19 @@ use Rattle.manager.proofs.verify.verify.Tie as tie
 is-sound-requires : tie.Need-is-sound-requires
 unfolding planTold
 is-sound-requires c κs =
-    let e = sym (ap planTold (c .before .answer2 .given .1)) ∙ c .before .before .before .read-lent .ensures .0 in lent-holds _ _ _ e
+    let e = sym (ap planTold (c .before .before .answer2 .given .1)) ∙ c .before .before .before .before .read-lent .ensures .0 in lent-holds _ _ _ e
 
 returns : tie.Need-returns
 unfolding planTold
-returns c = let q = checked-unsound _ _ _ (sym (ap planTold (c .before .before .before .answer2 .given .1)) ∙ c .before .before .before .before .before .read-lent .ensures .0) (c .before .is-sound .ensures .0) (c .if1 .taken) in (q, λ k e. reading-clash q e, c .read-lent .ensures .1)
+returns c = let q = checked-unsound _ _ _ (sym (ap planTold (c .before .before .before .before .answer2 .given .1)) ∙ c .before .before .before .before .before .before .read-lent .ensures .0) (c .before .is-sound .ensures .0) (c .if1 .taken) in (q, λ k e. reading-clash q e, c .before .before .before .before .before .before .read-lent .ensures .1)
 
 returns-2 : tie.Need-returns-2
 unfolding planTold
-returns-2 c = let q = checked-refused _ _ _ (sym (ap planTold (c .before .answer .given .1)) ∙ c .before .before .before .read-lent .ensures .0) in (q, λ k e. reading-clash q e, c .read-lent .ensures .1)
+returns-2 c = let q = checked-refused _ _ _ (sym (ap planTold (c .before .answer .given .1)) ∙ c .before .before .before .read-lent .ensures .0) in (q, λ k e. reading-clash q e, c .before .before .before .read-lent .ensures .1)
 
 returns-3 : tie.Need-returns-3
 unfolding planTold
-returns-3 c = let q = checked-accepted _ _ _ (sym (ap planTold (c .before .before .before .answer2 .given .1)) ∙ c .before .before .before .before .before .read-lent .ensures .0) (c .before .is-sound .ensures .0) (c .if1 .left) in (q, λ k e. opens-found (q ∙ e) (c .is-sound .ensures .1 (not-false _ (c .if1 .left))), c .read-lent .ensures .1)
+returns-3 c = let q = checked-accepted _ _ _ (sym (ap planTold (c .before .before .before .before .answer2 .given .1)) ∙ c .before .before .before .before .before .before .read-lent .ensures .0) (c .before .is-sound .ensures .0) (c .if1 .left) in (q, λ k e. opens-found _ _ (q ∙ e) (c .before .is-sound .ensures .1 (not-false _ (c .if1 .left))), c .before .before .before .before .before .before .read-lent .ensures .1)
 
 pub verify-spec : {M : Type 1} → statement M
 verify-spec =

@@ -7,8 +7,11 @@ use borrow.Author.Needs.{needs}
 use Rattle.replay.proofs.carry_out.carry_out_fire.Statement.{statement}
 use Rattle.replay.proofs.carry_out.carry_out_fire.Tie as tie
 
+fire-requires : tie.Need-fire-requires
+fire-requires c κs = (c .before .before .before .before .before .before .before .pre .0 .checked, λ o. c .before .before .open-scopes .ensures, c .before .before .before .before .before .before .before .pre .1)
+
 come-to-requires : tie.Need-come-to-requires
-come-to-requires c κs = (search needs, omega (arith, c .before .firings-of .ensures 0, fires-one (record { track = 0 }) (fireTold (c .before .before .before .before .before .before .before .before .fire .result)), c .before .before .before .before .before .before .before .before .before .before .before .before .before .pre .few))
+come-to-requires c κs = (search needs, omega (arith, c .before .firings-of .ensures 0, fires-one (record { track = 0 }) (fireTold (c .before .before .before .before .before .before .before .before .fire .result)), c .before .before .before .before .before .before .before .before .before .before .before .before .before .before .before .before .pre .0 .few))
 
 returns : tie.Need-returns
 unfolding fireOutcome
@@ -19,6 +22,7 @@ carry-out-fire-spec =
     tie.close
     (tie.spec
     (λ c κs. search needs)
+    fire-requires
     (λ c κs. search needs)
     (λ c κs. search needs)
     come-to-requires
