@@ -1,6 +1,6 @@
 //! What the second program answers, as the number that the calls for C give.
 
-use second::ledger::{PAIRS, TRACK_WORDS};
+use second::ledger::{self, PAIRS};
 use second::manager::{self, Answer};
 use second::plan;
 
@@ -67,9 +67,51 @@ fn pair(first: u16, second: u16) -> u64 {
 
 /// Bits 0 to 15 the count of words, bits 16 to 47 the index of the first one.
 fn part(words: &[u16], track: u16) -> u64 {
-    let index = u64::from(track) * TRACK_WORDS as u64 + PAIRS as u64;
+    let index = ledger::track_start(usize::from(track)) + PAIRS;
     match words.len() as u64 {
         0 => 0,
-        count => count | index << 16,
+        count => count | (index as u64) << 16,
+    }
+}
+
+#[cfg(test)]
+mod tests {
+    use super::*;
+    use testing::samples::{sample, sample_records};
+
+    /// The sample plan's ledger after events 10 and 11.
+    fn worked() -> Vec<u16> {
+        let mut words = vec![0; 203];
+        manager::begin(&sample(), &mut words);
+        for event in [10, 11] {
+            manager::event(&sample(), &mut words, event);
+        }
+        words
+    }
+
+    fn answered(plan: Vec<u8>, call: Call) -> Done {
+        let words = worked();
+        answer(&Given { plan, words, call })
+    }
+
+    #[test]
+    fn the_part_of_a_track_is_counted_from_the_leading_words() {
+        let done = answered(sample(), Call::Entries(1));
+        assert_eq!(done.answer, 2 | (2 + 67 + 3) << 16);
+        assert_eq!(done.words[72..74], [51, 65535]);
+    }
+
+    #[test]
+    fn under_another_plan_a_call_is_24_and_a_part_is_0() {
+        let mut other = sample_records();
+        other.transitions[0].code = 60;
+        for (call, answer) in [
+            (Call::Ready, 24),
+            (Call::Fire(1), 24),
+            (Call::Entries(1), 0),
+        ] {
+            let done = answered(other.encode(), call);
+            assert_eq!((done.answer, done.words), (answer, worked()));
+        }
     }
 }

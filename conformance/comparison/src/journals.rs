@@ -7,8 +7,9 @@ use std::path::{Path, PathBuf};
 use std::process::{Command, Stdio};
 
 use retraction::raw;
-use retraction::{Entry, Moved, Refusal, TRACK_WORDS};
+use retraction::{Entry, Moved, Refusal};
 use second::journal::{Record, Records, MAX_BYTES};
+use second::ledger;
 use second::plan::MAX_TRACKS;
 use testing::generate::journals::Case;
 
@@ -67,7 +68,8 @@ fn by_calls(case: &Case) -> Vec<u8> {
     if case.plan.len() > MAX_BYTES || case.journal.len() > MAX_BYTES {
         return b"R 1\n".to_vec();
     }
-    let mut words = [0xA5A5; MAX_TRACKS * TRACK_WORDS];
+    // As many as the largest plan's ledger has.
+    let mut words = vec![0xA5A5; ledger::track_start(MAX_TRACKS)];
     match raw::begin(&case.plan, &mut words) {
         Err(refusal) => format!("{}\n", refusal_line(refusal)).into_bytes(),
         Ok(()) => after_begin(case, &mut words).into_bytes(),

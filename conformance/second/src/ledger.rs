@@ -1,7 +1,10 @@
-//! The ledger: 67 words for each track, and what makes it sound.
+//! The ledger: two leading words, by which it is known to be the plan's, then
+//! 67 words for each track; and what makes it sound.
 
 use crate::plan::{members, Plan, NONE};
 
+/// Words before those of the tracks: the plan's length and its sum.
+pub const LEADING_WORDS: usize = 2;
 /// Words for each track: mode, state, count, and 32 pairs.
 pub const TRACK_WORDS: usize = 67;
 /// Entries that a track can hold.
@@ -129,35 +132,39 @@ impl Track {
 /// A sound ledger, decoded.
 #[derive(Clone, Debug, PartialEq, Eq)]
 pub struct Ledger {
+    leading: [u16; LEADING_WORDS],
     pub tracks: Vec<Track>,
 }
 
 impl Ledger {
-    /// Every track asleep.
-    pub fn asleep(tracks: usize) -> Ledger {
+    /// The plan's leading words, and every track asleep.
+    pub fn asleep(plan: &Plan) -> Ledger {
         Ledger {
-            tracks: vec![Track::ASLEEP; tracks],
+            leading: leading(plan),
+            tracks: vec![Track::ASLEEP; plan.track_count()],
         }
     }
 
-    /// Decodes the words of a sound ledger.
+    /// Decodes the words of the plan's own and sound ledger.
     pub fn decode(plan: &Plan, words: &[u16]) -> Ledger {
-        let tracks = words[..words_needed(plan)].chunks_exact(TRACK_WORDS);
+        let own = |track| Track::decode(track_words(words, track));
         Ledger {
-            tracks: tracks.map(Track::decode).collect(),
+            leading: leading(plan),
+            tracks: (0..plan.track_count()).map(own).collect(),
         }
     }
 
     /// Writes the words; those beyond stay as they are.
     pub fn encode(&self, words: &mut [u16]) {
-        for (track, words) in self.tracks.iter().zip(words.chunks_exact_mut(TRACK_WORDS)) {
-            track.encode(words);
+        words[..LEADING_WORDS].copy_from_slice(&self.leading);
+        for (number, track) in self.tracks.iter().enumerate() {
+            track.encode(track_words_mut(words, number));
         }
     }
 
     /// The words alone, none beyond.
     pub fn words(&self) -> Vec<u16> {
-        let mut words = vec![0; self.tracks.len() * TRACK_WORDS];
+        let mut words = vec![0; track_start(self.tracks.len())];
         self.encode(&mut words);
         words
     }
@@ -185,23 +192,39 @@ impl Ledger {
     }
 }
 
+/// The leading words of a plan's ledgers.
+pub fn leading(plan: &Plan) -> [u16; LEADING_WORDS] {
+    [plan.length(), plan.sum()]
+}
+
+/// Whether both leading words are the plan's.
+pub fn is_of(plan: &Plan, words: &[u16]) -> bool {
+    words[..LEADING_WORDS] == leading(plan)
+}
+
+/// Where a track's words start.
+pub fn track_start(track: usize) -> usize {
+    LEADING_WORDS + track * TRACK_WORDS
+}
+
 /// The words that a plan's ledger needs.
 pub fn words_needed(plan: &Plan) -> usize {
-    plan.track_count() * TRACK_WORDS
+    track_start(plan.track_count())
 }
 
 /// The words of one track.
 pub fn track_words(words: &[u16], track: usize) -> &[u16] {
-    &words[track * TRACK_WORDS..][..TRACK_WORDS]
+    &words[track_start(track)..][..TRACK_WORDS]
 }
 
 /// The words of one track, to be written.
 pub fn track_words_mut(words: &mut [u16], track: usize) -> &mut [u16] {
-    &mut words[track * TRACK_WORDS..][..TRACK_WORDS]
+    &mut words[track_start(track)..][..TRACK_WORDS]
 }
 
-/// The clauses that make a ledger sound. The first four say that the words
-/// are as described; the others bind only a ledger that is not all asleep.
+/// The clauses that make a ledger sound. All are about the tracks' words. The
+/// first four say that these are as described; the others bind only a ledger
+/// that is not all asleep.
 #[derive(Clone, Copy, Debug, PartialEq, Eq)]
 pub enum Clause {
     ModesKnown,
@@ -304,15 +327,15 @@ struct View<'a> {
 
 impl<'a> View<'a> {
     fn mode(&self, track: usize) -> u16 {
-        self.words[track * TRACK_WORDS]
+        track_words(self.words, track)[0]
     }
 
     fn state(&self, track: usize) -> u16 {
-        self.words[track * TRACK_WORDS + 1]
+        track_words(self.words, track)[1]
     }
 
     fn count(&self, track: usize) -> usize {
-        usize::from(self.words[track * TRACK_WORDS + 2])
+        usize::from(track_words(self.words, track)[2])
     }
 
     /// The track's pairs split into those held and those unused.

@@ -2,7 +2,7 @@
 //! from the paper alone, for word-for-word comparison with the first.
 //!
 //! - [`plan`]: the plan reader, refusals 2 to 16.
-//! - [`ledger`]: words and tracks, and what makes a ledger sound.
+//! - [`ledger`]: leading words and tracks, and what makes a ledger sound.
 //! - [`rules`]: what the calls do, on an accepted plan and a sound ledger.
 //! - [`manager`]: the six calls, on plan bytes and lent words.
 //! - [`journal`]: the program `unwind` as a function of bytes.

@@ -1,5 +1,5 @@
-//! The six calls, on plan bytes and lent words. Every call checks 2 to 18
-//! first, begin 2 to 17. Refused calls change no word.
+//! The six calls, on plan bytes and lent words. Every call checks 2 to 17, 24
+//! and 18 first, begin 2 to 17. Refused calls change no word.
 
 use crate::ledger::{self, Entry, Ledger, PAIRS};
 use crate::plan::{self, Plan};
@@ -22,7 +22,7 @@ impl<Figures> From<Result<Figures, Refusal>> for Answer<Figures> {
     }
 }
 
-/// Begin overwrites the ledger.
+/// Begin overwrites the ledger, its leading words included.
 pub fn begin(plan: &[u8], words: &mut [u16]) -> Answer<()> {
     let begun = accepted(plan, words).map(|plan| rules::begin(&plan).encode(words));
     begun.into()
@@ -87,9 +87,10 @@ fn accepted(plan: &[u8], words: &[u16]) -> Result<Plan, Refusal> {
     Ok(plan)
 }
 
-/// 2 to 18: an accepted plan and a sound ledger.
+/// 2 to 17, 24 and 18: an accepted plan, and its own and sound ledger.
 fn sound(plan: &[u8], words: &[u16]) -> Result<(Plan, Ledger), Refusal> {
     let plan = accepted(plan, words)?;
+    demand(ledger::is_of(&plan, words), Refusal::OtherPlan)?;
     demand(ledger::is_sound(&plan, words), Refusal::Unsound)?;
     let ledger = Ledger::decode(&plan, words);
     Ok((plan, ledger))

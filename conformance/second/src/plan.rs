@@ -116,7 +116,7 @@ impl Records {
 
 /// Reads a plan: the accepted plan, or the first refusal of 2 to 16.
 pub fn read(bytes: &[u8]) -> Result<Plan, Refusal> {
-    Plan::accept(read_records(bytes)?)
+    Plan::accept(read_records(bytes)?, bytes)
 }
 
 /// Reads the records up to the end record: refusals 2 to 7.
@@ -167,6 +167,8 @@ struct Exit {
 #[derive(Clone, Debug, PartialEq, Eq)]
 pub struct Plan {
     records: Records,
+    length: u16,
+    sum: u16,
     /// Each track's lowest-numbered state.
     first: Vec<u16>,
     /// Each state's scope: bit n set if it hosts track n.
@@ -175,12 +177,13 @@ pub struct Plan {
 }
 
 impl Plan {
-    /// Judges the records as a whole: refusals 8 to 16, number by number.
-    pub fn accept(records: Records) -> Result<Plan, Refusal> {
+    /// Judges the records of these bytes as a whole: refusals 8 to 16, number
+    /// by number.
+    fn accept(records: Records, bytes: &[u8]) -> Result<Plan, Refusal> {
         demand(!records.tracks.is_empty(), Refusal::NoTrack)?;
         demand(states_fit(&records), Refusal::State)?;
         demand(hosts_fit(&records), Refusal::Host)?;
-        let plan = Plan::index(records);
+        let plan = Plan::index(records, bytes);
         demand(plan.first_states_fit(), Refusal::FirstState)?;
         demand(plan.hosting_fits(), Refusal::Hosting)?;
         demand(plan.transitions_fit(), Refusal::Transition)?;
@@ -190,8 +193,10 @@ impl Plan {
         Ok(plan)
     }
 
-    fn index(records: Records) -> Plan {
+    fn index(records: Records, bytes: &[u8]) -> Plan {
         Plan {
+            length: bytes.len() as u16,
+            sum: record::sum(bytes),
             first: first_states(&records),
             scopes: scopes(&records),
             exits: exits(&records),
@@ -263,6 +268,16 @@ impl Plan {
             }
         }
         heights
+    }
+
+    /// The plan's length in bytes; an accepted plan has at most 5,060.
+    pub fn length(&self) -> u16 {
+        self.length
+    }
+
+    /// The sum of the plan's bytes, as `record::sum` takes it.
+    pub fn sum(&self) -> u16 {
+        self.sum
     }
 
     pub fn track_count(&self) -> usize {

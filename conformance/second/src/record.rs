@@ -34,6 +34,14 @@ pub fn field(bytes: &[u8], n: usize) -> u16 {
     word(bytes, HEADER + 2 * n)
 }
 
+/// The sum modulo 65,536 of the bytes taken as little-endian 16-bit numbers;
+/// a last single byte counts as itself.
+pub fn sum(bytes: &[u8]) -> u16 {
+    let worth = |(at, &byte): (usize, &u8)| u16::from(byte) << (8 * (at % 2));
+    let bytes = bytes.iter().enumerate();
+    bytes.map(worth).fold(0, u16::wrapping_add)
+}
+
 /// Appends one record.
 pub fn put(out: &mut Vec<u8>, kind: u16, fields: &[u16]) {
     let length = (HEADER + 2 * fields.len()) as u16;

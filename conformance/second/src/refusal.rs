@@ -1,4 +1,5 @@
-//! The numbers under "Turned back, in checking order".
+//! The numbers under "Turned back, in checking order". 24 is checked between
+//! 17 and 18.
 
 /// A refusal; its discriminant is the paper's number.
 #[derive(Clone, Copy, Debug, PartialEq, Eq, PartialOrd, Ord, Hash)]
@@ -50,6 +51,8 @@ pub enum Refusal {
     NotReady = 22,
     /// A journal record is broken.
     BrokenRecord = 23,
+    /// Either of the ledger's leading words is not the plan's.
+    OtherPlan = 24,
 }
 
 impl Refusal {

@@ -14,7 +14,7 @@ pub struct Moved {
 
 /// Begin: roots forward in their first states, others asleep.
 pub fn begin(plan: &Plan) -> Ledger {
-    let mut ledger = Ledger::asleep(plan.track_count());
+    let mut ledger = Ledger::asleep(plan);
     for root in plan.roots() {
         wake(plan, &mut ledger, root);
     }

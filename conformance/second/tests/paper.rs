@@ -4,7 +4,7 @@ mod common;
 
 use common::*;
 use second::journal::Record::{Event, Fire, FireLowest, Signal};
-use second::ledger::Entry;
+use second::ledger::{track_words, Entry};
 use second::manager::{self, Answer};
 use second::plan::{self, NONE};
 use second::refusal::Refusal;
@@ -14,9 +14,9 @@ use testing::generate::plans;
 /// Words that begin has written for a plan, with three words beyond.
 fn begun(plan: &[u8]) -> Vec<u16> {
     let tracks = plan::read(plan).expect("accepted").track_count();
-    let mut words = vec![0xABCD; 67 * tracks + 3];
+    let mut words = vec![0xABCD; 2 + 67 * tracks + 3];
     assert_eq!(manager::begin(plan, &mut words), Answer::Done(()));
-    assert_eq!(words[67 * tracks..], [0xABCD; 3]);
+    assert_eq!(words[2 + 67 * tracks..], [0xABCD; 3]);
     words
 }
 
@@ -95,9 +95,9 @@ fn event_13_first_moves_none() {
 fn event_13_after_10_moves_none_with_the_scope_open() {
     let mut words = begun(&sample());
     assert_eq!(send(&mut words, &[10, 13]), [moved(1, 0), moved(0, 0)]);
-    assert_eq!(words[..5], [1, 1, 1, 50, NONE]);
-    assert_eq!(words[67..70], [1, 3, 0]);
-    assert_eq!(words[134..137], [1, 5, 0]);
+    assert_eq!(words[2..7], [1, 1, 1, 50, NONE]);
+    assert_eq!(words[69..72], [1, 3, 0]);
+    assert_eq!(words[136..139], [1, 5, 0]);
 }
 
 #[test]
@@ -109,8 +109,8 @@ fn last_event_closes_and_replaces() {
         [moved(1, 0), moved(1, 0), moved(1, 0), moved(1, 1)]
     );
     assert_eq!(manager::entries(&sample(), &words, 0), [50, NONE, 90, NONE]);
-    assert_eq!(words[..3], [1, 1, 2]);
-    assert_eq!(words[67..201], [0; 134]);
+    assert_eq!(words[2..5], [1, 1, 2]);
+    assert_eq!(words[69..203], [0; 134]);
 }
 
 #[test]
@@ -122,7 +122,7 @@ fn signal_then_fires_90_and_50() {
     assert_eq!(manager::ready(&plan, &words), Answer::Done(1));
     assert_eq!(manager::fire(&plan, &mut words, 0), fired(90));
     assert_eq!(manager::fire(&plan, &mut words, 0), fired(50));
-    assert_eq!(words[..3], [2, 1, 0]);
+    assert_eq!(words[2..5], [2, 1, 0]);
     assert_eq!(manager::ready(&plan, &words), Answer::Done(0));
 }
 
@@ -132,7 +132,8 @@ fn event_13_instead_of_the_signal_is_over() {
     let mut words = begun(&plan);
     send(&mut words, &[10, 11, 12, 14]);
     assert_eq!(send(&mut words, &[13]), [moved(1, 0)]);
-    assert_eq!(words[..201], [0; 201]);
+    assert_eq!(words[..2], [172, 609]);
+    assert_eq!(words[2..203], [0; 201]);
     assert_eq!(
         manager::signal(&plan, &mut words),
         Answer::Refused(Refusal::Over)
@@ -146,7 +147,7 @@ fn signal_after_begin_turns_1_and_is_not_over() {
     let mut words = begun(&plan);
     assert_eq!(manager::signal(&plan, &mut words), Answer::Done(1));
     assert_eq!(manager::ready(&plan, &words), Answer::Done(0));
-    assert_eq!(words[..3], [2, 0, 0]);
+    assert_eq!(words[2..5], [2, 0, 0]);
     assert_eq!(manager::signal(&plan, &mut words), Answer::Done(0));
 }
 
@@ -156,7 +157,7 @@ fn signal_after_10_turns_3_and_abandons() {
     let mut words = begun(&plan);
     send(&mut words, &[10]);
     assert_eq!(manager::signal(&plan, &mut words), Answer::Done(3));
-    assert_eq!(words[67..201], [0; 134]);
+    assert_eq!(words[69..203], [0; 134]);
     assert_eq!(manager::ready(&plan, &words), Answer::Done(1));
 }
 
@@ -248,6 +249,6 @@ fn signal_turns_every_track() {
     let mut words = begun(&plan);
     send(&mut words, &[10, 11, 12]);
     assert_eq!(manager::signal(&plan, &mut words), Answer::Done(3));
-    assert_eq!([words[0], words[67], words[134]], [2, 2, 2]);
+    assert_eq!([0, 1, 2].map(|t| track_words(&words, t)[0]), [2, 2, 2]);
     assert_eq!(manager::ready(&plan, &words), Answer::Done(0b110));
 }

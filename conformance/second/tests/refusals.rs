@@ -201,7 +201,7 @@ fn plan_numbers_go_number_by_number() {
 #[test]
 fn too_few_words_are_17() {
     let plan = sample();
-    let mut words = vec![5; 200];
+    let mut words = vec![5; 202];
     let few = Refusal::FewWords;
     assert_eq!(manager::begin(&plan, &mut words), Answer::Refused(few));
     assert_eq!(manager::event(&plan, &mut words, 0), Answer::Refused(few));
@@ -209,13 +209,15 @@ fn too_few_words_are_17() {
     assert_eq!(manager::fire(&plan, &mut words, 0), Answer::Refused(few));
     assert_eq!(manager::ready(&plan, &words), Answer::Refused(few));
     assert!(manager::entries(&plan, &words, 0).is_empty());
-    assert_eq!(words, [5; 200]);
+    assert_eq!(words, [5; 202]);
 }
 
 #[test]
 fn an_unsound_ledger_is_18_and_begin_takes_it() {
     let plan = sample();
-    let mut words = vec![5; 201];
+    let mut words = vec![5; 203];
+    words[..2].copy_from_slice(&[172, 609]);
+    let before = words.clone();
     let unsound = Refusal::Unsound;
     assert_eq!(
         manager::event(&plan, &mut words, 0),
@@ -228,16 +230,17 @@ fn an_unsound_ledger_is_18_and_begin_takes_it() {
     );
     assert_eq!(manager::ready(&plan, &words), Answer::Refused(unsound));
     assert!(manager::entries(&plan, &words, 0).is_empty());
-    assert_eq!(words, [5; 201]);
+    assert_eq!(words, before);
     assert_eq!(manager::begin(&plan, &mut words), Answer::Done(()));
-    assert_eq!(words[0], 1);
-    assert_eq!(words[1..], [0; 200]);
+    assert_eq!(words[..3], [172, 609, 1]);
+    assert_eq!(words[3..], [0; 200]);
 }
 
 #[test]
 fn event_0_is_19_before_20() {
     let plan = sample();
-    let mut over = vec![0; 201];
+    let mut over = vec![0; 203];
+    over[..2].copy_from_slice(&[172, 609]);
     let event = |words: &mut [u16], e| manager::event(&sample(), words, e);
     assert_eq!(event(&mut over, 0), Answer::Refused(Refusal::EventZero));
     assert_eq!(event(&mut over, 1), Answer::Refused(Refusal::Over));
@@ -252,7 +255,7 @@ fn event_0_is_19_before_20() {
 #[test]
 fn a_firing_that_may_not_be_is_22() {
     let plan = sample();
-    let mut words = vec![0; 201];
+    let mut words = vec![0; 203];
     manager::begin(&plan, &mut words);
     for track in [0, 1, 2, 3, 32, 65535] {
         assert_eq!(

@@ -4,7 +4,7 @@ use crate::generate::journals::{self, Case};
 use crate::generate::rng::Rng;
 use crate::generate::singles::{self, Call, Single};
 use second::journal::{self, Outcome, Record, Records};
-use second::ledger::{self, Clause, Ledger, CAPACITY};
+use second::ledger::{self, track_words, words_needed, Clause, Ledger, CAPACITY, LEADING_WORDS};
 use second::manager::{self, Answer};
 use second::plan::{self, members, Plan, MAX_TRACKS, NONE};
 use second::refusal::Refusal;
@@ -44,14 +44,35 @@ pub enum Happening {
     Entry32Installed,
     Height8Accepted,
     LimitsAccepted,
+    FewerThanLeading,
+    OneWordTooFew,
+    OtherLength,
+    OtherSum,
+    OtherLengthAndSum,
+    OtherZeros,
+    OtherUnsound,
+    Neighbours,
+    NeighboursByEvent,
+    NeighboursBySignal,
+    NeighboursByFire,
+    NeighboursByReady,
+    NeighboursByEntries,
+    NeighboursOver,
+    Alike,
+    AlikeSound,
+    AlikeUnsound,
 }
 
-const HAPPENINGS: usize = 22;
+const HAPPENINGS: usize = 39;
 
-/// Floors of refusals 1 to 23 for the default batch.
-const REFUSAL_FLOORS: [u64; 23] = [
+/// Refusals 1 to 24.
+const REFUSALS: usize = 24;
+
+/// Floors of the refusals for the default batch. What entries refuses is not
+/// among their counts, since it gives no number.
+const REFUSAL_FLOORS: [u64; REFUSALS] = [
     15, 300, 400, 400, 300, 200, 400, 200, 250, 200, 200, 200, 200, 200, 200, 200, 5_000, 40_000,
-    3_000, 15_000, 6_000, 12_000, 1_800,
+    3_000, 15_000, 6_000, 12_000, 1_800, 10_000,
 ];
 
 /// Names and floors of the happenings, in the order of the enum.
@@ -130,6 +151,59 @@ const HAPPENING_FLOORS: [(Happening, &str, u64); HAPPENINGS] = [
         "plan of 32, 128 and 256 accepted",
         1_500,
     ),
+    (
+        Happening::FewerThanLeading,
+        "17 with fewer than 2 words",
+        700,
+    ),
+    (Happening::OneWordTooFew, "17 with one word too few", 2_200),
+    (Happening::OtherLength, "24 by the length alone", 2_000),
+    (Happening::OtherSum, "24 by the sum alone", 3_300),
+    (Happening::OtherLengthAndSum, "24 by length and sum", 6_000),
+    (Happening::OtherZeros, "zeros: 24", 600),
+    (Happening::OtherUnsound, "24, and not sound either", 2_000),
+    (Happening::Neighbours, "a neighbour's ledger: 24", 4_500),
+    (
+        Happening::NeighboursByEvent,
+        "a neighbour's ledger: 24 by event",
+        1_000,
+    ),
+    (
+        Happening::NeighboursBySignal,
+        "a neighbour's ledger: 24 by signal",
+        1_000,
+    ),
+    (
+        Happening::NeighboursByFire,
+        "a neighbour's ledger: 24 by fire",
+        1_000,
+    ),
+    (
+        Happening::NeighboursByReady,
+        "a neighbour's ledger: 24 by ready",
+        1_000,
+    ),
+    (
+        Happening::NeighboursByEntries,
+        "a neighbour's entries: the empty part",
+        400,
+    ),
+    (
+        Happening::NeighboursOver,
+        "a neighbour's over ledger: 24",
+        800,
+    ),
+    (Happening::Alike, "plans alike in both words: not 24", 2_000),
+    (
+        Happening::AlikeSound,
+        "plans alike in both words: sound",
+        1_600,
+    ),
+    (
+        Happening::AlikeUnsound,
+        "plans alike in both words: 18",
+        450,
+    ),
 ];
 
 /// Floor of each clause violated alone for the default batch.
@@ -144,11 +218,21 @@ pub struct Row {
 }
 
 /// The counts of a batch.
-#[derive(Clone, Debug, Default)]
+#[derive(Clone, Debug)]
 pub struct Coverage {
-    refusals: [u64; 23],
+    refusals: [u64; REFUSALS],
     happenings: [u64; HAPPENINGS],
     clauses: [u64; Clause::COUNT],
+}
+
+impl Default for Coverage {
+    fn default() -> Coverage {
+        Coverage {
+            refusals: [0; REFUSALS],
+            happenings: [0; HAPPENINGS],
+            clauses: [0; Clause::COUNT],
+        }
+    }
 }
 
 /// Generates a batch and counts what happens in it.
@@ -369,20 +453,72 @@ impl Coverage {
             Err(_) => return self.answer(single, None),
         };
         self.accepted(&plan);
-        if single.words.len() < ledger::words_needed(&plan) {
+        if single.words.len() < words_needed(&plan) {
+            self.few_words(&plan, single.words.len());
             return self.answer(single, None);
         }
-        match ledger::violated(&plan, &single.words)[..] {
-            [] => self.answer(single, Some(&plan)),
-            [clause] => {
-                self.clauses[clause as usize] += 1;
-                self.answer(single, None);
-            }
-            _ => self.answer(single, None),
+        if !ledger::is_of(&plan, &single.words) {
+            self.other_plan(&plan, single);
+            return self.answer(single, None);
+        }
+        let violated = ledger::violated(&plan, &single.words);
+        self.alike(single, violated.is_empty());
+        if let [clause] = violated[..] {
+            self.clauses[clause as usize] += 1;
+        }
+        self.answer(single, Some(&plan).filter(|_| violated.is_empty()));
+    }
+
+    fn few_words(&mut self, plan: &Plan, words: usize) {
+        self.count_if(words < LEADING_WORDS, Happening::FewerThanLeading);
+        let next = words + 1 == words_needed(plan);
+        self.count_if(next, Happening::OneWordTooFew);
+    }
+
+    /// Counts a call that is refused as 24.
+    fn other_plan(&mut self, plan: &Plan, single: &Single) {
+        let words = &single.words[..words_needed(plan)];
+        let (length, sum) = (words[0] != plan.length(), words[1] != plan.sum());
+        self.count_if(length && !sum, Happening::OtherLength);
+        self.count_if(sum && !length, Happening::OtherSum);
+        self.count_if(length && sum, Happening::OtherLengthAndSum);
+        self.count_if(words.iter().all(|&w| w == 0), Happening::OtherZeros);
+        let sound = ledger::is_sound(plan, words);
+        self.count_if(!sound, Happening::OtherUnsound);
+        if single.begun_under.is_some() {
+            self.neighbours(words, single.call);
         }
     }
 
-    /// Makes the call; `plan` is given where the ledger is sound.
+    /// Counts a call on a ledger that was begun under a neighbour's plan.
+    fn neighbours(&mut self, words: &[u16], call: Call) {
+        let by = match call {
+            Call::Event(_) => Happening::NeighboursByEvent,
+            Call::Signal => Happening::NeighboursBySignal,
+            Call::Fire(_) => Happening::NeighboursByFire,
+            Call::Ready => Happening::NeighboursByReady,
+            Call::Entries(track) if track_words(words, usize::from(track))[2] > 0 => {
+                Happening::NeighboursByEntries
+            }
+            Call::Entries(_) => return,
+        };
+        self.count(by);
+        self.count(Happening::Neighbours);
+        let over = words[LEADING_WORDS..].iter().all(|&w| w == 0);
+        self.count_if(over, Happening::NeighboursOver);
+    }
+
+    /// Counts a call on a ledger that was begun under a plan alike in both
+    /// words.
+    fn alike(&mut self, single: &Single, sound: bool) {
+        if single.begun_under.is_some() {
+            self.count(Happening::Alike);
+            self.count_if(sound, Happening::AlikeSound);
+            self.count_if(!sound, Happening::AlikeUnsound);
+        }
+    }
+
+    /// Makes the call; `plan` is given where the ledger is its own and sound.
     fn answer(&mut self, single: &Single, plan: Option<&Plan>) {
         let (bytes, mut words) = (&single.plan[..], single.words.clone());
         match single.call {
@@ -444,7 +580,7 @@ impl Coverage {
                 };
                 observe(self, &change, figures);
             }
-            (Answer::Done(_), None) => unreachable!("a call answered on an unsound ledger"),
+            (Answer::Done(_), None) => unreachable!("a call answered that is to be refused"),
         }
     }
 }

@@ -48,20 +48,27 @@ pub fn plan_line(rng: &mut Rng, limit: usize) -> String {
     format!("P;{};{answer}", byte_hex(&bytes))
 }
 
-/// `L;plan;words;call;answer;words after`: a single call.
+/// The line of a single call.
 pub fn single_line(rng: &mut Rng, limit: usize) -> String {
     let single = singles::single(rng, limit);
-    let mut words = single.words.clone();
-    let answer = answer(&single.plan, &mut words, single.call);
-    let fields = [
-        "L".to_string(),
-        byte_hex(&single.plan),
-        word_hex(&single.words),
-        call_text(single.call),
-        answer,
-        word_hex(&words),
-    ];
-    fields.join(";")
+    call_line(&single.plan, &single.words, single.call)
+}
+
+/// `L;plan;words;call;answer;words after`: a call on lent words.
+pub fn call_line(plan: &[u8], lent: &[u16], call: Call) -> String {
+    let mut words = lent.to_vec();
+    let answer = answer(plan, &mut words, call);
+    let (plan, lent) = (byte_hex(plan), word_hex(lent));
+    let (call, words) = (call_text(call), word_hex(&words));
+    format!("L;{plan};{lent};{call};{answer};{words}")
+}
+
+/// The same of a begin, whose letter is `B`.
+pub fn begin_line(plan: &[u8], lent: &[u16]) -> String {
+    let mut words = lent.to_vec();
+    let answer = begin(plan, &mut words);
+    let (plan, lent) = (byte_hex(plan), word_hex(lent));
+    format!("L;{plan};{lent};B;{answer};{}", word_hex(&words))
 }
 
 /// `U;plan;journal;output`: a whole run of `unwind`.

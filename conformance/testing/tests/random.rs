@@ -3,12 +3,13 @@
 use second::journal::{self, Outcome, Record};
 use second::ledger::{self, Clause, Ledger};
 use second::manager::{self, Answer};
-use second::plan::{self, MAX_TRACKS};
+use second::plan::{self, Plan, MAX_TRACKS};
+use second::refusal::Refusal;
 use second::rules;
 use testing::coverage;
 use testing::generate::rng::Rng;
-use testing::generate::singles::{self, Call};
-use testing::generate::{damage, journals, ledgers, plans};
+use testing::generate::singles::{self, Call, Single};
+use testing::generate::{damage, journals, ledgers, neighbours, plans};
 use testing::vectors;
 
 #[test]
@@ -42,10 +43,12 @@ fn ledgers_are_sound_or_violate_one_clause() {
         let mut rng = Rng::for_case(7, 3, index);
         let plan = plan::read(&plans::bytes(&mut rng, 12)).expect("accepted");
         let sound = ledgers::sound(&mut rng, &plan);
+        assert!(ledger::is_of(&plan, &sound.words()));
         assert!(ledger::is_sound(&plan, &sound.words()));
         assert_eq!(Ledger::decode(&plan, &sound.words()), sound);
         for clause in Clause::all() {
             if let Some(words) = ledgers::violate(&mut rng, &plan, clause) {
+                assert!(ledger::is_of(&plan, &words));
                 assert!(!ledger::is_sound(&plan, &words));
                 seen[clause as usize] += 1;
             }
@@ -94,7 +97,7 @@ fn public_calls_and_rules_agree_and_keep_the_ledger_sound() {
             assert_eq!(outcome, journal::perform(&plan, &mut inner, record));
             assert_eq!(words[..needed], inner.words());
             assert_eq!(words[needed..], beyond);
-            assert!(ledger::is_sound(&plan, &words));
+            assert!(ledger::is_of(&plan, &words) && ledger::is_sound(&plan, &words));
             let refused = matches!(outcome, Outcome::Refused(_));
             assert!(!refused || words == before);
         }
@@ -118,11 +121,91 @@ fn single_calls_leave_sound_ledgers_sound_and_others_alone() {
             _ => {
                 let plan = plan::read(&single.plan).expect("accepted");
                 let needed = ledger::words_needed(&plan);
-                assert!(ledger::is_sound(&plan, &words));
+                assert!(ledger::is_of(&plan, &words) && ledger::is_sound(&plan, &words));
                 assert_eq!(words[needed..], single.words[needed..]);
             }
         }
     }
+}
+
+/// The call's refusal, if it gives one; entries gives none.
+fn refusal(single: &Single) -> Option<Refusal> {
+    let (plan, mut words) = (&single.plan[..], single.words.clone());
+    let record = match single.call {
+        Call::Event(event) => Record::Event(event),
+        Call::Signal => Record::Signal,
+        Call::Fire(track) => Record::Fire(track),
+        Call::Ready => match manager::ready(plan, &words) {
+            Answer::Refused(refusal) => return Some(refusal),
+            Answer::Done(_) => return None,
+        },
+        Call::Entries(_) => return None,
+    };
+    match perform(plan, &mut words, record) {
+        Outcome::Refused(refusal) => Some(refusal),
+        _ => None,
+    }
+}
+
+/// The single calls on ledgers begun under another plan, with both plans.
+fn on_other_ledgers() -> impl Iterator<Item = (Single, Plan, Plan)> {
+    let singles = (0..20_000).map(|index| {
+        let mut rng = Rng::for_case(7, 7, index);
+        singles::single(&mut rng, MAX_TRACKS)
+    });
+    singles.filter_map(|single| {
+        let other = plan::read(single.begun_under.as_ref()?).expect("accepted");
+        let plan = plan::read(&single.plan).expect("accepted");
+        Some((single, plan, other))
+    })
+}
+
+#[test]
+fn a_ledger_begun_under_another_plan_is_24_unless_alike_in_both_words() {
+    let (mut neighbours, mut alike) = (0, 0);
+    for (single, plan, other) in on_other_ledgers() {
+        assert_ne!(plan, other);
+        assert_eq!(plan.track_count(), other.track_count());
+        assert!(ledger::is_of(&other, &single.words) && ledger::is_sound(&other, &single.words));
+        let same = ledger::leading(&plan) == ledger::leading(&other);
+        let refusal = refusal(&single);
+        match single.call {
+            Call::Entries(track) if !same => {
+                assert!(manager::entries(&single.plan, &single.words, track).is_empty())
+            }
+            Call::Entries(_) => {}
+            _ => assert_eq!(refusal == Some(Refusal::OtherPlan), !same),
+        }
+        neighbours += u32::from(!same);
+        alike += u32::from(same);
+    }
+    assert!(neighbours > 500 && alike > 250, "{neighbours} {alike}");
+}
+
+#[test]
+fn a_ledger_begun_under_another_plan_is_begun_anew() {
+    for (single, plan, _) in on_other_ledgers().take(400) {
+        let mut words = single.words.clone();
+        assert_eq!(manager::begin(&single.plan, &mut words), Answer::Done(()));
+        let needed = ledger::words_needed(&plan);
+        assert_eq!(words[..needed], rules::begin(&plan).words());
+        assert_eq!(words[needed..], single.words[needed..]);
+    }
+}
+
+#[test]
+fn plans_alike_have_other_bytes_and_the_same_leading_words() {
+    let mut found = 0;
+    for index in 0..500 {
+        let mut rng = Rng::for_case(7, 8, index);
+        let plan = plan::read(&plans::bytes(&mut rng, MAX_TRACKS)).expect("accepted");
+        if let Some(other) = neighbours::alike(&mut rng, &plan) {
+            assert_ne!(plan.records(), other.records());
+            assert_eq!(ledger::leading(&plan), ledger::leading(&other));
+            found += 1;
+        }
+    }
+    assert!(found > 200, "{found}");
 }
 
 #[test]
@@ -160,6 +243,6 @@ fn lines_are_made_again_from_the_same_seed() {
 fn a_small_batch_reaches_most_rows() {
     let rows = coverage::batch(3, 300).rows();
     let reached = rows.iter().filter(|row| row.count > 0).count();
-    assert_eq!(rows.len(), 62);
-    assert!(reached >= 58, "{reached}");
+    assert_eq!(rows.len(), 80);
+    assert!(reached >= 76, "{reached}");
 }

@@ -11,7 +11,7 @@ fn theorems(name: &str, lines: &str) -> Option<String> {
     fs::create_dir_all(&folder).expect("directory");
     let mut child = Command::new(env!("CARGO_BIN_EXE_theorems"))
         .arg(&folder)
-        .args(["1", "20", "4"])
+        .args(["1", "20", "8"])
         .stdin(Stdio::piped())
         .stdout(Stdio::null())
         .stderr(Stdio::null())
@@ -51,6 +51,19 @@ fn plans_and_single_calls_have_statements_of_their_own() {
     says("case-2 : ReadyAgrees ([]) (1 ∷ []) (refusal 18) (1 ∷ [])\n");
     says("case-3 : EntriesAgree ([]) ([]) 3 ([])\n");
     says("case-4 : CallAgrees ([]) ([]) (f 9) (refusal 17) ([])\n");
+}
+
+#[test]
+fn calls_refused_as_24_are_a_sort_of_their_own() {
+    // One root in one state, and a ledger of zeros.
+    let plan = "06000100ffff0a00020000000000000004000400";
+    let zeros = "0000".repeat(69);
+    let line = |call: &str, answer: &str| format!("L;{plan};{zeros};{call};{answer};{zeros}\n");
+    let lines = line("S", "R24").repeat(2) + &line("N0", "");
+    let text = theorems("other-plan", &lines).expect("theorems");
+    assert_eq!(text.matches("pub case-").count(), 2);
+    assert!(text.contains("(s) (refusal 24) (0 ∷ 0 ∷"), "{text}");
+    assert!(text.contains("pub case-2 : EntriesAgree"), "{text}");
 }
 
 #[test]

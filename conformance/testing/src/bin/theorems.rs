@@ -3,9 +3,9 @@
 //! proved by computing the definitions of the rules.
 //!
 //! Taken are HISTORIES histories, PLANS refused plans and LEDGERS calls on
-//! damaged ledgers, and fewer whole runs, accepted plans and calls on sound
-//! ledgers: of each sort as many different ones as there are. Cases too large
-//! to be computed quickly are dropped.
+//! damaged ledgers, and fewer whole runs, accepted plans, and calls on sound
+//! ledgers and on those of other plans: of each sort as many different ones as
+//! there are. Cases too large to be computed quickly are dropped.
 
 use std::collections::{BTreeSet, HashMap};
 use std::fs;
@@ -13,7 +13,7 @@ use std::io;
 use std::path::Path;
 use std::process::ExitCode;
 
-use second::ledger::{self, TRACK_WORDS};
+use second::ledger::{self, track_words};
 use second::plan::{self, Plan};
 use second::record::{self, Header};
 use testing::theorems::{parts, statement};
@@ -42,6 +42,8 @@ enum Sort {
     Oversized,
     Accepted,
     Damaged,
+    /// A call on a ledger whose leading words are not the plan's.
+    OtherPlan,
     /// A signal or a firing that is done: what abandoning follows.
     Undoing,
     Other,
@@ -55,7 +57,7 @@ struct Share {
     limit: usize,
 }
 
-fn shares(histories: usize, plans: usize, ledgers: usize) -> [Share; 8] {
+fn shares(histories: usize, plans: usize, ledgers: usize) -> [Share; 9] {
     let share = |sort, name, wanted, limit| Share {
         sort,
         name,
@@ -69,6 +71,7 @@ fn shares(histories: usize, plans: usize, ledgers: usize) -> [Share; 8] {
         share(Sort::Oversized, "plans refused as 6 or 16", plans / 20, 500),
         share(Sort::Accepted, "accepted plans", plans / 20, 300),
         share(Sort::Damaged, "calls on damaged ledgers", ledgers, 200),
+        share(Sort::OtherPlan, "calls refused as 24", ledgers / 4, 200),
         share(Sort::Undoing, "signals and firings done", ledgers / 4, 240),
         share(Sort::Other, "other calls", ledgers / 4, 200),
     ]
@@ -97,6 +100,9 @@ fn sort_of(fields: &[&str]) -> Option<(Sort, usize)> {
         ["P", _, answer] if answer.starts_with('A') => (Sort::Accepted, plan),
         ["P", _, _] => (Sort::Refused, plan),
         ["L", _, _, _, "R17" | "R18", _] => (Sort::Damaged, plan),
+        ["L", bytes, words, _, "R24" | "", _] if !differing(bytes, words).is_empty() => {
+            (Sort::OtherPlan, plan)
+        }
         ["L", _, _, call, answer, _] if is_undoing(call, answer) => (Sort::Undoing, plan),
         ["L", _, _, _, _, _] => (Sort::Other, plan),
         _ => return None,
@@ -107,9 +113,24 @@ fn is_undoing(call: &str, answer: &str) -> bool {
     call.starts_with(['S', 'F']) && answer.starts_with('D')
 }
 
+/// Which of the leading words is not the plan's; none where the plan is
+/// refused or the words are too few.
+fn differing(plan: &str, words: &str) -> Vec<&'static str> {
+    let words: Vec<u16> = numbers(words, 4);
+    match plan::read(&numbers(plan, 2)) {
+        Ok(plan) if words.len() >= ledger::words_needed(&plan) => {
+            let pairs = ledger::leading(&plan).into_iter().zip(words);
+            let named = ["length", "sum"].into_iter().zip(pairs);
+            let differ = named.filter(|(_, (own, lent))| own != lent);
+            differ.map(|(name, _)| name).collect()
+        }
+        _ => Vec::new(),
+    }
+}
+
 /// What a case shows: a history its plan's height and the outcomes of its
-/// calls, a run its sorts of lines, a plan its refusal, a call what it changes
-/// or the clauses violated.
+/// calls, a run its sorts of lines, a plan its refusal, a call what it changes,
+/// the clauses violated or the leading words that are not the plan's.
 fn shows(fields: &[&str]) -> String {
     match *fields {
         ["H", plan, _, calls, answers, _] => {
@@ -124,6 +145,9 @@ fn shows(fields: &[&str]) -> String {
         }
         ["P", plan, "3"] => format!("3 {}", falls(&numbers(plan, 2))),
         ["P", _, answer] => parts(answer, ',').take(1).collect(),
+        ["L", plan, before, call, "R24" | "", _] => {
+            format!("{} {:?}", &call[..1], differing(plan, before))
+        }
         ["L", plan, before, call, answer, after] => match plan::read(&numbers(plan, 2)) {
             Ok(plan) if answer == "R18" => {
                 format!("{:?}", ledger::violated(&plan, &numbers(before, 4)))
@@ -172,7 +196,7 @@ fn outcome(call: &str, answer: &str) -> String {
 
 /// The modes that changed, and whether a track fell asleep with its host.
 fn changes(plan: &Plan, before: &[u16], after: &[u16]) -> String {
-    let modes = |t: usize| (before[t * TRACK_WORDS], after[t * TRACK_WORDS]);
+    let modes = |t: usize| (track_words(before, t)[0], track_words(after, t)[0]);
     let changed = |t: &usize| modes(*t).0 != modes(*t).1;
     let falls = |t: usize| changed(&t) && modes(t).1 == 0;
     let tracks = 0..plan.track_count();

@@ -1,10 +1,12 @@
-//! Sound ledgers, reached by histories or crafted, and damaged ones.
+//! Sound ledgers, reached by histories or crafted, damaged ones, and ones
+//! whose leading words are not the plan's.
 
 use super::journals;
 use super::rng::Rng;
+use second::journal;
 use second::ledger::{
-    self, track_words_mut, words_needed, Clause, Entry, Ledger, Mode, Track, CAPACITY, PAIRS,
-    TRACK_WORDS,
+    self, track_words, track_words_mut, words_needed, Clause, Entry, Ledger, Mode, Track, CAPACITY,
+    LEADING_WORDS, PAIRS, TRACK_WORDS,
 };
 use second::plan::{members, Plan, NONE};
 use second::rules;
@@ -12,16 +14,36 @@ use second::rules;
 /// A sound ledger.
 pub fn sound(rng: &mut Rng, plan: &Plan) -> Ledger {
     match rng.below(100) {
-        0..=2 => Ledger::asleep(plan.track_count()),
+        0..=2 => Ledger::asleep(plan),
         3..=5 => rules::begin(plan),
         6..=45 => journals::history(rng, plan).1,
         _ => crafted(rng, plan),
     }
 }
 
+/// A ledger as begin leaves it, mostly worked by a part of a history, or over.
+pub fn begun(rng: &mut Rng, plan: &Plan) -> Ledger {
+    match rng.below(100) {
+        0..=14 => rules::begin(plan),
+        15..=24 => Ledger::asleep(plan),
+        _ => worked(rng, plan),
+    }
+}
+
+/// What some of the records of a history leave.
+fn worked(rng: &mut Rng, plan: &Plan) -> Ledger {
+    let records = journals::history(rng, plan).0;
+    let done = rng.below(records.len() + 1);
+    let mut ledger = rules::begin(plan);
+    for &record in &records[..done] {
+        journal::perform(plan, &mut ledger, record);
+    }
+    ledger
+}
+
 /// A sound ledger put together by hand, mostly one no history reaches.
 pub fn crafted(rng: &mut Rng, plan: &Plan) -> Ledger {
-    let mut ledger = Ledger::asleep(plan.track_count());
+    let mut ledger = Ledger::asleep(plan);
     let mode = any_mode(rng);
     for root in plan.roots() {
         let mode = if rng.chance(75) { mode } else { any_mode(rng) };
@@ -163,21 +185,52 @@ pub fn violate(rng: &mut Rng, plan: &Plan, clause: Clause) -> Option<Vec<u16>> {
 /// Random words changed, so that most often the ledger is not sound.
 pub fn flip(rng: &mut Rng, plan: &Plan, words: &mut [u16]) {
     for _ in 0..rng.between(1, 3) {
-        let track = rng.below(plan.track_count());
-        let at = track * TRACK_WORDS + word_in_track(rng, words, track);
-        words[at] = match rng.below(5) {
-            0 => words[at] ^ (1 << rng.below(16)),
-            1 => words[at].wrapping_add(1),
-            2 => words[at].wrapping_sub(1),
+        let own = track_words_mut(words, rng.below(plan.track_count()));
+        let at = word_in_track(rng, own);
+        own[at] = match rng.below(5) {
+            0 => own[at] ^ (1 << rng.below(16)),
+            1 => own[at].wrapping_add(1),
+            2 => own[at].wrapping_sub(1),
             3 => rng.below(4) as u16,
             _ => rng.word(),
         };
     }
 }
 
+/// Another length, another sum, both other, or zeros alone.
+pub fn mislead(rng: &mut Rng, words: &mut [u16]) {
+    match rng.below(100) {
+        0..=34 => words[0] = other_word(rng, words[0]),
+        35..=69 => words[1] = other_word(rng, words[1]),
+        70..=79 => words[..LEADING_WORDS].reverse(),
+        80..=89 => {
+            words[0] = other_word(rng, words[0]);
+            words[1] = other_word(rng, words[1]);
+        }
+        _ => words.fill(0),
+    }
+}
+
+/// A word that is not this one, often a near one.
+fn other_word(rng: &mut Rng, word: u16) -> u16 {
+    let other = match rng.below(6) {
+        0 => word.wrapping_add(2),
+        1 => word.wrapping_sub(2),
+        2 => word ^ (1 << rng.below(16)),
+        3 => word.swap_bytes(),
+        4 => 0,
+        _ => rng.word(),
+    };
+    if other == word {
+        word.wrapping_add(1)
+    } else {
+        other
+    }
+}
+
 /// Mode, state, count, a pair near the newest entry, or any word.
-fn word_in_track(rng: &mut Rng, words: &[u16], track: usize) -> usize {
-    let held = usize::from(words[track * TRACK_WORDS + 2]).min(CAPACITY - 1);
+fn word_in_track(rng: &mut Rng, own: &[u16]) -> usize {
+    let held = usize::from(own[2]).min(CAPACITY - 1);
     match rng.below(5) {
         0..=2 => rng.below(PAIRS),
         3 => PAIRS + 2 * held + rng.below(2),
@@ -221,7 +274,7 @@ fn damage(rng: &mut Rng, plan: &Plan, words: &mut [u16], clause: Clause) {
 
 /// A track that the damage can strike: asleep, root, hosted or any awake one.
 fn any_track(rng: &mut Rng, plan: &Plan, words: &[u16], clause: Clause) -> usize {
-    let awake = |t: usize| words[t * TRACK_WORDS] != 0;
+    let awake = |t: usize| track_words(words, t)[0] != 0;
     let fits = |&t: &usize| match clause {
         Clause::AsleepTracksZero => !awake(t),
         Clause::RootsAwake | Clause::DeviationsOwn | Clause::DeviationsNotFinal => plan.is_root(t),

@@ -3,6 +3,7 @@
 pub mod damage;
 pub mod journals;
 pub mod ledgers;
+pub mod neighbours;
 pub mod plans;
 pub mod rng;
 pub mod singles;

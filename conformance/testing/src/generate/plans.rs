@@ -33,6 +33,12 @@ pub fn records(rng: &mut Rng, limit: usize) -> Records {
     sketch(rng, &taste)
 }
 
+/// The records of an accepted plan of exactly so many tracks.
+pub fn records_of(rng: &mut Rng, tracks: usize) -> Records {
+    let taste = taste_of(rng, tracks);
+    sketch(rng, &taste)
+}
+
 /// Records good but for the height of a track, which mostly exceeds 8 where
 /// the limit leaves room for it.
 pub fn tall_records(rng: &mut Rng, limit: usize) -> Records {
@@ -93,6 +99,10 @@ fn taste(rng: &mut Rng, limit: usize) -> Taste {
     let most = limit.clamp(1, MAX_TRACKS);
     let (low, high) = track_range(rng);
     let tracks = rng.between(low.min(most), high.min(most));
+    taste_of(rng, tracks)
+}
+
+fn taste_of(rng: &mut Rng, tracks: usize) -> Taste {
     let full = tracks == MAX_TRACKS && rng.chance(40);
     Taste {
         tracks,

@@ -1,11 +1,12 @@
-//! Single calls on sound and damaged ledgers.
+//! Single calls on sound ledgers, on damaged ones, and on those of other plans.
 
 use super::damage;
 use super::journals;
 use super::ledgers;
+use super::neighbours;
 use super::plans;
 use super::rng::Rng;
-use second::ledger::{self, Clause, Ledger, TRACK_WORDS};
+use second::ledger::{self, Clause, Ledger, LEADING_WORDS};
 use second::plan::{self, members, Plan};
 use second::rules;
 
@@ -25,20 +26,26 @@ pub struct Single {
     pub plan: Vec<u8>,
     pub words: Vec<u16>,
     pub call: Call,
+    /// The plan that the ledger was begun under, where that is another one
+    /// with as many tracks.
+    pub begun_under: Option<Vec<u8>>,
 }
 
 /// Tries at a plan that allows the wanted damage.
 const TRIES: usize = 24;
 
-/// A single call: on a sound ledger, a damaged one, too few words, or a
-/// damaged plan.
+/// A single call: on a sound ledger, a damaged one, too few words, a damaged
+/// plan, or a ledger of another plan.
 pub fn single(rng: &mut Rng, limit: usize) -> Single {
     match rng.below(100) {
-        0..=59 => on_sound(rng, limit),
-        60..=84 => on_violated(rng, limit),
-        85..=91 => on_flipped(rng, limit),
-        92..=95 => on_few_words(rng, limit),
-        _ => on_any_plan(rng, limit),
+        0..=51 => on_sound(rng, limit),
+        52..=74 => on_violated(rng, limit),
+        75..=80 => on_flipped(rng, limit),
+        81..=84 => on_few_words(rng, limit),
+        85..=88 => on_any_plan(rng, limit),
+        89..=93 => on_misled(rng, limit),
+        94..=97 => on_neighbours(rng, limit),
+        _ => on_alike(rng, limit),
     }
 }
 
@@ -58,6 +65,7 @@ fn on_sound(rng: &mut Rng, limit: usize) -> Single {
         words: ledgers::lend(rng, &ledger),
         call: steered_call(rng, &plan, &ledger),
         plan: bytes,
+        begun_under: None,
     }
 }
 
@@ -73,6 +81,7 @@ fn on_violated(rng: &mut Rng, limit: usize) -> Single {
                 plan: bytes,
                 words,
                 call,
+                begun_under: None,
             };
         }
     }
@@ -84,30 +93,91 @@ fn on_flipped(rng: &mut Rng, limit: usize) -> Single {
     let ledger = ledgers::sound(rng, &plan);
     let mut words = ledgers::lend(rng, &ledger);
     ledgers::flip(rng, &plan, &mut words);
-    let call = if ledger::is_sound(&plan, &words) {
-        steered_call(rng, &plan, &Ledger::decode(&plan, &words))
-    } else {
-        any_call(rng, &plan)
-    };
     Single {
+        call: fitting_call(rng, &plan, &words),
         plan: bytes,
         words,
-        call,
+        begun_under: None,
     }
 }
 
-/// One word too few, or any number fewer.
+/// One word too few, no room for the leading words, not even these, or any
+/// number fewer.
 fn on_few_words(rng: &mut Rng, limit: usize) -> Single {
-    let mut single = on_sound(rng, limit);
-    let tracks = single.words.len() / TRACK_WORDS;
-    let needed = tracks * TRACK_WORDS;
-    let kept = if rng.chance(50) {
-        needed - 1
-    } else {
-        rng.below(needed)
-    };
-    single.words.truncate(kept);
-    single
+    let (bytes, plan) = good_plan(rng, limit);
+    let ledger = ledgers::sound(rng, &plan);
+    let mut words = ledger.words();
+    let needed = words.len();
+    words.truncate(match rng.below(100) {
+        0..=44 => needed - 1,
+        45..=54 => needed - LEADING_WORDS,
+        55..=69 => rng.below(LEADING_WORDS),
+        _ => rng.below(needed),
+    });
+    Single {
+        call: steered_call(rng, &plan, &ledger),
+        plan: bytes,
+        words,
+        begun_under: None,
+    }
+}
+
+/// Leading words that are not the plan's, before tracks that are mostly sound.
+fn on_misled(rng: &mut Rng, limit: usize) -> Single {
+    let (bytes, plan) = good_plan(rng, limit);
+    let ledger = ledgers::sound(rng, &plan);
+    let mut words = ledgers::lend(rng, &ledger);
+    if rng.chance(15) {
+        ledgers::flip(rng, &plan, &mut words);
+    }
+    ledgers::mislead(rng, &mut words);
+    Single {
+        call: telling_call(rng, &plan, &ledger),
+        plan: bytes,
+        words,
+        begun_under: None,
+    }
+}
+
+/// A ledger begun under a neighbour's plan with as many tracks.
+fn on_neighbours(rng: &mut Rng, limit: usize) -> Single {
+    let (bytes, plan) = good_plan(rng, limit);
+    let neighbour = neighbours::neighbour(rng, &plan);
+    let ledger = ledgers::begun(rng, &neighbour);
+    Single {
+        words: ledgers::lend(rng, &ledger),
+        call: telling_call(rng, &neighbour, &ledger),
+        plan: bytes,
+        begun_under: Some(neighbour.records().encode()),
+    }
+}
+
+/// A ledger begun under a plan alike in both leading words, now and then one
+/// that is not sound; where none is found, a neighbour's.
+fn on_alike(rng: &mut Rng, limit: usize) -> Single {
+    let unsound = rng.chance(25);
+    for _ in 0..TRIES {
+        let (bytes, plan) = good_plan(rng, limit);
+        if let Some((alike, words)) = alike_ledger(rng, &plan) {
+            if unsound && ledger::is_sound(&plan, &words) {
+                continue;
+            }
+            return Single {
+                call: fitting_call(rng, &plan, &words),
+                plan: bytes,
+                words,
+                begun_under: Some(alike.records().encode()),
+            };
+        }
+    }
+    on_neighbours(rng, limit)
+}
+
+/// A plan alike in both leading words, and a ledger begun under it.
+fn alike_ledger(rng: &mut Rng, plan: &Plan) -> Option<(Plan, Vec<u16>)> {
+    let alike = neighbours::alike(rng, plan)?;
+    let ledger = ledgers::begun(rng, &alike);
+    Some((alike, ledgers::lend(rng, &ledger)))
 }
 
 /// A plan that may be refused, with a ledger of another plan.
@@ -117,13 +187,34 @@ fn on_any_plan(rng: &mut Rng, limit: usize) -> Single {
     single
 }
 
+/// A call that mostly does something where the tracks are sound, else any.
+fn fitting_call(rng: &mut Rng, plan: &Plan, words: &[u16]) -> Call {
+    if ledger::is_sound(plan, words) {
+        steered_call(rng, plan, &Ledger::decode(plan, words))
+    } else {
+        any_call(rng, plan)
+    }
+}
+
+/// Each call equally often, mostly one that would do or find something under
+/// the ledger's own plan.
+fn telling_call(rng: &mut Rng, plan: &Plan, ledger: &Ledger) -> Call {
+    match rng.below(5) {
+        0 => steered_event(rng, plan, ledger),
+        1 => Call::Signal,
+        2 => steered_firing(rng, plan, ledger).unwrap_or(Call::Fire(0)),
+        3 => Call::Ready,
+        _ => steered_entries(rng, ledger),
+    }
+}
+
 /// A call that mostly does something.
 fn steered_call(rng: &mut Rng, plan: &Plan, ledger: &Ledger) -> Call {
     let choice = rng.below(100);
     match choice {
         0..=49 => steered_event(rng, plan, ledger),
         50..=59 => Call::Signal,
-        60..=79 => steered_firing(rng, plan, ledger),
+        60..=79 => steered_firing(rng, plan, ledger).unwrap_or(Call::Ready),
         _ => any_call(rng, plan),
     }
 }
@@ -136,12 +227,17 @@ fn steered_event(rng: &mut Rng, plan: &Plan, ledger: &Ledger) -> Call {
     Call::Event(event.unwrap_or_else(|| journals::any_event(rng, plan)))
 }
 
-fn steered_firing(rng: &mut Rng, plan: &Plan, ledger: &Ledger) -> Call {
+/// A firing that is allowed, if there is one.
+fn steered_firing(rng: &mut Rng, plan: &Plan, ledger: &Ledger) -> Option<Call> {
     let ready: Vec<usize> = members(rules::ready(plan, ledger)).collect();
-    match rng.pick(&ready) {
-        Some(track) => Call::Fire(track as u16),
-        None => Call::Ready,
-    }
+    rng.pick(&ready).map(|track| Call::Fire(track as u16))
+}
+
+/// The entries of a track that holds some; of track 0 where none does.
+fn steered_entries(rng: &mut Rng, ledger: &Ledger) -> Call {
+    let holds = |&t: &usize| ledger.tracks[t].held() > 0;
+    let holding: Vec<usize> = (0..ledger.tracks.len()).filter(holds).collect();
+    Call::Entries(rng.pick(&holding).unwrap_or(0) as u16)
 }
 
 /// Any call with any argument.

@@ -1,0 +1,233 @@
+//! The leading words: what begin writes, and refusal 24.
+
+mod common;
+
+use common::*;
+use second::manager::{self, Answer};
+use second::plan::{self, Records, NONE};
+use second::record;
+use second::rules::{self, Moved};
+
+/// The sample plan with a change to its records.
+fn changed(change: impl FnOnce(&mut Records)) -> Vec<u8> {
+    let mut plan = sample_records();
+    change(&mut plan);
+    plan.encode()
+}
+
+/// As long as the sample plan, with another sum: one code is another.
+fn neighbour() -> Vec<u8> {
+    changed(|p| p.transitions[0].code = 60)
+}
+
+/// As many tracks as the sample plan, and one transition more.
+fn longer() -> Vec<u8> {
+    changed(|p| p.transitions.push(step(0, 15, 0, 0)))
+}
+
+/// Alike with the sample plan in both words: two codes are exchanged.
+fn alike() -> Vec<u8> {
+    changed(|p| {
+        p.transitions[2].code = 52;
+        p.transitions[3].code = 51;
+    })
+}
+
+/// The words that a begin and then events leave, each event moving a track.
+fn worked(plan: &[u8], events: &[u16]) -> Vec<u16> {
+    let mut words = vec![0xABCD; 204];
+    assert_eq!(manager::begin(plan, &mut words), Answer::Done(()));
+    for &event in events {
+        let answer = manager::event(plan, &mut words, event);
+        assert!(matches!(answer, Answer::Done(m) if m.moved == 1));
+    }
+    words
+}
+
+/// The ledger's words with two others in front.
+fn led_by(leading: [u16; 2], words: &[u16]) -> Vec<u16> {
+    [&leading[..], &words[2..]].concat()
+}
+
+/// A call's refusal, 0 where it is none.
+fn number<Figures>(answer: Answer<Figures>) -> u8 {
+    match answer {
+        Answer::Done(_) => 0,
+        Answer::Refused(refusal) => refusal.number(),
+    }
+}
+
+/// Every call but begin is refused with this number, whatever its argument,
+/// and changes no word.
+fn refused(plan: &[u8], words: &[u16], refusal: u8) {
+    let mut lent = words.to_vec();
+    for event in [0, 10, 13] {
+        assert_eq!(number(manager::event(plan, &mut lent, event)), refusal);
+    }
+    assert_eq!(number(manager::signal(plan, &mut lent)), refusal);
+    for track in [0, 1, 99] {
+        assert_eq!(number(manager::fire(plan, &mut lent, track)), refusal);
+        assert!(manager::entries(plan, &lent, track).is_empty());
+    }
+    assert_eq!(number(manager::ready(plan, &lent)), refusal);
+    assert_eq!(lent, words);
+}
+
+#[test]
+fn the_sample_has_length_172_and_sum_609() {
+    let plan = plan::read(&sample()).expect("accepted");
+    assert_eq!((plan.length(), plan.sum()), (172, 609));
+    assert_eq!(sample().len(), 172);
+    assert_eq!(record::sum(&sample()), 609);
+}
+
+#[test]
+fn begin_writes_both_words_over_any_others() {
+    for lent in [0, 609, 0xABCD, 65535] {
+        let mut words = vec![lent; 204];
+        assert_eq!(manager::begin(&sample(), &mut words), Answer::Done(()));
+        assert_eq!(words[..5], [172, 609, 1, 0, 0]);
+        assert_eq!(words[203], lent);
+    }
+    let plan = plan::read(&sample()).expect("accepted");
+    assert_eq!(rules::begin(&plan).words(), worked(&sample(), &[])[..203]);
+}
+
+#[test]
+fn begin_takes_a_neighbours_ledger() {
+    let mut words = worked(&longer(), &[10, 11]);
+    assert_eq!(manager::begin(&sample(), &mut words), Answer::Done(()));
+    assert_eq!(words, worked(&sample(), &[]));
+}
+
+#[test]
+fn calls_keep_both_words() {
+    let plan = sample();
+    let mut words = worked(&plan, &[10, 11, 12]);
+    assert_eq!(words[..2], [172, 609]);
+    assert_eq!(manager::signal(&plan, &mut words), Answer::Done(3));
+    assert_eq!(number(manager::fire(&plan, &mut words, 1)), 0);
+    assert_eq!(words[..2], [172, 609]);
+}
+
+#[test]
+fn every_byte_counts_in_the_sum() {
+    for at in 0..sample().len() {
+        let mut bytes = sample();
+        bytes[at] = bytes[at].wrapping_add(1);
+        assert_ne!(record::sum(&bytes), 609, "byte {at}");
+    }
+}
+
+#[test]
+fn the_bytes_of_a_word_exchanged_give_another_sum() {
+    let mut exchanged = 0;
+    for at in (0..sample().len()).step_by(2) {
+        let mut bytes = sample();
+        if bytes[at] != bytes[at + 1] {
+            bytes.swap(at, at + 1);
+            assert_ne!(record::sum(&bytes), 609, "bytes {at} and {}", at + 1);
+            exchanged += 1;
+        }
+    }
+    assert!(exchanged > 50);
+}
+
+#[test]
+fn the_sum_is_modulo_65536_and_a_single_last_byte_counts_as_itself() {
+    assert_eq!(record::sum(&[]), 0);
+    assert_eq!(record::sum(&[255, 255, 2, 0]), 1);
+    assert_eq!(record::sum(&[1, 2, 3]), 0x0201 + 3);
+    assert_eq!(record::sum(&[7]), 7);
+}
+
+#[test]
+fn either_word_alone_is_24() {
+    let words = worked(&sample(), &[10, 11]);
+    for length in [0, 170, 171, 173, 174, 172 << 8, 609, 65535] {
+        refused(&sample(), &led_by([length, 609], &words), 24);
+    }
+    for sum in [0, 608, 610, 609 - 512, 609u16.swap_bytes(), 172, 65535] {
+        refused(&sample(), &led_by([172, sum], &words), 24);
+    }
+    refused(&sample(), &led_by([609, 172], &words), 24);
+    assert_eq!(number(manager::ready(&sample(), &words)), 0);
+}
+
+#[test]
+fn a_ledger_begun_under_a_neighbours_plan_is_24() {
+    let same_length = plan::read(&neighbour()).expect("accepted");
+    assert_eq!((same_length.length(), same_length.sum()), (172, 619));
+    for other in [neighbour(), longer()] {
+        for events in [&[][..], &[10], &[10, 11, 12], &[10, 11, 12, 14]] {
+            refused(&sample(), &worked(&other, events), 24);
+            refused(&other, &worked(&sample(), events), 24);
+        }
+    }
+}
+
+#[test]
+fn entries_of_a_neighbours_ledger_are_the_empty_part() {
+    let words = worked(&sample(), &[10, 11]);
+    assert_eq!(manager::entries(&sample(), &words, 1), [51, NONE]);
+    assert!(manager::entries(&neighbour(), &words, 1).is_empty());
+}
+
+#[test]
+fn zeros_are_24_and_over_with_the_words() {
+    let zeros = [0; 203];
+    refused(&sample(), &zeros, 24);
+    let mut over = led_by([172, 609], &zeros);
+    assert_eq!(number(manager::signal(&sample(), &mut over)), 20);
+    assert_eq!(manager::ready(&sample(), &over), Answer::Done(0));
+}
+
+#[test]
+fn an_over_ledger_keeps_the_words_and_is_24_under_another_plan() {
+    let over = worked(&sample(), &[10, 11, 12, 14, 13]);
+    assert_eq!(over[..2], [172, 609]);
+    assert_eq!(over[2..203], [0; 201]);
+    assert_eq!(number(manager::signal(&sample(), &mut over.clone())), 20);
+    refused(&neighbour(), &over, 24);
+    refused(&longer(), &over, 24);
+}
+
+#[test]
+fn unsound_and_of_another_plan_is_24_and_not_18() {
+    let mut words = worked(&sample(), &[10]);
+    words[2] = 3;
+    refused(&neighbour(), &words, 24);
+    refused(&sample(), &words, 18);
+}
+
+#[test]
+fn too_few_words_are_17_and_not_24() {
+    let own = worked(&sample(), &[10]);
+    for words in [own, worked(&longer(), &[10]), vec![0; 204]] {
+        for kept in [0, 1, 2, 3, 66, 67, 68, 69, 201, 202] {
+            refused(&sample(), &words[..kept], 17);
+            let mut lent = words[..kept].to_vec();
+            assert_eq!(number(manager::begin(&sample(), &mut lent)), 17);
+            assert_eq!(lent, words[..kept]);
+        }
+    }
+}
+
+#[test]
+fn a_refused_plan_is_named_before_24() {
+    refused(&[4, 0, 4, 0], &worked(&sample(), &[10]), 8);
+}
+
+#[test]
+fn plans_alike_in_both_words_pass_for_each_other() {
+    assert_ne!(sample(), alike());
+    let mut words = worked(&sample(), &[10]);
+    assert_eq!(words[..2], worked(&alike(), &[])[..2]);
+    let moved = manager::event(&alike(), &mut words, 11);
+    let one = Moved {
+        moved: 1,
+        closed: 0,
+    };
+    assert_eq!(moved, Answer::Done(one));
+    assert_eq!(manager::entries(&sample(), &words, 1), [52, NONE]);
+}
