@@ -3,9 +3,10 @@
 //!
 //! `comparison PROGRAMS run SEED JOURNALS CALLS` compares so many and holds
 //! what happened to the floors of coverage. `comparison PROGRAMS on SEED` goes
-//! on with seed after seed until stopped. `comparison PROGRAMS again FILE`
-//! runs the cases of a file of differences once more. PROGRAMS is a folder
-//! with the programs `calls` and `unwind`.
+//! on with seed after seed until stopped. `comparison PROGRAMS stored FILE`
+//! makes the stored calls of a file. `comparison PROGRAMS again FILE` runs the
+//! cases of a file of differences once more. PROGRAMS is a folder with the
+//! programs `calls` and `unwind`.
 //!
 //! Exit status: 0 no difference, 1 a difference or a row below its floor, 2
 //! there is no verdict.
@@ -21,6 +22,7 @@ use std::io;
 use std::path::Path;
 use std::process::ExitCode;
 
+use testing::calls;
 use testing::coverage::{JOURNALS, SINGLES_PER_JOURNAL};
 
 use case::Again;
@@ -66,6 +68,31 @@ fn on(programs: &Path, seed: u64) -> io::Result<bool> {
     Ok(true)
 }
 
+/// The stored calls; whether the file is the second program's, and the proved
+/// calls answer as it says.
+fn stored(programs: &Path, file: &str) -> io::Result<bool> {
+    let text = fs::read_to_string(file)?;
+    if text != calls::text() {
+        println!("{file} is not what the second program gives");
+        return Ok(false);
+    }
+    let comparison = Comparison::new(programs)?;
+    let mut count = 0;
+    for line in text.lines().filter(|line| !line.starts_with('#')) {
+        let verdict = match case::parse(line) {
+            Some(Again::Call(given)) => comparison.single(&given)?,
+            _ => return Err(io::ErrorKind::InvalidData.into()),
+        };
+        if let Verdict::Differ(text) = verdict {
+            report(programs, &text)?;
+            return Ok(false);
+        }
+        count += 1;
+    }
+    println!("{count} stored calls, 0 differences");
+    Ok(true)
+}
+
 /// The cases of a file, once more.
 fn again(programs: &Path, file: &str) -> io::Result<bool> {
     let comparison = Comparison::new(programs)?;
@@ -103,6 +130,7 @@ fn done(words: &[&str]) -> io::Result<bool> {
             run(Path::new(programs), seed, journals, calls)
         }
         [programs, "on", seed] => on(Path::new(programs), number(seed)?),
+        [programs, "stored", file] => stored(Path::new(programs), file),
         [programs, "again", file] => again(Path::new(programs), file),
         _ => Err(io::Error::new(
             io::ErrorKind::Other,

@@ -2,9 +2,11 @@
 //!
 //! - [`generate`], [`coverage`], [`vectors`]: random cases, what they cover,
 //!   and their lines of text.
-//! - [`samples`], [`cases`]: plans and journals by hand, and the stored runs.
+//! - [`samples`], [`cases`], [`calls`]: plans and journals by hand, the stored
+//!   runs and the stored calls.
 //! - [`theorems`]: the same cases, said of the definitions of the rules.
 
+pub mod calls;
 pub mod cases;
 pub mod coverage;
 pub mod generate;

@@ -1,15 +1,19 @@
-//! The stored runs are those of this program, byte for byte.
+//! The stored runs and calls are those of this program, byte for byte.
 
 use std::fs;
 use std::path::PathBuf;
 
 use second::journal;
+use testing::calls;
 use testing::cases::{self, Case};
 
+/// The repository's root.
+fn root() -> PathBuf {
+    PathBuf::from(env!("CARGO_MANIFEST_DIR")).join("../..")
+}
+
 fn folder(case: &Case) -> PathBuf {
-    PathBuf::from(env!("CARGO_MANIFEST_DIR"))
-        .join("../..")
-        .join(&case.folder)
+    root().join(&case.folder)
 }
 
 #[test]
@@ -27,6 +31,53 @@ fn stored_runs_are_what_this_program_prints() {
         let output = journal::unwind(plan, &case.journal);
         assert_eq!(stored("output"), Some(output), "{}", case.folder);
     }
+}
+
+#[test]
+fn stored_calls_are_what_this_program_answers() {
+    let stored = fs::read_to_string(root().join(calls::FILE)).expect("the stored calls");
+    assert!(stored == calls::text(), "{} is another text", calls::FILE);
+}
+
+/// The answer in a line.
+fn answer(line: &str) -> &str {
+    line.split(';').nth(4).expect("an answer")
+}
+
+/// The answers to the stored calls whose comment starts so.
+fn answers(shows: &str) -> Vec<String> {
+    let calls = calls::all().into_iter();
+    let shown = calls.filter(|call| call.shows.starts_with(shows));
+    shown.map(|call| answer(&call.line).to_string()).collect()
+}
+
+#[test]
+fn stored_calls_show_what_they_say() {
+    assert_eq!(answers("P begun"), ["begun"]);
+    assert_eq!(answers("a begin "), ["begun", "R17"]);
+    let own = ["D0,0", "D0", "D51,65535", "D6", "0033ffff"];
+    assert_eq!(answers("P's ledger under P"), own);
+    let refused = ["R24", "R24", "R24", "R24", ""];
+    assert_eq!(answers("P's ledger under a plan as long"), refused);
+    assert_eq!(answers("P's ledger under a longer plan"), refused);
+    assert_eq!(answers("the event that ends P"), ["D1,0"]);
+    assert_eq!(answers("an over ledger under its plan"), ["R20", "D0"]);
+    assert_eq!(answers("a mode of 3"), ["R18", "R24", ""]);
+    assert_eq!(answers("P's ledger under a plan alike"), ["D1,0", "D6"]);
+    assert_eq!(answers("plans alike"), ["D1,0", "R18"]);
+}
+
+#[test]
+fn stored_calls_are_refused_with_the_number_that_they_name() {
+    let mut named = 0;
+    for call in calls::all() {
+        let said = call.shows.rsplit(": ").next().unwrap_or_default();
+        if let Ok(number) = said.parse::<u8>() {
+            assert_eq!(answer(&call.line), format!("R{number}"), "{}", call.shows);
+            named += 1;
+        }
+    }
+    assert_eq!(named, 21);
 }
 
 #[test]

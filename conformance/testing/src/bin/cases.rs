@@ -1,11 +1,12 @@
-//! `cases ROOT`: writes the stored runs under the repository's root, each
-//! with the output that this program gives.
+//! `cases ROOT`: writes the stored runs and the stored calls under the
+//! repository's root, with the outputs and answers that this program gives.
 
 use std::fs;
 use std::io;
 use std::path::Path;
 
 use second::journal;
+use testing::calls;
 use testing::cases::{self, Case};
 
 fn write(root: &Path, case: &Case) -> io::Result<()> {
@@ -21,7 +22,7 @@ fn write(root: &Path, case: &Case) -> io::Result<()> {
 
 fn main() -> io::Result<()> {
     let root = std::env::args().nth(1).unwrap_or_else(|| ".".to_string());
-    cases::all()
-        .iter()
-        .try_for_each(|case| write(Path::new(&root), case))
+    let root = Path::new(&root);
+    cases::all().iter().try_for_each(|case| write(root, case))?;
+    fs::write(root.join(calls::FILE), calls::text())
 }

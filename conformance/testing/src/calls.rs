@@ -1,0 +1,216 @@
+//! The stored calls: each a plan, lent words and a call, and by this program
+//! its answer and the words afterwards. They show the leading words, which no
+//! run of `unwind` can show, since it begins its own ledger.
+
+use crate::generate::singles::Call::{self, Entries, Event, Fire, Ready, Signal};
+use crate::samples::{sample, sample_records, state, step, track};
+use crate::vectors;
+use second::manager;
+use second::plan::{Records, NONE};
+
+/// Where they stand, from the repository's root.
+pub const FILE: &str = "conformance/cases/calls.txt";
+
+/// One stored call: what it shows, and its line.
+pub struct Stored {
+    pub shows: String,
+    pub line: String,
+}
+
+/// The whole file: a comment and a line for each.
+pub fn text() -> String {
+    let lines = |call: Stored| format!("# {}\n{}\n", call.shows, call.line);
+    all().into_iter().map(lines).collect()
+}
+
+/// Every stored call.
+pub fn all() -> Vec<Stored> {
+    let parts = [
+        begins(),
+        own(),
+        neighbours(),
+        wrong_words(),
+        over(),
+        unsound(),
+        few_words(),
+        alike(),
+    ];
+    parts.into_iter().flatten().collect()
+}
+
+fn stored(shows: &str, plan: &[u8], words: &[u16], call: Call) -> Stored {
+    Stored {
+        shows: shows.to_string(),
+        line: vectors::call_line(plan, words, call),
+    }
+}
+
+/// The sample plan P with a change to its records.
+fn changed(change: impl FnOnce(&mut Records)) -> Vec<u8> {
+    let mut plan = sample_records();
+    change(&mut plan);
+    plan.encode()
+}
+
+/// P with another code: as long, with another sum.
+fn other_code() -> Vec<u8> {
+    changed(|p| p.transitions[0].code = 60)
+}
+
+/// P with one transition more: as many tracks, with another length and sum.
+fn longer() -> Vec<u8> {
+    changed(|p| p.transitions.push(step(0, 15, 0, 0)))
+}
+
+/// Words that were never begun, one more than P needs.
+const UNBEGUN: [u16; 204] = [0xA5A5; 204];
+
+/// The words that a begin and then events leave.
+fn begun(plan: &[u8], events: &[u16]) -> Vec<u16> {
+    let mut words = UNBEGUN.to_vec();
+    manager::begin(plan, &mut words);
+    for &event in events {
+        manager::event(plan, &mut words, event);
+    }
+    words
+}
+
+/// P's ledger after events 10, 11, 12 and a signal: tracks 1 and 2 may fire.
+fn withdrawn() -> Vec<u16> {
+    let mut words = begun(&sample(), &[10, 11, 12]);
+    manager::signal(&sample(), &mut words);
+    words
+}
+
+/// The words with some changed, each given as place and word.
+fn with(mut words: Vec<u16>, changes: &[(usize, u16)]) -> Vec<u16> {
+    for &(at, word) in changes {
+        words[at] = word;
+    }
+    words
+}
+
+fn begins() -> Vec<Stored> {
+    let begin = |shows: &str, words: &[u16]| Stored {
+        shows: shows.to_string(),
+        line: vectors::begin_line(&sample(), words),
+    };
+    let neighbours = begun(&longer(), &[10, 11]);
+    vec![
+        begin("P begun: its length 172 and its sum 609 lead", &UNBEGUN),
+        begin("a begin takes a neighbour's ledger", &neighbours),
+        begin("a begin with one word too few: 17", &UNBEGUN[..202]),
+    ]
+}
+
+/// The five calls that test the leading words, under a plan.
+fn by_each_call(shows: &str, plan: &[u8], words: &[u16]) -> Vec<Stored> {
+    let calls = [
+        ("event", Event(10)),
+        ("signal", Signal),
+        ("fire", Fire(1)),
+        ("ready", Ready),
+        ("entries", Entries(1)),
+    ];
+    let call = |(name, call)| stored(&format!("{shows}: {name}"), plan, words, call);
+    calls.into_iter().map(call).collect()
+}
+
+fn own() -> Vec<Stored> {
+    by_each_call("P's ledger under P", &sample(), &withdrawn())
+}
+
+fn neighbours() -> Vec<Stored> {
+    let words = withdrawn();
+    let same_length = "P's ledger under a plan as long, 24";
+    let other_length = "P's ledger under a longer plan with as many tracks, 24";
+    let mut calls = by_each_call(same_length, &other_code(), &words);
+    calls.extend(by_each_call(other_length, &longer(), &words));
+    calls
+}
+
+fn wrong_words() -> Vec<Stored> {
+    let plan = sample();
+    let misled = |shows: &str, changes: &[(usize, u16)]| {
+        stored(shows, &plan, &with(withdrawn(), changes), Ready)
+    };
+    vec![
+        misled("the length alone is wrong: 24", &[(0, 174)]),
+        misled("the sum alone is wrong: 24", &[(1, 610)]),
+        misled("the sum's bytes are exchanged: 24", &[(1, 0x6102)]),
+        misled("length and sum are exchanged: 24", &[(0, 609), (1, 172)]),
+        stored("zeros: 24", &plan, &[0; 203], Signal),
+        stored("zeros, event 0: 24", &plan, &[0; 203], Event(0)),
+    ]
+}
+
+fn over() -> Vec<Stored> {
+    let words = begun(&sample(), &[10, 11, 12, 14, 13]);
+    let before = begun(&sample(), &[10, 11, 12, 14]);
+    let own = |shows: &str, call| stored(shows, &sample(), &words, call);
+    let other = |shows: &str, call| stored(shows, &other_code(), &words, call);
+    let last = "the event that ends P leaves the leading words";
+    vec![
+        stored(last, &sample(), &before, Event(13)),
+        own("an over ledger under its plan: 20", Signal),
+        own("an over ledger under its plan, ready", Ready),
+        other("an over ledger under another plan: 24", Signal),
+        other("an over ledger under another plan, event 0: 24", Event(0)),
+        other("an over ledger under another plan, a firing: 24", Fire(0)),
+        other("an over ledger under another plan, ready: 24", Ready),
+    ]
+}
+
+fn unsound() -> Vec<Stored> {
+    let words = with(withdrawn(), &[(2, 3)]);
+    let other = |shows: &str, call| stored(shows, &other_code(), &words, call);
+    vec![
+        stored("a mode of 3: 18", &sample(), &words, Signal),
+        other("a mode of 3 and another plan: 24", Signal),
+        other("a mode of 3 and another plan, entries", Entries(1)),
+    ]
+}
+
+fn few_words() -> Vec<Stored> {
+    let words = withdrawn();
+    let few = |shows: &str, plan: &[u8], kept: usize| stored(shows, plan, &words[..kept], Signal);
+    vec![
+        few("one word too few: 17", &sample(), 202),
+        few("as many as the tracks have: 17", &sample(), 201),
+        few("the leading words alone: 17", &sample(), 2),
+        few("one word: 17", &sample(), 1),
+        few("no word: 17", &sample(), 0),
+        few("one word too few, of another plan: 17", &other_code(), 202),
+    ]
+}
+
+/// Two roots, whose states are of these tracks.
+fn two_roots(tracks: [u16; 4]) -> Vec<u8> {
+    let mut states = tracks.map(|t| state(t, 0, 0)).to_vec();
+    states[3].last = 1;
+    let plan = Records {
+        tracks: vec![track(NONE); 2],
+        states,
+        transitions: vec![step(0, 1, 7, 0)],
+    };
+    plan.encode()
+}
+
+fn alike() -> Vec<Stored> {
+    let exchanged = changed(|p| {
+        p.transitions[2].code = 52;
+        p.transitions[3].code = 51;
+    });
+    let opened = begun(&sample(), &[10]);
+    let (roots, moved) = (two_roots([0, 0, 1, 1]), two_roots([0, 1, 0, 1]));
+    let mut words = vec![0; 136];
+    manager::begin(&roots, &mut words);
+    let sound = "P's ledger under a plan alike in both words, two codes exchanged";
+    let unsound = "plans alike in both words, two states exchanged";
+    vec![
+        stored(&format!("{sound}: moves"), &exchanged, &opened, Event(11)),
+        stored(&format!("{sound}: ready"), &exchanged, &withdrawn(), Ready),
+        stored(&format!("{unsound}: own ledger"), &roots, &words, Event(1)),
+        stored(&format!("{unsound}: 18"), &moved, &words, Event(1)),
+    ]
+}
