@@ -34,17 +34,30 @@ fn block(text: &str, name: &str) -> Option<Vec<u8>> {
     Some(lines.take_while(is_byte).flat_map(bytes).collect())
 }
 
+/// The number that a section's heading starts with.
+fn number(section: &str) -> u8 {
+    let start = section.split(". ").next();
+    start.and_then(|n| n.parse().ok()).expect("a number")
+}
+
+#[test]
+fn each_refusal_has_one_section() {
+    let page = page("REFUSALS.md");
+    let mut numbers: Vec<u8> = page.split("\n## ").skip(1).map(number).collect();
+    numbers.sort_unstable();
+    assert_eq!(numbers, (1..=24).collect::<Vec<u8>>());
+}
+
 #[test]
 fn each_example_gets_its_refusal() {
     let page = page("REFUSALS.md");
-    let sections: Vec<&str> = page.split("\n## ").skip(1).collect();
-    assert_eq!(sections.len(), 23);
-    for (number, section) in (1..).zip(sections) {
-        assert!(section.starts_with(&format!("{number}. ")), "{number}");
+    for section in page.split("\n## ").skip(1) {
+        let number = number(section);
         let plan = match block(section, "plan") {
             Some(plan) => plan,
             None => {
-                assert!([1, 17, 18].contains(&number), "{number} has no example");
+                let without = [1, 17, 18, 24];
+                assert!(without.contains(&number), "{number} has no example");
                 continue;
             }
         };
