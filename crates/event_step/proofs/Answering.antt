@@ -3,23 +3,23 @@ use mathlib.Core.Path.{_≡_, sym, ap, _∙_, subst}
 use mathlib.Core.Bool.{Bool, true, false, cond}
 use mathlib.Core.List.{List, [], _∷_}
 use Prim.Native.Nat.{ℕ}
-use lib.Dec.{eqb, ltb}
-use lib.ListN.{length}
-use borrow.Author.Tests.{eq-eqb, ne-eqb, le-ltb}
+use lib.Dec.{eqb}
+use borrow.Author.Tests.{eq-eqb, ne-eqb}
 use Rattle.rules.specs.declared.Counts.{Counts}
 use Rattle.rules.specs.declared.EventAnswer.the-variants.{Moved, Refused}
 use Rattle.rules.specs.Fold.{countBelow, firstRefusal}
-use Rattle.rules.specs.Layout.{entryLimit, wordCount}
+use Rattle.rules.specs.Layout.{entryLimit}
 use Rattle.rules.specs.Plan.{Plan, planOf, trackCount}
 use Rattle.rules.specs.Ledger.{Ledger, ledgerAt, written}
 use Rattle.rules.specs.Scope.{isOver}
 use Rattle.rules.specs.Event.{moves, moved, closings, isFull, afterEvent}
-use Rattle.rules.specs.Call.{Answer, done, Outcome, event, Meets, refusedOr, underPlan, tooShort, ledgerRefusals, callRefusals, figures, after, callOutcome, eventOutcome}
+use Rattle.rules.specs.Call.{Answer, done, Outcome, event, Meets, refusedOr, underPlan, callRefusals, figures, after, callOutcome, eventOutcome}
 use Rattle.rules.specs.Answers.{eventTold}
+use Rattle.rules.proofs.LedgerChecks.{passes-first}
 use Rattle.rules.proofs.Stored.{written-read}
 use Rattle.plan.proofs.FieldLaws.{track-count}
 use Rattle.ledger.specs.Ladder.{Checked, Going, ledgerOf}
-use Rattle.lookup.proofs.Facts.{plan-facts, live-of-going, tidy-words, beyond}
+use Rattle.lookup.proofs.Facts.{checked-passes, plan-facts, live-of-going, tidy-words, beyond}
 use Rattle.event_choice.specs.declared.Choice.{Choice}
 use Rattle.event_choice.specs.Chosen.{Chosen}
 use Rattle.event_choice.proofs.Still.{no-moves, after-same, still-closings}
@@ -87,9 +87,6 @@ module _ (bs : List ℕ) (c : Counts) (ws : List ℕ) (h : Checked bs c ws) (e :
   unfolding ledgerOf
   over-is = ap (λ (n : ℕ). isOver (planOf bs c) (ledgerAt entryLimit ws n)) (sym (track-count bs c))
 
-  long : ltb (length ws) (wordCount entryLimit (trackCount (planOf bs c))) ≡ false
-  long = le-ltb (length ws) (wordCount entryLimit (trackCount (planOf bs c))) (rw (track-count bs c) (h .lent .room .words))
-
   checked : eventOutcome entryLimit bs ws (record { event = e })
       ≡ refusedOr ws
       (record {
@@ -99,8 +96,8 @@ module _ (bs : List ℕ) (c : Counts) (ws : List ℕ) (h : Checked bs c ws) (e :
       (cond (eqb e 0) 19
       (cond (isOver (planOf bs c) (ledgerAt entryLimit ws (trackCount (planOf bs c)))) 20
       (firstRefusal ((21, isFull (planOf bs c) entryLimit (ledgerAt entryLimit ws (trackCount (planOf bs c))) e) ∷ []))))
-  unfolding eventOutcome callOutcome underPlan ledgerRefusals callRefusals tooShort firstRefusal after
-  checked = rw (h .lent .accepts .read, underPlan, long, h .sound)
+  unfolding eventOutcome callOutcome underPlan callRefusals firstRefusal after
+  checked = rw (h .lent .accepts .read, underPlan, passes-first entryLimit bs (planOf bs c) ws (checked-passes bs c ws h))
 
   pub event-zero : e ≡ 0 → Meets (eventOutcome entryLimit bs ws (record { event = e })) (eventTold (Refused 19)) ws
   unfolding refusedOr eventTold

@@ -4,3 +4,4 @@ pub mod Branches
 pub mod Words
 pub mod TidyLaws
 pub mod ReadTracks
+pub mod LeadingLaws

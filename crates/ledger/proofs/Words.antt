@@ -5,14 +5,14 @@ use Prim.Native.Nat.{ℕ, zero, suc, pred, _+_, _-_, _<_, _≤_}
 use native.Mathlib.Omega.{arith}
 use native.Mathlib.Nat.{add-sub-cancel-left}
 use native.Mathlib.Numerals.{add-one, sub-one}
-use lib.Seq.{drop-length, length-take-le}
+use lib.Seq.{drop-length, drop-drop, length-take-le}
 use lib.ListN.{length, getD, set, take, drop, replicate, length-drop, replicate-append-replicate}
 use Rattle.rules.specs.declared.Mode.{Mode}
 use Rattle.rules.specs.declared.Mode.the-variants.{Asleep, Forward, Undoing}
 use Rattle.rules.specs.declared.Track.{Track}
-use Rattle.rules.specs.Layout.{entryLimit, headWords, entryWidth, trackWidth, trackPlace, wordCount}
+use Rattle.rules.specs.Layout.{entryLimit, leadingWords, headWords, entryWidth, trackWidth, trackPlace, wordCount}
 use Rattle.rules.specs.Ledger.{Entry, Ledger, sleeping, modeOf, modeWord, configurationAt, configurationWords, ledgerWords, written}
-use Rattle.rules.proofs.TrackWords.{length-heldAt, place-zero, place-more, place-below, words-sleeping}
+use Rattle.rules.proofs.TrackWords.{length-heldAt, place-first, place-after, place-more, place-below, words-sleeping}
 use Rattle.rules.proofs.Stored.{Fits, read-track}
 use Rattle.rules.proofs.Replaced.{updated, inTrack, set-three, install-entry, remove-entry, sleep-track}
 use Rattle.ledger.specs.Ladder.{Within, Room}
@@ -46,46 +46,49 @@ pub in-room : (ws : List ℕ) (tracks t : ℕ) → Room ws tracks → t < tracks
 unfolding wordCount
 in-room ws tracks t r h = let a = r .few in let b = r .words in record { number = omega arith; room = omega (arith, place-below entryLimit tracks t h) }
 
+-- and so have the leading words
+pub leading-room : {ws : List ℕ} {tracks : ℕ} → Room ws tracks → leadingWords ≤ length ws
+unfolding wordCount
+leading-room {tracks = tracks} r = omega (arith, r .words, place-after entryLimit tracks)
+
 -- In words that hold a ledger: a track is read as the ledger has it, and a track's words written are those of the ledger with that track
 -- replaced.
-module _ (n : ℕ) (l : Ledger) (ws : List ℕ) (t : ℕ) (f : Fits entryLimit l) (h : t < n) where
+module _ (n : ℕ) (l : Ledger) (ws : List ℕ) (t : ℕ) (f : Fits entryLimit l) (h : t < n) (room : wordCount entryLimit n ≤ length ws) where
   pub track-written : trackAt (written entryLimit n l ws) t ≡ trackOf (l t)
   unfolding trackAt
-  track-written = ap trackOf (read-track entryLimit n l ws f t h)
+  track-written = ap trackOf (read-track entryLimit n l ws f room t h)
 
   count-written : trackAt (written entryLimit n l ws) t .count ≡ length (l t .held)
   unfolding trackOf
   count-written = ap (λ (k : Track). k .count) track-written
 
-  pub asleep-written : wordCount entryLimit n ≤ length ws
-      → withAsleep (written entryLimit n l ws) t ≡ written entryLimit n (updated l t sleeping) ws
+  pub asleep-written : withAsleep (written entryLimit n l ws) t ≡ written entryLimit n (updated l t sleeping) ws
   unfolding withAsleep inTrack
-  asleep-written room = sleep-track entryLimit n l ws t f h room
+  asleep-written = sleep-track entryLimit n l ws t f h room
 
-  module _ (room : wordCount entryLimit n ≤ length ws) where
-    pub put-written : (k : Track) → k .count ≡ length (l t .held)
-        → withTrack (written entryLimit n l ws) t k
-        ≡ written entryLimit n (updated l t (record { mode = k .mode; state = k .state; held = l t .held })) ws
-    unfolding withTrack configurationWords trackWidth headWords entryWidth entryLimit
-    put-written k e =
-        let p : trackPlace 32 t ≡ trackPlace 32 t + 0 = omega arith in
-        let q = set-three 32 n l ws t f h room (record { mode = k .mode; state = k .state; held = l t .held })
-        0 (modeWord (k .mode)) 1 (k .state) 2 (k .count) (omega arith) (omega arith) (omega arith) (rw e) in
-        ap (λ (i : ℕ). set (set (set (written 32 n l ws) i (modeWord (k .mode))) (trackPlace 32 t + 1) (k .state)) (trackPlace 32 t + 2) (k .count)) p ∙ q
+  pub put-written : (k : Track) → k .count ≡ length (l t .held)
+      → withTrack (written entryLimit n l ws) t k
+      ≡ written entryLimit n (updated l t (record { mode = k .mode; state = k .state; held = l t .held })) ws
+  unfolding withTrack configurationWords trackWidth headWords entryWidth entryLimit
+  put-written k e =
+      let p : trackPlace 32 t ≡ trackPlace 32 t + 0 = omega arith in
+      let q = set-three 32 n l ws t f h room (record { mode = k .mode; state = k .state; held = l t .held })
+      0 (modeWord (k .mode)) 1 (k .state) 2 (k .count) (omega arith) (omega arith) (omega arith) (rw e) in
+      ap (λ (i : ℕ). set (set (set (written 32 n l ws) i (modeWord (k .mode))) (trackPlace 32 t + 1) (k .state)) (trackPlace 32 t + 2) (k .count)) p ∙ q
 
-    pub installed-written : (e : Entry) → length (l t .held) < entryLimit
-        → withInstalled (written entryLimit n l ws) t (e .code) (e .deviation)
-        ≡ written entryLimit n (updated l t (record { mode = l t .mode; state = l t .state; held = e ∷ l t .held })) ws
-    unfolding withInstalled withEntry entryPlace
-    installed-written e b = rw count-written (install-entry entryLimit n l ws t f h room e b)
+  pub installed-written : (e : Entry) → length (l t .held) < entryLimit
+      → withInstalled (written entryLimit n l ws) t (e .code) (e .deviation)
+      ≡ written entryLimit n (updated l t (record { mode = l t .mode; state = l t .state; held = e ∷ l t .held })) ws
+  unfolding withInstalled withEntry entryPlace
+  installed-written e b = rw count-written (install-entry entryLimit n l ws t f h room e b)
 
-    pub removed-written : (e : Entry) (es : List Entry) → l t .held ≡ e ∷ es
-        → withRemoved (written entryLimit n l ws) t
-        ≡ written entryLimit n (updated l t (record { mode = l t .mode; state = l t .state; held = es })) ws
-    unfolding withRemoved withEntry entryPlace
-    removed-written e es q =
-        let m : pred (trackAt (written entryLimit n l ws) t .count) ≡ length es = ap pred (count-written ∙ ap length q) in
-        rw m (remove-entry entryLimit n l ws t f h room e es q)
+  pub removed-written : (e : Entry) (es : List Entry) → l t .held ≡ e ∷ es
+      → withRemoved (written entryLimit n l ws) t
+      ≡ written entryLimit n (updated l t (record { mode = l t .mode; state = l t .state; held = es })) ws
+  unfolding withRemoved withEntry entryPlace
+  removed-written e es q =
+      let m : pred (trackAt (written entryLimit n l ws) t .count) ≡ length es = ap pred (count-written ∙ ap length q) in
+      rw m (remove-entry entryLimit n l ws t f h room e es q)
 
 -- words zeroed one by one
 pub cleared : (ws vs : List ℕ) (i : ℕ) → vs ≡ replicate i 0 ++ drop i ws → i ≡ length ws → vs ≡ replicate (length ws) 0
@@ -118,15 +121,21 @@ sleep-steps ws ys t at e room f =
     rw (add-sub-cancel-left, g, n, e)
 
 -- the words of so many sleeping tracks are zeros
-zeros : (n : ℕ) → ledgerWords entryLimit n (λ t. sleeping) ≡ replicate (wordCount entryLimit n) 0
+zeros : (n : ℕ) → ledgerWords entryLimit n (λ t. sleeping) ≡ replicate (wordCount entryLimit n - leadingWords) 0
 unfolding ledgerWords wordCount
-zeros zero = rw (place-zero entryLimit)
+zeros zero = let e : trackPlace entryLimit 0 - leadingWords ≡ 0 = omega (arith, place-first entryLimit) in rw e
 zeros (suc n) =
-    rw (zeros n, words-sleeping entryLimit, place-more entryLimit n) (replicate-append-replicate (trackPlace entryLimit n) (trackWidth entryLimit) 0)
+    let e : trackPlace entryLimit (suc n) - leadingWords ≡ trackPlace entryLimit n - leadingWords + trackWidth entryLimit =
+    omega (arith, place-more entryLimit n, place-after entryLimit n) in
+    rw (zeros n, words-sleeping entryLimit, e) (replicate-append-replicate (trackPlace entryLimit n - leadingWords) (trackWidth entryLimit) 0)
 
+-- the part behind the leading words lent, zeroed and given back
 pub sleep-all : (ws ys : List ℕ) (n at : ℕ) → at ≡ trackPlace entryLimit n → wordCount entryLimit n ≤ length ws
-    → ys ≡ replicate (length (take at ws)) 0 → ys ++ drop at ws ≡ written entryLimit n (λ t. sleeping) ws
+    → ys ≡ replicate (length (take (at - leadingWords) (drop leadingWords ws))) 0
+    → take leadingWords ws ++ (ys ++ drop (at - leadingWords) (drop leadingWords ws)) ≡ written entryLimit n (λ t. sleeping) ws
 unfolding written wordCount
 sleep-all ws ys n at e room f =
-    let k : length (take at ws) ≡ at = length-take-le at ws (omega arith) in
-    rw (zeros n, f, k, e)
+    let d = length-drop leadingWords ws in
+    let k : length (take (at - leadingWords) (drop leadingWords ws)) ≡ at - leadingWords = length-take-le (at - leadingWords) (drop leadingWords ws) (omega arith) in
+    let m : leadingWords + (at - leadingWords) ≡ at = omega (arith, place-after entryLimit n) in
+    rw (zeros n, f, k, drop-drop (at - leadingWords) leadingWords ws, m, e)

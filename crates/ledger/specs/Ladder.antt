@@ -1,5 +1,5 @@
 -- The ladder of what code may rely on, each rung holding the one below it. Over words: one track's words, those of so many tracks, tidy ones. Over
--- bytes: a plan that is accepted. Over both: lent (checks 2 to 17 are passed), checked (2 to 18), going (and not over). Assumes nothing.
+-- bytes: a plan that is accepted. Over both: lent (checks 2 to 17 are passed), checked (24 and 18 too), going (and not over). Assumes nothing.
 use mathlib.Core.Path.{_≡_}
 use mathlib.Core.Bool.{true, false}
 use Prim.Native.Nat.{ℕ, _+_, _<_, _≤_}
@@ -9,6 +9,7 @@ use Rattle.rules.specs.declared.Counts.{Counts}
 use Rattle.rules.specs.Plan.{planOf}
 use Rattle.rules.specs.Acceptance.{accepted, readPlan}
 use Rattle.rules.specs.Layout.{entryLimit, trackPlace, trackWidth, wordCount}
+use Rattle.rules.specs.Leading.{otherPlan}
 use Rattle.rules.specs.Ledger.{Ledger, ledgerAt}
 use Rattle.rules.specs.Scope.{isOver}
 use Rattle.rules.specs.Soundness.{areTidy, isSound}
@@ -39,9 +40,10 @@ pub record Lent (bs : Bytes) (c : Counts) (ws : Words) : Type 0 where
   pub accepts : Accepts bs c
   pub room : Room ws (c .tracks)
 
--- checks 2 to 18 are passed
+-- and it is this plan's own, and sound: all checks that a call makes first are passed
 pub record Checked (bs : Bytes) (c : Counts) (ws : Words) : Type 0 where
   pub lent : Lent bs c ws
+  pub own : otherPlan bs ws ≡ false
   pub sound : isSound entryLimit (planOf bs c) ws ≡ true
 
 -- the ledger that words hold under a plan with these counts

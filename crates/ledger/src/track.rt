@@ -1,6 +1,7 @@
 // One track's words: its mode, state and count by value, its entries by their number, the oldest being the first.
 use crate::layout;
 use crate::layout::COUNT_WORD;
+use crate::layout::LEADING_WORDS;
 use crate::layout::STATE_WORD;
 use crate::layout::TRACK_WIDTH;
 use rules::Mode;
@@ -189,5 +190,5 @@ pub fn put_all_to_sleep(ledger: &mut [u16], tracks: usize)
     ensures { λ _. ⌜ now (ledger .exit) ≡ written entryLimit tracks (λ t. sleeping) (now (ledger .entry)) ⌝ }
 {
     let end = layout::track_place(tracks);
-    clear(&mut ledger[..end]);
+    clear(&mut ledger[LEADING_WORDS..end]);
 }

@@ -8,22 +8,25 @@ use Prim.Native.Nat.{ℕ, _<_, _≤_}
 use native.Mathlib.Nat.{not-suc-le-zero}
 use native.Mathlib.Omega.{arith}
 use lib.Dec.{eqb, ltb}
-use borrow.Author.Tests.{eq-eqb, eqb-true, lt-ltb}
+use lib.ListN.{length}
+use borrow.Author.Tests.{eq-eqb, eqb-true, lt-ltb, le-ltb, ltb-false}
 use Rattle.rules.specs.declared.Counts.{Counts}
 use Rattle.rules.specs.Plan.{Plan, planOf, trackCount, noState, hostWord, host, owner, isHostedBy}
-use Rattle.rules.specs.Layout.{entryLimit}
+use Rattle.rules.specs.Layout.{entryLimit, wordCount}
 use Rattle.rules.specs.Ledger.{Ledger, isAwake, isUndoing, isEmpty, sleeping, ledgerAt}
 use Rattle.rules.specs.Scope.{isOver, hasOpenScope}
 use Rattle.rules.specs.Fire.{mayFire}
 use Rattle.rules.specs.Soundness.{areTidy, isLive, isSound}
+use Rattle.rules.specs.Call.{tooShort}
 use Rattle.rules.proofs.Tests.{look, look-option, clash, and-holds, or-holds, same-test}
 use Rattle.rules.proofs.Folds.{every-at}
 use Rattle.rules.proofs.Acceptance.{Accepted, accepts}
 use Rattle.rules.proofs.Soundness.{Live, live-facts}
+use Rattle.rules.proofs.LedgerChecks.{Passes}
 use Rattle.rules.proofs.Stored.{Storable, read-at, read-beyond, storable-read}
 use Rattle.plan.proofs.FieldLaws.{track-count, state-count}
 use Rattle.plan.proofs.Hosting.{host-none, host-some}
-use Rattle.ledger.specs.Ladder.{Tidy, Accepts, Checked, Going, ledgerOf}
+use Rattle.ledger.specs.Ladder.{Room, Tidy, Accepts, Checked, Going, ledgerOf}
 use Rattle.lookup.specs.HostTrack.{hostTrack}
 use Rattle.ledger.specs.Words.{trackOf, trackAt}
 use Rattle.lookup.specs.Figures.{Only}
@@ -35,6 +38,23 @@ plan-facts bs c a = accepts bs c (a .read)
 
 pub few-tracks : (bs : List ℕ) (c : Counts) → Accepts bs c → trackCount (planOf bs c) ≤ 32
 few-tracks bs c a = let h = a .holds .tracks in omega (arith, track-count bs c)
+
+-- what the checks of the ledger establish, in the rules' terms and in the ladder's
+pub checked-passes : (bs : List ℕ) (c : Counts) (ws : List ℕ) → Checked bs c ws → Passes entryLimit bs (planOf bs c) ws
+unfolding tooShort
+checked-passes bs c ws k =
+    record {
+      long = rw (track-count bs c) (le-ltb (length ws) (wordCount entryLimit (c .tracks)) (k .lent .room .words));
+      own = k .own;
+      sound = k .sound;
+    }
+
+pub long-room : (bs : List ℕ) (c : Counts) (ws : List ℕ) → Accepts bs c → tooShort entryLimit (planOf bs c) ws ≡ false → Room ws (c .tracks)
+unfolding tooShort
+long-room bs c ws a h = record { few = a .holds .tracks; words = ltb-false (length ws) (wordCount entryLimit (c .tracks)) (rw track-count at h) }
+
+pub passes-checked : (bs : List ℕ) (c : Counts) (ws : List ℕ) → Accepts bs c → Passes entryLimit bs (planOf bs c) ws → Checked bs c ws
+passes-checked bs c ws a h = record { lent = record { accepts = a; room = long-room bs c ws a (h .long) }; own = h .own; sound = h .sound }
 
 -- the ledger's facts
 pub tidy-words : (bs : List ℕ) (c : Counts) (ws : List ℕ) → Checked bs c ws → Tidy ws (c .tracks)

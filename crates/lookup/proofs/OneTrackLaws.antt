@@ -97,7 +97,7 @@ module _ (c : Counts) (ws : List ℕ) (o : Tidy ws (c .tracks)) (m : Ledger) (s 
   pub read-back : ledgerOf c vs ≡ m
   unfolding ledgerOf
   read-back =
-      ap (λ (v : List ℕ). ledgerAt entryLimit v (c .tracks)) e ∙ read-written entryLimit (c .tracks) m ws (s .fits) (s .beyond)
+      ap (λ (v : List ℕ). ledgerAt entryLimit v (c .tracks)) e ∙ read-written entryLimit (c .tracks) m ws (s .fits) (o .room .words) (s .beyond)
 
   pub length-after : length vs ≡ length ws
   length-after = ap length e ∙ length-written entryLimit (c .tracks) m ws (s .fits) (o .room .words)
@@ -109,11 +109,11 @@ module _ (c : Counts) (ws : List ℕ) (o : Tidy ws (c .tracks)) (m : Ledger) (s 
           few = o .room .few;
           words = let r = o .room .words in omega (arith, length-after);
         };
-        tidy = rw e (tidy-written entryLimit (c .tracks) m ws s);
+        tidy = rw e (tidy-written entryLimit (c .tracks) m ws s (o .room .words));
       }
 
   pub twice : (k : Ledger) → written entryLimit (c .tracks) k vs ≡ written entryLimit (c .tracks) k ws
-  twice k = ap (written entryLimit (c .tracks) k) e ∙ written-twice entryLimit (c .tracks) k m ws (s .fits)
+  twice k = ap (written entryLimit (c .tracks) k) e ∙ written-twice entryLimit (c .tracks) m ws (s .fits) (o .room .words) k
 
   -- what is worked out on the ledger written is worked out on the words' ledger
   pub then : (f : Ledger → Ledger) {us : List ℕ} → us ≡ written entryLimit (c .tracks) (f (ledgerOf c vs)) vs

@@ -8,26 +8,30 @@ use native.Mathlib.Omega.{arith}
 use native.Mathlib.Nat.{add-sub-cancel-left}
 use lib.Dec.{ltb, eqb}
 use lib.ListN.{length, take, drop}
-use borrow.Author.Tests.{not-true, not-false, ltb-true, ltb-false, lt-ltb, le-ltb}
+use borrow.Author.Tests.{not-true, not-false, ltb-true, ltb-false, lt-ltb, le-ltb, ne-eqb}
 use Rattle.rules.specs.declared.Counts.{Counts}
 use Rattle.rules.specs.Fold.{firstRefusal}
 use Rattle.rules.specs.Layout.{entryLimit, entryWidth, trackWidth, headWords, trackPlace, entriesPlace, wordCount}
 use Rattle.rules.specs.Plan.{Plan, planOf, trackCount}
 use Rattle.rules.specs.Acceptance.{Reading, turnedBack, accepted, readPlan}
+use Rattle.rules.specs.Leading.{stamped, otherPlan}
 use Rattle.rules.specs.Ledger.{ledgerAt, written}
 use Rattle.rules.specs.Opening.{begun}
 use Rattle.rules.specs.Scope.{hasOpenScope, isOver}
 use Rattle.rules.specs.Fire.{ready}
 use Rattle.rules.specs.Soundness.{areTidy, isSound}
-use Rattle.rules.specs.Call.{Answer, refusal, done, Outcome, refusedOr, underPlan, tooShort, ledgerRefusals, beginOutcome, readyOutcome, heldPart, entriesPart, HandsBack, Meets}
+use Rattle.rules.specs.Call.{Answer, refusal, done, Outcome, Call, refusedOr, tooShort, ledgerRefusals, ledgerRefusal, callRefusals, callOutcome, beginOutcome, readyOutcome, heldPart, entriesPart, HandsBack, Meets}
 use Rattle.plan.proofs.FieldLaws.{track-count}
-use Rattle.ledger.specs.Ladder.{Room, Accepts, Lent, ledgerOf}
+use Rattle.ledger.specs.Ladder.{Accepts, Lent, Checked, ledgerOf}
 use Rattle.plan_reader.proofs.Reader.{accepted-holds}
-use Rattle.rules.proofs.Tests.{look, and-holds}
+use Rattle.rules.proofs.Tests.{look, and-holds, passed, if-refused}
+use Rattle.rules.proofs.LedgerChecks.{Passes, unless-none, checked-first, passes-none, none-passes}
 use Rattle.lookup.specs.Figures.{Figures}
+use Rattle.lookup.proofs.Facts.{long-room, passes-checked}
 use Rattle.ledger.proofs.Words.{in-room}
 use Rattle.ledger.proofs.ReadTracks.{count-within}
 use Rattle.manager.specs.Checked.{lent, checked, Span}
+use Rattle.manager.proofs.FurtherRead.{reading-clash, read-refused, read-stopped, read-cleared, read-why, read-facts, refused-outcome, cleared-outcome}
 
 -- the entries of a track end within its words
 in-track : (n from t k : ℕ) → from ≡ entriesPlace entryLimit t + entryWidth * 0 → k ≤ entryLimit
@@ -49,149 +53,93 @@ module _ (bs ws : List ℕ) where
   unfolding tooShort
   roomy c e h = rw track-count (not-true _ (sym e ∙ not-false _ h))
 
+  -- 2 to 17, by the reading of the plan and the test
   pub lent-refused : (r : ℕ) → turnedBack r ≡ readPlan bs → turnedBack r ≡ lent bs ws
   unfolding lent
-  lent-refused r e = rw (sym e, lent)
+  lent-refused = read-refused bs _
 
   pub lent-short : (c : Counts) → accepted c ≡ readPlan bs → tooShort entryLimit (planOf bs c) ws ≡ true → turnedBack 17 ≡ lent bs ws
-  unfolding lent
-  lent-short c e h = rw (sym e, lent, h)
+  unfolding lent firstRefusal
+  lent-short c e h = read-stopped bs _ c 16 e (rw h)
 
   pub lent-accepted : (c : Counts) → accepted c ≡ readPlan bs → tooShort entryLimit (planOf bs c) ws ≡ false → accepted c ≡ lent bs ws
-  unfolding lent
-  lent-accepted c e h = rw (sym e, lent, h)
-
-  pub checked-refused : (r : ℕ) → turnedBack r ≡ lent bs ws → turnedBack r ≡ checked bs ws
-  unfolding checked
-  checked-refused r e = rw (sym e, checked)
-
-  pub checked-unsound : (c : Counts) {q : Bool} → accepted c ≡ lent bs ws → q ≡ isSound entryLimit (planOf bs c) ws → not q ≡ true → turnedBack 18 ≡ checked bs ws
-  unfolding checked
-  checked-unsound c e f h = rw (sym e, checked, sym f ∙ not-true _ h)
-
-  pub checked-accepted : (c : Counts) {q : Bool} → accepted c ≡ lent bs ws → q ≡ isSound entryLimit (planOf bs c) ws → not q ≡ false → accepted c ≡ checked bs ws
-  unfolding checked
-  checked-accepted c e f h = rw (sym e, checked, sym f ∙ not-false _ h)
+  unfolding lent firstRefusal
+  lent-accepted c e h = read-cleared bs _ c e (rw h)
 
   -- what an accepted reading tells
   pub lent-facts : (c : Counts) → accepted c ≡ lent bs ws → (readPlan bs ≡ accepted c) × (tooShort entryLimit (planOf bs c) ws ≡ false)
-  unfolding lent
-  lent-facts c e = go (readPlan bs) refl
-    where
-      short-case : (d : Counts) (b : Bool) → tooShort entryLimit (planOf bs d) ws ≡ b → readPlan bs ≡ accepted d
-          → accepted c ≡ cond b (turnedBack 17) (accepted d) → (readPlan bs ≡ accepted c) × (tooShort entryLimit (planOf bs c) ws ≡ false)
-      short-case d true f g h = let z : _≡_ {A = ℕ} 0 1 = cc in absurd (omega arith)
-      short-case d false f g h = let w : c ≡ d = cc in (rw w g, rw w f)
+  unfolding lent firstRefusal
+  lent-facts c e = let (a, z) = read-facts bs _ c e in (a, passed (tooShort entryLimit (planOf bs c) ws) 16 0 z .0)
 
-      go : (r : Reading) → readPlan bs ≡ r → (readPlan bs ≡ accepted c) × (tooShort entryLimit (planOf bs c) ws ≡ false)
-      go (turnedBack r) f =
-          let h : accepted c ≡ turnedBack r = rw (f, lent) at e in let z : _≡_ {A = ℕ} 0 1 = cc in absurd (omega arith)
-      go (accepted d) f = short-case d (tooShort entryLimit (planOf bs d) ws) refl f (rw (f, lent) at e)
-
-  pub checked-facts : (c : Counts) → accepted c ≡ checked bs ws → (accepted c ≡ lent bs ws) × (isSound entryLimit (planOf bs c) ws ≡ true)
+  pub checked-facts : (c : Counts) → accepted c ≡ checked bs ws → (readPlan bs ≡ accepted c) × Passes entryLimit bs (planOf bs c) ws
   unfolding checked
-  checked-facts c e = go (lent bs ws) refl
-    where
-      sound-case : (d : Counts) (b : Bool) → isSound entryLimit (planOf bs d) ws ≡ b → lent bs ws ≡ accepted d
-          → accepted c ≡ cond b (accepted d) (turnedBack 18) → (accepted c ≡ lent bs ws) × (isSound entryLimit (planOf bs c) ws ≡ true)
-      sound-case d true f g h = let w : c ≡ d = cc in (rw w (sym g), rw w f)
-      sound-case d false f g h = let z : _≡_ {A = ℕ} 0 1 = cc in absurd (omega arith)
+  checked-facts c e = let (a, z) = read-facts bs _ c e in (a, none-passes entryLimit bs (planOf bs c) ws z)
 
-      go : (r : Reading) → lent bs ws ≡ r → (accepted c ≡ lent bs ws) × (isSound entryLimit (planOf bs c) ws ≡ true)
-      go (turnedBack r) f =
-          let h : accepted c ≡ turnedBack r = rw (f, checked) at e in let z : _≡_ {A = ℕ} 0 1 = cc in absurd (omega arith)
-      go (accepted d) f = sound-case d (isSound entryLimit (planOf bs d) ws) refl f (rw (f, checked) at e)
+  pub accepts : (c : Counts) → readPlan bs ≡ accepted c → Accepts bs c
+  accepts c a = record { read = a; holds = accepted-holds bs c a }
 
-  module _ (c : Counts) (e : accepted c ≡ lent bs ws) where
-    pub lent-room : Room ws (c .tracks)
-    unfolding tooShort
-    lent-room =
-        let f : ltb (length ws) (wordCount entryLimit (trackCount (planOf bs c))) ≡ false = lent-facts c e .1 in
-        let h = accepted-holds bs c (lent-facts c e .0) in
-        record { few = h .tracks; words = ltb-false (length ws) (wordCount entryLimit (c .tracks)) (rw track-count at f) }
+  pub lent-holds : (c : Counts) → accepted c ≡ lent bs ws → Lent bs c ws
+  lent-holds c e = let (a, b) = lent-facts c e in record { accepts = accepts c a; room = long-room bs c ws (accepts c a) b }
 
-    pub lent-accepts : Accepts bs c
-    lent-accepts = record { read = lent-facts c e .0; holds = accepted-holds bs c (lent-facts c e .0) }
+  pub call-checked : (c : Counts) → accepted c ≡ checked bs ws → Checked bs c ws
+  call-checked c e = let (a, h) = checked-facts c e in passes-checked bs c ws (accepts c a) h
 
-    pub lent-holds : Lent bs c ws
-    lent-holds = record { accepts = lent-accepts; room = lent-room }
+  -- 24 and 18 after them
+  pub checked-refused : (r : ℕ) → turnedBack r ≡ lent bs ws → turnedBack r ≡ checked bs ws
+  unfolding lent checked ledgerRefusal ledgerRefusals firstRefusal
+  checked-refused r e =
+      elim (read-why bs _ r e) [
+        | inl a ↦ read-refused bs _ r (sym a)
+        | inr s ↦
+            let (t, n) = if-refused (tooShort entryLimit (planOf bs (s .counts)) ws) 16 (s .number) (s .test) in
+            rw (s .same) (read-stopped bs _ (s .counts) (s .number) (sym (s .read)) (rw (t, n)))
+      ]
 
-  -- The outcome of a call that checks 17 and 18 first, by what was found.
-  module _ (f o : Plan → Outcome) (rest : Plan → List (ℕ × Bool))
-      (is : (p : Plan) → f p ≡ refusedOr ws (o p) (firstRefusal ((17, tooShort entryLimit p ws) ∷ (18, not (isSound entryLimit p ws)) ∷ rest p))) where
-    pub accepted-outcome : (c : Counts) → accepted c ≡ checked bs ws
-        → refusedOr ws (o (planOf bs c)) (firstRefusal (rest (planOf bs c))) ≡ underPlan bs ws f
-    unfolding underPlan firstRefusal
-    accepted-outcome c e =
-        let (g, h) = checked-facts c e in
-        let (a, b) = lent-facts c g in
-        sym (rw (a, underPlan) (is (planOf bs c) ∙ rw (b, h)))
+  pub checked-other : (c : Counts) {q : Bool} → accepted c ≡ lent bs ws → q ≡ otherPlan bs ws → q ≡ true → turnedBack 24 ≡ checked bs ws
+  unfolding checked ledgerRefusal ledgerRefusals firstRefusal
+  checked-other c e f h = let (a, b) = lent-facts c e in read-stopped bs _ c 23 (sym a) (rw (b, sym f ∙ h))
 
-    pub refused-outcome : (r : ℕ) → turnedBack r ≡ checked bs ws → record { answer = refusal r; words = ws } ≡ underPlan bs ws f
-    unfolding underPlan firstRefusal refusedOr checked lent
-    refused-outcome r e = go (readPlan bs) refl
-      where
-        back : (n : ℕ) → lent bs ws ≡ turnedBack n → r ≡ n
-        back n q = let h : turnedBack r ≡ turnedBack n = rw (q, checked) at e in cc
+  module _ (c : Counts) {o q : Bool} (e : accepted c ≡ lent bs ws) (g : o ≡ otherPlan bs ws) (i : o ≡ false) (f : q ≡ isSound entryLimit (planOf bs c) ws) where
+    pub checked-unsound : not q ≡ true → turnedBack 18 ≡ checked bs ws
+    unfolding checked ledgerRefusal ledgerRefusals firstRefusal
+    checked-unsound h = let (a, b) = lent-facts c e in read-stopped bs _ c 17 (sym a) (rw (b, sym g ∙ i, sym f ∙ not-true _ h))
 
-        unsound : (c : Counts) (b : Bool) → readPlan bs ≡ accepted c → tooShort entryLimit (planOf bs c) ws ≡ false → lent bs ws ≡ accepted c
-            → isSound entryLimit (planOf bs c) ws ≡ b → record { answer = refusal r; words = ws } ≡ underPlan bs ws f
-        unsound c true a s q t =
-            let h : turnedBack r ≡ accepted c = rw (q, checked, t) at e in let z : _≡_ {A = ℕ} 0 1 = cc in absurd (omega arith)
-        unsound c false a s q t =
-            let h : turnedBack r ≡ turnedBack 18 = rw (q, checked, t) at e in
-            let w : r ≡ 18 = cc in
-            rw (w, a, underPlan) (sym (is (planOf bs c) ∙ rw (s, t)))
-
-        shorts : (c : Counts) (b : Bool) → readPlan bs ≡ accepted c → tooShort entryLimit (planOf bs c) ws ≡ b
-            → record { answer = refusal r; words = ws } ≡ underPlan bs ws f
-        shorts c true a s = let w = back 17 (rw (a, lent, s)) in rw (w, a, underPlan) (sym (is (planOf bs c) ∙ rw s))
-        shorts c false a s = unsound c (isSound entryLimit (planOf bs c) ws) a s (rw (a, lent, s)) refl
-
-        go : (x : Reading) → readPlan bs ≡ x → record { answer = refusal r; words = ws } ≡ underPlan bs ws f
-        go (turnedBack n) a = let w = back n (rw (a, lent)) in rw (a, underPlan, w)
-        go (accepted c) a = shorts c (tooShort entryLimit (planOf bs c) ws) a refl
+    pub checked-accepted : not q ≡ false → accepted c ≡ checked bs ws
+    unfolding checked
+    checked-accepted h =
+        let (a, b) = lent-facts c e in
+        read-cleared bs _ c (sym a) (passes-none entryLimit bs (planOf bs c) ws (record { long = b; own = sym g ∙ i; sound = sym f ∙ not-false _ h }))
 
   -- Ready.
   pub ready-refused : (r : ℕ) → turnedBack r ≡ checked bs ws → record { answer = refusal r; words = ws } ≡ readyOutcome entryLimit bs ws
-  unfolding readyOutcome ledgerRefusals
-  ready-refused r e =
-      refused-outcome _ (λ p. record { answer = done (ready p (ledgerAt entryLimit ws (trackCount p)) ∷ []); words = ws }) (λ p. []) (λ p. refl) r e
+  unfolding readyOutcome checked
+  ready-refused r e = refused-outcome bs _ ws _ _ (λ p. 0) (λ p. ap (refusedOr ws _) (sym (unless-none (ledgerRefusal entryLimit bs p ws)))) r e
 
   pub ready-done : (c : Counts) (n : ℕ) → accepted c ≡ checked bs ws → n ≡ ready (planOf bs c) (ledgerOf c ws)
       → record { answer = done (n ∷ []); words = ws } ≡ readyOutcome entryLimit bs ws
-  unfolding readyOutcome ledgerRefusals firstRefusal refusedOr ledgerOf
+  unfolding readyOutcome refusedOr ledgerOf checked
   ready-done c n e h =
       let i : n ≡ ready (planOf bs c) (ledgerAt entryLimit ws (trackCount (planOf bs c))) = h ∙ rw track-count in
-      rw i (accepted-outcome _ (λ p. record { answer = done (ready p (ledgerAt entryLimit ws (trackCount p)) ∷ []); words = ws }) (λ p. []) (λ p. refl) c e)
+      rw i (cleared-outcome bs _ ws _ _ (λ p. 0) (λ p. ap (refusedOr ws _) (sym (unless-none (ledgerRefusal entryLimit bs p ws)))) c e)
 
-  -- Begin, which skips 18.
+  -- Begin, which asks for 17 alone.
   pub begin-refused : (r : ℕ) → turnedBack r ≡ lent bs ws → record { answer = refusal r; words = ws } ≡ beginOutcome entryLimit bs ws
-  unfolding beginOutcome underPlan firstRefusal refusedOr lent
-  begin-refused r e = go (readPlan bs) refl
-    where
-      shorts : (c : Counts) (b : Bool) → readPlan bs ≡ accepted c → tooShort entryLimit (planOf bs c) ws ≡ b
-          → record { answer = refusal r; words = ws } ≡ beginOutcome entryLimit bs ws
-      shorts c true a s =
-          let h : turnedBack r ≡ turnedBack 17 = rw (a, lent, s) at e in
-          let w : r ≡ 17 = cc in
-          rw (w, a, underPlan, s)
-      shorts c false a s =
-          let h : turnedBack r ≡ accepted c = rw (a, lent, s) at e in let z : _≡_ {A = ℕ} 0 1 = cc in absurd (omega arith)
-
-      go : (x : Reading) → readPlan bs ≡ x → record { answer = refusal r; words = ws } ≡ beginOutcome entryLimit bs ws
-      go (turnedBack n) a =
-          let h : turnedBack r ≡ turnedBack n = rw (a, lent) at e in
-          let w : r ≡ n = cc in
-          rw (a, underPlan, w)
-      go (accepted c) a = shorts c (tooShort entryLimit (planOf bs c) ws) a refl
+  unfolding beginOutcome lent
+  begin-refused r e = refused-outcome bs _ ws _ _ (λ p. 0) (λ p. ap (refusedOr ws _) (sym (unless-none _))) r e
 
   pub begin-done : (c : Counts) → accepted c ≡ lent bs ws
-      → record { answer = done []; words = written entryLimit (c .tracks) (begun (planOf bs c)) ws } ≡ beginOutcome entryLimit bs ws
-  unfolding beginOutcome underPlan firstRefusal refusedOr
+      → record { answer = done []; words = written entryLimit (c .tracks) (begun (planOf bs c)) (stamped bs ws) } ≡ beginOutcome entryLimit bs ws
+  unfolding beginOutcome refusedOr lent
   begin-done c e =
-      let (a, b) = lent-facts c e in
-      rw (a, underPlan, b, track-count bs c)
+      ap (λ (n : ℕ). record { answer = done []; words = written entryLimit n (begun (planOf bs c)) (stamped bs ws) }) (sym (track-count bs c))
+      ∙ cleared-outcome bs _ ws _ _ (λ p. 0) (λ p. ap (refusedOr ws _) (sym (unless-none _))) c e
+
+  -- Event, signal and fire: refused, the outcome is the checks' number.
+  pub call-refused : (d : Call) (r : ℕ) → turnedBack r ≡ checked bs ws → record { answer = refusal r; words = ws } ≡ callOutcome entryLimit bs ws d
+  unfolding callOutcome checked
+  call-refused d r e =
+      refused-outcome bs _ ws _ _ (λ p. firstRefusal (callRefusals entryLimit p (ledgerAt entryLimit ws (trackCount p)) d))
+      (λ p. ap (refusedOr ws _) (checked-first entryLimit bs p ws (callRefusals entryLimit p (ledgerAt entryLimit ws (trackCount p)) d))) r e
 
   -- Entries.
   pub span-at : (t u a b : ℕ) → u ≡ t → Span bs ws u a b → Span bs ws t a b
@@ -200,23 +148,12 @@ module _ (bs ws : List ℕ) where
   nothing : (t : ℕ) → [] ≡ entriesPart entryLimit bs ws t → Span bs ws t 0 0
   nothing t e = record { starts = omega arith; ends = omega arith; place = λ h. absurd (omega (arith, h)); part = e }
 
-  -- the refusals 17 and 18 of an accepted plan
-  unrefused : (c : Counts) → accepted c ≡ checked bs ws → (readPlan bs ≡ accepted c) × (firstRefusal (ledgerRefusals entryLimit (planOf bs c) ws) ≡ 0)
-  unfolding ledgerRefusals firstRefusal
-  unrefused c e = let (g, h) = checked-facts c e in let (a, b) = lent-facts c g in (a, rw (b, h))
-
-  refused : (r : ℕ) (c : Counts) → turnedBack r ≡ checked bs ws → readPlan bs ≡ accepted c
-      → eqb (firstRefusal (ledgerRefusals entryLimit (planOf bs c) ws)) 0 ≡ false
-  unfolding ledgerRefusals firstRefusal checked lent
-  refused r c e a = shorts (tooShort entryLimit (planOf bs c) ws) refl (isSound entryLimit (planOf bs c) ws) refl
-    where
-      shorts : (b : Bool) → tooShort entryLimit (planOf bs c) ws ≡ b → (d : Bool) → isSound entryLimit (planOf bs c) ws ≡ d
-          → eqb (firstRefusal (ledgerRefusals entryLimit (planOf bs c) ws)) 0 ≡ false
-      shorts true s d t = rw s
-      shorts false s true t =
-          let q : lent bs ws ≡ accepted c = rw (a, lent, s) in
-          let h : turnedBack r ≡ accepted c = rw (q, checked, t) at e in let z : _≡_ {A = ℕ} 0 1 = cc in absurd (omega arith)
-      shorts false s false t = rw (s, t)
+  -- the ledger of an accepted plan is refused
+  refused : (r : ℕ) (c : Counts) → turnedBack r ≡ checked bs ws → readPlan bs ≡ accepted c → eqb (ledgerRefusal entryLimit bs (planOf bs c) ws) 0 ≡ false
+  unfolding checked
+  refused r c e a =
+      ne-eqb _ 0
+      (λ (z : ledgerRefusal entryLimit bs (planOf bs c) ws ≡ 0). reading-clash e (sym (read-cleared bs (λ p. ledgerRefusal entryLimit bs p ws) c (sym a) z)))
 
   pub span-refused : (t r : ℕ) → turnedBack r ≡ checked bs ws → Span bs ws t 0 0
   unfolding entriesPart
@@ -225,6 +162,10 @@ module _ (bs ws : List ℕ) where
       go : (x : Reading) → readPlan bs ≡ x → [] ≡ entriesPart entryLimit bs ws t
       go (turnedBack n) a = rw (a, entriesPart)
       go (accepted c) a = rw (a, entriesPart, refused r c e a)
+
+  -- or it is not
+  unrefused : (c : Counts) → accepted c ≡ checked bs ws → (readPlan bs ≡ accepted c) × (ledgerRefusal entryLimit bs (planOf bs c) ws ≡ 0)
+  unrefused c e = let (a, h) = checked-facts c e in (a, passes-none entryLimit bs (planOf bs c) ws h)
 
   pub span-absent : (t : ℕ) (c : Counts) → accepted c ≡ checked bs ws → c .tracks ≤ t → Span bs ws t 0 0
   unfolding entriesPart
@@ -237,7 +178,7 @@ module _ (bs ws : List ℕ) where
   pub tidy-found : (c : Counts) → accepted c ≡ checked bs ws → areTidy entryLimit ws (c .tracks) ≡ true
   unfolding isSound
   tidy-found c e =
-      let h = checked-facts c e .1 in
+      let h = checked-facts c e .1 .sound in
       let q = and-holds (areTidy entryLimit ws (trackCount (planOf bs c))) _ h .0 in
       rw track-count at q
 
@@ -247,7 +188,7 @@ module _ (bs ws : List ℕ) where
   span-held t from k c e h i j =
       let (a, b) = unrefused c e in
       let l : ltb t (trackCount (planOf bs c)) ≡ true = lt-ltb t (trackCount (planOf bs c)) (rw track-count h) in
-      let r = in-room ws (c .tracks) t (lent-room c (checked-facts c e .0)) h in
+      let r = in-room ws (c .tracks) t (call-checked c e .lent .room) h in
       let m : k ≤ entryLimit = count-within entryLimit (c .tracks) ws t k (tidy-found c e) j in
       let z : from ≡ entriesPlace entryLimit t = omega arith in
       let n : length (ledgerAt entryLimit ws (trackCount (planOf bs c)) t .held) ≡ k = rw track-count (sym j) in
@@ -273,11 +214,7 @@ module _ (bs ws : List ℕ) where
             absurd (h (rw e))
       ]
 
--- what is refused is not accepted, and what is accepted has one count of each
-pub reading-clash : {a : Reading} {r : ℕ} {c : Counts} {A : Type 0} → turnedBack r ≡ a → a ≡ accepted c → A
-reading-clash {a} {r} {c} e f =
-    let q : turnedBack r ≡ accepted c = e ∙ f in let z : _≡_ {A = ℕ} 0 1 = cc in absurd (omega arith)
-
+-- what is accepted has one count of each
 pub opens-found : (bs ws : List ℕ) {c d : Counts} {opens : List Bool} → accepted c ≡ accepted d
     → (isOver (planOf bs c) (ledgerOf c ws) ≡ false → Figures false opens (c .tracks) (hasOpenScope (planOf bs c) (ledgerOf c ws)))
     → isOver (planOf bs d) (ledgerOf d ws) ≡ false → Figures false opens (d .tracks) (hasOpenScope (planOf bs d) (ledgerOf d ws))

@@ -1,4 +1,4 @@
 -- Laws of the calls.
+pub mod FurtherRead
 pub mod Checks
 pub mod BitLaws
-pub mod CallChecks

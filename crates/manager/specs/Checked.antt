@@ -1,32 +1,36 @@
 -- The checks that a call makes first: the plan's counts, or the first refusal. Assumes nothing.
 use mathlib.Core.Path.{_≡_}
-use mathlib.Core.Bool.{Bool, false, cond}
-use mathlib.Core.List.{List}
-use Prim.Native.Nat.{ℕ, _-_, _≤_, _<_}
+use mathlib.Core.Bool.{Bool, false}
+use mathlib.Core.List.{List, [], _∷_}
+use Prim.Native.Nat.{ℕ, zero, suc, _-_, _≤_, _<_}
 use lib.ListN.{length, take, drop}
 use Rattle.rules.specs.declared.Counts.{Counts}
-use Rattle.rules.specs.Names.{Bytes, Words, Place, TrackNumber}
-use Rattle.rules.specs.Plan.{planOf}
+use Rattle.rules.specs.Names.{Bytes, Words, Place, Refusal, TrackNumber}
+use Rattle.rules.specs.Fold.{firstRefusal}
+use Rattle.rules.specs.Plan.{Plan, planOf}
 use Rattle.rules.specs.Acceptance.{Reading, turnedBack, accepted, readPlan}
 use Rattle.rules.specs.Layout.{entryLimit, entriesPlace}
 use Rattle.rules.specs.Scope.{hasOpenScope, isOver}
-use Rattle.rules.specs.Soundness.{isSound}
-use Rattle.rules.specs.Call.{tooShort, entriesPart}
+use Rattle.rules.specs.Call.{tooShort, ledgerRefusal, entriesPart}
 use Rattle.plan.specs.Passes.{firstMarks}
 use Rattle.ledger.specs.Ladder.{ledgerOf}
 use Rattle.lookup.specs.Figures.{Figures}
 
+-- the plan is read, and then a test of an accepted plan may refuse: the plan's counts, or the first refusal
+unfoldable pub cleared : Counts → Refusal → Reading
+cleared c zero = accepted c
+cleared c (suc r) = turnedBack (suc r)
+
+unfoldable pub furtherRead : Bytes → (Plan → Refusal) → Reading
+furtherRead bs f = elim (readPlan bs) [ turnedBack r ↦ turnedBack r | accepted c ↦ cleared c (f (planOf bs c)) ]
+
 -- 2 to 17
 unfoldable pub lent : Bytes → Words → Reading
-lent bs ws =
-    elim (readPlan bs)
-    [ turnedBack r ↦ turnedBack r | accepted c ↦ cond (tooShort entryLimit (planOf bs c) ws) (turnedBack 17) (accepted c) ]
+lent bs ws = furtherRead bs (λ p. firstRefusal ((17, tooShort entryLimit p ws) ∷ []))
 
--- 2 to 18
+-- 2 to 17, and then 24 and 18
 unfoldable pub checked : Bytes → Words → Reading
-checked bs ws =
-    elim (lent bs ws)
-    [ turnedBack r ↦ turnedBack r | accepted c ↦ cond (isSound entryLimit (planOf bs c) ws) (accepted c) (turnedBack 18) ]
+checked bs ws = furtherRead bs (λ p. ledgerRefusal entryLimit bs p ws)
 
 -- what the checks find beside: the first state of each track of a plan that is accepted
 abbrev pub FirstsFound : Bytes → List ℕ → Type 0

@@ -1,6 +1,7 @@
-// Checks 2 to 18, which a call makes first. What they find beside their answer is lent out, so that no step works it out again: the first state
+// Checks 2 to 18, with 24 before 18, which a call makes first. What they find beside their answer is lent out, so that no step works it out again: the first state
 // of each track of an accepted plan, and who has an open scope in a ledger that is not over.
 use ledger::layout;
+use ledger::leading;
 use rules::PlanAnswer;
 use soundness::sound;
 ghost use mathlib.Core.Path.{_≡_};
@@ -23,7 +24,7 @@ pub fn read_lent(plan: &[u8], ledger: &[u16], firsts: &mut [u16; 32]) -> PlanAns
     }
 }
 
-// 2 to 18: and the ledger is sound.
+// 24 and 18 too: the ledger is this plan's own, and sound.
 pub fn verify(
     plan: &[u8],
     ledger: &[u16],
@@ -37,6 +38,9 @@ pub fn verify(
     match answer {
         PlanAnswer::Refused(n) => PlanAnswer::Refused(n),
         PlanAnswer::Accepted(c) => {
+            if leading::is_other(plan, ledger) {
+                return PlanAnswer::Refused(24);
+            }
             if !sound::is_sound(plan, c, ledger, opens) {
                 return PlanAnswer::Refused(18);
             }

@@ -1,4 +1,4 @@
--- Begin: every track asleep, and the roots enter their first states, as the rules have it. Assumes nothing.
+-- Begin: the leading words are stamped, every track sleeps, and the roots enter their first states, as the rules have it. Assumes nothing.
 use mathlib.Core.Path.{_≡_, refl, sym, ap, _∙_}
 use mathlib.Core.Bool.{Bool, true, false, not, and-false}
 use mathlib.Core.List.{List}
@@ -9,15 +9,19 @@ use lib.ListN.{length}
 use borrow.Author.Tests.{ne-eqb, not-true, not-false, ltb-true}
 use Rattle.rules.specs.declared.Counts.{Counts}
 use Rattle.rules.specs.Layout.{entryLimit}
+use Rattle.rules.specs.Leading.{stamped}
 use Rattle.rules.specs.Plan.{Plan, planOf, trackCount, stateCount, noState, optional, isRoot, isStateOf, firstState}
 use Rattle.rules.specs.Ledger.{Ledger, sleeping, written}
 use Rattle.rules.specs.Opening.{fresh, entered, enter, rootsFirst, begun}
 use Rattle.rules.proofs.Tests.{and-holds}
 use Rattle.rules.proofs.Opening.{wakes-same, roots-to}
 use Rattle.rules.proofs.Scopes.{root-none}
+use Rattle.rules.proofs.LeadingLaws.{length-stamped}
 use Rattle.rules.proofs.Stored.{Storable, written-same, written-twice, length-written, tidy-written, read-written}
+use Rattle.plan.specs.Holds.{Holds}
 use Rattle.plan.proofs.FieldLaws.{track-count, state-count}
 use Rattle.ledger.specs.Ladder.{Room, Tidy, Accepts, ledgerOf}
+use Rattle.ledger.proofs.Words.{leading-room}
 use Rattle.lookup.specs.Figures.{Numbers}
 use Rattle.lookup.proofs.Facts.{plan-facts}
 use Rattle.opening.specs.Entering.{statesOf, Sleepers}
@@ -40,6 +44,13 @@ module _ (bs : List ℕ) (c : Counts) (a : Accepts bs c) (t : ℕ) (b : t < c .t
       ∙ (rw (ne-eqb (firstState p t) 65535 (λ (z : firstState p t ≡ 65535). absurd (omega (arith, state-count bs c, a .holds .states)))))
       ∙ sym (roots-to p (plan-facts bs c a) t d (root-none p t (sym e ∙ not-false _ h)))
 
+-- a ledger keeps its room when it is stamped, and the plan's length is a word
+pub stamped-room : (bs ws : List ℕ) {vs : List ℕ} {tracks : ℕ} → Room ws tracks → vs ≡ stamped bs ws → Room vs tracks
+stamped-room bs ws r e = record { few = r .few; words = omega (arith, r .words, ap length e, length-stamped bs ws (leading-room r)) }
+
+pub length-word : {bs : List ℕ} {c : Counts} → Holds bs c → length bs < 65536
+length-word h = omega (arith, h .whole, h .tracks, h .states, h .transitions)
+
 -- a ledger all asleep can be stored, and is read back
 abbrev asleep : Ledger
 asleep t = sleeping
@@ -57,12 +68,12 @@ module _ (bs : List ℕ) (c : Counts) (a : Accepts bs c) (ws : List ℕ) (r : Ro
   begin-tidy =
       record {
         room = record { few = r .few; words = omega (arith, begin-length, r .words) };
-        tidy = rw e (tidy-written entryLimit (c .tracks) asleep ws (storable-asleep entryLimit (c .tracks)));
+        tidy = rw e (tidy-written entryLimit (c .tracks) asleep ws (storable-asleep entryLimit (c .tracks)) (r .words));
       }
 
   all-asleep : ledgerOf c vs ≡ asleep
   unfolding ledgerOf
-  all-asleep = rw e (read-written entryLimit (c .tracks) asleep ws (storable-asleep entryLimit (c .tracks) .fits) (λ t b. refl))
+  all-asleep = rw e (read-written entryLimit (c .tracks) asleep ws (storable-asleep entryLimit (c .tracks) .fits) (r .words) (λ t b. refl))
 
   pub begin-sleepers : (to : List ℕ) → Sleepers (planOf bs c) (statesOf to) (ledgerOf c vs)
   begin-sleepers to u w = ap (λ (l : Ledger). l u) all-asleep
@@ -80,7 +91,7 @@ module _ (bs : List ℕ) (c : Counts) (a : Accepts bs c) (ws : List ℕ) (r : Ro
         let p = planOf bs c in
         d
         ∙ ap (λ (v : List ℕ). written entryLimit (c .tracks) (enter p (statesOf to) (ledgerOf c vs)) v) e
-        ∙ written-twice entryLimit (c .tracks) (enter p (statesOf to) (ledgerOf c vs)) asleep ws (storable-asleep entryLimit (c .tracks) .fits)
+        ∙ written-twice entryLimit (c .tracks) asleep ws (storable-asleep entryLimit (c .tracks) .fits) (r .words) (enter p (statesOf to) (ledgerOf c vs))
         ∙ written-same entryLimit (c .tracks) _ _ ws
         (λ t b.
         let h : t < trackCount p = omega (arith, track-count bs c) in

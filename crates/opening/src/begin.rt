@@ -1,5 +1,6 @@
-// Begin: "roots forward in their first states and holding nothing, others asleep", and the scopes of the states entered open.
+// Begin: the leading words, "roots forward in their first states and holding nothing, others asleep", and the scopes of the states entered open.
 use crate::entering;
+use ledger::leading;
 use ledger::track;
 use plan::fields;
 use plan::fields::NO_STATE;
@@ -8,6 +9,7 @@ ghost use mathlib.Core.Path.{_≡_};
 ghost use Prim.Native.Nat.{_<_};
 ghost use Rattle.rules.specs.Layout.{entryLimit};
 ghost use Rattle.rules.specs.Plan.{planOf, optional, firstState};
+ghost use Rattle.rules.specs.Leading.{stamped};
 ghost use Rattle.rules.specs.Ledger.{written};
 ghost use Rattle.rules.specs.Opening.{rootsFirst, begun};
 ghost use Rattle.ledger.specs.Ladder.{Accepts, Lent};
@@ -39,11 +41,14 @@ fn root_words(plan: &[u8], c: Counts, firsts: &[u16; 32]) -> [u16; 32]
     to
 }
 
-// Overwrites the ledger, given the first state of each track: every track asleep, then the roots enter their first states.
+// Overwrites the ledger, given the first state of each track: the plan's length and sum, every track asleep, then the roots enter their first
+// states.
 pub fn begin_all(plan: &[u8], c: Counts, ledger: &mut [u16], firsts: &[u16; 32])
     requires { ⌜ Lent (now plan) c (now ledger) × Figures 0 (now firsts) (c .tracks) (firstState (planOf (now plan) c)) ⌝ }
-    ensures { λ _. ⌜ now (ledger .exit) ≡ written entryLimit (c .tracks) (begun (planOf (now (plan .entry)) c)) (now (ledger .entry)) ⌝ }
+    ensures { λ _. ⌜ now (ledger .exit)
+        ≡ written entryLimit (c .tracks) (begun (planOf (now (plan .entry)) c)) (stamped (now (plan .entry)) (now (ledger .entry))) ⌝ }
 {
+    leading::stamp(plan, &mut ledger[..]);
     track::put_all_to_sleep(&mut ledger[..], c.tracks);
     let to = root_words(plan, c, firsts);
     entering::enter_all(plan, c, &mut ledger[..], *firsts, to);

@@ -1,7 +1,7 @@
 -- The scan without its count of visits: a record that passes leaves the scan as it was from the next place on, so the visits never run out.
--- What was counted is within the limits and stands in the bytes. Assumes nothing.
+-- What was counted is within the limits, and is all that the bytes have. Assumes nothing.
 use mathlib.Core.Path.{_≡_, refl, sym, ap, _∙_}
-use mathlib.Core.Bool.{Bool, true, false, not, _||_}
+use mathlib.Core.Bool.{Bool, true, false, not, _&&_, _||_}
 use mathlib.Core.List.{List}
 use Prim.Native.Nat.{ℕ, zero, suc, _+_, _-_, _<_, _≤_}
 use native.Mathlib.Omega.{arith}
@@ -17,16 +17,17 @@ use Rattle.plan_reader.specs.Scanned.{Stands}
 use Rattle.plan_reader.proofs.KindTables.{by-kind}
 
 module _ (bs : List ℕ) where
-  -- a record without a refusal 2 to 6
+  -- a record without a refusal 2 to 7
   pub record Sane (at : ℕ) (c : Counts) : Type 0 where
     pub head : at + 4 ≤ length bs
     pub real : lengthOf (kindAt bs at) ≡ 0 → ⊥
     pub size : sizeAt bs at ≡ lengthOf (kindAt bs at)
     pub fits : at + lengthOf (kindAt bs at) ≤ length bs
     pub most : countOf c (kindAt bs at) < mostOf (kindAt bs at)
+    pub ends : kindAt bs at ≡ endKind → length bs ≤ at + 4
 
   pub sane : (at last : ℕ) (c : Counts) → judgeRecord bs at last c ≡ 0 → Sane at c
-  unfolding judgeRecord firstRefusal
+  unfolding judgeRecord firstRefusal lengthOf
   sane at last c h =
       let k = kindAt bs at in
       let a2 = passed (ltb (length bs) (at + 4)) 1 _ h in
@@ -34,6 +35,7 @@ module _ (bs : List ℕ) where
       let a4 = passed (not (eqb (sizeAt bs at) (lengthOf k))) 3 _ (a3 .1) in
       let a5 = passed (ltb (length bs) (at + sizeAt bs at)) 4 _ (a4 .1) in
       let a6 = passed (leb (mostOf k) (countOf c k)) 5 _ (a5 .1) in
+      let a7 = passed (eqb k endKind && ltb (at + sizeAt bs at) (length bs)) 6 _ (a6 .1) in
       let e : sizeAt bs at ≡ lengthOf k = eqb-true _ _ (not-false _ (a4 .0)) in
       let f : at + sizeAt bs at ≤ length bs = ltb-false (length bs) (at + sizeAt bs at) (a5 .0) in
       record {
@@ -42,6 +44,10 @@ module _ (bs : List ℕ) where
         size = e;
         fits = rw e at f;
         most = leb-false (mostOf k) (countOf c k) (a6 .0);
+        ends = λ (q : k ≡ endKind).
+            let n : sizeAt bs at ≡ 4 = e ∙ ap lengthOf q in
+            let b : ltb (at + sizeAt bs at) (length bs) ≡ false = rw (eq-eqb k endKind q) at a7 .0 in
+            let l = ltb-false (at + sizeAt bs at) (length bs) b in omega arith;
       }
 
   -- the next record's place, with one more counted
@@ -163,7 +169,8 @@ module _ (bs : List ℕ) where
           let q : counted c ≡ counted d = sym (visit-end at last c n j (eqb-true (kindAt bs at) endKind e)) ∙ h in
           let w : c ≡ d = cc in
           let g = sane at last c j .head in
-          rw (← w) (record { tracks = s .tracks; states = s .states; transitions = s .transitions; room = omega arith })
+          let f = sane at last c j .ends (eqb-true (kindAt bs at) endKind e) in
+          rw (← w) (record { tracks = s .tracks; states = s .states; transitions = s .transitions; whole = omega arith })
       on false j e ih =
           let q = eqb-false (kindAt bs at) endKind e in
           ih _ _ _ d (stands-more at last c j q s) (sym (visit-on at last c n j q) ∙ h)

@@ -14,5 +14,7 @@ pub mod Ready
 pub mod Soundness
 pub mod TrackWords
 pub mod Stored
+pub mod LeadingLaws
+pub mod LedgerChecks
 pub mod Replaced
 pub mod Passes

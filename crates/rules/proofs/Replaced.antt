@@ -12,11 +12,11 @@ use lib.Seq.{set-append-left, take-at, drop-at, length-take-le}
 use lib.Dec.{eqb}
 use borrow.Author.Tests.{eqb-true, eqb-false, eq-eqb, ne-eqb}
 use Rattle.rules.specs.declared.Mode.{Mode}
-use Rattle.rules.specs.Layout.{headWords, entryWidth, trackWidth, trackPlace, entriesPlace, wordCount}
+use Rattle.rules.specs.Layout.{leadingWords, headWords, entryWidth, trackWidth, trackPlace, entriesPlace, wordCount}
 use Rattle.rules.specs.Ledger.{Entry, Configuration, Ledger, sleeping, modeWord, configurationWords, ledgerWords, written}
 use Rattle.rules.proofs.Tests.{look}
 use Rattle.rules.proofs.TrackWords.{set-beyond, place-below, length-configurationWords, words-sleeping, install-words, remove-words}
-use Rattle.rules.proofs.Stored.{Fits, length-ledgerWords, length-written, words-same}
+use Rattle.rules.proofs.Stored.{Fits, length-up-to, length-leading, written-up-to, length-written, words-same}
 
 -- the ledger with one track replaced
 unfoldable pub updated : Ledger → ℕ → Configuration → Ledger
@@ -81,26 +81,29 @@ module _ (limit : ℕ) where
   inTrack ws k ys = take (trackPlace limit k) ws ++ (ys ++ drop (trackWidth limit) (drop (trackPlace limit k) ws))
 
   -- they are those of the ledger with that track replaced
-  pub put-track : (n : ℕ) (l : Ledger) (ws : List ℕ) (k : ℕ) (x : Configuration) → Fits limit l → k < n
+  pub put-track : (n : ℕ) (l : Ledger) (ws : List ℕ) (k : ℕ) (x : Configuration) → Fits limit l → k < n → wordCount limit n ≤ length ws
       → inTrack (written limit n l ws) k (configurationWords limit x) ≡ written limit n (updated l k x) ws
-  unfolding written inTrack
-  put-track n l ws k x f h =
+  unfolding inTrack
+  put-track n l ws k x f h room =
       let (post, r) = split n l k h in
-      let pre : List ℕ = ledgerWords limit k l in
+      let pre : List ℕ = take leadingWords ws ++ ledgerWords limit k l in
       let rest : List ℕ = drop (wordCount limit n) ws in
       let old : List ℕ = configurationWords limit (l k) in
-      let e : ledgerWords limit n l ++ rest ≡ pre ++ (old ++ (post ++ rest)) =
-      ap (λ (m : Ledger). ledgerWords limit n m ++ rest) (sym (updated-same l k)) ∙ ap (λ (v : List ℕ). v ++ rest) (r (l k))
-      ∙ append-assoc pre (old ++ post) rest ∙ ap (λ (v : List ℕ). pre ++ v) (append-assoc old post rest) in
-      let a : length pre ≡ trackPlace limit k = unfold wordCount in length-ledgerWords limit k l f in
+      let parts : (y : Configuration) → written limit n (updated l k y) ws ≡ pre ++ (configurationWords limit y ++ (post ++ rest)) =
+      λ y.
+      written-up-to limit n (updated l k y) ws
+      ∙ ap (λ (v : List ℕ). (take leadingWords ws ++ v) ++ rest) (r y)
+      ∙ ap (λ (v : List ℕ). v ++ rest) (sym (append-assoc (take leadingWords ws) (ledgerWords limit k l) (configurationWords limit y ++ post)))
+      ∙ append-assoc pre (configurationWords limit y ++ post) rest ∙ ap (λ (v : List ℕ). pre ++ v) (append-assoc (configurationWords limit y) post rest) in
+      let e : written limit n l ws ≡ pre ++ (old ++ (post ++ rest)) = ap (λ (m : Ledger). written limit n m ws) (sym (updated-same l k)) ∙ parts (l k) in
+      let a : length pre ≡ trackPlace limit k = length-up-to limit (take leadingWords ws) k l (length-leading limit n ws room) f in
       let b : length old ≡ trackWidth limit = length-configurationWords limit (l k) (f k) in
-      rw (e, take-at pre (old ++ (post ++ rest)) _ a, drop-at pre (old ++ (post ++ rest)) _ a, drop-at old (post ++ rest) _ b, r x)
-      (sym (append-assoc pre (configurationWords limit x ++ post) rest ∙ ap (λ (v : List ℕ). pre ++ v) (append-assoc (configurationWords limit x) post rest)))
+      rw (e, take-at pre (old ++ (post ++ rest)) _ a, drop-at pre (old ++ (post ++ rest)) _ a, drop-at old (post ++ rest) _ b) (sym (parts x))
 
   -- a track's part is what was written of it
-  pub own-part : (n : ℕ) (l : Ledger) (ws : List ℕ) (k : ℕ) → Fits limit l → k < n
+  pub own-part : (n : ℕ) (l : Ledger) (ws : List ℕ) (k : ℕ) → Fits limit l → k < n → wordCount limit n ≤ length ws
       → written limit n l ws ≡ inTrack (written limit n l ws) k (configurationWords limit (l k))
-  own-part n l ws k f h = sym (put-track n l ws k (l k) f h ∙ ap (λ (m : Ledger). written limit n m ws) (updated-same l k))
+  own-part n l ws k f h room = sym (put-track n l ws k (l k) f h room ∙ ap (λ (m : Ledger). written limit n m ws) (updated-same l k))
 
   -- single words of a track are set in its part
   pub set-part : (ws : List ℕ) (k : ℕ) (ys : List ℕ) (j v : ℕ) → trackPlace limit k ≤ length ws → j < length ys
@@ -122,9 +125,9 @@ module _ (limit : ℕ) where
     pub set-track : (x : Configuration) (j v : ℕ) → j < trackWidth limit → set (configurationWords limit (l k)) j v ≡ configurationWords limit x
         → set (written limit n l ws) (trackPlace limit k + j) v ≡ written limit n (updated l k x) ws
     set-track x j v b e =
-        ap (λ (u : List ℕ). set u (trackPlace limit k + j) v) (own-part n l ws k f h)
+        ap (λ (u : List ℕ). set u (trackPlace limit k + j) v) (own-part n l ws k f h room)
         ∙ set-part (written limit n l ws) k (configurationWords limit (l k)) j v before (let w = length-configurationWords limit (l k) (f k) in omega arith)
-        ∙ ap (inTrack (written limit n l ws) k) e ∙ put-track n l ws k x f h
+        ∙ ap (inTrack (written limit n l ws) k) e ∙ put-track n l ws k x f h room
 
     -- an entry's two words and the count: three words set in the track's own words
     pub set-three : (x : Configuration) (i a j b m c : ℕ) → i < trackWidth limit → j < trackWidth limit → m < trackWidth limit
@@ -139,11 +142,11 @@ module _ (limit : ℕ) where
         let w₁ : length y₁ ≡ trackWidth limit = length-set y₀ i a ∙ w in
         let w₂ : length y₂ ≡ trackWidth limit = length-set y₁ j b ∙ w₁ in
         let W : List ℕ = written limit n l ws in
-        ap (λ (u : List ℕ). set (set (set u (trackPlace limit k + i) a) (trackPlace limit k + j) b) (trackPlace limit k + m) c) (own-part n l ws k f h)
+        ap (λ (u : List ℕ). set (set (set u (trackPlace limit k + i) a) (trackPlace limit k + j) b) (trackPlace limit k + m) c) (own-part n l ws k f h room)
         ∙ ap (λ (u : List ℕ). set (set u (trackPlace limit k + j) b) (trackPlace limit k + m) c) (set-part W k y₀ i a before (omega arith))
         ∙ ap (λ (u : List ℕ). set u (trackPlace limit k + m) c) (set-part W k y₁ j b before (omega arith))
         ∙ set-part W k y₂ m c before (omega arith)
-        ∙ ap (inTrack W k) e ∙ put-track n l ws k x f h
+        ∙ ap (inTrack W k) e ∙ put-track n l ws k x f h room
 
     -- one more entry: its two words behind those held, and the count
     pub install-entry : (e : Entry) → length (l k .held) < limit
@@ -179,4 +182,4 @@ module _ (limit : ℕ) where
 
     -- asleep: all zeros
     pub sleep-track : inTrack (written limit n l ws) k (replicate (trackWidth limit) 0) ≡ written limit n (updated l k sleeping) ws
-    sleep-track = ap (inTrack (written limit n l ws) k) (sym (words-sleeping limit)) ∙ put-track n l ws k sleeping f h
+    sleep-track = ap (inTrack (written limit n l ws) k) (sym (words-sleeping limit)) ∙ put-track n l ws k sleeping f h room

@@ -2,20 +2,20 @@
 use mathlib.Core.Path.{_≡_, refl, sym, ap, _∙_, fun-ext}
 use mathlib.Core.Logic.{inl, inr}
 use mathlib.Core.Bool.{true, false}
-use mathlib.Core.List.{List, _++_, append-assoc}
+use mathlib.Core.List.{List, _++_, append-assoc, append-nil}
 use Prim.Native.Nat.{ℕ, zero, suc, _+_, _-_, _<_, _≤_}
 use native.Mathlib.Nat.{not-suc-le-zero}
 use native.Mathlib.Omega.{arith}
 use lib.ListN.{length, getD, take, drop, length-append, length-drop, take-append-drop, List·getD-append}
-use lib.Seq.{getD-append-add, ext-getD, drop-at, take-add, getD-take, getD-drop, length-take-le}
+use lib.Seq.{getD-append-add, ext-getD, take-at, drop-at, take-add, getD-take, getD-drop, length-take-le}
 use lib.Dec.{eqb, ltb}
 use borrow.Author.Tests.{eqb-true, eqb-false, lt-ltb, le-ltb, ltb-true, ltb-false}
-use Rattle.rules.specs.Layout.{trackWidth, trackPlace, wordCount}
+use Rattle.rules.specs.Layout.{leadingWords, trackWidth, trackPlace, wordCount}
 use Rattle.rules.specs.Ledger.{Configuration, Ledger, isAwake, sleeping, configurationAt, configurationWords, ledgerWords, written, ledgerAt}
 use Rattle.rules.specs.Soundness.{isTidy, areTidy}
 use Rattle.rules.proofs.Tests.{look}
 use Rattle.rules.proofs.Folds.{every-at, every-of}
-use Rattle.rules.proofs.TrackWords.{place-zero, place-more, place-below, length-configurationWords, Stands, read-stands, tidy-stands, tidy-fits, tidy-read, tidy-blank}
+use Rattle.rules.proofs.TrackWords.{place-first, place-after, place-more, place-below, length-configurationWords, Stands, read-stands, tidy-stands, tidy-fits, tidy-read, tidy-blank}
 
 -- `limit` is the most entries that a track holds
 module _ (limit : ℕ) where
@@ -23,19 +23,32 @@ module _ (limit : ℕ) where
   abbrev pub Fits : Ledger → Type 0
   Fits l = (t : ℕ) → length (l t .held) ≤ limit
 
-  pub length-ledgerWords : (n : ℕ) (l : Ledger) → Fits l → length (ledgerWords limit n l) ≡ wordCount limit n
-  unfolding ledgerWords wordCount
-  length-ledgerWords zero l f = sym (place-zero limit)
-  length-ledgerWords (suc n) l f =
-      length-append (ledgerWords limit n l) (configurationWords limit (l n))
-      ∙ (let a : length (ledgerWords limit n l) ≡ trackPlace limit n = length-ledgerWords n l f in
-      let b = length-configurationWords limit (l n) (f n) in let m = place-more limit n in omega arith)
+  -- the words of so many tracks, after leading words that have their length
+  pub length-up-to : (xs : List ℕ) (n : ℕ) (l : Ledger) → length xs ≡ leadingWords → Fits l → length (xs ++ ledgerWords limit n l) ≡ trackPlace limit n
+  unfolding ledgerWords
+  length-up-to xs zero l e f = ap length (append-nil xs) ∙ e ∙ sym (place-first limit)
+  length-up-to xs (suc n) l e f =
+      ap length (sym (append-assoc xs (ledgerWords limit n l) (configurationWords limit (l n))))
+      ∙ length-append (xs ++ ledgerWords limit n l) (configurationWords limit (l n))
+      ∙ (let a = length-up-to xs n l e f in let b = length-configurationWords limit (l n) (f n) in let m = place-more limit n in omega arith)
+
+  -- a ledger with room has all leading words
+  pub length-leading : (n : ℕ) (ws : List ℕ) → wordCount limit n ≤ length ws → length (take leadingWords ws) ≡ leadingWords
+  unfolding wordCount
+  length-leading n ws h = length-take-le leadingWords ws (let a = place-after limit n in omega arith)
+
+  -- what stands before the words beyond, as one list
+  pub written-up-to : (n : ℕ) (l : Ledger) (ws : List ℕ)
+      → written limit n l ws ≡ (take leadingWords ws ++ ledgerWords limit n l) ++ drop (wordCount limit n) ws
+  unfolding written
+  written-up-to n l ws = sym (append-assoc (take leadingWords ws) (ledgerWords limit n l) (drop (wordCount limit n) ws))
 
   pub length-written : (n : ℕ) (l : Ledger) (ws : List ℕ) → Fits l → wordCount limit n ≤ length ws → length (written limit n l ws) ≡ length ws
-  unfolding written
+  unfolding wordCount
   length-written n l ws f h =
-      length-append (ledgerWords limit n l) (drop (wordCount limit n) ws)
-      ∙ (let a = length-ledgerWords n l f in let b = length-drop (wordCount limit n) ws in omega arith)
+      ap length (written-up-to n l ws)
+      ∙ length-append (take leadingWords ws ++ ledgerWords limit n l) (drop (wordCount limit n) ws)
+      ∙ (let a = length-up-to (take leadingWords ws) n l (length-leading n ws h) f in let b = length-drop (trackPlace limit n) ws in omega arith)
 
   -- only the tracks written matter
   pub words-same : (n : ℕ) (l m : Ledger) → ((t : ℕ) → t < n → l t ≡ m t) → ledgerWords limit n l ≡ ledgerWords limit n m
@@ -45,39 +58,50 @@ module _ (limit : ℕ) where
 
   pub written-same : (n : ℕ) (l m : Ledger) (ws : List ℕ) → ((t : ℕ) → t < n → l t ≡ m t) → written limit n l ws ≡ written limit n m ws
   unfolding written
-  written-same n l m ws h = ap (λ (v : List ℕ). v ++ drop (wordCount limit n) ws) (words-same n l m h)
+  written-same n l m ws h = ap (λ (v : List ℕ). take leadingWords ws ++ (v ++ drop (wordCount limit n) ws)) (words-same n l m h)
 
-  -- written twice is written once
-  pub beyond-written : (n : ℕ) (m : Ledger) (ws : List ℕ) → Fits m → drop (wordCount limit n) (written limit n m ws) ≡ drop (wordCount limit n) ws
-  unfolding written
-  beyond-written n m ws f = drop-at (ledgerWords limit n m) (drop (wordCount limit n) ws) _ (length-ledgerWords n m f)
+  -- what was there before and beyond stays
+  module _ (n : ℕ) (m : Ledger) (ws : List ℕ) (f : Fits m) (h : wordCount limit n ≤ length ws) where
+    pub leading-written : take leadingWords (written limit n m ws) ≡ take leadingWords ws
+    unfolding written
+    leading-written = take-at (take leadingWords ws) _ leadingWords (length-leading n ws h)
 
-  pub written-twice : (n : ℕ) (l m : Ledger) (ws : List ℕ) → Fits m → written limit n l (written limit n m ws) ≡ written limit n l ws
-  unfolding written
-  written-twice n l m ws f = ap (λ (v : List ℕ). ledgerWords limit n l ++ v) (beyond-written n m ws f)
+    pub beyond-written : drop (wordCount limit n) (written limit n m ws) ≡ drop (wordCount limit n) ws
+    unfolding wordCount
+    beyond-written =
+        ap (drop (trackPlace limit n)) (written-up-to n m ws)
+        ∙ drop-at (take leadingWords ws ++ ledgerWords limit n m) (drop (trackPlace limit n) ws) _ (length-up-to (take leadingWords ws) n m (length-leading n ws h) f)
+
+    -- written twice is written once
+    pub written-twice : (l : Ledger) → written limit n l (written limit n m ws) ≡ written limit n l ws
+    unfolding written
+    written-twice l = rw (leading-written, beyond-written)
 
   -- each track's words stand at its place
-  stands-words : (n : ℕ) (l : Ledger) (r : List ℕ) → Fits l → (t : ℕ) → t < n → Stands limit (ledgerWords limit n l ++ r) (trackPlace limit t) (l t)
+  stands-words : (xs : List ℕ) (n : ℕ) (l : Ledger) (r : List ℕ) → length xs ≡ leadingWords → Fits l → (t : ℕ) → t < n
+      → Stands limit ((xs ++ ledgerWords limit n l) ++ r) (trackPlace limit t) (l t)
   unfolding ledgerWords
-  stands-words zero l r f t h j b = absurd (not-suc-le-zero h)
-  stands-words (suc n) l r f t h j b =
-      let xs : List ℕ = configurationWords limit (l n) in
-      ap (λ (v : List ℕ). getD v (trackPlace limit t + j) 0) (append-assoc (ledgerWords limit n l) xs r)
+  stands-words xs zero l r e f t h j b = absurd (not-suc-le-zero h)
+  stands-words xs (suc n) l r e f t h j b =
+      let ys : List ℕ = configurationWords limit (l n) in
+      let pre : List ℕ = xs ++ ledgerWords limit n l in
+      ap (λ (v : List ℕ). getD (v ++ r) (trackPlace limit t + j) 0) (sym (append-assoc xs (ledgerWords limit n l) ys))
+      ∙ ap (λ (v : List ℕ). getD v (trackPlace limit t + j) 0) (append-assoc pre ys r)
       ∙ elim (look (eqb t n)) [
-        | inl e ↦
-            let q = eqb-true t n e in
-            let a : length (ledgerWords limit n l) ≡ trackPlace limit n = unfold wordCount in length-ledgerWords n l f in
-            let i : trackPlace limit t ≡ length (ledgerWords limit n l) = ap (trackPlace limit) q ∙ sym a in
-            ap (λ (i : ℕ). getD (ledgerWords limit n l ++ (xs ++ r)) (i + j) 0) i
-            ∙ getD-append-add (ledgerWords limit n l) (xs ++ r) j 0
-            ∙ List·getD-append xs r 0 j (let w = length-configurationWords limit (l n) (f n) in omega arith)
+        | inl d ↦
+            let q = eqb-true t n d in
+            let i : trackPlace limit t ≡ length pre = ap (trackPlace limit) q ∙ sym (length-up-to xs n l e f) in
+            ap (λ (i : ℕ). getD (pre ++ (ys ++ r)) (i + j) 0) i
+            ∙ getD-append-add pre (ys ++ r) j 0
+            ∙ List·getD-append ys r 0 j (let w = length-configurationWords limit (l n) (f n) in omega arith)
             ∙ ap (λ (u : ℕ). getD (configurationWords limit (l u)) j 0) (sym q)
-        | inr e ↦ let g : t ≡ n → ⊥ = eqb-false t n e in stands-words n l (xs ++ r) f t (omega arith) j b
+        | inr d ↦ let g : t ≡ n → ⊥ = eqb-false t n d in stands-words xs n l (ys ++ r) e f t (omega arith) j b
       ]
 
-  pub stands-written : (n : ℕ) (l : Ledger) (ws : List ℕ) → Fits l → (t : ℕ) → t < n → Stands limit (written limit n l ws) (trackPlace limit t) (l t)
-  unfolding written
-  stands-written n l ws f t h = stands-words n l (drop (wordCount limit n) ws) f t h
+  pub stands-written : (n : ℕ) (l : Ledger) (ws : List ℕ) → Fits l → wordCount limit n ≤ length ws → (t : ℕ) → t < n
+      → Stands limit (written limit n l ws) (trackPlace limit t) (l t)
+  stands-written n l ws f h t b =
+      rw (written-up-to n l ws) (stands-words (take leadingWords ws) n l (drop (wordCount limit n) ws) (length-leading n ws h) f t b)
 
   -- a ledger that words can hold: it fits, nothing is beyond the last track, and asleep tracks hold nothing
   pub record Storable (n : ℕ) (l : Ledger) : Type 0 where
@@ -86,23 +110,25 @@ module _ (limit : ℕ) where
     pub blank : (t : ℕ) → isAwake (l t .mode) ≡ false → l t ≡ sleeping
 
   -- what was written is read back
-  pub read-track : (n : ℕ) (l : Ledger) (ws : List ℕ) → Fits l → (t : ℕ) → t < n → configurationAt (written limit n l ws) (trackPlace limit t) ≡ l t
-  read-track n l ws f t h = read-stands limit _ _ (l t) (f t) (stands-written n l ws f t h)
+  pub read-track : (n : ℕ) (l : Ledger) (ws : List ℕ) → Fits l → wordCount limit n ≤ length ws → (t : ℕ) → t < n
+      → configurationAt (written limit n l ws) (trackPlace limit t) ≡ l t
+  read-track n l ws f h t b = read-stands limit _ _ (l t) (f t) (stands-written n l ws f h t b)
 
-  pub read-written : (n : ℕ) (l : Ledger) (ws : List ℕ) → Fits l → ((t : ℕ) → n ≤ t → l t ≡ sleeping) → ledgerAt limit (written limit n l ws) n ≡ l
+  pub read-written : (n : ℕ) (l : Ledger) (ws : List ℕ) → Fits l → wordCount limit n ≤ length ws → ((t : ℕ) → n ≤ t → l t ≡ sleeping)
+      → ledgerAt limit (written limit n l ws) n ≡ l
   unfolding ledgerAt
-  read-written n l ws f b =
+  read-written n l ws f h b =
       fun-ext
       (λ t.
       elim (look (ltb t n)) [
-        | inl e ↦ rw e (read-track n l ws f t (ltb-true t n e))
+        | inl e ↦ rw e (read-track n l ws f h t (ltb-true t n e))
         | inr e ↦ rw e (sym (b t (ltb-false t n e)))
       ])
 
-  pub tidy-written : (n : ℕ) (l : Ledger) (ws : List ℕ) → Storable n l → areTidy limit (written limit n l ws) n ≡ true
+  pub tidy-written : (n : ℕ) (l : Ledger) (ws : List ℕ) → Storable n l → wordCount limit n ≤ length ws → areTidy limit (written limit n l ws) n ≡ true
   unfolding areTidy
-  tidy-written n l ws s =
-      every-of n _ (λ t h. tidy-stands limit _ _ (l t) (s .fits t) (s .blank t) (stands-written n l ws (s .fits) t h))
+  tidy-written n l ws s h =
+      every-of n _ (λ t b. tidy-stands limit _ _ (l t) (s .fits t) (s .blank t) (stands-written n l ws (s .fits) h t b))
 
   -- a track's part of a ledger that is read, and what lies beyond the last
   pub read-at : (n : ℕ) (ws : List ℕ) (t : ℕ) → t < n → ledgerAt limit ws n t ≡ configurationAt ws (trackPlace limit t)
@@ -127,11 +153,12 @@ module _ (limit : ℕ) where
 
   taken-words : (n : ℕ) (l : Ledger) (ws : List ℕ)
       → ((t : ℕ) → t < n → configurationWords limit (l t) ≡ take (trackWidth limit) (drop (trackPlace limit t) ws))
-      → ledgerWords limit n l ≡ take (trackPlace limit n) ws
+      → take leadingWords ws ++ ledgerWords limit n l ≡ take (trackPlace limit n) ws
   unfolding ledgerWords
-  taken-words zero l ws h = rw (place-zero limit)
+  taken-words zero l ws h = append-nil (take leadingWords ws) ∙ ap (λ (k : ℕ). take k ws) (sym (place-first limit))
   taken-words (suc n) l ws h =
-      rw (taken-words n l ws (λ t k. h t (omega arith)), h n (omega arith), place-more limit n)
+      sym (append-assoc (take leadingWords ws) (ledgerWords limit n l) (configurationWords limit (l n)))
+      ∙ rw (taken-words n l ws (λ t k. h t (omega arith)), h n (omega arith), place-more limit n)
       (sym (take-add (trackPlace limit n) (trackWidth limit) ws))
 
   module _ (n : ℕ) (ws : List ℕ) (h : areTidy limit ws n ≡ true) where
@@ -140,13 +167,13 @@ module _ (limit : ℕ) where
     tidy-at t k = every-at n _ h t k
 
     pub written-read : wordCount limit n ≤ length ws → written limit n (ledgerAt limit ws n) ws ≡ ws
-    unfolding written wordCount
+    unfolding wordCount
     written-read r =
         let e = taken-words n (ledgerAt limit ws n) ws
         (λ t k.
         ap (configurationWords limit) (read-at n ws t k)
         ∙ words-read ws (trackPlace limit t) (tidy-at t k) (let b = place-below limit n t k in omega arith)) in
-        rw e (take-append-drop (trackPlace limit n) ws)
+        written-up-to n (ledgerAt limit ws n) ws ∙ ap (λ (v : List ℕ). v ++ drop (trackPlace limit n) ws) e ∙ take-append-drop (trackPlace limit n) ws
 
     pub storable-read : Storable n (ledgerAt limit ws n)
     storable-read =

@@ -65,6 +65,11 @@ pub passed : (b : Bool) (n r : ℕ) → cond b (suc n) r ≡ 0 → (b ≡ false)
 passed true n r h = absurd (omega arith)
 passed false n r h = (refl, h)
 
+-- a single row refuses only where its test holds, and by its own number
+pub if-refused : (b : Bool) (n r : ℕ) → cond b (suc n) 0 ≡ suc r → (b ≡ true) × (r ≡ n)
+if-refused true n r h = (refl, omega arith)
+if-refused false n r h = absurd (omega arith)
+
 -- strong induction
 pub strong : (C : ℕ → Type 0) → ((t : ℕ) → ((u : ℕ) → u < t → C u) → C t) → (t : ℕ) → C t
 strong C f t = go (suc t) t (omega arith)

@@ -131,13 +131,18 @@ zero-word (suc n) (suc i) = zero-word n i
 
 -- `limit` is the most entries that a track holds
 module _ (limit : ℕ) where
-  pub place-zero : trackPlace limit 0 ≡ 0
-  unfolding trackPlace leadingWords
-  place-zero = rw mul-zero
+  pub place-first : trackPlace limit 0 ≡ leadingWords
+  unfolding trackPlace
+  place-first = rw mul-zero (omega arith)
 
   pub place-more : (t : ℕ) → trackPlace limit (suc t) ≡ trackPlace limit t + trackWidth limit
   unfolding trackPlace
   place-more t = rw mul-suc (omega arith)
+
+  -- no track's words start among the leading ones
+  pub place-after : (t : ℕ) → leadingWords ≤ trackPlace limit t
+  unfolding trackPlace
+  place-after t = omega arith
 
   -- a track's words end where those of so many tracks do, or before
   pub place-below : (n t : ℕ) → t < n → trackPlace limit t + trackWidth limit ≤ trackPlace limit n

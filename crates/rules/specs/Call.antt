@@ -10,6 +10,7 @@ use Rattle.rules.specs.Fold.{countBelow, firstRefusal}
 use Rattle.rules.specs.Plan.{Plan, trackCount, planOf}
 use Rattle.rules.specs.Acceptance.{turnedBack, accepted, readPlan}
 use Rattle.rules.specs.Layout.{entryWidth, entriesPlace, wordCount}
+use Rattle.rules.specs.Leading.{stamped, otherPlan}
 use Rattle.rules.specs.Ledger.{Ledger, ledgerAt, written}
 use Rattle.rules.specs.Scope.{isOver}
 use Rattle.rules.specs.Opening.{begun}
@@ -71,9 +72,13 @@ module _ (limit : ℕ) where
   unfoldable pub tooShort : Plan → Words → Bool
   tooShort p ws = ltb (length ws) (wordCount limit (trackCount p))
 
-  -- 17, and 18 "The ledger is not sound."
-  unfoldable pub ledgerRefusals : Plan → Words → List (Refusal × Bool)
-  ledgerRefusals p ws = (17, tooShort p ws) ∷ (18, not (isSound limit p ws)) ∷ []
+  -- 17, 24 "between 17 and 18", and 18 "The ledger is not sound."
+  unfoldable pub ledgerRefusals : Bytes → Plan → Words → List (Refusal × Bool)
+  ledgerRefusals bs p ws = (17, tooShort p ws) ∷ (24, otherPlan bs ws) ∷ (18, not (isSound limit p ws)) ∷ []
+
+  -- the first of them that applies, 0 where none does
+  unfoldable pub ledgerRefusal : Bytes → Plan → Words → Refusal
+  ledgerRefusal bs p ws = firstRefusal (ledgerRefusals bs p ws)
 
   -- 19 "The event given is 0." 20 "The ledger is over (event, signal, fire)." 21 as under `isFull`.
   -- 22 "The track may not be fired, or does not exist."
@@ -98,7 +103,7 @@ module _ (limit : ℕ) where
       let l : Ledger = ledgerAt limit ws (trackCount p) in
       refusedOr ws
       (record { answer = done (figures p l c); words = written limit (trackCount p) (after p l c) ws })
-      (firstRefusal (ledgerRefusals p ws ++ callRefusals p l c)))
+      (firstRefusal (ledgerRefusals bs p ws ++ callRefusals p l c)))
 
   unfoldable pub eventOutcome : Bytes → Words → EventArguments → Outcome
   eventOutcome bs ws a = callOutcome bs ws (event a)
@@ -109,13 +114,13 @@ module _ (limit : ℕ) where
   unfoldable pub fireOutcome : Bytes → Words → FireArguments → Outcome
   fireOutcome bs ws a = callOutcome bs ws (fire a)
 
-  -- "begin skips 18"
+  -- "begin skips 18", and 24: it writes the leading words
   unfoldable pub beginOutcome : Bytes → Words → Outcome
   beginOutcome bs ws =
       underPlan bs ws
       (λ p.
       refusedOr ws
-      (record { answer = done []; words = written limit (trackCount p) (begun p) ws })
+      (record { answer = done []; words = written limit (trackCount p) (begun p) (stamped bs ws) })
       (firstRefusal ((17, tooShort p ws) ∷ [])))
 
   -- Ready changes no word.
@@ -125,7 +130,7 @@ module _ (limit : ℕ) where
       (λ p.
       refusedOr ws
       (record { answer = done (ready p (ledgerAt limit ws (trackCount p)) ∷ []); words = ws })
-      (firstRefusal (ledgerRefusals p ws)))
+      (ledgerRefusal bs p ws))
 
   -- "the part of the caller's ledger that holds one track's pairs, those held and no unused ones"
   unfoldable pub heldPart : Plan → Words → TrackNumber → Words
@@ -138,7 +143,7 @@ module _ (limit : ℕ) where
       elim (readPlan bs) [
         | turnedBack r ↦ []
         | accepted c ↦
-            cond (eqb (firstRefusal (ledgerRefusals (planOf bs c) ws)) 0 && ltb t (trackCount (planOf bs c)))
+            cond (eqb (ledgerRefusal bs (planOf bs c) ws) 0 && ltb t (trackCount (planOf bs c)))
             (heldPart (planOf bs c) ws t) []
       ]
 

@@ -6,9 +6,15 @@ use Rattle.rules.specs.Names.{Place, TrackNumber}
 unfoldable pub entryLimit : ℕ
 entryLimit = 32
 
--- words before the first track
+-- "Each ledger gains two leading words": they stand before the first track's; where each of them stands
 unfoldable pub leadingWords : ℕ
-leadingWords = 0
+leadingWords = 2
+
+abbrev pub lengthPlace : Place
+lengthPlace = 0
+
+abbrev pub sumPlace : Place
+sumPlace = 1
 
 -- "mode, state, count of entries held": where a track's state and count stand, from where its words start
 unfoldable pub headWords : ℕ
@@ -39,6 +45,6 @@ module _ (limit : ℕ) where
   unfoldable pub entriesPlace : TrackNumber → Place
   entriesPlace t = trackPlace t + headWords
 
-  -- the words of so many tracks
+  -- "The ledger needs 2 + 67 × tracks words."
   unfoldable pub wordCount : ℕ → ℕ
   wordCount tracks = trackPlace tracks

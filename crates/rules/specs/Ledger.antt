@@ -2,12 +2,12 @@
 use mathlib.Core.Bool.{Bool, true, false, cond}
 use mathlib.Core.List.{List, [], _∷_, _++_}
 use Prim.Native.Nat.{ℕ, zero, suc, _+_, _*_, _-_}
-use lib.ListN.{length, getD, drop, replicate}
+use lib.ListN.{length, getD, take, drop, replicate}
 use lib.Dec.{ltb}
 use Rattle.rules.specs.Names.{Words, Place, TrackNumber, StateNumber, Code}
 use Rattle.rules.specs.declared.Mode.{Mode}
 use Rattle.rules.specs.declared.Mode.the-variants.{Asleep, Forward, Undoing}
-use Rattle.rules.specs.Layout.{headWords, statePlace, countPlace, entryWidth, deviationPlace, trackPlace, wordCount}
+use Rattle.rules.specs.Layout.{leadingWords, headWords, statePlace, countPlace, entryWidth, deviationPlace, trackPlace, wordCount}
 
 -- an entry: a retraction (the report's compensation) that is installed, and the state to deviate to, 65535 for none
 pub record Entry : Type 0 where
@@ -93,9 +93,9 @@ module _ (limit : ℕ) where
   ledgerWords zero l = []
   ledgerWords (suc n) l = ledgerWords n l ++ configurationWords (l n)
 
-  -- "words beyond are never touched": the words of so many tracks in place of a lent ledger's first ones
+  -- the words of so many tracks in place of a lent ledger's; the leading words stay, and "words beyond are never touched"
   unfoldable pub written : ℕ → Ledger → Words → Words
-  written tracks l ws = ledgerWords tracks l ++ drop (wordCount limit tracks) ws
+  written tracks l ws = take leadingWords ws ++ (ledgerWords tracks l ++ drop (wordCount limit tracks) ws)
 
   -- the ledger that words hold, of so many tracks
   unfoldable pub ledgerAt : Words → ℕ → Ledger

@@ -5,6 +5,7 @@ pub mod Record
 pub mod Plan
 pub mod Acceptance
 pub mod Layout
+pub mod Leading
 pub mod Ledger
 pub mod Scope
 pub mod Opening

@@ -1,23 +1,21 @@
--- What a call answers once checks 2 to 18 are passed: the first of its own refusals, or its figures and the ledger after it.
+-- What a call answers once the checks of plan and ledger are passed: the first of its own refusals, or its figures and the ledger after it.
 -- Assumes nothing.
 use mathlib.Core.Path.{_≡_, sym, ap, _∙_, subst}
-use mathlib.Core.Logic.{inl, inr}
-use mathlib.Core.Bool.{Bool, true, false, _||_}
+use mathlib.Core.Bool.{true, false}
 use mathlib.Core.List.{List, [], _∷_, _++_}
 use Prim.Native.Nat.{ℕ, suc}
-use lib.ListN.{length}
-use borrow.Author.Tests.{le-ltb}
 use Rattle.rules.specs.declared.Counts.{Counts}
 use Rattle.rules.specs.Fold.{countBelow, firstRefusal}
 use Rattle.rules.specs.Plan.{Plan, trackCount, planOf}
-use Rattle.rules.specs.Layout.{entryLimit, wordCount}
+use Rattle.rules.specs.Layout.{entryLimit}
 use Rattle.rules.specs.Ledger.{Ledger, isForward, ledgerAt, written}
 use Rattle.rules.specs.Scope.{isOver}
 use Rattle.rules.specs.Signal.{turned, turnings, abandoned, afterSignal}
-use Rattle.rules.specs.Call.{refusal, done, Outcome, nothing, Call, signal, refusedOr, underPlan, tooShort, ledgerRefusals, callRefusals, callRefusal, figures, after, callOutcome, signalOutcome, Meets}
+use Rattle.rules.specs.Call.{refusal, done, Outcome, nothing, Call, signal, refusedOr, underPlan, ledgerRefusals, callRefusals, callRefusal, figures, after, callOutcome, signalOutcome, Meets}
+use Rattle.rules.proofs.LedgerChecks.{passes-first}
 use Rattle.plan.proofs.FieldLaws.{track-count}
 use Rattle.ledger.specs.Ladder.{Tidy, Checked, Going, ledgerOf}
-use Rattle.lookup.proofs.Facts.{tidy-words, live-of-going}
+use Rattle.lookup.proofs.Facts.{checked-passes, tidy-words, live-of-going}
 use Rattle.lookup.proofs.OneTrackLaws.{holds, read-back, orderly-after, then}
 use Rattle.withdrawal.specs.Scopes.{Nested}
 use Rattle.withdrawal.proofs.ScopesNested.{nested-turned}
@@ -37,16 +35,8 @@ module _ (bs : List ℕ) (c : Counts) (ws : List ℕ) (g : Checked bs c ws) wher
       })
       r
 
-  long : tooShort entryLimit p ws ≡ false
-  unfolding tooShort
-  long = let r = g .lent .room .words in rw (track-count bs c) (le-ltb (length ws) (wordCount entryLimit (c .tracks)) r)
-
-  passed : (rs : List (ℕ × Bool)) → firstRefusal (ledgerRefusals entryLimit p ws ++ rs) ≡ firstRefusal rs
-  unfolding ledgerRefusals firstRefusal
-  passed rs = rw (long, g .sound)
-
   read : (k : Call) → callOutcome entryLimit bs ws k
-      ≡ answered k (trackCount p) (firstRefusal (ledgerRefusals entryLimit p ws ++ callRefusals entryLimit p (ledgerAt entryLimit ws (trackCount p)) k))
+      ≡ answered k (trackCount p) (firstRefusal (ledgerRefusals entryLimit bs p ws ++ callRefusals entryLimit p (ledgerAt entryLimit ws (trackCount p)) k))
   unfolding callOutcome underPlan
   read k = rw (g .lent .accepts .read, underPlan)
 
@@ -54,7 +44,7 @@ module _ (bs : List ℕ) (c : Counts) (ws : List ℕ) (g : Checked bs c ws) wher
   unfolding callRefusal
   outcome k =
       read k
-      ∙ ap (answered k (trackCount p)) (passed (callRefusals entryLimit p (ledgerAt entryLimit ws (trackCount p)) k))
+      ∙ ap (answered k (trackCount p)) (passes-first entryLimit bs p ws (checked-passes bs c ws g) (callRefusals entryLimit p (ledgerAt entryLimit ws (trackCount p)) k))
       ∙ ap (λ (n : ℕ). answered k n (firstRefusal (callRefusals entryLimit p (ledgerAt entryLimit ws n) k))) (track-count bs c)
 
   pub orderly : Tidy ws (c .tracks)

@@ -2,8 +2,7 @@
 use mathlib.Core.Path.{sym, ap, _∙_, refl}
 use Rattle.rules.specs.Call.{event, eventOutcome}
 use Rattle.rules.specs.Answers.{planTold, eventTold}
-use Rattle.manager.proofs.Checks.{meets}
-use Rattle.manager.proofs.CallChecks.{call-refused, call-checked}
+use Rattle.manager.proofs.Checks.{meets, call-refused, call-checked}
 use Rattle.opening.proofs.FirstStates.{first-figures}
 use borrow.Author.Needs.{needs}
 use Rattle.manager.proofs.event.Statement.{statement}

@@ -6,7 +6,7 @@ use Rattle.rules.specs.Answers.{planTold}
 use Rattle.ledger.proofs.Words.{in-room}
 use Rattle.ledger.proofs.ReadTracks.{count-as}
 use Rattle.lookup.proofs.Facts.{track-read}
-use Rattle.manager.proofs.Checks.{lent-room, checked-facts, span-at, span-refused, span-absent, span-held}
+use Rattle.manager.proofs.Checks.{call-checked, span-at, span-refused, span-absent, span-held}
 use borrow.Author.Needs.{needs}
 use Rattle.manager.proofs.part_of.Statement.{statement}
 use Rattle.manager.proofs.part_of.Tie as tie
@@ -17,15 +17,15 @@ returns c = span-at _ _ _ _ _ _ (c .before .before .wide .ensures .0) (span-abse
 
 track-at-requires : tie.Need-track-at-requires
 unfolding planTold
-track-at-requires c κs = in-room _ _ _ (lent-room _ _ _ (checked-facts _ _ _ (sym (ap planTold (c .before .before .before .before .answer .given .1)) ∙ c .before .before .before .before .before .before .verify .ensures .0) .0)) (c .if1 .left)
+track-at-requires c κs = in-room _ _ _ (call-checked _ _ _ (sym (ap planTold (c .before .before .before .before .answer .given .1)) ∙ c .before .before .before .before .before .before .verify .ensures .0) .lent .room) (c .if1 .left)
 
 entry-place-requires : tie.Need-entry-place-requires
 unfolding planTold entryLimit
-entry-place-requires c κs = (omega (arith, lent-room _ _ _ (checked-facts _ _ _ (sym (ap planTold (c .before .before .before .before .before .answer .given .1)) ∙ c .before .before .before .before .before .before .before .verify .ensures .0) .0) .few, c .before .if1 .left), omega arith)
+entry-place-requires c κs = (omega (arith, call-checked _ _ _ (sym (ap planTold (c .before .before .before .before .before .answer .given .1)) ∙ c .before .before .before .before .before .before .before .verify .ensures .0) .lent .room .few, c .before .if1 .left), omega arith)
 
 add-t17 : tie.Need-add-t17
 unfolding planTold entriesPlace trackPlace trackWidth headWords entryWidth entryLimit leadingWords
-add-t17 c = omega (arith, c .before .entry-place .ensures, c .wide2 .ensures .1, lent-room _ _ _ (checked-facts _ _ _ (sym (ap planTold (c .before .before .before .before .before .before .before .answer .given .1)) ∙ c .before .before .before .before .before .before .before .before .before .verify .ensures .0) .0) .few, c .before .before .before .if1 .left)
+add-t17 c = omega (arith, c .before .entry-place .ensures, c .wide2 .ensures .1, call-checked _ _ _ (sym (ap planTold (c .before .before .before .before .before .before .before .answer .given .1)) ∙ c .before .before .before .before .before .before .before .before .before .verify .ensures .0) .lent .room .few, c .before .before .before .if1 .left)
 
 returns-2 : tie.Need-returns-2
 unfolding planTold

@@ -1,8 +1,7 @@
 -- The outcome by what the checks found; no word is written. Assumes nothing.
 use mathlib.Core.Path.{sym, ap, _∙_, refl}
 use Rattle.rules.specs.Answers.{planTold, readyTold}
-use Rattle.manager.proofs.Checks.{meets, ready-refused, ready-done}
-use Rattle.manager.proofs.CallChecks.{call-checked}
+use Rattle.manager.proofs.Checks.{meets, ready-refused, ready-done, call-checked}
 use borrow.Author.Needs.{needs}
 use Rattle.manager.proofs.ready.Statement.{statement}
 use Rattle.manager.proofs.ready.Tie as tie

@@ -2,8 +2,7 @@
 use mathlib.Core.Path.{sym, ap, _∙_, refl}
 use Rattle.rules.specs.Call.{signal, nothing, signalOutcome}
 use Rattle.rules.specs.Answers.{planTold, signalTold}
-use Rattle.manager.proofs.Checks.{meets}
-use Rattle.manager.proofs.CallChecks.{call-refused, call-checked}
+use Rattle.manager.proofs.Checks.{meets, call-refused, call-checked}
 use borrow.Author.Needs.{needs}
 use Rattle.manager.proofs.signal.Statement.{statement}
 use Rattle.manager.proofs.signal.Tie as tie

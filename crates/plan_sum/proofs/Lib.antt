@@ -1,0 +1,2 @@
+-- Laws of the sum.
+pub mod SumLaws
