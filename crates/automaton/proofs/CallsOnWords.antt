@@ -10,11 +10,10 @@ use Rattle.rules.specs.Fold.{firstRefusal}
 use Rattle.rules.specs.Plan.{Plan, trackCount, planOf, isRoot}
 use Rattle.rules.specs.Acceptance.{accepted, readPlan}
 use Rattle.rules.specs.Ledger.{Ledger, ledgerAt}
-use Rattle.rules.specs.Soundness.{isSound}
-use Rattle.rules.specs.Call.{refusal, done, Call, refusedOr, tooShort, ledgerRefusals, callRefusals, callRefusal, figures, after, callOutcome, beginOutcome}
-use Rattle.rules.proofs.Tests.{look}
+use Rattle.rules.specs.Call.{refusal, done, Call, refusedOr, ledgerRefusals, ledgerRefusal, callRefusals, callRefusal, figures, after, callOutcome, beginOutcome}
 use Rattle.rules.proofs.Acceptance.{passed-all, read-passed, Accepted, accepts}
-use Rattle.restoration.proofs.SoundWords.{Holds, outcome, not-refused, passed-ledger, sound-holds, begin-holds, call-holds, call-accepted, call-refused}
+use Rattle.rules.proofs.LedgerChecks.{none-passes, refused-first, ledger-numbers}
+use Rattle.restoration.proofs.SoundWords.{Holds, outcome, done-passes, passes-holds, begin-holds, call-holds, call-accepted, call-refused}
 use Rattle.restoration.proofs.Theorems01.{over-refused, next-accepted, Sound, Kept, over-is}
 use Rattle.automaton.specs.Configuration.{Conf, init}
 use Rattle.automaton.specs.Semantics.{FailReading}
@@ -60,9 +59,7 @@ module _ (ρ : FailReading) (limit : ℕ) (bs : List ℕ) (k : Counts) (read : r
     holds : Holds limit bs k read ws (theLedger ws)
 
   made : (ws : List ℕ) (c : Call) (told : List ℕ) → callOutcome limit bs ws c .answer ≡ done told → Made ws c told
-  made ws c told h =
-      let (b, s) = passed-ledger limit bs k read ws c (not-refused limit bs k read ws c told h _ refl) in
-      go (sound-holds limit bs k read ws b s) (callRefusal limit p (theLedger ws) c) refl
+  made ws c told h = go (passes-holds limit bs k read ws (done-passes limit bs k read ws c told h)) (callRefusal limit p (theLedger ws) c) refl
     where
       go : Holds limit bs k read ws (theLedger ws) → (r : ℕ) → callRefusal limit p (theLedger ws) c ≡ r → Made ws c told
       go w (suc r) e = absurd (not-both told (suc r) (sym h ∙ ap (λ o. o .answer) (call-refused limit bs k read ws (theLedger ws) w c r e)))
@@ -114,29 +111,25 @@ module _ (ρ : FailReading) (limit : ℕ) (bs : List ℕ) (k : Counts) (read : r
   unfolding refusedOr
   refused-still ws c r h = go _ refl
     where
-      go : (x : ℕ) → firstRefusal (ledgerRefusals limit p ws ++ callRefusals limit p (theLedger ws) c) ≡ x → callOutcome limit bs ws c .words ≡ ws
+      go : (x : ℕ) → firstRefusal (ledgerRefusals limit bs p ws ++ callRefusals limit p (theLedger ws) c) ≡ x → callOutcome limit bs ws c .words ≡ ws
       go zero e = absurd (not-both _ r (sym (ap (λ o. o .answer) (outcome limit bs k read ws c 0 e)) ∙ h))
       go (suc x) e = ap (λ o. o .words) (outcome limit bs k read ws c (suc x) e)
 
   -- one refused as 19, 20 or 22: no step that it asks for applies
-  pub words-refused : (ws : List ℕ) (c : Call) (r : ℕ) → callOutcome limit bs ws c .answer ≡ refusal r → 18 < r → (r ≡ 21 → ⊥)
+  pub words-refused : (ws : List ℕ) (c : Call) (r : ℕ) → callOutcome limit bs ws c .answer ≡ refusal r → 18 < r → r < 23 → (r ≡ 21 → ⊥)
       → StepFor p ρ c (view p ρ (theLedger ws)) → ⊥
-  unfolding refusedOr ledgerRefusals firstRefusal
-  words-refused ws c r h above full v =
-      elim (look (tooShort limit p ws)) [
-        | inl e ↦ let z = told 16 (rw e) in omega arith
-        | inr e ↦
-            elim (look (isSound limit p ws)) [
-              | inr f ↦ let z = told 17 (rw (e, f)) in omega arith
-              | inl f ↦ go (sound-holds limit bs k read ws e f) (callRefusal limit p (theLedger ws) c) refl
-            ]
-      ]
+  unfolding refusedOr
+  words-refused ws c r h above below full v = checks (ledgerRefusal limit bs p ws) refl
     where
-      told : (x : ℕ) → firstRefusal (ledgerRefusals limit p ws ++ callRefusals limit p (theLedger ws) c) ≡ suc x → r ≡ suc x
-      told x e = refusal-same r (suc x) (sym h ∙ ap (λ o. o .answer) (outcome limit bs k read ws c (suc x) e))
-
       go : Holds limit bs k read ws (theLedger ws) → (x : ℕ) → callRefusal limit p (theLedger ws) c ≡ x → ⊥
       go w zero e = not-both _ r (sym (ap (λ o. o .answer) (call-accepted limit bs k read ws (theLedger ws) w c e)) ∙ h)
       go w (suc x) e =
           let q : r ≡ suc x = refusal-same r (suc x) (sym h ∙ ap (λ o. o .answer) (call-refused limit bs k read ws (theLedger ws) w c x e)) in
           refused-none p (passed-all p (read-passed bs k read)) ρ limit (theLedger ws) (w .kept) c x e (λ z. full (q ∙ z)) v
+
+      checks : (x : ℕ) → ledgerRefusal limit bs p ws ≡ x → ⊥
+      checks zero e = go (passes-holds limit bs k read ws (none-passes limit bs p ws e)) (callRefusal limit p (theLedger ws) c) refl
+      checks (suc x) e =
+          let q : r ≡ suc x =
+          refusal-same r (suc x) (sym h ∙ ap (λ o. o .answer) (outcome limit bs k read ws c (suc x) (refused-first limit bs p ws x e _))) in
+          elim (ledger-numbers limit bs p ws x e) [ inl z ↦ omega arith | inr y ↦ elim y [ inl z ↦ omega arith | inr z ↦ omega arith ] ]

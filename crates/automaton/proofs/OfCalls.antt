@@ -37,7 +37,7 @@ pub record AsAutomaton (ρ : FailReading) (bs : List ℕ) (k : Counts) (read : r
     (left : List ℕ) : Type 0 where
   pub accepted-exactly : (figures : List ℕ) → told ≡ done figures → ExactlyWords ρ entryLimit bs k read ws c figures left
   pub refused-still : (r : ℕ) → told ≡ refusal r → left ≡ ws
-  pub refused-none : (r : ℕ) → told ≡ refusal r → 18 < r → (r ≡ 21 → ⊥)
+  pub refused-none : (r : ℕ) → told ≡ refusal r → 18 < r → r < 23 → (r ≡ 21 → ⊥)
       → StepFor (planOf bs k) ρ c (view (planOf bs k) ρ (ledgerAt entryLimit ws (trackCount (planOf bs k)))) → ⊥
 
 module _ (ρ : FailReading) (bs : List ℕ) (k : Counts) (read : readPlan bs ≡ accepted k) where

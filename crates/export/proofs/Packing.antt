@@ -1,22 +1,22 @@
 -- A packed answer keeps what the call promised. A part that is not empty lies in one track's words, so its place and its count can be packed.
 -- Assumes nothing.
 use mathlib.Core.Path.{_≡_, refl, sym, ap, _∙_}
-use mathlib.Core.Bool.{Bool, true, false, cond, not, _&&_}
+use mathlib.Core.Bool.{Bool, true, false, not, _&&_}
 use mathlib.Core.List.{List, [], _∷_}
 use Prim.Native.Nat.{ℕ, zero, suc, _+_, _*_, _≤_, _<_}
 use native.Mathlib.Omega.{arith}
 use lib.Dec.{ltb, eqb}
 use lib.ListN.{length, take, drop}
-use borrow.Author.Tests.{ltb-true, eq-eqb, ne-eqb}
+use borrow.Author.Tests.{ltb-true, eqb-true, eq-eqb, ne-eqb}
 use Rattle.rules.specs.declared.Counts.{Counts}
-use Rattle.rules.specs.Fold.{firstRefusal}
 use Rattle.rules.specs.Layout.{entryLimit, entryWidth, trackWidth, headWords, leadingWords, trackPlace, entriesPlace}
 use Rattle.rules.specs.Plan.{planOf, trackCount}
 use Rattle.rules.specs.Acceptance.{Reading, turnedBack, accepted, readPlan}
 use Rattle.rules.specs.Ledger.{ledgerAt}
 use Rattle.rules.specs.Soundness.{areTidy, isSound}
-use Rattle.rules.specs.Call.{Answer, Outcome, Meets, tooShort, ledgerRefusals, heldPart, entriesPart}
+use Rattle.rules.specs.Call.{Answer, Outcome, Meets, ledgerRefusal, heldPart, entriesPart}
 use Rattle.rules.proofs.Tests.{and-holds}
+use Rattle.rules.proofs.LedgerChecks.{none-passes}
 use Rattle.plan.proofs.FieldLaws.{track-count}
 use Rattle.plan_reader.proofs.Reader.{accepted-holds}
 use Rattle.ledger.proofs.ReadTracks.{count-within}
@@ -36,12 +36,6 @@ take-again zero xs = refl
 take-again (suc n) [] = refl
 take-again (suc n) (x ∷ xs) = ap (λ (r : List ℕ). x ∷ r) (take-again n xs)
 
--- neither 17 nor 18 applies
-sound-if-unrefused : (short sound : Bool) → eqb (cond short 17 (cond (not sound) 18 0)) 0 ≡ true → sound ≡ true
-sound-if-unrefused true sound e = let z : _≡_ {A = ℕ} 0 1 = cc in absurd (omega arith)
-sound-if-unrefused false true e = refl
-sound-if-unrefused false false e = let z : _≡_ {A = ℕ} 0 1 = cc in absurd (omega arith)
-
 module _ (bs ws : List ℕ) (t : ℕ) where
   -- a part that is not empty
   pub record Held : Type 0 where
@@ -58,11 +52,11 @@ module _ (bs ws : List ℕ) (t : ℕ) where
         there = rw e (take-again (entryWidth * k) (drop (entriesPlace entryLimit t) ws));
       }
 
-  held-under : (c : Counts) → readPlan bs ≡ accepted c → (eqb (firstRefusal (ledgerRefusals entryLimit (planOf bs c) ws)) 0 && ltb t (trackCount (planOf bs c))) ≡ true → Held
-  unfolding entriesPart heldPart ledgerRefusals firstRefusal isSound
+  held-under : (c : Counts) → readPlan bs ≡ accepted c → (eqb (ledgerRefusal entryLimit bs (planOf bs c) ws) 0 && ltb t (trackCount (planOf bs c))) ≡ true → Held
+  unfolding entriesPart heldPart isSound
   held-under c a e =
-      let (f, l) = and-holds (eqb (firstRefusal (ledgerRefusals entryLimit (planOf bs c) ws)) 0) (ltb t (trackCount (planOf bs c))) e in
-      let s : isSound entryLimit (planOf bs c) ws ≡ true = sound-if-unrefused (tooShort entryLimit (planOf bs c) ws) (isSound entryLimit (planOf bs c) ws) f in
+      let (f, l) = and-holds (eqb (ledgerRefusal entryLimit bs (planOf bs c) ws) 0) (ltb t (trackCount (planOf bs c))) e in
+      let s = none-passes entryLimit bs (planOf bs c) ws (eqb-true _ 0 f) .sound in
       let y = and-holds (areTidy entryLimit ws (trackCount (planOf bs c))) _ s .0 in
       let b = ltb-true t (trackCount (planOf bs c)) l in
       held-at
@@ -75,13 +69,13 @@ module _ (bs ws : List ℕ) (t : ℕ) where
   unfolding entriesPart
   held h = go (readPlan bs) refl
     where
-      tested : (c : Counts) (b : Bool) → readPlan bs ≡ accepted c → (eqb (firstRefusal (ledgerRefusals entryLimit (planOf bs c) ws)) 0 && ltb t (trackCount (planOf bs c))) ≡ b → Held
+      tested : (c : Counts) (b : Bool) → readPlan bs ≡ accepted c → (eqb (ledgerRefusal entryLimit bs (planOf bs c) ws) 0 && ltb t (trackCount (planOf bs c))) ≡ b → Held
       tested c true a e = held-under c a e
       tested c false a e = absurd (h (rw (a, entriesPart, e)))
 
       go : (x : Reading) → readPlan bs ≡ x → Held
       go (turnedBack r) a = absurd (h (rw (a, entriesPart)))
-      go (accepted c) a = tested c (eqb (firstRefusal (ledgerRefusals entryLimit (planOf bs c) ws)) 0 && ltb t (trackCount (planOf bs c))) a refl
+      go (accepted c) a = tested c (eqb (ledgerRefusal entryLimit bs (planOf bs c) ws) 0 && ltb t (trackCount (planOf bs c))) a refl
 
 -- the number of the empty part, and of another
 pub part-empty : (part : List ℕ) (t : ℕ) → length part ≡ 0 → 0 ≡ packedPart part t
@@ -92,7 +86,7 @@ pub part-packed : (part xs : List ℕ) (t from : ℕ) → xs ≡ part → (lengt
 unfolding packedPart bit16 entryWidth
 part-packed part xs t from e h f = rw (sym e, ne-eqb (length xs) 0 h) (omega arith)
 
--- the place of a track's entry is small
-pub place-small : (t u k from : ℕ) → u ≡ t → t < 32 → from ≡ entriesPlace entryLimit u + entryWidth * k → k ≤ 32 → from < 2211
+-- the place of a track's entry is a 16-bit number
+pub place-small : (t u k from : ℕ) → u ≡ t → t < 32 → from ≡ entriesPlace entryLimit u + entryWidth * k → k ≤ 32 → from < 65536
 unfolding entriesPlace trackPlace trackWidth headWords entryWidth entryLimit leadingWords
 place-small t u k from e h f m = omega arith

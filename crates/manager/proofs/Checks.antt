@@ -1,7 +1,7 @@
 -- What the checks found, and the outcome of a call by them. Assumes nothing.
 use mathlib.Core.Path.{_≡_, refl, sym, ap, _∙_, subst}
 use mathlib.Core.Logic.{inl, inr}
-use mathlib.Core.Bool.{Bool, true, false, cond, not}
+use mathlib.Core.Bool.{Bool, true, false, not}
 use mathlib.Core.List.{List, [], _∷_}
 use Prim.Native.Nat.{ℕ, _+_, _*_, _-_, _≤_, _<_}
 use native.Mathlib.Omega.{arith}
@@ -12,7 +12,7 @@ use borrow.Author.Tests.{not-true, not-false, ltb-true, ltb-false, lt-ltb, le-lt
 use Rattle.rules.specs.declared.Counts.{Counts}
 use Rattle.rules.specs.Fold.{firstRefusal}
 use Rattle.rules.specs.Layout.{entryLimit, entryWidth, trackWidth, headWords, trackPlace, entriesPlace, wordCount}
-use Rattle.rules.specs.Plan.{Plan, planOf, trackCount}
+use Rattle.rules.specs.Plan.{planOf, trackCount}
 use Rattle.rules.specs.Acceptance.{Reading, turnedBack, accepted, readPlan}
 use Rattle.rules.specs.Leading.{stamped, otherPlan}
 use Rattle.rules.specs.Ledger.{ledgerAt, written}

@@ -56,7 +56,7 @@ module _ (limit : ℕ) (bs : List ℕ) (k : Counts) (read : readPlan bs ≡ acce
       let l : Ledger = ledgerAt limit ws (trackCount p) in
       rw (read, callOutcome, underPlan)
       (or-not-0 ws (record { answer = done (figures p l c); words = written limit (trackCount p) (after p l c) ws })
-      (figures p l c) refl (firstRefusal (ledgerRefusals limit p ws ++ callRefusals limit p l c)))
+      (figures p l c) refl (firstRefusal (ledgerRefusals limit bs p ws ++ callRefusals limit p l c)))
 
   pub answers-back : (cs : List Call) (ws rest : List ℕ)
       → decodedAnswers cs (encodedAnswers (answersFrom limit bs ws cs) ++ rest) ≡ answersFrom limit bs ws cs

@@ -36,4 +36,4 @@ module _ (limit : ℕ) where
           let l : Ledger = ledgerAt limit ws (trackCount p) in
           rw (e, callOutcome, underPlan)
           (or-shaped ws (record { answer = done (figures p l c); words = written limit (trackCount p) (after p l c) ws }) c
-          (figures-shaped p l c) (firstRefusal (ledgerRefusals limit p ws ++ callRefusals limit p l c)))
+          (figures-shaped p l c) (firstRefusal (ledgerRefusals limit bs p ws ++ callRefusals limit p l c)))

@@ -1,7 +1,7 @@
 -- What `run_calls` promises, in each of its three cases: no room, a begin refused, a begin accepted. Assumes nothing.
 use mathlib.Core.Path.{_≡_, refl, sym, ap, _∙_}
 use mathlib.Core.Logic.{_⊎_, inl, inr}
-use mathlib.Core.List.{List, [], _∷_, _++_}
+use mathlib.Core.List.{List, [], _++_}
 use Prim.Native.Nat.{ℕ, zero, suc, _/_, _≤_, _<_}
 use native.Mathlib.Omega.{arith}
 use lib.ListN.{length, drop}
@@ -9,14 +9,13 @@ use borrow.Author.Tests.{ltb-true, ltb-false}
 use Rattle.rules.proofs.Tests.{look}
 use Rattle.rules.specs.declared.BeginAnswer.{BeginAnswer}
 use Rattle.rules.specs.declared.BeginAnswer.the-variants as begin
-use Rattle.rules.specs.Plan.{planOf, trackCount}
+use Rattle.rules.specs.Plan.{planOf}
 use Rattle.rules.specs.Acceptance.{Reading, turnedBack, accepted, readPlan}
 use Rattle.rules.specs.Layout.{entryLimit}
 use Rattle.rules.specs.Opening.{begun}
 use Rattle.rules.specs.Ledger.{written}
-use Rattle.rules.specs.Fold.{firstRefusal}
 use Rattle.rules.specs.Answers.{beginTold}
-use Rattle.rules.specs.Call.{refusal, done, Outcome, Call, refusedOr, underPlan, tooShort, beginOutcome, Meets}
+use Rattle.rules.specs.Call.{refusal, done, Outcome, Call, refusedOr, underPlan, beginOutcome, Meets}
 use Rattle.rules.specs.ReferenceRun.{wordsFrom, wordsAfter, answersFrom, answersAfter}
 use Rattle.property3.specs.declared.CallsAnswer.{CallsAnswer}
 use Rattle.property3.specs.declared.CallsAnswer.the-variants.{Begun, Refused, NoRoom}
@@ -45,10 +44,7 @@ module _ (bs ws : List ℕ) where
     where
       go : (r : Reading) → readPlan bs ≡ r → Either (beginOutcome entryLimit bs ws)
       go (turnedBack k) e = rw (e, beginOutcome, underPlan) (inl (k, refl))
-      go (accepted c) e =
-          rw (e, beginOutcome, underPlan)
-          (refused-or (record { answer = done []; words = written entryLimit (trackCount (planOf bs c)) (begun (planOf bs c)) ws }) refl
-          (firstRefusal ((17, tooShort entryLimit (planOf bs c) ws) ∷ [])))
+      go (accepted c) e = rw (e, beginOutcome, underPlan) (refused-or _ refl _)
 
   begin-kept : (n : ℕ) → beginOutcome entryLimit bs ws .answer ≡ refusal n → beginOutcome entryLimit bs ws .words ≡ ws
   begin-kept n e =

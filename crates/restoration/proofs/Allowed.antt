@@ -1,6 +1,6 @@
--- What calls on sound words are answered: a firing that is allowed is done, and no call of a list from an accepted begin is refused for the
--- ledger that it got. The words hold the ledger of the rules, and of that ledger's refusals 19 is the lowest. Assumes nothing.
-use mathlib.Core.Path.{_≡_, refl, sym, ap}
+-- What calls on words that pass the checks are answered: a firing that is allowed is done, and no call of a list from an accepted begin is
+-- refused for the ledger that it got. The words hold the ledger of the rules, and that ledger refuses by 19 to 22 alone. Assumes nothing.
+use mathlib.Core.Path.{_≡_, refl, sym, ap, subst}
 use mathlib.Core.Logic.{_⊎_, inl, inr}
 use mathlib.Core.Bool.{Bool, true, false, cond, not}
 use mathlib.Core.List.{List, [], _∷_}
@@ -16,16 +16,20 @@ use Rattle.rules.specs.Ledger.{Ledger, isEmpty}
 use Rattle.rules.specs.Scope.{isOver}
 use Rattle.rules.specs.Event.{isFull}
 use Rattle.rules.specs.Fire.{newest, mayFire}
-use Rattle.rules.specs.Soundness.{isSound}
-use Rattle.rules.specs.Call.{refusal, done, Call, event, signal, fire, nothing, tooShort, callRefusals, callRefusal, figures, callOutcome, beginOutcome}
+use Rattle.rules.specs.Call.{refusal, done, Call, event, signal, fire, nothing, callRefusals, callRefusal, figures, callOutcome, beginOutcome}
 use Rattle.rules.specs.ReferenceRun.{wordsAfter, ledgerAfter}
+use Rattle.rules.proofs.LedgerChecks.{Passes}
 use Rattle.rules.proofs.Ready.{fireable-not-over}
-use Rattle.restoration.proofs.SoundWords.{theLedger, Holds, sound-holds, call-accepted, call-refused}
+use Rattle.restoration.proofs.SoundWords.{theLedger, Holds, passes-holds, call-accepted, call-refused}
 use Rattle.restoration.proofs.Restoration.{history-holds, goes-on}
 
--- a table of refusals from 19 on, its head taken off
-head : (b : Bool) (n r m : ℕ) → 19 ≤ n → cond b n r ≡ m → (r ≡ m → (m ≡ 0) ⊎ (19 ≤ m)) → (m ≡ 0) ⊎ (19 ≤ m)
-head true n r m h e f = inr (omega arith)
+-- the numbers by which a ledger that passes the checks refuses
+abbrev pub Own : ℕ → Type 0
+Own m = (19 ≤ m) × (m ≤ 22)
+
+-- a table of them, its head taken off
+head : (b : Bool) (n r m : ℕ) → Own n → cond b n r ≡ m → (r ≡ m → (m ≡ 0) ⊎ Own m) → (m ≡ 0) ⊎ Own m
+head true n r m h e f = inr (subst Own e h)
 head false n r m h e f = f e
 
 module _ (limit : ℕ) (p : Plan) (l : Ledger) where
@@ -38,15 +42,15 @@ module _ (limit : ℕ) (p : Plan) (l : Ledger) where
   unfolding callRefusal callRefusals firstRefusal
   fire-allowed t h = rw (fireable-not-over p l t h, h)
 
-  -- the numbers by which a ledger refuses
-  pub refused-high : (c : Call) (m : ℕ) → callRefusal limit p l c ≡ m → (m ≡ 0) ⊎ (19 ≤ m)
+  pub refused-own : (c : Call) (m : ℕ) → callRefusal limit p l c ≡ m → (m ≡ 0) ⊎ Own m
   unfolding callRefusal callRefusals firstRefusal
-  refused-high (event a) m e =
-      head (eqb (a .event) 0) 19 _ m (omega arith) e
-      (λ f. head (isOver p l) 20 _ m (omega arith) f (λ g. head (isFull p limit l (a .event)) 21 0 m (omega arith) g (λ h. inl (sym h))))
-  refused-high (signal a) m e = head (isOver p l) 20 0 m (omega arith) e (λ h. inl (sym h))
-  refused-high (fire a) m e =
-      head (isOver p l) 20 _ m (omega arith) e (λ f. head (not (mayFire p l (a .track))) 22 0 m (omega arith) f (λ h. inl (sym h)))
+  refused-own (event a) m e =
+      head (eqb (a .event) 0) 19 _ m (omega arith, omega arith) e
+      (λ f. head (isOver p l) 20 _ m (omega arith, omega arith) f (λ g. head (isFull p limit l (a .event)) 21 0 m (omega arith, omega arith) g (λ h. inl (sym h))))
+  refused-own (signal a) m e = head (isOver p l) 20 0 m (omega arith, omega arith) e (λ h. inl (sym h))
+  refused-own (fire a) m e =
+      head (isOver p l) 20 _ m (omega arith, omega arith) e
+      (λ f. head (not (mayFire p l (a .track))) 22 0 m (omega arith, omega arith) f (λ h. inl (sym h)))
 
 module _ (limit : ℕ) (bs : List ℕ) (k : Counts) (read : readPlan bs ≡ accepted k) where
   abbrev p : Plan
@@ -61,10 +65,10 @@ module _ (limit : ℕ) (bs : List ℕ) (k : Counts) (read : readPlan bs ≡ acce
   unfolding figures
   fire-done ws l h t m = ap (λ o. o .answer) (call-accepted limit bs k read ws l h (fire (record { track = t })) (fire-allowed limit p l t m))
 
-  -- "a firing is allowed where the rule under Fire lets that track be fired": on sound words such a call is done
-  pub allowed-done : (ws : List ℕ) → tooShort limit p ws ≡ false → isSound limit p ws ≡ true
+  -- "a firing is allowed where the rule under Fire lets that track be fired": on words that pass the checks such a call is done
+  pub allowed-done : (ws : List ℕ) → Passes limit bs p ws
       → (t : ℕ) → mayFire p (theLedger limit bs k read ws) t ≡ true → Done ws (theLedger limit bs k read ws) t
-  allowed-done ws b s = fire-done ws (theLedger limit bs k read ws) (sound-holds limit bs k read ws b s)
+  allowed-done ws h = fire-done ws (theLedger limit bs k read ws) (passes-holds limit bs k read ws h)
 
   -- so in a list from an accepted begin, "if any track is undoing and holds an entry", some firing would be done
   pub goes-on-done : (lent : List ℕ) → beginOutcome limit bs lent .answer ≡ done [] → (cs : List Call)
@@ -74,17 +78,17 @@ module _ (limit : ℕ) (bs : List ℕ) (k : Counts) (read : readPlan bs ≡ acce
       let (u, m) = goes-on limit bs k read lent cs h t d e in
       (u, fire-done (wordsAfter limit bs lent cs) (ledgerAfter limit bs p lent cs) (history-holds limit bs k read lent cs h) u m)
 
-  -- "Its first call gets the ledger as an accepted begin left it, each later one the ledger as the call before left it": that is long enough
-  -- and sound, so no call of the list is refused by 17 or 18, nor by a lower number
+  -- "Its first call gets the ledger as an accepted begin left it, each later one the ledger as the call before left it": that is long enough,
+  -- the plan's own and sound, so no call of the list is refused by 17, 24 or 18, nor by the plan
   pub refused-for-the-call : (lent : List ℕ) → beginOutcome limit bs lent .answer ≡ done [] → (cs : List Call) (c : Call) (m : ℕ)
-      → callOutcome limit bs (wordsAfter limit bs lent cs) c .answer ≡ refusal m → 19 ≤ m
+      → callOutcome limit bs (wordsAfter limit bs lent cs) c .answer ≡ refusal m → Own m
   refused-for-the-call lent h cs c m e = go (callRefusal limit p (ledgerAfter limit bs p lent cs) c) refl
     where
-      go : (r : ℕ) → callRefusal limit p (ledgerAfter limit bs p lent cs) c ≡ r → 19 ≤ m
+      go : (r : ℕ) → callRefusal limit p (ledgerAfter limit bs p lent cs) c ≡ r → Own m
       go zero z =
           let q = ap (λ o. o .answer) (call-accepted limit bs k read _ _ (history-holds limit bs k read lent cs h) c z) in
           let y : _≡_ {A = ℕ} 0 1 = cc in absurd (omega arith)
       go (suc r) z =
           let q = ap (λ o. o .answer) (call-refused limit bs k read _ _ (history-holds limit bs k read lent cs h) c r z) in
           let y : m ≡ suc r = cc in
-          elim (refused-high limit p _ c (suc r) z) [ inl x ↦ absurd (omega arith) | inr x ↦ omega arith ]
+          elim (refused-own limit p _ c (suc r) z) [ inl x ↦ absurd (omega arith) | inr x ↦ subst Own (sym y) x ]

@@ -2,31 +2,28 @@
 -- sound allow none. Assumes nothing.
 use Prim.{tt}
 use mathlib.Core.Path.{_≡_, refl, sym, ap, ap₂, _∙_}
-use mathlib.Core.Logic.{_⊎_, inl, inr}
 use mathlib.Core.Bool.{true, false, cond, not, _&&_}
-use mathlib.Core.List.{List, [], _∷_, _++_}
+use mathlib.Core.List.{List, [], _∷_}
 use Prim.Native.Nat.{ℕ, zero, suc, _+_, _*_, _≤_}
 use native.Mathlib.Omega.{arith}
 use lib.Dec.{eqb}
 use borrow.Author.Tests.{ne-eqb}
 use Rattle.rules.specs.declared.Counts.{Counts}
-use Rattle.rules.specs.Fold.{firstRefusal}
 use Rattle.rules.specs.Plan.{Plan, trackCount, planOf}
 use Rattle.rules.specs.Acceptance.{accepted, readPlan}
 use Rattle.rules.specs.Layout.{entryLimit}
 use Rattle.rules.specs.Ledger.{Ledger}
-use Rattle.rules.specs.Soundness.{isSound}
-use Rattle.rules.specs.Call.{Answer, refusal, done, Call, event, signal, fire, refusedOr, tooShort, ledgerRefusals, callRefusals, callRefusal, next, callOutcome}
+use Rattle.rules.specs.Call.{Answer, refusal, done, Call, event, signal, fire, refusedOr, ledgerRefusal, callRefusals, callRefusal, next, callOutcome}
 use Rattle.rules.specs.Transcript.{firingsOf}
 use Rattle.rules.specs.ReferenceRun.{answersFrom}
-use Rattle.rules.proofs.Tests.{look, clash}
 use Rattle.rules.proofs.Acceptance.{Accepted, accepts}
 use Rattle.theory.specs.Seams as seam
 use Rattle.theory.specs.Runs.{firingsFrom, isEventless}
 use Rattle.restoration.specs.Firings.{firingsIn, isEventDone, isDeviation, isWithout}
 use Rattle.theory.proofs.FiringsFall as theorem
 use Rattle.restoration.proofs.Document01.{document01, asRules, asTheory, there-and-back, laws01}
-use Rattle.restoration.proofs.SoundWords.{theLedger, Holds, sound-holds, outcome, passed-ledger, call-accepted, call-refused, next-holds}
+use Rattle.rules.proofs.LedgerChecks.{none-passes, refused-first}
+use Rattle.restoration.proofs.SoundWords.{theLedger, Holds, passes-holds, outcome, call-accepted, call-refused, next-holds}
 use Rattle.restoration.proofs.Restoration.{listed}
 
 -- an accepted call's firings, and whether it is an event, by the rules and by the theory
@@ -101,36 +98,26 @@ module _ (limit : ℕ) (bs : List ℕ) (k : Counts) (read : readPlan bs ≡ acce
       ap₂ (λ x y. not x && y) (step ws l h c .1)
       (same-eventless cs (callOutcome limit bs ws c .words) (next limit p l (asRules (asTheory c))) (next-holds limit bs k read ws l h c))
 
-  -- words that are too few or not sound: every call is refused
-  refused-all : (cs : List Call) (ws : List ℕ) → (tooShort limit p ws ≡ true) ⊎ (isSound limit p ws ≡ false) → firingsIn cs (answers ws cs) ≡ 0
+  -- words that do not pass the checks: every call is refused
+  refused-all : (cs : List Call) (ws : List ℕ) (r : ℕ) → ledgerRefusal limit bs p ws ≡ suc r → firingsIn cs (answers ws cs) ≡ 0
   unfolding firingsIn answersFrom firingsOf refusedOr
-  refused-all [] ws h = refl
-  refused-all (c ∷ cs) ws h = go _ refl (refused-all cs ws h)
-    where
-      go : (r : ℕ) → firstRefusal (ledgerRefusals limit p ws ++ callRefusals limit p (theLedger limit bs k read ws) c) ≡ r
-          → firingsIn cs (answers ws cs) ≡ 0
-          → firingsOf c (callOutcome limit bs ws c .answer) + firingsIn cs (answers (callOutcome limit bs ws c .words) cs) ≡ 0
-      go zero e i =
-          let (b, s) = passed-ledger limit bs k read ws c e in
-          elim h [ inl x ↦ clash x b | inr x ↦ clash s x ]
-      go (suc r) e i = rw (outcome limit bs k read ws c (suc r) e) (omega arith)
+  refused-all [] ws r h = refl
+  refused-all (c ∷ cs) ws r h =
+      let i = refused-all cs ws r h in
+      rw (outcome limit bs k read ws c (suc r) (refused-first limit bs p ws r h (callRefusals limit p (theLedger limit bs k read ws) c))) (omega arith)
 
   -- in any list without an accepted event, from any words, at most `limit` firings for each track are accepted
   pub firings-bounded : (ws : List ℕ) (cs : List Call) → isWithout isEventDone cs (answersFrom limit bs ws cs) ≡ true
       → firingsIn cs (answersFrom limit bs ws cs) ≤ limit * trackCount p
-  firings-bounded ws cs n =
-      elim (look (tooShort limit p ws)) [
-        | inl b ↦ let e = refused-all cs ws (inl b) in omega arith
-        | inr b ↦
-            elim (look (isSound limit p ws)) [
-              | inr s ↦ let e = refused-all cs ws (inr s) in omega arith
-              | inl s ↦
-                  let l = theLedger limit bs k read ws in
-                  let h = sound-holds limit bs k read ws b s in
-                  rw (same-firings cs ws l h)
-                  (theorem.firings-bounded laws01 limit p ok (listed cs) tt l (h .kept) (sym (same-eventless cs ws l h) ∙ n))
-            ]
-      ]
+  firings-bounded ws cs n = go (ledgerRefusal limit bs p ws) refl
+    where
+      go : (r : ℕ) → ledgerRefusal limit bs p ws ≡ r → firingsIn cs (answers ws cs) ≤ limit * trackCount p
+      go zero e =
+          let l = theLedger limit bs k read ws in
+          let h = passes-holds limit bs k read ws (none-passes limit bs p ws e) in
+          rw (same-firings cs ws l h)
+          (theorem.firings-bounded laws01 limit p ok (listed cs) tt l (h .kept) (sym (same-eventless cs ws l h) ∙ n))
+      go (suc r) e = let z = refused-all cs ws r e in omega arith
 
 -- "No firings beyond 32 times the number of tracks follow one another without an event or a deviation."
 pub no-firings-beyond : (bs : List ℕ) (k : Counts) → readPlan bs ≡ accepted k → (ws : List ℕ) (cs : List Call)

@@ -5,12 +5,14 @@ use mathlib.Core.Path.{_≡_, sym, ap, _∙_, subst}
 use mathlib.Core.Logic.{inl, inr}
 use mathlib.Core.Bool.{true, false, not, _||_}
 use mathlib.Core.List.{List}
-use Prim.Native.Nat.{ℕ, _<_}
+use Prim.Native.Nat.{ℕ, _<_, _≤_}
+use lib.ListN.{length}
 use native.Mathlib.Omega.{arith}
 use lib.Dec.{ltb}
 use borrow.Author.Tests.{ltb-true, ltb-false, not-true}
 use Rattle.rules.specs.declared.Mode.the-variants.{Undoing}
 use Rattle.rules.specs.Plan.{Plan, trackCount}
+use Rattle.rules.specs.Layout.{wordCount}
 use Rattle.rules.specs.Ledger.{Configuration, Ledger, isAwake, isEmpty, ledgerAt, written}
 use Rattle.rules.specs.Scope.{isOver}
 use Rattle.rules.specs.Fire.{mayFire}
@@ -121,14 +123,15 @@ module _ (limit : ℕ) (p : Plan) (ok : Accepted p) where
       subst (λ d. Kept document01 limit p (next limit p l d)) (there-and-back c) (theory.kept-next laws01 unfinished01 limit p ok tt l k (asTheory c))
 
   -- The same on words.
-  pub words-sound : (l : Ledger) (ws : List ℕ) → Kept document01 limit p l → isSound limit p (written limit (trackCount p) l ws) ≡ true
+  pub words-sound : (l : Ledger) (ws : List ℕ) → wordCount limit (trackCount p) ≤ length ws → Kept document01 limit p l
+      → isSound limit p (written limit (trackCount p) l ws) ≡ true
   unfolding isSound
-  words-sound l ws k =
+  words-sound l ws b k =
       let st = kept-storable l k in
-      let q = read-written limit (trackCount p) l ws (st .fits) (st .beyond) in
+      let q = read-written limit (trackCount p) l ws (st .fits) b (st .beyond) in
       and-both (areTidy limit (written limit (trackCount p) l ws) (trackCount p))
       (isOver p (ledgerAt limit (written limit (trackCount p) l ws) (trackCount p)) || isLive p (ledgerAt limit (written limit (trackCount p) l ws) (trackCount p)))
-      (tidy-written limit (trackCount p) l ws st) (rw q (kept-is l k))
+      (tidy-written limit (trackCount p) l ws st b) (rw q (kept-is l k))
 
   -- and what sound words hold
   pub words-kept : (ws : List ℕ) → isSound limit p ws ≡ true → Kept document01 limit p (ledgerAt limit ws (trackCount p))

@@ -1,13 +1,12 @@
 -- The leading words: begin's are the plan's own, and writing tracks leaves them as they are. Both are read off the first two words, whatever
 -- stands behind. Assumes nothing.
 use mathlib.Core.Path.{_≡_, refl, sym, ap, _∙_}
-use mathlib.Core.Bool.{false, not, _||_}
+use mathlib.Core.Bool.{false}
 use mathlib.Core.List.{List}
 use Prim.Native.Nat.{ℕ, _<_, _≤_}
 use native.Mathlib.Omega.{arith}
 use lib.ListN.{length, getD, take, length-drop}
 use lib.Seq.{getD-take}
-use lib.Dec.{eqb}
 use borrow.Author.Tests.{eq-eqb}
 use Rattle.rules.specs.Layout.{leadingWords, wordCount}
 use Rattle.rules.specs.Leading.{planSum, stamped, otherPlan}

@@ -4,16 +4,15 @@ use mathlib.Core.Path.{_≡_, refl, sym, ap, _∙_, fun-ext}
 use mathlib.Core.Logic.{inl, inr}
 use mathlib.Core.Bool.{cond}
 use mathlib.Core.List.{List, [], _∷_, _++_, append-assoc, append-nil}
-use Prim.Native.Nat.{ℕ, zero, suc, _+_, _*_, _-_, _<_, _≤_}
+use Prim.Native.Nat.{ℕ, zero, suc, _+_, _*_, _<_, _≤_}
 use native.Mathlib.Nat.{not-suc-le-zero}
 use native.Mathlib.Omega.{arith}
 use lib.ListN.{length, take, drop, replicate, set, length-set}
 use lib.Seq.{set-append-left, take-at, drop-at, length-take-le}
 use lib.Dec.{eqb}
 use borrow.Author.Tests.{eqb-true, eqb-false, eq-eqb, ne-eqb}
-use Rattle.rules.specs.declared.Mode.{Mode}
 use Rattle.rules.specs.Layout.{leadingWords, headWords, entryWidth, trackWidth, trackPlace, entriesPlace, wordCount}
-use Rattle.rules.specs.Ledger.{Entry, Configuration, Ledger, sleeping, modeWord, configurationWords, ledgerWords, written}
+use Rattle.rules.specs.Ledger.{Entry, Configuration, Ledger, sleeping, configurationWords, ledgerWords, written}
 use Rattle.rules.proofs.Tests.{look}
 use Rattle.rules.proofs.TrackWords.{set-beyond, place-below, length-configurationWords, words-sleeping, install-words, remove-words}
 use Rattle.rules.proofs.Stored.{Fits, length-up-to, length-leading, written-up-to, length-written, words-same}

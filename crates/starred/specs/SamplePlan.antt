@@ -1,4 +1,4 @@
--- The paper's sample plan P and its journal, as bytes, and a ledger to lend. Assumes nothing.
+-- The paper's sample plan P and its journal, as bytes, plans much like it, and a ledger to lend. Assumes nothing.
 use mathlib.Core.List.{List, [], _∷_}
 use Prim.Native.Nat.{ℕ, _+_, _/_, _%_}
 use lib.ListN.{replicate}
@@ -9,8 +9,9 @@ unfoldable pub bytesOf : List ℕ → List ℕ
 bytesOf [] = []
 bytesOf (w ∷ ws) = w % 256 ∷ w / 256 ∷ bytesOf ws
 
-unfoldable pub planP : List ℕ
-planP =
+-- P with these codes for its first and its third transition
+unfoldable pub planOfCodes : ℕ → ℕ → List ℕ
+planOfCodes first third =
     bytesOf
     (6 ∷ 1 ∷ 65535
     ∷ 6 ∷ 1 ∷ 1
@@ -23,13 +24,23 @@ planP =
     ∷ 10 ∷ 2 ∷ 2 ∷ 0 ∷ 0
     ∷ 10 ∷ 2 ∷ 2 ∷ 0 ∷ 0
     ∷ 10 ∷ 2 ∷ 2 ∷ 1 ∷ 0
-    ∷ 14 ∷ 3 ∷ 0 ∷ 10 ∷ 50 ∷ 65535 ∷ 1
+    ∷ 14 ∷ 3 ∷ 0 ∷ 10 ∷ first ∷ 65535 ∷ 1
     ∷ 14 ∷ 3 ∷ 1 ∷ 13 ∷ 0 ∷ 65535 ∷ 2
-    ∷ 14 ∷ 3 ∷ 3 ∷ 11 ∷ 51 ∷ 65535 ∷ 4
+    ∷ 14 ∷ 3 ∷ 3 ∷ 11 ∷ third ∷ 65535 ∷ 4
     ∷ 14 ∷ 3 ∷ 5 ∷ 12 ∷ 52 ∷ 65535 ∷ 6
     ∷ 14 ∷ 3 ∷ 6 ∷ 14 ∷ 54 ∷ 65535 ∷ 7
     ∷ 4 ∷ 4
     ∷ [])
+
+unfoldable pub planP : List ℕ
+planP = planOfCodes 50 51
+
+-- a neighbour's plan: one code is another. And a plan alike in both leading words: two codes are exchanged
+unfoldable pub neighbourP : List ℕ
+neighbourP = planOfCodes 50 61
+
+unfoldable pub alikeP : List ℕ
+alikeP = planOfCodes 51 50
 
 -- "events 10, 11, 12, signal, four times kind 19"
 unfoldable pub journalP : List ℕ

@@ -1,0 +1,81 @@
+-- The leading words on plan P, from bytes and words: begin writes them, an over ledger keeps them, and under a neighbour's plan every call but
+-- begin is refused by them. Each is proved by computing the definitions of the rules. Assumes nothing.
+use mathlib.Core.Path.{_≡_, refl}
+use mathlib.Core.List.{List, [], _∷_}
+use Prim.Native.Nat.{ℕ}
+use lib.ListN.{length, take, replicate}
+use Rattle.rules.specs.Layout.{entryLimit}
+use Rattle.rules.specs.Leading.{planSum}
+use Rattle.rules.specs.Call.{Answer, refusal, done, Call, event, signal, fire, nothing, beginOutcome, readyOutcome, callOutcome, entriesPart}
+use Rattle.rules.specs.ReferenceRun.{wordsAfter}
+use Rattle.starred.specs.SamplePlan.{planP, neighbourP, alikeP, lentFor}
+use Rattle.starred.specs.Computing.{computing}
+
+abbrev e : ℕ → Call
+e n = event (record { event = n })
+
+-- P's words after begin and a list of events: one is underway, one is over
+abbrev words : List Call → List ℕ
+words cs = wordsAfter entryLimit planP (lentFor 3) cs
+
+abbrev underway : List ℕ
+underway = words (e 10 ∷ [])
+
+abbrev over : List ℕ
+over = words (e 10 ∷ e 11 ∷ e 12 ∷ e 14 ∷ e 13 ∷ [])
+
+-- what a call answers to such words under a plan
+abbrev answer : List ℕ → List ℕ → Call → Answer
+answer bs ws c = callOutcome entryLimit bs ws c .answer
+
+-- "the plan's length in bytes, and the sum modulo 65,536 of its bytes taken as little-endian 16-bit numbers"
+pub leads-P : (length planP ≡ 172) × (planSum planP ≡ 609)
+unfolding computing
+leads-P = (refl, refl)
+
+-- "Begin writes them"; a call and finish leave them
+pub begin-writes : take 2 (words []) ≡ 172 ∷ 609 ∷ []
+unfolding computing
+begin-writes = refl
+
+pub calls-leave : (take 2 underway ≡ 172 ∷ 609 ∷ []) × (take 2 over ≡ 172 ∷ 609 ∷ [])
+unfolding computing
+calls-leave = (refl, refl)
+
+-- "every other call tests them": a ledger that was begun under P, read under its neighbour's plan
+pub other-calls : (answer neighbourP underway (e 11) ≡ refusal 24)
+    × (answer neighbourP underway (signal nothing) ≡ refusal 24)
+    × (answer neighbourP underway (fire (record { track = 0 })) ≡ refusal 24)
+    × (readyOutcome entryLimit neighbourP underway .answer ≡ refusal 24)
+    × (entriesPart entryLimit neighbourP underway 0 ≡ [])
+    × (entriesPart entryLimit planP underway 0 ≡ 50 ∷ 65535 ∷ [])
+unfolding computing
+other-calls = (refl, refl, refl, refl, refl, refl)
+
+pub other-begins : beginOutcome entryLimit neighbourP underway .answer ≡ done []
+unfolding computing
+other-begins = refl
+
+-- 24 comes before 20 and before 18, and after 17
+pub other-over : (answer planP over (signal nothing) ≡ refusal 20) × (answer neighbourP over (signal nothing) ≡ refusal 24)
+unfolding computing
+other-over = (refl, refl)
+
+pub zeros-other : (answer planP (replicate 203 0) (signal nothing) ≡ refusal 24)
+    × (answer planP (172 ∷ 609 ∷ replicate 201 0) (signal nothing) ≡ refusal 20)
+    × (answer planP (replicate 203 7) (signal nothing) ≡ refusal 24)
+    × (answer planP (172 ∷ 609 ∷ replicate 201 7) (signal nothing) ≡ refusal 18)
+    × (answer planP (replicate 202 0) (signal nothing) ≡ refusal 17)
+unfolding computing
+zeros-other = (refl, refl, refl, refl, refl)
+
+-- "either word is not the plan's"
+pub either-word : (answer planP (170 ∷ 609 ∷ replicate 201 0) (signal nothing) ≡ refusal 24)
+    × (answer planP (172 ∷ 608 ∷ replicate 201 0) (signal nothing) ≡ refusal 24)
+unfolding computing
+either-word = (refl, refl)
+
+-- "Keeping the pair together stays the caller's part only among plans alike in the two words": such a plan's ledger is taken
+pub alike-taken : (length alikeP ≡ 172) × (planSum alikeP ≡ 609) × (answer alikeP underway (e 11) ≡ done (1 ∷ 0 ∷ []))
+unfolding computing
+alike-taken = (refl, refl, refl)
