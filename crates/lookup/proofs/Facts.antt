@@ -40,18 +40,16 @@ pub few-tracks : (bs : List ℕ) (c : Counts) → Accepts bs c → trackCount (p
 few-tracks bs c a = let h = a .holds .tracks in omega (arith, track-count bs c)
 
 -- what the checks of the ledger establish, in the rules' terms and in the ladder's
-pub checked-passes : (bs : List ℕ) (c : Counts) (ws : List ℕ) → Checked bs c ws → Passes entryLimit bs (planOf bs c) ws
+pub room-long : (bs : List ℕ) (c : Counts) (ws : List ℕ) → Room ws (c .tracks) → tooShort entryLimit (planOf bs c) ws ≡ false
 unfolding tooShort
-checked-passes bs c ws k =
-    record {
-      long = rw (track-count bs c) (le-ltb (length ws) (wordCount entryLimit (c .tracks)) (k .lent .room .words));
-      own = k .own;
-      sound = k .sound;
-    }
+room-long bs c ws r = rw (track-count bs c) (le-ltb (length ws) (wordCount entryLimit (c .tracks)) (r .words))
 
 pub long-room : (bs : List ℕ) (c : Counts) (ws : List ℕ) → Accepts bs c → tooShort entryLimit (planOf bs c) ws ≡ false → Room ws (c .tracks)
 unfolding tooShort
 long-room bs c ws a h = record { few = a .holds .tracks; words = ltb-false (length ws) (wordCount entryLimit (c .tracks)) (rw track-count at h) }
+
+pub checked-passes : (bs : List ℕ) (c : Counts) (ws : List ℕ) → Checked bs c ws → Passes entryLimit bs (planOf bs c) ws
+checked-passes bs c ws k = record { long = room-long bs c ws (k .lent .room); own = k .own; sound = k .sound }
 
 pub passes-checked : (bs : List ℕ) (c : Counts) (ws : List ℕ) → Accepts bs c → Passes entryLimit bs (planOf bs c) ws → Checked bs c ws
 passes-checked bs c ws a h = record { lent = record { accepts = a; room = long-room bs c ws a (h .long) }; own = h .own; sound = h .sound }

@@ -1,33 +1,26 @@
--- A checked ledger stays checked: begin and every call leave words that hold a ledger of the rules, and those are sound. Assumes nothing.
+-- A checked ledger stays checked: begin and every call leave words that hold a ledger of the rules, and those pass the checks. Assumes nothing.
 use mathlib.Core.Path.{_≡_, sym, ap, _∙_, subst}
-use mathlib.Core.Bool.{false}
 use mathlib.Core.List.{List, []}
-use Prim.Native.Nat.{ℕ, _≤_}
-use lib.ListN.{length}
-use borrow.Author.Tests.{le-ltb}
+use Prim.Native.Nat.{ℕ}
 use Rattle.rules.specs.declared.Counts.{Counts}
 use Rattle.rules.specs.Plan.{planOf, trackCount}
-use Rattle.rules.specs.Layout.{entryLimit, wordCount}
+use Rattle.rules.specs.Layout.{entryLimit}
+use Rattle.rules.specs.Leading.{stamped}
 use Rattle.rules.specs.Ledger.{Ledger, ledgerAt, written}
 use Rattle.rules.specs.Opening.{begun}
-use Rattle.rules.specs.Call.{done, Outcome, Call, tooShort, next, callOutcome, beginOutcome}
+use Rattle.rules.specs.Call.{done, Outcome, Call, next, callOutcome, beginOutcome}
 use Rattle.plan.proofs.FieldLaws.{track-count}
 use Rattle.ledger.specs.Ladder.{Room, Accepts, Checked}
-use Rattle.restoration.proofs.SoundWords.{Holds, sound-holds, call-holds, begin-accepted, begin-holds}
+use Rattle.lookup.proofs.Facts.{room-long, checked-passes, passes-checked}
+use Rattle.restoration.proofs.SoundWords.{Holds, passes-holds, holds-passes, call-holds, begin-accepted, begin-holds}
 
 module _ (bs : List ℕ) (c : Counts) where
-  long-enough : (ws : List ℕ) → Room ws (c .tracks) → tooShort entryLimit (planOf bs c) ws ≡ false
-  unfolding tooShort
-  long-enough ws r = rw track-count (le-ltb (length ws) (wordCount entryLimit (c .tracks)) (r .words))
-
   -- checked words hold the ledger that they read as
   pub checked-holds : (ws : List ℕ) (k : Checked bs c ws) → Holds entryLimit bs c (k .lent .accepts .read) ws (ledgerAt entryLimit ws (trackCount (planOf bs c)))
-  checked-holds ws k = sound-holds entryLimit bs c (k .lent .accepts .read) ws (long-enough ws (k .lent .room)) (k .sound)
+  checked-holds ws k = passes-holds entryLimit bs c (k .lent .accepts .read) ws (checked-passes bs c ws k)
 
   holds-checked : (a : Accepts bs c) (ws : List ℕ) (l : Ledger) → Holds entryLimit bs c (a .read) ws l → Checked bs c ws
-  holds-checked a ws l h =
-      let n : wordCount entryLimit (trackCount (planOf bs c)) ≤ length ws = h .long in
-      record { lent = record { accepts = a; room = record { few = a .holds .tracks; words = rw track-count at n } }; sound = h .sound }
+  holds-checked a ws l h = passes-checked bs c ws a (holds-passes entryLimit bs c (a .read) ws l h)
 
   pub call-keeps : (ws : List ℕ) → Checked bs c ws → (d : Call) → Checked bs c (callOutcome entryLimit bs ws d .words)
   call-keeps ws k d =
@@ -36,11 +29,12 @@ module _ (bs : List ℕ) (c : Counts) where
       (call-holds entryLimit bs c (k .lent .accepts .read) ws l (checked-holds ws k) d)
 
   module _ (a : Accepts bs c) (ws : List ℕ) (r : Room ws (c .tracks)) where
-    pub begun-outcome : beginOutcome entryLimit bs ws ≡ record { answer = done []; words = written entryLimit (trackCount (planOf bs c)) (begun (planOf bs c)) ws }
-    begun-outcome = begin-accepted entryLimit bs c (a .read) ws (long-enough ws r)
+    pub begun-outcome : beginOutcome entryLimit bs ws
+        ≡ record { answer = done []; words = written entryLimit (trackCount (planOf bs c)) (begun (planOf bs c)) (stamped bs ws) }
+    begun-outcome = begin-accepted entryLimit bs c (a .read) ws (room-long bs c ws r)
 
-    pub begin-words : written entryLimit (c .tracks) (begun (planOf bs c)) ws ≡ beginOutcome entryLimit bs ws .words
-    begin-words = ap (λ (n : ℕ). written entryLimit n (begun (planOf bs c)) ws) (sym (track-count bs c)) ∙ sym (ap (λ (o : Outcome). o .words) begun-outcome)
+    pub begin-words : written entryLimit (c .tracks) (begun (planOf bs c)) (stamped bs ws) ≡ beginOutcome entryLimit bs ws .words
+    begin-words = ap (λ (n : ℕ). written entryLimit n (begun (planOf bs c)) (stamped bs ws)) (sym (track-count bs c)) ∙ sym (ap (λ (o : Outcome). o .words) begun-outcome)
 
     pub begin-holding : Holds entryLimit bs c (a .read) (beginOutcome entryLimit bs ws .words) (begun (planOf bs c))
     begin-holding = begin-holds entryLimit bs c (a .read) ws (ap (λ (o : Outcome). o .answer) begun-outcome)
@@ -49,5 +43,6 @@ module _ (bs : List ℕ) (c : Counts) where
     begin-keeps = holds-checked a (beginOutcome entryLimit bs ws .words) (begun (planOf bs c)) begin-holding
 
   -- the same of words that are begin's
-  pub begun-checked : (a : Accepts bs c) (ws ws′ : List ℕ) → Room ws (c .tracks) → ws′ ≡ written entryLimit (c .tracks) (begun (planOf bs c)) ws → Checked bs c ws′
+  pub begun-checked : (a : Accepts bs c) (ws ws′ : List ℕ) → Room ws (c .tracks) → ws′ ≡ written entryLimit (c .tracks) (begun (planOf bs c)) (stamped bs ws)
+      → Checked bs c ws′
   begun-checked a ws ws′ r e = subst (Checked bs c) (sym (e ∙ begin-words a ws r)) (begin-keeps a ws r)

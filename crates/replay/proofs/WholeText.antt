@@ -13,6 +13,7 @@ use Rattle.rules.specs.Record.{mostOf}
 use Rattle.rules.specs.Plan.{planOf}
 use Rattle.rules.specs.Acceptance.{turnedBack, accepted, readPlan}
 use Rattle.rules.specs.Layout.{entryLimit, leadingWords, headWords, entryWidth, trackWidth, trackPlace, wordCount}
+use Rattle.rules.specs.Leading.{stamped}
 use Rattle.rules.specs.Ledger.{written}
 use Rattle.rules.specs.Opening.{begun}
 use Rattle.rules.specs.Call.{beginOutcome}
@@ -75,7 +76,7 @@ pub ran-refused : (out out′ : List ℕ) (end n : ℕ) (ws : List ℕ) → line
 ran-refused out out′ end n ws h l = let s = l .short in record { wrote = l .wrote; left = refl; short = omega arith }
 
 -- begin's words under either name
-pub ran-begun : (bs js : List ℕ) (c : Counts) (a : Accepts bs c) (ws ws′ : List ℕ) → Room ws (c .tracks) → ws′ ≡ written entryLimit (c .tracks) (begun (planOf bs c)) ws
+pub ran-begun : (bs js : List ℕ) (c : Counts) (a : Accepts bs c) (ws ws′ : List ℕ) → Room ws (c .tracks) → ws′ ≡ written entryLimit (c .tracks) (begun (planOf bs c)) (stamped bs ws)
     → (mid : List ℕ) (start : ℕ) (vs out′ : List ℕ) (end : ℕ)
     → RanRecords bs js c ws′ mid start vs out′ end → RanRecords bs js c (beginOutcome entryLimit bs ws .words) mid start vs out′ end
 ran-begun bs js c a ws ws′ r e mid start vs out′ end g =

@@ -1,5 +1,7 @@
 // Reads plan P, runs the calls of the paper's sample through `run_calls`, and prints a line for each answer: its refusal, 0 where accepted, and
 // its two figures.
+use ledger::layout::LEADING_WORDS;
+use ledger::layout::TRACK_WIDTH;
 use libc::STDIN_FILENO;
 use libc::STDOUT_FILENO;
 use property3::ANSWER_WIDTH;
@@ -32,8 +34,8 @@ const CALLS: [u16; CALL_WIDTH * COUNT] = [
     0,
 ];
 
-// The words of 3 tracks.
-const LEDGER_WORDS: usize = 3 * 67;
+// The words of a ledger of 3 tracks.
+const LEDGER_WORDS: usize = LEADING_WORDS + TRACK_WIDTH * 3;
 
 fn print_word(n: u16, end: &[u8]) {
     io::print_decimal(STDOUT_FILENO, n as u64);
