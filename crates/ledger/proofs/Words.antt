@@ -46,7 +46,10 @@ pub in-room : (ws : List ℕ) (tracks t : ℕ) → Room ws tracks → t < tracks
 unfolding wordCount
 in-room ws tracks t r h = let a = r .few in let b = r .words in record { number = omega arith; room = omega (arith, place-below entryLimit tracks t h) }
 
--- and so have the leading words
+-- the leading words stand before a track's, and have room where all tracks have
+pub leading-before : {at : ℕ} (t : ℕ) → at ≡ trackPlace entryLimit t → leadingWords ≤ at
+leading-before t e = omega (arith, e, place-after entryLimit t)
+
 pub leading-room : {ws : List ℕ} {tracks : ℕ} → Room ws tracks → leadingWords ≤ length ws
 unfolding wordCount
 leading-room {tracks = tracks} r = omega (arith, r .words, place-after entryLimit tracks)

@@ -38,10 +38,12 @@ pub fn verify(
     match answer {
         PlanAnswer::Refused(n) => PlanAnswer::Refused(n),
         PlanAnswer::Accepted(c) => {
-            if leading::is_other(plan, ledger) {
+            let other = leading::is_other(plan, ledger);
+            let sound = sound::is_sound(plan, c, ledger, opens);
+            if other {
                 return PlanAnswer::Refused(24);
             }
-            if !sound::is_sound(plan, c, ledger, opens) {
+            if !sound {
                 return PlanAnswer::Refused(18);
             }
             PlanAnswer::Accepted(c)

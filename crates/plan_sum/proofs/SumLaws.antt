@@ -1,13 +1,12 @@
 -- The sum as a loop makes it: what is added so far, and the bytes from a place on. Reducing on the way changes nothing. Assumes nothing.
 use mathlib.Core.Path.{_≡_, ap, _∙_}
 use mathlib.Core.List.{List}
-use Prim.Native.Nat.{ℕ, suc, _+_, _%_, _<_, _≤_}
+use Prim.Native.Nat.{ℕ, suc, _+_, _*_, _%_, _<_, _≤_}
 use native.Mathlib.Omega.{arith}
 use native.Mathlib.Numerals.{add-one, add-two}
 use native.Mathlib.Nat.{mod-add-mod}
 use lib.ListN.{length, getD, drop}
 use lib.Seq.{drop-cons, drop-length}
-use Rattle.rules.specs.Record.{word}
 use Rattle.rules.specs.Leading.{numbersTotal, planSum}
 
 module _ (bs : List ℕ) where
@@ -20,9 +19,9 @@ module _ (bs : List ℕ) where
   sum-start = omega arith
 
   module _ (at : ℕ) where
-    -- the number at a place, and those after it
-    pub total-more : at + 2 ≤ length bs → numbersTotal (drop at bs) ≡ word bs at + numbersTotal (drop (at + 2) bs)
-    unfolding numbersTotal word
+    -- the number of two bytes at a place, and those after it
+    pub total-more : at + 2 ≤ length bs → numbersTotal (drop at bs) ≡ getD bs at 0 + 256 * getD bs (at + 1) 0 + numbersTotal (drop (at + 2) bs)
+    unfolding numbersTotal
     total-more h = rw (add-two, add-one, drop-cons bs at 0 (omega arith), drop-cons bs (suc at) 0 (omega arith))
 
     -- a byte by itself, and no byte
@@ -34,8 +33,9 @@ module _ (bs : List ℕ) where
     unfolding numbersTotal
     total-none h k = let e : at ≡ length bs = omega arith in rw (e, drop-length bs)
 
-    pub sum-more : (sum n : ℕ) → n ≡ word bs at → at + 2 ≤ length bs → sumWith ((sum + n) % 65536) (at + 2) ≡ sumWith sum at
+    pub sum-more : (sum low high : ℕ) → low ≡ getD bs at 0 → high ≡ getD bs (at + 1) 0 → at + 2 ≤ length bs
+        → sumWith ((sum + low + 256 * high) % 65536) (at + 2) ≡ sumWith sum at
     unfolding sumWith
-    sum-more sum n e h =
-        let q : sum + n + numbersTotal (drop (at + 2) bs) ≡ sum + numbersTotal (drop at bs) = omega (arith, total-more h) in
-        mod-add-mod (sum + n) 65536 _ ∙ ap (λ (x : ℕ). x % 65536) q
+    sum-more sum low high e f h =
+        let q : sum + low + 256 * high + numbersTotal (drop (at + 2) bs) ≡ sum + numbersTotal (drop at bs) = omega (arith, total-more h) in
+        mod-add-mod (sum + low + 256 * high) 65536 _ ∙ ap (λ (x : ℕ). x % 65536) q

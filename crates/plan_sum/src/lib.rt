@@ -1,17 +1,10 @@
 // The sum of a plan's bytes, taken as little-endian 16-bit numbers, modulo 65,536. It takes any bytes.
-use plan::fields;
 ghost use mathlib.Core.Path.{_≡_};
 ghost use Prim.Native.Nat.{_+_, _≤_, _<_};
 ghost use lib.ListN.{length, drop};
 ghost use Rattle.rules.specs.Leading.{numbersTotal, planSum};
 
-fn wide(x: u16) -> u32
-    ensures { λ r. ⌜ (r ≡ x) × (r < 65536) ⌝ }
-{
-    x as u32
-}
-
-fn wide_byte(x: u8) -> u32
+fn wide(x: u8) -> u32
     ensures { λ r. ⌜ (r ≡ x) × (r < 256) ⌝ }
 {
     x as u32
@@ -23,7 +16,7 @@ fn unpaired(plan: &[u8], at: usize) -> u32
     ensures { λ r. ⌜ (r ≡ numbersTotal (drop at (now (plan .entry)))) × (r < 256) ⌝ }
 {
     if at < plan.len() {
-        return wide_byte(plan[at]);
+        return wide(plan[at]);
     }
     0
 }
@@ -35,7 +28,9 @@ pub fn sum(plan: &[u8]) -> u16
     let mut sum: u32 = 0;
     let mut at: usize = 0;
     while 2 <= plan.len() - at {
-        sum = (sum + wide(fields::word_at(plan, at))) % 65536;
+        let low = wide(plan[at]);
+        let high = wide(plan[at + 1]);
+        sum = (sum + low + 256 * high) % 65536;
         at += 2;
     }
     ((sum + unpaired(plan, at)) % 65536) as u16

@@ -18,7 +18,7 @@ loop-holds : tie.Need-loop-holds Inv-loop μ-loop
 loop-holds c = (search needs, search needs, sum-start _)
 
 loop-again : tie.Need-loop-again Inv-loop μ-loop
-loop-again c = (search needs, search needs, sum-more _ _ _ _ (c .wide .ensures .0 ∙ c .before .word-at .ensures) (search needs) ∙ c .before .before .before .loop .inv .2)
+loop-again c = (search needs, search needs, sum-more _ _ _ _ _ (c .before .before .wide .ensures .0) (c .wide2 .ensures .0) (search needs) ∙ c .before .before .before .before .before .loop .inv .2)
 
 returns : tie.Need-returns Inv-loop μ-loop
 unfolding sumWith
@@ -32,8 +32,13 @@ sum-spec =
     μ-loop
     loop-holds
     (λ c. search needs)
+    (λ c. search needs)
     (λ c κs. search needs)
+    (λ c. search needs)
+    (λ c. search needs)
     (λ c κs. search needs)
+    (λ c. search needs)
+    (λ c. search needs)
     (λ c. search needs)
     (λ c. search needs)
     (λ c. search needs)

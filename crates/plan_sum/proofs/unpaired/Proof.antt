@@ -7,7 +7,7 @@ use Rattle.plan_sum.proofs.unpaired.Statement.{statement}
 use Rattle.plan_sum.proofs.unpaired.Tie as tie
 
 returns : tie.Need-returns
-returns c = (c .wide-byte .ensures .0 ∙ sym (total-last _ _ (search needs) (c .before .before .before .before .pre .1)), c .wide-byte .ensures .1)
+returns c = (c .wide .ensures .0 ∙ sym (total-last _ _ (search needs) (c .before .before .before .before .pre .1)), c .wide .ensures .1)
 
 returns-2 : tie.Need-returns-2
 returns-2 c = (sym (total-none _ _ (c .before .before .pre .0) (c .if1 .left)), omega arith)

@@ -1,19 +1,18 @@
 -- The part lent is the words of all tracks, behind the leading ones, and comes back zeroed. Assumes nothing.
 use native.Mathlib.Omega.{arith}
-use Rattle.rules.specs.Layout.{entryLimit, leadingWords, wordCount}
-use Rattle.rules.proofs.TrackWords.{place-after}
-use Rattle.ledger.proofs.Words.{sleep-all}
+use Rattle.rules.specs.Layout.{leadingWords, wordCount}
+use Rattle.ledger.proofs.Words.{leading-before, sleep-all}
 use borrow.Author.Needs.{needs}
 use Rattle.ledger.proofs.track.put_all_to_sleep.Statement.{statement}
 use Rattle.ledger.proofs.track.put_all_to_sleep.Tie as tie
 
 sub-clear : tie.Need-sub-clear
 unfolding leadingWords
-sub-clear c = omega (arith, c .track-place .ensures, place-after entryLimit (c .before .before .args .tracks))
+sub-clear c = leading-before _ (c .track-place .ensures)
 
 part-clear-start : tie.Need-part-clear-start
 unfolding leadingWords
-part-clear-start c = omega (arith, c .track-place .ensures, place-after entryLimit (c .before .before .args .tracks))
+part-clear-start c = leading-before _ (c .track-place .ensures)
 
 part-clear-end : tie.Need-part-clear-end
 unfolding wordCount
