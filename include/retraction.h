@@ -1,12 +1,23 @@
 /* The retraction manager's calls. Link with libretraction.a: `pkg-config --cflags --libs retraction`.
  *
- * Every call is given the plan's bytes, and all but read the lent ledger, 67 words for each track of the plan; words beyond are never
- * touched. Any bytes and any words may be given. A refused call changes no word. docs/FORMATS.md says what the bytes and the words are,
- * docs/REFUSALS.md what each refusal means.
+ * Every call is given the plan's bytes, and all but read the lent ledger: two leading words, then 67 for each track of the plan; words
+ * beyond are never touched. Any bytes and any words may be given. A refused call changes no word. docs/FORMATS.md says what the bytes and
+ * the words are, docs/REFUSALS.md what each refusal means.
+ *
+ *   word of a ledger   what it is
+ *   0                  the plan's length in bytes
+ *   1                  the sum of the plan's bytes, taken as little-endian 16-bit numbers, modulo 65536
+ *   2 + 67 * t         track t's mode: 0 asleep, 1 forward, 2 undoing
+ *   3 + 67 * t         its state
+ *   4 + 67 * t         the count of entries that it holds, 0 to 32
+ *   5 + 67 * t         the first of 32 pairs of code and deviation, oldest first, unused pairs zero
+ *
+ * Begin writes the leading words. Event, signal, fire, ready and entries test them: a ledger that was begun under a plan of another length
+ * or sum is refused as 24, checked between 17 and 18. So are zeros: a ledger starts with a begin.
  *
  * What a caller owes: a pointer is not null, even where its length is 0, and holds so many bytes or words; the ledger's is at an even
- * address; the plan and the ledger do not overlap; and nothing else writes to either during a call. A ledger is kept with the plan that it
- * was begun under.
+ * address; the plan and the ledger do not overlap; and nothing else writes to either during a call. Plans alike in length and sum are not
+ * told apart: among those a ledger is kept with the plan that it was begun under.
  *
  * The calls are reentrant and thread-safe: none allocates, keeps a pointer, prints, or has any state but the ledger lent to it. A ledger's
  * words have the machine's own byte order; a plan's bytes are little-endian everywhere.
@@ -35,12 +46,13 @@ extern "C" {
 #endif
 
 /* 10000 times the major version, 100 times the minor one, and the patch. */
-#define RETRACTION_VERSION 100
-#define RETRACTION_VERSION_TEXT "0.1.0"
+#define RETRACTION_VERSION 200
+#define RETRACTION_VERSION_TEXT "0.2.0"
 
-/* Words of a ledger for each track, and of a ledger of so many tracks. Read tells a plan's tracks. */
+/* Words of a ledger: the leading ones, those of each track, and all of them with so many tracks. Read tells a plan's tracks. */
+#define RETRACTION_LEADING_WORDS 2
 #define RETRACTION_TRACK_WORDS 67
-#define RETRACTION_LEDGER_WORDS(tracks) ((size_t)RETRACTION_TRACK_WORDS * (size_t)(tracks))
+#define RETRACTION_LEDGER_WORDS(tracks) (RETRACTION_LEADING_WORDS + (size_t)RETRACTION_TRACK_WORDS * (size_t)(tracks))
 
 /* The most tracks that a plan has: a ledger of RETRACTION_LEDGER_WORDS(RETRACTION_MOST_TRACKS) words serves every plan. */
 #define RETRACTION_MOST_TRACKS 32
@@ -48,7 +60,7 @@ extern "C" {
 /* A host, or a deviation, that is none. */
 #define RETRACTION_NONE 65535
 
-/* The refusals. 1 and 23 are the program's alone. */
+/* The refusals, in checking order: 24 comes between 17 and 18. 1 and 23 are the program's alone. */
 enum retraction_refusals {
     RETRACTION_TOO_LONG = 1,
     RETRACTION_NO_RECORD = 2,
@@ -67,6 +79,7 @@ enum retraction_refusals {
     RETRACTION_SAME_EVENT = 15,
     RETRACTION_HEIGHT = 16,
     RETRACTION_FEW_WORDS = 17,
+    RETRACTION_OTHER_PLAN = 24,
     RETRACTION_UNSOUND = 18,
     RETRACTION_EVENT_ZERO = 19,
     RETRACTION_OVER = 20,
@@ -114,6 +127,7 @@ static inline const char *retraction_refusal_text(uint16_t refusal)
     case RETRACTION_SAME_EVENT: return "two transitions share source and event";
     case RETRACTION_HEIGHT: return "a track's height is above 8";
     case RETRACTION_FEW_WORDS: return "the ledger has too few words for the plan";
+    case RETRACTION_OTHER_PLAN: return "the ledger's leading words are not those of this plan";
     case RETRACTION_UNSOUND: return "the ledger is not sound under this plan";
     case RETRACTION_EVENT_ZERO: return "the event is 0";
     case RETRACTION_OVER: return "the ledger is over";

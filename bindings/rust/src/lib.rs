@@ -1,11 +1,11 @@
 //! The proved retraction manager for register plans.
 //!
 //! A [`Plan`] owns the bytes of a plan that was accepted; a [`Ledger`] belongs
-//! to a plan, has the words that it needs, and is sound at all times. Each
-//! call either answers its figures or is refused with the paper's number, and
-//! a refused call changes nothing. The calls are those of
-//! `include/retraction.h`, each proved to meet the paper's rules; this crate
-//! only unpacks their answers.
+//! to a plan, has the words that it needs, led by the plan's length and sum,
+//! and is sound at all times. Each call either answers its figures or is
+//! refused with the paper's number, and a refused call changes nothing. The
+//! calls are those of `include/retraction.h`, each proved to meet the paper's
+//! rules; this crate only unpacks their answers.
 //!
 //! ```
 //! use retraction::{Moved, Plan, Refusal};
@@ -33,6 +33,10 @@ pub mod raw;
 mod refusal;
 
 pub use refusal::Refusal;
+
+/// Words of a ledger before those of its tracks: the plan's length in bytes,
+/// and the sum modulo 65,536 of its bytes as little-endian 16-bit numbers.
+pub const LEADING_WORDS: usize = 2;
 
 /// Words of a ledger for each track.
 pub const TRACK_WORDS: usize = 67;
@@ -101,14 +105,15 @@ impl Plan {
         self.counts
     }
 
-    /// The words that a ledger under this plan has.
+    /// The words that a ledger under this plan has: the leading ones, and those
+    /// of each track.
     #[must_use]
     pub fn ledger_words(&self) -> usize {
-        TRACK_WORDS * usize::from(self.counts.tracks)
+        LEADING_WORDS + TRACK_WORDS * usize::from(self.counts.tracks)
     }
 
-    /// A ledger at its begin: roots forward in their first states, others
-    /// asleep.
+    /// A ledger at its begin: led by the plan's length and sum, roots forward
+    /// in their first states, others asleep.
     pub fn begin(&self) -> Ledger<'_> {
         let mut words = vec![0; self.ledger_words()];
         let begun = raw::begin(&self.bytes, &mut words);
@@ -117,8 +122,12 @@ impl Plan {
     }
 
     /// A ledger that was stored as words; refused as 17 where they are too
-    /// few, as 18 where they are not sound under this plan. Words beyond those
-    /// that the plan needs are dropped.
+    /// few, as 24 where their leading words are not those of this plan, as 18
+    /// where they are not sound under it. Words beyond those that the plan
+    /// needs are dropped.
+    ///
+    /// Plans alike in length and sum are not told apart: among those, store
+    /// beside a ledger which plan it was begun under.
     ///
     /// ```
     /// # use retraction::{Plan, Refusal};
@@ -129,6 +138,7 @@ impl Plan {
     /// let stored = plan.begin().words().to_vec();
     /// assert_eq!(plan.ledger(stored.clone())?, plan.begin());
     /// assert_eq!(plan.ledger(&stored[1..]), Err(Refusal::FewWords));
+    /// assert_eq!(plan.ledger(vec![0; stored.len()]), Err(Refusal::OtherPlan));
     /// # Ok(())
     /// # }
     /// ```
@@ -154,8 +164,9 @@ impl<'plan> Ledger<'plan> {
         self.plan
     }
 
-    /// Its words, 67 for each track, in the machine's own byte order: to be
-    /// stored, and read again by [`Plan::ledger`].
+    /// Its words, the plan's length and sum, then 67 for each track, in the
+    /// machine's own byte order: to be stored, and read again by
+    /// [`Plan::ledger`].
     #[must_use]
     pub fn words(&self) -> &[u16] {
         &self.words
@@ -164,7 +175,7 @@ impl<'plan> Ledger<'plan> {
     /// Whether the ledger is over: every track is asleep.
     #[must_use]
     pub fn is_over(&self) -> bool {
-        self.words.iter().all(|&word| word == 0)
+        self.words[LEADING_WORDS..].iter().all(|&word| word == 0)
     }
 
     /// An event: each forward track without an open scope takes its state's

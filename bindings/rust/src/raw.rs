@@ -3,7 +3,9 @@
 //! [`crate::Ledger`] keep the two together and need no such care.
 //!
 //! Any bytes and any words may be given. A refused call changes no word, and
-//! words beyond the plan's are never touched.
+//! words beyond the plan's are never touched. [`begin`] writes the leading
+//! words; the calls after it refuse a ledger whose leading words are not those
+//! of the plan as 24, and [`entries`] then gives the empty part.
 
 use crate::{Counts, Entry, Moved, Refusal, NONE};
 
@@ -83,7 +85,8 @@ pub fn read(plan: &[u8]) -> Result<Counts, Refusal> {
     })
 }
 
-/// Overwrites the ledger: roots forward in their first states, others asleep.
+/// Overwrites the ledger: the plan's length and sum lead, roots are forward in
+/// their first states, others asleep.
 pub fn begin(plan: &[u8], ledger: &mut [u16]) -> Result<(), Refusal> {
     let (words, len) = (ledger.as_mut_ptr(), ledger.len());
     // SAFETY: both slices are whole, apart, and live through the call.

@@ -7,7 +7,8 @@ macro_rules! refusals {
     ($($name:ident = $number:literal, $text:literal;)*) => {
         /// Why a plan, a ledger or a call was refused. Its number is the
         /// paper's; `docs/REFUSALS.md` has an example of each, and what to
-        /// mend.
+        /// mend. The order of the numbers is that of the checks but for 24,
+        /// which comes between 17 and 18.
         #[derive(Clone, Copy, Debug, PartialEq, Eq, PartialOrd, Ord, Hash)]
         #[non_exhaustive]
         #[repr(u16)]
@@ -16,7 +17,7 @@ macro_rules! refusals {
         }
 
         impl Refusal {
-            /// Every refusal, by rising number.
+            /// Every refusal, in the order of the checks.
             pub const ALL: &'static [Refusal] = &[$(Refusal::$name,)*];
 
             /// What it means, in a few words.
@@ -48,6 +49,7 @@ refusals! {
     SameEvent = 15, "two transitions share source and event";
     Height = 16, "a track's height is above 8";
     FewWords = 17, "the ledger has too few words for the plan";
+    OtherPlan = 24, "the ledger's leading words are not those of this plan";
     Unsound = 18, "the ledger is not sound under this plan";
     EventZero = 19, "the event is 0";
     Over = 20, "the ledger is over";
@@ -57,7 +59,7 @@ refusals! {
 }
 
 impl Refusal {
-    /// The paper's number, 1 to 23.
+    /// The paper's number, 1 to 24.
     #[must_use]
     pub fn number(self) -> u16 {
         self as u16

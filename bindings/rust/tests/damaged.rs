@@ -5,8 +5,8 @@ mod sample_plan;
 
 use retraction::raw::{begin, entries, event, fire, ready, signal};
 use retraction::Refusal::{EventZero, FewWords, Over, Unsound};
-use retraction::{Moved, NONE, TRACK_WORDS};
-use sample_plan::{begun, plan};
+use retraction::{Moved, LEADING_WORDS, NONE, TRACK_WORDS};
+use sample_plan::{begun, plan, WORDS};
 
 const ASLEEP: u16 = 0;
 const FORWARD: u16 = 1;
@@ -25,7 +25,7 @@ fn opened() -> (Vec<u8>, Vec<u16>) {
 
 /// A track's words: mode, state, and the entries held, oldest first.
 fn put(ledger: &mut [u16], track: usize, mode: u16, state: u16, held: &[(u16, u16)]) {
-    let words = &mut ledger[track * TRACK_WORDS..(track + 1) * TRACK_WORDS];
+    let words = &mut ledger[LEADING_WORDS + track * TRACK_WORDS..][..TRACK_WORDS];
     words.fill(0);
     words[..3].copy_from_slice(&[mode, state, held.len() as u16]);
     for (pair, entry) in words[3..].chunks_exact_mut(2).zip(held) {
@@ -56,17 +56,17 @@ fn the_ledger_before_the_damage_is_sound() {
 
 #[test]
 fn mode_3() {
-    is_refused(|ledger| ledger[0] = 3);
+    is_refused(|ledger| ledger[LEADING_WORDS] = 3);
 }
 
 #[test]
 fn count_33() {
-    is_refused(|ledger| ledger[2] = 33);
+    is_refused(|ledger| ledger[LEADING_WORDS + 2] = 33);
 }
 
 #[test]
 fn unused_pair_not_zero() {
-    is_refused(|ledger| ledger[3 + 2] = 1);
+    is_refused(|ledger| ledger[LEADING_WORDS + 3 + 2] = 1);
 }
 
 #[test]
@@ -144,25 +144,26 @@ fn abandoning_left_to_do() {
 }
 
 #[test]
-fn all_zero_is_over() {
-    let plan = plan();
-    let mut ledger = vec![0; 3 * TRACK_WORDS];
+fn all_asleep_is_over() {
+    let (plan, mut ledger) = begun();
+    ledger[LEADING_WORDS..].fill(0);
+    let before = ledger.clone();
     assert_eq!(event(&plan, &mut ledger, 0), Err(EventZero));
     assert_eq!(event(&plan, &mut ledger, 5), Err(Over));
     assert_eq!(signal(&plan, &mut ledger), Err(Over));
     assert_eq!(fire(&plan, &mut ledger, 99), Err(Over));
     assert_eq!(ready(&plan, &mut ledger), Ok(0));
     assert_eq!(entries(&plan, &ledger, 0), []);
-    assert_eq!(ledger, vec![0; 3 * TRACK_WORDS]);
+    assert_eq!(ledger, before);
 }
 
 #[test]
 fn one_word_too_few() {
     let plan = plan();
-    let mut ledger = vec![9; 3 * TRACK_WORDS - 1];
+    let mut ledger = vec![9; WORDS - 1];
     assert_eq!(begin(&plan, &mut ledger), Err(FewWords));
     assert_eq!(event(&plan, &mut ledger, 0), Err(FewWords));
     assert_eq!(ready(&plan, &mut ledger), Err(FewWords));
     assert_eq!(entries(&plan, &ledger, 0), []);
-    assert_eq!(ledger, vec![9; 3 * TRACK_WORDS - 1]);
+    assert_eq!(ledger, vec![9; WORDS - 1]);
 }

@@ -3,8 +3,8 @@
 mod sample_plan;
 
 use retraction::raw::{begin, entries, event, fire, read, ready, signal};
-use retraction::{Counts, Entry, Moved, Plan, Refusal, NONE, TRACK_WORDS};
-use sample_plan::{begun, plan};
+use retraction::{Counts, Entry, Moved, Plan, Refusal, LEADING_WORDS, NONE, TRACK_WORDS};
+use sample_plan::{begun, plan, WORDS};
 
 fn fired(code: u16) -> Result<Entry, Refusal> {
     let deviation = None;
@@ -42,14 +42,16 @@ fn a_scope_that_closes_leaves_its_replacement() {
     assert_eq!(entries(&plan, &ledger, 1), []);
     assert_eq!(event(&plan, &mut ledger, 13), moved(1, 0));
     assert_eq!(signal(&plan, &mut ledger), Err(Refusal::Over));
-    assert!(ledger[..3 * TRACK_WORDS].iter().all(|&word| word == 0));
+    assert_eq!(ledger[..LEADING_WORDS], [172, 609]);
+    let tracks = &ledger[LEADING_WORDS..WORDS];
+    assert!(tracks.iter().all(|&word| word == 0));
 }
 
 #[test]
 fn refused_calls_change_no_word() {
     let (plan, mut ledger) = begun();
     let before = ledger.clone();
-    let short = &mut ledger.clone()[..200];
+    let short = &mut ledger.clone()[..WORDS - 1];
     assert_eq!(begin(&[], &mut ledger), Err(Refusal::NoRecord));
     assert_eq!(event(&plan, &mut ledger, 0), Err(Refusal::EventZero));
     assert_eq!(event(&plan, short, 10), Err(Refusal::FewWords));
@@ -57,9 +59,9 @@ fn refused_calls_change_no_word() {
     assert_eq!(fire(&plan, &mut ledger, 3), Err(Refusal::NotReady));
     assert_eq!(ready(&[4, 0, 4, 0], &mut ledger), Err(Refusal::NoTrack));
     assert_eq!(entries(&plan, &ledger, 3), []);
-    assert_eq!(short[..], before[..200]);
+    assert_eq!(short[..], before[..WORDS - 1]);
     assert_eq!(ledger, before);
-    ledger[0] = 3;
+    ledger[LEADING_WORDS] = 3;
     assert_eq!(ready(&plan, &mut ledger), Err(Refusal::Unsound));
 }
 
@@ -73,7 +75,7 @@ fn a_plan_tells_its_counts() {
     assert_eq!(read(&plan()), Ok(counts));
     assert_eq!(read(&plan()[..171]), Err(Refusal::NoRecord));
     let plan = Plan::read(plan()).expect("the sample");
-    assert_eq!((plan.counts(), plan.ledger_words()), (counts, 201));
+    assert_eq!((plan.counts(), plan.ledger_words()), (counts, 203));
 }
 
 #[test]
@@ -100,9 +102,14 @@ fn a_ledger_is_stored_and_read_again() -> Result<(), Refusal> {
 
 #[test]
 fn a_refusal_has_its_number_and_its_words() {
-    assert_eq!(Refusal::ALL.len(), 23);
-    for (number, &refusal) in (1..).zip(Refusal::ALL) {
-        assert_eq!(refusal.number(), number);
+    let checked: Vec<u16> = (1..=17).chain([24]).chain(18..=23).collect();
+    let numbers: Vec<u16> = Refusal::ALL
+        .iter()
+        .map(|refusal| refusal.number())
+        .collect();
+    assert_eq!(numbers, checked);
+    for &refusal in Refusal::ALL {
+        let number = refusal.number();
         assert_eq!(Refusal::from_number(number), Some(refusal));
         assert_eq!(refusal.to_string(), format!("{number}: {}", refusal.text()));
     }
@@ -114,16 +121,35 @@ fn file(name: &str) -> String {
     std::fs::read_to_string(path).expect("a file of the repository")
 }
 
-/// The header says the same of each refusal, and of the version; so do the manual pages.
+/// The header names the refusals in the same order, and says the same of each, of a ledger's words and of the version; so do the manual
+/// pages of the version.
 #[test]
 fn the_header_agrees() {
     let header = file("include/retraction.h");
+    let line = |line: &str| header.lines().any(|found| found == line);
+    let mut names = header.lines().filter(|line| line.contains(" = "));
     for refusal in Refusal::ALL {
         assert!(header.contains(&format!("return \"{}\";", refusal.text())));
-        assert!(header.contains(&format!(" = {}", refusal.number())));
+        let name = names.next().expect("a name for each refusal");
+        assert!(name
+            .trim_end_matches(',')
+            .ends_with(&format!(" = {}", refusal.number())));
     }
+    assert!(line(&format!(
+        "#define RETRACTION_LEADING_WORDS {LEADING_WORDS}"
+    )));
+    assert!(line(&format!(
+        "#define RETRACTION_TRACK_WORDS {TRACK_WORDS}"
+    )));
     let version = env!("CARGO_PKG_VERSION");
-    assert!(header.contains(&format!("RETRACTION_VERSION_TEXT \"{version}\"")));
+    let part = |part: &str| part.parse::<u32>().expect("a number");
+    let number = version
+        .split('.')
+        .fold(0, |number, next| 100 * number + part(next));
+    assert!(line(&format!("#define RETRACTION_VERSION {number}")));
+    assert!(line(&format!(
+        "#define RETRACTION_VERSION_TEXT \"{version}\""
+    )));
     for page in ["unwind.1", "retraction.3", "plan.5"] {
         assert!(file(&format!("man/{page}")).contains(&format!("\"retraction {version}\"")));
     }

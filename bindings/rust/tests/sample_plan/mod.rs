@@ -1,7 +1,10 @@
 //! The paper's sample plan P, and a ledger begun under it.
 
 use retraction::raw::begin;
-use retraction::{NONE, TRACK_WORDS};
+use retraction::{LEADING_WORDS, NONE, TRACK_WORDS};
+
+/// The words that a ledger of plan P has.
+pub const WORDS: usize = LEADING_WORDS + 3 * TRACK_WORDS;
 
 /// The records of plan P: length, kind, fields.
 const RECORDS: &[&[u16]] = &[
@@ -32,8 +35,8 @@ pub fn plan() -> Vec<u8> {
 /// Plan P begun, with words beyond that stay as they are.
 pub fn begun() -> (Vec<u8>, Vec<u16>) {
     let plan = plan();
-    let mut ledger = vec![7; 3 * TRACK_WORDS + 5];
+    let mut ledger = vec![7; WORDS + 5];
     assert_eq!(begin(&plan, &mut ledger), Ok(()));
-    assert_eq!(ledger[3 * TRACK_WORDS..], [7; 5]);
+    assert_eq!(ledger[WORDS..], [7; 5]);
     (plan, ledger)
 }
