@@ -2,7 +2,7 @@
 //! each call shows.
 
 use bench::sides::Call;
-use second::ledger::Ledger;
+use second::ledger::{track_start, Ledger};
 use second::plan::{self, Plan, Records};
 use second::rules;
 
@@ -187,7 +187,7 @@ fn refused(plans: &[(Records, usize)], order: &str) -> Row {
         if let Some(last) = records.transitions.last_mut() {
             last.event = event;
         }
-        let words = vec![0; 67];
+        let words = vec![0; track_start(records.tracks.len())];
         let call = Call::Begin;
         (records.encode(), Given { words, call })
     };

@@ -4,12 +4,14 @@
 use bench::fast::run;
 use bench::sides::{self, Call};
 use second::journal::{self, Record};
+use second::ledger::track_start;
 use second::plan::{self, MAX_TRACKS};
 use testing::generate::rng::Rng;
-use testing::generate::{damage, journals, ledgers, plans, singles};
+use testing::generate::{damage, journals, ledgers, neighbours, plans, singles};
 
-/// Makes the call by both on copies of the words; the words afterwards.
-fn agreed(plan: &[u8], words: &[u16], call: Call, case: u64) -> Vec<u16> {
+/// Makes the call by both on copies of the words; the answer, and the words
+/// afterwards.
+fn agreed(plan: &[u8], words: &[u16], call: Call, case: u64) -> (u64, Vec<u16>) {
     let (mut expected, mut found) = (words.to_vec(), words.to_vec());
     let answer = sides::second(plan, &mut expected, call);
     assert_eq!(
@@ -18,7 +20,7 @@ fn agreed(plan: &[u8], words: &[u16], call: Call, case: u64) -> Vec<u16> {
         "the answer of {call:?} in case {case}"
     );
     assert!(found == expected, "the words after {call:?} in case {case}");
-    expected
+    (answer, expected)
 }
 
 /// Every call with arguments that may do something, or nothing.
@@ -43,30 +45,41 @@ fn calls(rng: &mut Rng, call: singles::Call) -> [Call; 7] {
     ]
 }
 
-/// Accepted and refused plans; sound, damaged and too short ledgers.
+/// Accepted and refused plans; sound, damaged and too short ledgers, and those
+/// of other plans. Each refusal of a call is among the answers.
 #[test]
 fn half_a_million_single_calls() {
+    let mut refused = [0; 25];
     let mut made = 0;
     for index in 0..72_000 {
         let mut rng = Rng::for_case(31, 1, index);
         let single = singles::single(&mut rng, MAX_TRACKS);
         for call in calls(&mut rng, single.call) {
-            agreed(&single.plan, &single.words, call, index);
+            let (answer, _) = agreed(&single.plan, &single.words, call, index);
+            if !matches!(call, Call::Entries(_)) {
+                refused[usize::from(answer as u16)] += 1;
+            }
             made += 1;
         }
     }
     assert!(made >= 500_000);
+    for number in (2..=22).chain([24]) {
+        assert!(refused[number] >= 100, "{number}: {}", refused[number]);
+    }
+    assert!(refused[24] >= 20_000, "24: {}", refused[24]);
 }
 
-/// Ledgers that go on from call to call, from a begin on any words.
+/// Ledgers that go on from call to call, from a begin on any words. Now and
+/// then a neighbour's plan is given: 24, and the history goes on.
 #[test]
 fn calls_of_histories() {
     for index in 0..10_000 {
         let mut rng = Rng::for_case(31, 2, index);
         let bytes = plans::bytes(&mut rng, MAX_TRACKS);
         let plan = plan::read(&bytes).expect("accepted");
+        let neighbour = neighbours::neighbour(&mut rng, &plan).records().encode();
         let words = ledgers::garbage(&mut rng, &plan);
-        let mut words = agreed(&bytes, &words, Call::Begin, index);
+        let (_, mut words) = agreed(&bytes, &words, Call::Begin, index);
         for record in journals::history(&mut rng, &plan).0 {
             let call = match record {
                 Record::Event(event) => Call::Event(event),
@@ -74,7 +87,10 @@ fn calls_of_histories() {
                 Record::Fire(track) => Call::Fire(track),
                 Record::FireLowest => Call::Fire(lowest_ready(&bytes, &words)),
             };
-            words = agreed(&bytes, &words, call, index);
+            if rng.chance(10) {
+                assert_eq!(agreed(&neighbour, &words, call, index).0, 24);
+            }
+            words = agreed(&bytes, &words, call, index).1;
         }
     }
 }
@@ -90,7 +106,8 @@ fn damaged_plans() {
     for index in 0..20_000 {
         let mut rng = Rng::for_case(31, 3, index);
         let plan = damage::any_plan(&mut rng, MAX_TRACKS);
-        agreed(&plan, &[0; 67 * MAX_TRACKS], Call::Begin, index);
+        let words = vec![0; track_start(MAX_TRACKS)];
+        agreed(&plan, &words, Call::Begin, index);
     }
 }
 
@@ -101,7 +118,8 @@ fn repeated_events_of_a_wide_state() {
     for index in 0..400 {
         let mut rng = Rng::for_case(31, 4, index);
         let records = wide(&mut rng);
-        agreed(&records.encode(), &[0; 67], Call::Begin, index);
+        let words = vec![0; track_start(records.tracks.len())];
+        agreed(&records.encode(), &words, Call::Begin, index);
     }
 }
 

@@ -1,7 +1,10 @@
-//! The ledger's tracks as sets, read off its words in one visit to each.
+//! The ledger's leading words, and its tracks as sets, read off their words in
+//! one visit to each. But for the leading words, `words` are the tracks' alone.
 
 use super::plan::{Plan, NONE};
 
+/// Words before those of the tracks: the plan's length and its sum.
+pub const LEADING_WORDS: usize = 2;
 /// Words for each track: mode, state, count, and 32 pairs.
 pub const TRACK_WORDS: usize = 67;
 /// Where a track's pairs start among its words.
@@ -11,6 +14,18 @@ pub const CAPACITY: u16 = 32;
 /// Modes of a track that is awake.
 pub const FORWARD: u16 = 1;
 pub const UNDOING: u16 = 2;
+
+/// The leading words of the ledgers of a plan that is accepted, so that its
+/// length fits a word. The sum goes word by word, as many at once as the
+/// machine adds.
+#[inline(always)]
+pub fn leading(plan: &[u8]) -> [u16; LEADING_WORDS] {
+    let words = plan.chunks_exact(2);
+    let sum = words.fold(0, |sum: u16, pair| {
+        sum.wrapping_add(u16::from_le_bytes([pair[0], pair[1]]))
+    });
+    [plan.len() as u16, sum]
+}
 
 /// Sets of tracks, a bit for each.
 #[derive(Clone, Copy, Debug, Default, PartialEq, Eq)]
@@ -26,8 +41,8 @@ pub struct Sets {
 }
 
 impl Sets {
-    /// The sets of a sound ledger, which has enough words; `None` if it is
-    /// not sound.
+    /// The sets of a sound ledger's tracks, which have enough words; `None` if
+    /// it is not sound.
     #[inline(always)]
     pub fn of(plan: &Plan, words: &[u16]) -> Option<Sets> {
         let words = &words[..plan.tracks * TRACK_WORDS];

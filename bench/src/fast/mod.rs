@@ -1,11 +1,13 @@
 //! The paper's calls, written for speed: no heap, one visit to each record of
-//! the plan and to each word of the ledger, sets of tracks as bits, and
-//! transitions in a table of places by source and event, which both number 15
-//! and an event look up. The answers and every word of the ledger are the
-//! second program's, as a test holds them to be.
+//! the plan and to each word of the ledger, the plan's sum in one sweep over
+//! its bytes, sets of tracks as bits, and transitions in a table of places by
+//! source and event, which both number 15 and an event look up. The answers
+//! and every word of the ledger are the second program's, as a test holds them
+//! to be.
 //!
 //! - [`plan`]: the plan reader, refusals 2 to 16.
-//! - [`ledger`]: whether the words are sound, and the tracks as sets.
+//! - [`ledger`]: the leading words, whether the tracks' words are sound, and
+//!   the tracks as sets.
 //! - [`steps`]: what the calls do, on an accepted plan and a sound ledger.
 //! - [`run`]: the program `unwind` as a function of bytes.
 
@@ -14,7 +16,7 @@ pub mod plan;
 pub mod run;
 pub mod steps;
 
-use ledger::{Sets, PAIRS, TRACK_WORDS};
+use ledger::{Sets, LEADING_WORDS, PAIRS, TRACK_WORDS};
 use plan::Plan;
 
 /// The paper's number of a refusal.
@@ -35,11 +37,12 @@ pub struct Entry {
     pub deviation: u16,
 }
 
-/// Begin overwrites the ledger.
+/// Begin overwrites the ledger, its leading words included.
 pub fn begin(bytes: &[u8], words: &mut [u16]) -> Result<(), Refused> {
     let mut plan = Plan::unread();
     accept(&mut plan, bytes, words)?;
-    steps::begin(&plan, words);
+    words[..LEADING_WORDS].copy_from_slice(&ledger::leading(bytes));
+    steps::begin(&plan, &mut words[LEADING_WORDS..]);
     Ok(())
 }
 
@@ -47,21 +50,21 @@ pub fn begin(bytes: &[u8], words: &mut [u16]) -> Result<(), Refused> {
 pub fn event(bytes: &[u8], words: &mut [u16], event: u16) -> Result<Moved, Refused> {
     let mut plan = Plan::unread();
     let mut sets = check(&mut plan, bytes, words)?;
-    steps::event(&plan, words, &mut sets, event)
+    steps::event(&plan, &mut words[LEADING_WORDS..], &mut sets, event)
 }
 
 /// Signal: tracks turned.
 pub fn signal(bytes: &[u8], words: &mut [u16]) -> Result<u16, Refused> {
     let mut plan = Plan::unread();
     let mut sets = check(&mut plan, bytes, words)?;
-    steps::signal(&plan, words, &mut sets)
+    steps::signal(&plan, &mut words[LEADING_WORDS..], &mut sets)
 }
 
 /// Fire a named track: code and deviation.
 pub fn fire(bytes: &[u8], words: &mut [u16], track: u16) -> Result<Entry, Refused> {
     let mut plan = Plan::unread();
     let mut sets = check(&mut plan, bytes, words)?;
-    steps::fire(&plan, words, &mut sets, track)
+    steps::fire(&plan, &mut words[LEADING_WORDS..], &mut sets, track)
 }
 
 /// Ready: bit n set exactly if track n may be fired.
@@ -78,7 +81,7 @@ pub fn entries<'a>(bytes: &[u8], words: &'a [u16], track: u16) -> &'a [u16] {
     if check(&mut plan, bytes, words).is_err() || track >= plan.tracks {
         return &[];
     }
-    let own = &words[track * TRACK_WORDS..][..TRACK_WORDS];
+    let own = &words[LEADING_WORDS + track * TRACK_WORDS..][..TRACK_WORDS];
     &own[PAIRS..][..2 * usize::from(own[2])]
 }
 
@@ -86,15 +89,20 @@ pub fn entries<'a>(bytes: &[u8], words: &'a [u16], track: u16) -> &'a [u16] {
 #[inline(always)]
 fn accept<'a>(plan: &mut Plan<'a>, bytes: &'a [u8], words: &[u16]) -> Result<(), Refused> {
     plan.read(bytes)?;
-    match words.len() < plan.tracks * TRACK_WORDS {
+    match words.len() < LEADING_WORDS + plan.tracks * TRACK_WORDS {
         true => Err(Refused(17)),
         false => Ok(()),
     }
 }
 
-/// 2 to 18: an accepted plan and a sound ledger, whose sets are the answer.
+/// 2 to 17, 24 and 18: an accepted plan and its own and sound ledger, whose
+/// sets are the answer.
 #[inline(always)]
 fn check<'a>(plan: &mut Plan<'a>, bytes: &'a [u8], words: &[u16]) -> Result<Sets, Refused> {
     accept(plan, bytes, words)?;
-    Sets::of(plan, words).ok_or(Refused(18))
+    let (leading, tracks) = words.split_at(LEADING_WORDS);
+    if leading != ledger::leading(bytes) {
+        return Err(Refused(24));
+    }
+    Sets::of(plan, tracks).ok_or(Refused(18))
 }

@@ -1,7 +1,8 @@
 //! The program `unwind` as a function of plan bytes and journal bytes. The
-//! plan is read once, and the sets go on from record to record.
+//! plan is read once, and the sets go on from record to record. The ledger is
+//! its own, from a begin on, so that 17, 24 and 18 never apply.
 
-use super::ledger::{Sets, TRACK_WORDS};
+use super::ledger::{leading, Sets, LEADING_WORDS, TRACK_WORDS};
 use super::plan::{Plan, NONE};
 use super::steps;
 use super::Refused;
@@ -24,30 +25,30 @@ pub fn unwind(plan: &[u8], journal: &[u8]) -> Vec<u8> {
         false => Err(Refused(1)),
     };
     match accepted {
-        Ok(()) => run(&read, journal, &mut text),
+        Ok(()) => run(&read, leading(plan), journal, &mut text),
         Err(Refused(number)) => text.line("R", &[number]),
     }
     text.0
 }
 
 /// Begins, then does the records in order.
-fn run(plan: &Plan, journal: &[u8], text: &mut Text) {
-    let mut words = [0; 32 * TRACK_WORDS];
-    let mut sets = steps::begin(plan, &mut words);
+fn run(plan: &Plan, leading: [u16; LEADING_WORDS], journal: &[u8], text: &mut Text) {
+    let mut ledger = [0; LEADING_WORDS + 32 * TRACK_WORDS];
+    let (first, words) = ledger.split_at_mut(LEADING_WORDS);
+    first.copy_from_slice(&leading);
+    let mut sets = steps::begin(plan, words);
     let mut firings = 0;
     let mut rest = journal;
     let [tracks, states, transitions] = [plan.tracks, plan.states, plan.transition_count()];
     text.line("PLAN", &[tracks as u16, states as u16, transitions as u16]);
     while !rest.is_empty() {
         let done = next(&mut rest).and_then(|(kind, argument)| match kind {
-            EVENT => steps::event(plan, &mut words, &mut sets, argument)
+            EVENT => steps::event(plan, words, &mut sets, argument)
                 .map(|figures| text.line("E", &[argument, figures.moved, figures.closed])),
-            SIGNAL => {
-                steps::signal(plan, &mut words, &mut sets).map(|turned| text.line("S", &[turned]))
-            }
+            SIGNAL => steps::signal(plan, words, &mut sets).map(|turned| text.line("S", &[turned])),
             _ => {
                 let track = fired(kind, argument, &sets);
-                let entry = steps::fire(plan, &mut words, &mut sets, track)?;
+                let entry = steps::fire(plan, words, &mut sets, track)?;
                 firings += 1;
                 text.firing(track, entry.code, entry.deviation);
                 Ok(())

@@ -1,5 +1,5 @@
-//! What the calls do, on an accepted plan and a sound ledger, whose sets they
-//! bring up to date with its words.
+//! What the calls do, on an accepted plan and the words of a sound ledger's
+//! tracks, whose sets they bring up to date with them.
 
 use super::ledger::{members, open_scope, Sets, CAPACITY, FORWARD, PAIRS, TRACK_WORDS, UNDOING};
 use super::plan::{Plan, NONE};
