@@ -1,4 +1,5 @@
-/* The paper's sample plan P and its journal, by the calls. Prints what `unwind` prints for them. */
+/* The paper's sample plan P and its journal, by the calls. Prints what `unwind` prints for them, and then what the ledger gets under another
+ * plan. */
 #include <stdio.h>
 
 #include "retraction.h"
@@ -20,6 +21,9 @@ static const uint16_t records[] = {
 };
 
 enum { WORDS = sizeof records / sizeof records[0] };
+
+/* Where the code of the first transition stands in the plan's bytes, after 3 tracks and 8 states. */
+enum { FIRST_CODE = 3 * 6 + 8 * 10 + 8 };
 
 static uint8_t plan[2 * WORDS];
 static uint16_t ledger[RETRACTION_LEDGER_WORDS(TRACKS)];
@@ -85,6 +89,14 @@ static unsigned entries_held(void)
     return words / 2;
 }
 
+/* A neighbour's plan differs from this one in a single code. The ledger, lent with it by mistake, is refused. */
+static void print_under_another_plan(void)
+{
+    plan[FIRST_CODE] = 60;
+    uint16_t refusal = retraction_refusal(retraction_ready(plan, sizeof plan, ledger, room));
+    printf("R %u: %s\n", refusal, retraction_refusal_text(refusal));
+}
+
 int main(void)
 {
     unsigned firings = 0;
@@ -104,5 +116,6 @@ int main(void)
     for (int i = 0; i < 4; i++)
         firings += (unsigned)print_firing(lowest_ready());
     printf("H %u %u\n", entries_held(), firings);
+    print_under_another_plan();
     return 0;
 }
