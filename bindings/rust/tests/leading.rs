@@ -135,7 +135,8 @@ fn a_stored_ledger_is_read_under_its_own_plan() -> Result<(), Refusal> {
     let own = Plan::read(plan())?;
     let stored = own.begin().words().to_vec();
     assert_eq!(stored[..LEADING_WORDS], [172, 609]);
-    assert!(own.ledger(stored.clone()).is_ok());
+    assert_eq!(own.ledger(stored.clone())?, own.begin());
+    assert_eq!(own.ledger(&stored[LEADING_WORDS..]), Err(FewWords));
     for neighbour in neighbours() {
         assert_eq!(
             Plan::read(neighbour)?.ledger(stored.clone()),
