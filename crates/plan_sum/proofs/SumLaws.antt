@@ -33,9 +33,14 @@ module _ (bs : List ℕ) where
     unfolding numbersTotal
     total-none h k = let e : at ≡ length bs = omega arith in rw (e, drop-length bs)
 
-    pub sum-more : (sum low high : ℕ) → low ≡ getD bs at 0 → high ≡ getD bs (at + 1) 0 → at + 2 ≤ length bs
-        → sumWith ((sum + low + 256 * high) % 65536) (at + 2) ≡ sumWith sum at
+    -- one number more, and what is left at the end
+    pub sum-more : (sum n : ℕ) {r : ℕ} → r ≡ (sum + n) % 65536 → n ≡ getD bs at 0 + 256 * getD bs (at + 1) 0 → at + 2 ≤ length bs
+        → sumWith r (at + 2) ≡ sumWith sum at
     unfolding sumWith
-    sum-more sum low high e f h =
-        let q : sum + low + 256 * high + numbersTotal (drop (at + 2) bs) ≡ sum + numbersTotal (drop at bs) = omega (arith, total-more h) in
-        mod-add-mod (sum + low + 256 * high) 65536 _ ∙ ap (λ (x : ℕ). x % 65536) q
+    sum-more sum n e f h =
+        let q : sum + n + numbersTotal (drop (at + 2) bs) ≡ sum + numbersTotal (drop at bs) = omega (arith, total-more h) in
+        rw e (mod-add-mod (sum + n) 65536 _ ∙ ap (λ (x : ℕ). x % 65536) q)
+
+    pub sum-end : (sum n : ℕ) {r : ℕ} → r ≡ (sum + n) % 65536 → n ≡ numbersTotal (drop at bs) → r ≡ sumWith sum at
+    unfolding sumWith
+    sum-end sum n e f = e ∙ ap (λ (x : ℕ). (sum + x) % 65536) f
