@@ -4,6 +4,7 @@ pub mod Shapes
 pub mod EveryList
 pub mod Readings
 pub mod Calls
+pub mod WrongPlan
 pub mod FreeBooks
 pub mod OneCall
 pub mod EachCall

@@ -6,6 +6,7 @@ pub mod SoundLive
 pub mod SoundWords
 pub mod Restoration
 pub mod Allowed
+pub mod WrongPlan
 pub mod Continuation
 pub mod Bound
 pub mod LiteralRuns

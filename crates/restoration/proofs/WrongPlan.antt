@@ -1,0 +1,87 @@
+-- A ledger under the wrong plan: whatever calls were made after a begin, its words lead with the length and the sum of that begin's plan, so
+-- every call under a plan that differs in either is refused as 24. Assumes nothing.
+use mathlib.Core.Path.{_≡_, sym, _∙_}
+use mathlib.Core.Logic.{inl, inr}
+use mathlib.Core.Bool.{true, false, not}
+use mathlib.Core.List.{List, []}
+use Prim.Native.Nat.{ℕ, _≤_}
+use native.Mathlib.Omega.{arith}
+use lib.ListN.{length, getD}
+use lib.Dec.{eqb, ltb}
+use borrow.Author.Tests.{eqb-true, not-false, ltb-true, ltb-false, le-ltb}
+use Rattle.rules.specs.declared.Counts.{Counts}
+use Rattle.rules.specs.Fold.{firstRefusal}
+use Rattle.rules.specs.Plan.{trackCount, planOf}
+use Rattle.rules.specs.Acceptance.{accepted, readPlan}
+use Rattle.rules.specs.Layout.{lengthPlace, sumPlace, wordCount}
+use Rattle.rules.specs.Leading.{planSum, otherPlan}
+use Rattle.rules.specs.Call.{refusal, done, Call, refusedOr, underPlan, tooShort, ledgerRefusals, ledgerRefusal, callOutcome, beginOutcome, readyOutcome, entriesPart}
+use Rattle.rules.specs.ReferenceRun.{wordsAfter}
+use Rattle.rules.proofs.Tests.{look, or-fails}
+use Rattle.rules.proofs.TrackWords.{place-below}
+use Rattle.rules.proofs.LedgerChecks.{refused-first}
+use Rattle.restoration.proofs.SoundWords.{outcome}
+use Rattle.restoration.proofs.Restoration.{history-holds}
+
+-- a ledger that is a plan's own leads with its length and its sum
+pub own-leads : (bs ws : List ℕ) → otherPlan bs ws ≡ false → (getD ws lengthPlace 0 ≡ length bs) × (getD ws sumPlace 0 ≡ planSum bs)
+unfolding otherPlan
+own-leads bs ws e =
+    let (a, b) = or-fails (not (eqb (getD ws lengthPlace 0) (length bs))) (not (eqb (getD ws sumPlace 0) (planSum bs))) e in
+    (eqb-true _ _ (not-false _ a), eqb-true _ _ (not-false _ b))
+
+-- plans that are not alike in both words
+abbrev pub Differ : List ℕ → List ℕ → Type 0
+Differ bs bs′ = length bs ≡ length bs′ → planSum bs ≡ planSum bs′ → ⊥
+
+-- so it is no ledger of a plan that differs in either
+pub other-differs : (bs bs′ ws : List ℕ) → otherPlan bs ws ≡ false → Differ bs bs′ → otherPlan bs′ ws ≡ true
+other-differs bs bs′ ws e d =
+    elim (look (otherPlan bs′ ws)) [
+      | inl y ↦ y
+      | inr n ↦
+          let (a, b) = own-leads bs ws e in
+          let (a′, b′) = own-leads bs′ ws n in
+          absurd (d (sym a ∙ a′) (sym b ∙ b′))
+    ]
+
+-- the words of fewer tracks are no more
+fewer : (limit n m : ℕ) → n ≤ m → wordCount limit n ≤ wordCount limit m
+unfolding wordCount
+fewer limit n m h =
+    elim (look (ltb n m)) [
+      | inl l ↦ omega (arith, place-below limit m n (ltb-true n m l))
+      | inr l ↦ let e : n ≡ m = omega (arith, h, ltb-false n m l) in rw e (omega arith)
+    ]
+
+module _ (limit : ℕ) (bs : List ℕ) (k : Counts) (read : readPlan bs ≡ accepted k) (lent : List ℕ) (begun : beginOutcome limit bs lent .answer ≡ done [])
+    (cs : List Call) where
+  abbrev ws : List ℕ
+  ws = wordsAfter limit bs lent cs
+
+  -- "Begin writes them", and they stay
+  pub leads : (getD ws lengthPlace 0 ≡ length bs) × (getD ws sumPlace 0 ≡ planSum bs)
+  leads = own-leads bs ws (history-holds limit bs k read lent cs begun .own)
+
+  -- "every other call tests them": under another accepted plan with no more tracks
+  module _ (bs′ : List ℕ) (k′ : Counts) (read′ : readPlan bs′ ≡ accepted k′) (few : trackCount (planOf bs′ k′) ≤ trackCount (planOf bs k))
+      (differ : Differ bs bs′) where
+    refused : ledgerRefusal limit bs′ (planOf bs′ k′) ws ≡ 24
+    unfolding ledgerRefusal ledgerRefusals firstRefusal tooShort
+    refused =
+        let h = history-holds limit bs k read lent cs begun in
+        let long : wordCount limit (trackCount (planOf bs′ k′)) ≤ length ws =
+        omega (arith, h .long, fewer limit (trackCount (planOf bs′ k′)) (trackCount (planOf bs k)) few) in
+        rw (le-ltb (length ws) (wordCount limit (trackCount (planOf bs′ k′))) long, other-differs bs bs′ ws (h .own) differ)
+
+    pub call-wrong : (c : Call) → callOutcome limit bs′ ws c ≡ record { answer = refusal 24; words = ws }
+    unfolding refusedOr
+    call-wrong c = outcome limit bs′ k′ read′ ws c 24 (refused-first limit bs′ (planOf bs′ k′) ws 23 refused _)
+
+    pub ready-wrong : readyOutcome limit bs′ ws ≡ record { answer = refusal 24; words = ws }
+    unfolding readyOutcome underPlan refusedOr
+    ready-wrong = rw (read′, underPlan, refused)
+
+    pub entries-wrong : (t : ℕ) → entriesPart limit bs′ ws t ≡ []
+    unfolding entriesPart
+    entries-wrong t = rw (read′, entriesPart, refused)
