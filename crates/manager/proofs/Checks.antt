@@ -20,12 +20,12 @@ use Rattle.rules.specs.Opening.{begun}
 use Rattle.rules.specs.Scope.{hasOpenScope, isOver}
 use Rattle.rules.specs.Fire.{ready}
 use Rattle.rules.specs.Soundness.{areTidy, isSound}
-use Rattle.rules.specs.Call.{Answer, refusal, done, Outcome, Call, refusedOr, tooShort, ledgerRefusals, ledgerRefusal, callRefusals, callOutcome, beginOutcome, readyOutcome, heldPart, entriesPart, HandsBack, Meets}
+use Rattle.rules.specs.Call.{Answer, refusal, done, Outcome, Call, refusedOr, tooShort, ledgerRefusal, callRefusals, callOutcome, beginOutcome, readyOutcome, heldPart, entriesPart, HandsBack, Meets}
 use Rattle.plan.proofs.FieldLaws.{track-count}
 use Rattle.ledger.specs.Ladder.{Accepts, Lent, Checked, ledgerOf}
 use Rattle.plan_reader.proofs.Reader.{accepted-holds}
 use Rattle.rules.proofs.Tests.{look, and-holds, passed, if-refused}
-use Rattle.rules.proofs.LedgerChecks.{Passes, unless-none, checked-first, passes-none, none-passes}
+use Rattle.rules.proofs.LedgerChecks.{Passes, unless-none, checked-first, passes-none, none-passes, short-refused, other-refused, unsound-refused}
 use Rattle.lookup.specs.Figures.{Figures}
 use Rattle.lookup.proofs.Facts.{long-room, passes-checked}
 use Rattle.ledger.proofs.Words.{in-room}
@@ -86,23 +86,25 @@ module _ (bs ws : List ℕ) where
 
   -- 24 and 18 after them
   pub checked-refused : (r : ℕ) → turnedBack r ≡ lent bs ws → turnedBack r ≡ checked bs ws
-  unfolding lent checked ledgerRefusal ledgerRefusals firstRefusal
+  unfolding lent checked firstRefusal
   checked-refused r e =
       elim (read-why bs _ r e) [
         | inl a ↦ read-refused bs _ r (sym a)
         | inr s ↦
             let (t, n) = if-refused (tooShort entryLimit (planOf bs (s .counts)) ws) 16 (s .number) (s .test) in
-            rw (s .same) (read-stopped bs _ (s .counts) (s .number) (sym (s .read)) (rw (t, n)))
+            rw (s .same, n) (read-stopped bs _ (s .counts) 16 (sym (s .read)) (short-refused entryLimit bs (planOf bs (s .counts)) ws t))
       ]
 
   pub checked-other : (c : Counts) {q : Bool} → accepted c ≡ lent bs ws → q ≡ otherPlan bs ws → q ≡ true → turnedBack 24 ≡ checked bs ws
-  unfolding checked ledgerRefusal ledgerRefusals firstRefusal
-  checked-other c e f h = let (a, b) = lent-facts c e in read-stopped bs _ c 23 (sym a) (rw (b, sym f ∙ h))
+  unfolding checked
+  checked-other c e f h = let (a, b) = lent-facts c e in read-stopped bs _ c 23 (sym a) (other-refused entryLimit bs (planOf bs c) ws b (sym f ∙ h))
 
   module _ (c : Counts) {o q : Bool} (e : accepted c ≡ lent bs ws) (g : o ≡ otherPlan bs ws) (i : o ≡ false) (f : q ≡ isSound entryLimit (planOf bs c) ws) where
     pub checked-unsound : not q ≡ true → turnedBack 18 ≡ checked bs ws
-    unfolding checked ledgerRefusal ledgerRefusals firstRefusal
-    checked-unsound h = let (a, b) = lent-facts c e in read-stopped bs _ c 17 (sym a) (rw (b, sym g ∙ i, sym f ∙ not-true _ h))
+    unfolding checked
+    checked-unsound h =
+        let (a, b) = lent-facts c e in
+        read-stopped bs _ c 17 (sym a) (unsound-refused entryLimit bs (planOf bs c) ws b (sym g ∙ i) (sym f ∙ not-true _ h))
 
     pub checked-accepted : not q ≡ false → accepted c ≡ checked bs ws
     unfolding checked

@@ -10,16 +10,15 @@ use lib.ListN.{length, getD}
 use lib.Dec.{eqb, ltb}
 use borrow.Author.Tests.{eqb-true, not-false, ltb-true, ltb-false, le-ltb}
 use Rattle.rules.specs.declared.Counts.{Counts}
-use Rattle.rules.specs.Fold.{firstRefusal}
 use Rattle.rules.specs.Plan.{trackCount, planOf}
 use Rattle.rules.specs.Acceptance.{accepted, readPlan}
 use Rattle.rules.specs.Layout.{lengthPlace, sumPlace, wordCount}
 use Rattle.rules.specs.Leading.{planSum, otherPlan}
-use Rattle.rules.specs.Call.{refusal, done, Call, refusedOr, underPlan, tooShort, ledgerRefusals, ledgerRefusal, callOutcome, beginOutcome, readyOutcome, entriesPart}
+use Rattle.rules.specs.Call.{refusal, done, Call, refusedOr, underPlan, tooShort, ledgerRefusal, callOutcome, beginOutcome, readyOutcome, entriesPart}
 use Rattle.rules.specs.ReferenceRun.{wordsAfter}
 use Rattle.rules.proofs.Tests.{look, or-fails}
 use Rattle.rules.proofs.TrackWords.{place-below}
-use Rattle.rules.proofs.LedgerChecks.{refused-first}
+use Rattle.rules.proofs.LedgerChecks.{refused-first, other-refused}
 use Rattle.restoration.proofs.SoundWords.{outcome}
 use Rattle.restoration.proofs.Restoration.{history-holds}
 
@@ -67,12 +66,13 @@ module _ (limit : ℕ) (bs : List ℕ) (k : Counts) (read : readPlan bs ≡ acce
   module _ (bs′ : List ℕ) (k′ : Counts) (read′ : readPlan bs′ ≡ accepted k′) (few : trackCount (planOf bs′ k′) ≤ trackCount (planOf bs k))
       (differ : Differ bs bs′) where
     refused : ledgerRefusal limit bs′ (planOf bs′ k′) ws ≡ 24
-    unfolding ledgerRefusal ledgerRefusals firstRefusal tooShort
+    unfolding tooShort
     refused =
         let h = history-holds limit bs k read lent cs begun in
         let long : wordCount limit (trackCount (planOf bs′ k′)) ≤ length ws =
         omega (arith, h .long, fewer limit (trackCount (planOf bs′ k′)) (trackCount (planOf bs k)) few) in
-        rw (le-ltb (length ws) (wordCount limit (trackCount (planOf bs′ k′))) long, other-differs bs bs′ ws (h .own) differ)
+        other-refused limit bs′ (planOf bs′ k′) ws (le-ltb (length ws) (wordCount limit (trackCount (planOf bs′ k′))) long)
+        (other-differs bs bs′ ws (h .own) differ)
 
     pub call-wrong : (c : Call) → callOutcome limit bs′ ws c ≡ record { answer = refusal 24; words = ws }
     unfolding refusedOr

@@ -77,6 +77,19 @@ module _ (limit : ℕ) (bs : List ℕ) (p : Plan) (ws : List ℕ) where
       go zero e = none-passes e
       go (suc r) e = let q : suc r ≡ 0 = sym (refused-first r e rs) ∙ z in absurd (omega arith)
 
+  -- each by itself
+  pub short-refused : tooShort limit p ws ≡ true → ledgerRefusal limit bs p ws ≡ 17
+  unfolding ledgerRefusals ledgerRefusal firstRefusal
+  short-refused a = rw a
+
+  pub other-refused : tooShort limit p ws ≡ false → otherPlan bs ws ≡ true → ledgerRefusal limit bs p ws ≡ 24
+  unfolding ledgerRefusals ledgerRefusal firstRefusal
+  other-refused a b = rw (a, b)
+
+  pub unsound-refused : tooShort limit p ws ≡ false → otherPlan bs ws ≡ false → isSound limit p ws ≡ false → ledgerRefusal limit bs p ws ≡ 18
+  unfolding ledgerRefusals ledgerRefusal firstRefusal
+  unsound-refused a b c = rw (a, b, c)
+
   -- the numbers that they have
   pub ledger-numbers : (r : ℕ) → ledgerRefusal limit bs p ws ≡ suc r → (suc r ≡ 17) ⊎ (suc r ≡ 24) ⊎ (suc r ≡ 18)
   unfolding ledgerRefusals ledgerRefusal firstRefusal
