@@ -1,6 +1,6 @@
 -- The leading words of a ledger: the length of its plan and the sum of the plan's bytes, by which the two are kept together. Assumes nothing.
 use mathlib.Core.Bool.{Bool, not, _||_}
-use mathlib.Core.List.{[], _∷_, _++_}
+use mathlib.Core.List.{[], _∷_}
 use Prim.Native.Nat.{ℕ, _+_, _*_, _%_}
 use lib.ListN.{length, getD, drop}
 use lib.Dec.{eqb}

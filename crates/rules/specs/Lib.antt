@@ -1,4 +1,4 @@
--- Document 01 as definitions, in its order: the plan file, the ledger, what each call does, refusals, the program, property 3.
+-- Document 01, as the requests amend it, as definitions in its order: the plan file, the ledger, what each call does, refusals, the program, property 3.
 pub mod Names
 pub mod Fold
 pub mod Record
