@@ -7,20 +7,20 @@ use native.Mathlib.Omega.{arith}
 use lib.ListN.{length, getD, set}
 use lib.Dec.{eqb}
 use borrow.Author.Tests.{eq-eqb, ne-eqb}
-use Rattle.rules.specs.Layout.{leadingWords}
+use Rattle.rules.specs.Layout.{leadingWords, lengthPlace, sumPlace}
 use Rattle.rules.specs.Leading.{planSum, stamped, otherPlan}
 
 module _ (bs ws : List ℕ) where
-  pub other-length : (n : ℕ) → n ≡ getD ws 0 0 → (n ≡ length bs → ⊥) → true ≡ otherPlan bs ws
+  pub other-length : (n : ℕ) → n ≡ getD ws lengthPlace 0 → (n ≡ length bs → ⊥) → true ≡ otherPlan bs ws
   unfolding otherPlan
-  other-length n e h = rw (ne-eqb (getD ws 0 0) (length bs) (λ (q : getD ws 0 0 ≡ length bs). h (omega arith)))
+  other-length n e h = rw (ne-eqb (getD ws lengthPlace 0) (length bs) (λ (q : getD ws lengthPlace 0 ≡ length bs). h (omega arith)))
 
-  pub other-sum : (n m : ℕ) → n ≡ getD ws 0 0 → n ≡ length bs → m ≡ planSum bs → not (eqb (getD ws 1 0) m) ≡ otherPlan bs ws
+  pub other-sum : (n m : ℕ) → n ≡ getD ws lengthPlace 0 → n ≡ length bs → m ≡ planSum bs → not (eqb (getD ws sumPlace 0) m) ≡ otherPlan bs ws
   unfolding otherPlan
-  other-sum n m e h f = rw (eq-eqb (getD ws 0 0) (length bs) (omega arith), f)
+  other-sum n m e h f = rw (eq-eqb (getD ws lengthPlace 0) (length bs) (omega arith), f)
 
 -- two words set
-pub stamp-steps : (bs ws : List ℕ) (n m : ℕ) → leadingWords ≤ length ws → n ≡ length bs → m ≡ planSum bs → set (set ws 0 n) 1 m ≡ stamped bs ws
+pub stamp-steps : (bs ws : List ℕ) (n m : ℕ) → leadingWords ≤ length ws → n ≡ length bs → m ≡ planSum bs → set (set ws lengthPlace n) sumPlace m ≡ stamped bs ws
 unfolding leadingWords stamped
 stamp-steps bs [] n m h e f = absurd (omega arith)
 stamp-steps bs (w ∷ []) n m h e f = absurd (omega arith)

@@ -8,7 +8,7 @@ use native.Mathlib.Omega.{arith}
 use lib.ListN.{length, getD, take, length-drop}
 use lib.Seq.{getD-take}
 use borrow.Author.Tests.{eq-eqb}
-use Rattle.rules.specs.Layout.{leadingWords, wordCount}
+use Rattle.rules.specs.Layout.{leadingWords, lengthPlace, sumPlace, wordCount}
 use Rattle.rules.specs.Leading.{planSum, stamped, otherPlan}
 use Rattle.rules.specs.Ledger.{Ledger, written}
 use Rattle.rules.proofs.Stored.{Fits, leading-written}
@@ -29,7 +29,7 @@ module _ (bs ws : List ℕ) where
   other-alike vs e =
       let at : (i : ℕ) → i < leadingWords → getD vs i 0 ≡ getD ws i 0 =
       λ i b. sym (getD-take leadingWords vs i 0 b) ∙ ap (λ (u : List ℕ). getD u i 0) e ∙ getD-take leadingWords ws i 0 b in
-      rw (at 0 (unfold leadingWords in omega arith), at 1 (unfold leadingWords in omega arith))
+      rw (at lengthPlace (unfold leadingWords in omega arith), at sumPlace (unfold leadingWords in omega arith))
 
   pub other-written : (limit n : ℕ) (l : Ledger) → Fits limit l → wordCount limit n ≤ length ws → otherPlan bs (written limit n l ws) ≡ otherPlan bs ws
   other-written limit n l f h = other-alike (written limit n l ws) (leading-written limit n l ws f h)
