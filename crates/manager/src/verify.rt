@@ -1,5 +1,5 @@
-// Checks 2 to 18, with 24 before 18, which a call makes first. What they find beside their answer is lent out, so that no step works it out again: the first state
-// of each track of an accepted plan, and who has an open scope in a ledger that is not over.
+// The checks that a call makes first: 2 to 17, 24 and 18. What they find beside their answer is lent out, so that no step works it out again: the
+// first state of each track of an accepted plan, and who has an open scope in a ledger that is not over.
 use ledger::layout;
 use ledger::leading;
 use rules::PlanAnswer;
