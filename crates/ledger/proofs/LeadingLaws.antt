@@ -1,6 +1,6 @@
 -- The leading words as the code looks at them and writes them, one after the other. Assumes nothing.
 use mathlib.Core.Path.{_≡_}
-use mathlib.Core.Bool.{true, not}
+use mathlib.Core.Bool.{not, _||_}
 use mathlib.Core.List.{List, [], _∷_}
 use Prim.Native.Nat.{ℕ, _≤_}
 use native.Mathlib.Omega.{arith}
@@ -10,14 +10,11 @@ use borrow.Author.Tests.{eq-eqb, ne-eqb}
 use Rattle.rules.specs.Layout.{leadingWords, lengthPlace, sumPlace}
 use Rattle.rules.specs.Leading.{planSum, stamped, otherPlan}
 
-module _ (bs ws : List ℕ) where
-  pub other-length : (n : ℕ) → n ≡ getD ws lengthPlace 0 → (n ≡ length bs → ⊥) → true ≡ otherPlan bs ws
-  unfolding otherPlan
-  other-length n e h = rw (ne-eqb (getD ws lengthPlace 0) (length bs) (λ (q : getD ws lengthPlace 0 ≡ length bs). h (omega arith)))
-
-  pub other-sum : (n m : ℕ) → n ≡ getD ws lengthPlace 0 → n ≡ length bs → m ≡ planSum bs → not (eqb (getD ws sumPlace 0) m) ≡ otherPlan bs ws
-  unfolding otherPlan
-  other-sum n m e h f = rw (eq-eqb (getD ws lengthPlace 0) (length bs) (omega arith), f)
+-- two words compared
+pub either-other : (bs ws : List ℕ) (n m : ℕ) → n ≡ getD ws lengthPlace 0 → m ≡ planSum bs
+    → (not (eqb n (length bs)) || not (eqb (getD ws sumPlace 0) m)) ≡ otherPlan bs ws
+unfolding otherPlan
+either-other bs ws n m e f = rw (e, f)
 
 -- two words set
 pub stamp-steps : (bs ws : List ℕ) (n m : ℕ) → leadingWords ≤ length ws → n ≡ length bs → m ≡ planSum bs → set (set ws lengthPlace n) sumPlace m ≡ stamped bs ws

@@ -13,10 +13,9 @@ pub fn is_other(plan: &[u8], ledger: &[u16]) -> bool
     requires { ⌜ leadingWords ≤ length (now ledger) ⌝ }
     ensures { λ r. ⌜ r ≡ otherPlan (now (plan .entry)) (now (ledger .entry)) ⌝ }
 {
-    if layout::wide(ledger[LENGTH_WORD]) != plan.len() {
-        return true;
-    }
-    ledger[SUM_WORD] != plan_sum::sum(plan)
+    let other_length = layout::wide(ledger[LENGTH_WORD]) != plan.len();
+    let other_sum = ledger[SUM_WORD] != plan_sum::sum(plan);
+    other_length | other_sum
 }
 
 // Writes them.

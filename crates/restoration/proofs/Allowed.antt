@@ -24,12 +24,12 @@ use Rattle.restoration.proofs.SoundWords.{theLedger, Holds, passes-hold
 use Rattle.restoration.proofs.Restoration.{history-holds, goes-on}
 
 -- the numbers by which a ledger that passes the checks refuses
-abbrev pub Own : ℕ → Type 0
-Own m = (19 ≤ m) × (m ≤ 22)
+abbrev pub CallNumber : ℕ → Type 0
+CallNumber m = (19 ≤ m) × (m ≤ 22)
 
 -- a table of them, its head taken off
-head : (b : Bool) (n r m : ℕ) → Own n → cond b n r ≡ m → (r ≡ m → (m ≡ 0) ⊎ Own m) → (m ≡ 0) ⊎ Own m
-head true n r m h e f = inr (subst Own e h)
+head : (b : Bool) (n r m : ℕ) → CallNumber n → cond b n r ≡ m → (r ≡ m → (m ≡ 0) ⊎ CallNumber m) → (m ≡ 0) ⊎ CallNumber m
+head true n r m h e f = inr (subst CallNumber e h)
 head false n r m h e f = f e
 
 module _ (limit : ℕ) (p : Plan) (l : Ledger) where
@@ -42,13 +42,13 @@ module _ (limit : ℕ) (p : Plan) (l : Ledger) where
   unfolding callRefusal callRefusals firstRefusal
   fire-allowed t h = rw (fireable-not-over p l t h, h)
 
-  pub refused-own : (c : Call) (m : ℕ) → callRefusal limit p l c ≡ m → (m ≡ 0) ⊎ Own m
+  pub refused-by-call : (c : Call) (m : ℕ) → callRefusal limit p l c ≡ m → (m ≡ 0) ⊎ CallNumber m
   unfolding callRefusal callRefusals firstRefusal
-  refused-own (event a) m e =
+  refused-by-call (event a) m e =
       head (eqb (a .event) 0) 19 _ m (omega arith, omega arith) e
       (λ f. head (isOver p l) 20 _ m (omega arith, omega arith) f (λ g. head (isFull p limit l (a .event)) 21 0 m (omega arith, omega arith) g (λ h. inl (sym h))))
-  refused-own (signal a) m e = head (isOver p l) 20 0 m (omega arith, omega arith) e (λ h. inl (sym h))
-  refused-own (fire a) m e =
+  refused-by-call (signal a) m e = head (isOver p l) 20 0 m (omega arith, omega arith) e (λ h. inl (sym h))
+  refused-by-call (fire a) m e =
       head (isOver p l) 20 _ m (omega arith, omega arith) e
       (λ f. head (not (mayFire p l (a .track))) 22 0 m (omega arith, omega arith) f (λ h. inl (sym h)))
 
@@ -81,14 +81,14 @@ module _ (limit : ℕ) (bs : List ℕ) (k : Counts) (read : readPlan bs ≡ acce
   -- "Its first call gets the ledger as an accepted begin left it, each later one the ledger as the call before left it": that is long enough,
   -- the plan's own and sound, so no call of the list is refused by 17, 24 or 18, nor by the plan
   pub refused-for-the-call : (lent : List ℕ) → beginOutcome limit bs lent .answer ≡ done [] → (cs : List Call) (c : Call) (m : ℕ)
-      → callOutcome limit bs (wordsAfter limit bs lent cs) c .answer ≡ refusal m → Own m
+      → callOutcome limit bs (wordsAfter limit bs lent cs) c .answer ≡ refusal m → CallNumber m
   refused-for-the-call lent h cs c m e = go (callRefusal limit p (ledgerAfter limit bs p lent cs) c) refl
     where
-      go : (r : ℕ) → callRefusal limit p (ledgerAfter limit bs p lent cs) c ≡ r → Own m
+      go : (r : ℕ) → callRefusal limit p (ledgerAfter limit bs p lent cs) c ≡ r → CallNumber m
       go zero z =
           let q = ap (λ o. o .answer) (call-accepted limit bs k read _ _ (history-holds limit bs k read lent cs h) c z) in
           let y : _≡_ {A = ℕ} 0 1 = cc in absurd (omega arith)
       go (suc r) z =
           let q = ap (λ o. o .answer) (call-refused limit bs k read _ _ (history-holds limit bs k read lent cs h) c r z) in
           let y : m ≡ suc r = cc in
-          elim (refused-own limit p _ c (suc r) z) [ inl x ↦ absurd (omega arith) | inr x ↦ subst Own (sym y) x ]
+          elim (refused-by-call limit p _ c (suc r) z) [ inl x ↦ absurd (omega arith) | inr x ↦ subst CallNumber (sym y) x ]
