@@ -1,7 +1,6 @@
 -- Every list of calls from a begin on is a run of the automaton from init, one call's steps after the other's. It leads to what the ledger
--- shows; where the list ends over, to a vector whose automata are all terminated, by the event that finishes. The big steps of the calls end
--- there and nowhere else. And where every root is
--- withdrawn the vector has compensated, so that the calls' steps have cancelled out. Assumes nothing.
+-- shows; where the list ends over, to a vector that has terminated, by the call that finishes. The big steps of the calls end there and nowhere
+-- else. And where every root is withdrawn the vector has compensated, so that the calls' steps have cancelled out. Assumes nothing.
 use mathlib.Core.Path.{_≡_, refl, sym, ap, _∙_, subst}
 use mathlib.Core.Logic.{_↔_, _⊎_, inl, inr}
 use mathlib.Core.Bool.{true, cond}
@@ -28,7 +27,7 @@ use Rattle.restoration.proofs.Restoration.{list-holds}
 use Rattle.restoration.proofs.SoundWords.{Holds, begin-holds, call-holds, call-accepted, call-refused}
 use Rattle.restoration.proofs.Theorems01.{over-refused, next-accepted, next-refused, sleeping-asleep, Sound, Over, Kept, over-is}
 use Rattle.automaton.specs.Listing.{everyOf}
-use Rattle.automaton.specs.Configuration.{Conf, Vect, members, isTerminated, hasCompensated, init}
+use Rattle.automaton.specs.Configuration.{Conf, Vect, hasTerminated, hasCompensated, init}
 use Rattle.automaton.specs.Semantics.{FailReading, Act, Run, stop}
 use Rattle.automaton.specs.View.{isOnTop, viewOf, view, actsOf}
 use Rattle.automaton.specs.BigSteps.{afterFinish}
@@ -45,26 +44,22 @@ use Rattle.automaton.proofs.SelfCancelling.{corollary1}
 
 module _ (p : Plan) (ρ : FailReading) (ok : Accepted p) where
   -- unless the call finishes, the steps lead to the view afterwards
-  goes-on : (limit : ℕ) (m : Ledger) (c : Call) (reached : Conf) → Sound limit p m → view p ρ m ≡ afterFinish p c reached → reached ≡ view p ρ m
+  goes-on : (limit : ℕ) (m : Ledger) (reached : Conf) → Sound limit p m → view p ρ m ≡ afterFinish p reached → reached ≡ view p ρ m
   unfolding afterFinish
-  goes-on limit m (event a) reached s e =
-      elim (look (everyOf (isTerminated p) (members reached))) [
+  goes-on limit m reached s e =
+      elim (look (hasTerminated p reached)) [
         | inl h ↦ absurd (over-unlike p ρ ok limit m s (e ∙ ap (λ x. cond x (Vect []) reached) h))
         | inr h ↦ sym (e ∙ ap (λ x. cond x (Vect []) reached) h)
       ]
-  goes-on limit m (signal a) reached s e = sym e
-  goes-on limit m (fire a) reached s e = sym e
 
-  shown-or-ended : (c : Call) (m : Ledger) (reached : Conf) → view p ρ m ≡ afterFinish p c reached
-      → (view p ρ m ≡ reached) ⊎ ((everyOf (isTerminated p) (members reached) ≡ true) × (view p ρ m ≡ Vect []))
+  shown-or-ended : (m : Ledger) (reached : Conf) → view p ρ m ≡ afterFinish p reached
+      → (view p ρ m ≡ reached) ⊎ ((hasTerminated p reached ≡ true) × (view p ρ m ≡ Vect []))
   unfolding afterFinish
-  shown-or-ended (event a) m reached e =
-      elim (look (everyOf (isTerminated p) (members reached))) [
+  shown-or-ended m reached e =
+      elim (look (hasTerminated p reached)) [
         | inl h ↦ inr (h, e ∙ ap (λ x. cond x (Vect []) reached) h)
         | inr h ↦ inl (e ∙ ap (λ x. cond x (Vect []) reached) h)
       ]
-  shown-or-ended (signal a) m reached e = inl e
-  shown-or-ended (fire a) m reached e = inl e
 
   -- steps before it
   joined : {c d : Conf} {v w : List Act} {l : Ledger} → Run p ρ c v d → Played p ρ d w l → Played p ρ c (v ++ w) l
@@ -151,14 +146,14 @@ module _ (ρ : FailReading) (limit : ℕ) (bs : List ℕ) (k : Counts) (read : r
       took e (inr v) ih =
           let x = stepwise p ρ ok limit l s c e in
           let q = ap (view p ρ) (next-accepted limit p l c e) ∙ x .left in
-          joined p ρ ok (run-same p ρ (x .run) (goes-on p ρ ok limit (next limit p l c) c (x .reached) v q)) (ih (next limit p l c) (call-holds limit bs k read ws l h c) v)
+          joined p ρ ok (run-same p ρ (x .run) (goes-on p ρ ok limit (next limit p l c) (x .reached) v q)) (ih (next limit p l c) (call-holds limit bs k read ws l h c) v)
       took e (inl o) ih =
           let x = stepwise p ρ ok limit l s c e in
           let q = ap (view p ρ) (next-accepted limit p l c e) ∙ x .left in
           let (a, b) = over-rest cs (words ws l h c) (next limit p l c) (call-holds limit bs k read ws l h c) o in
           joined p ρ ok (x .run)
           (subst (λ z. Played p ρ (x .reached) z last) (sym a)
-          (subst (λ z. Played p ρ (x .reached) [] z) (sym b) (record { reached = x .reached; run = stop; shown = shown-or-ended p ρ ok c (next limit p l c) (x .reached) q })))
+          (subst (λ z. Played p ρ (x .reached) [] z) (sym b) (record { reached = x .reached; run = stop; shown = shown-or-ended p ρ ok (next limit p l c) (x .reached) q })))
 
       go : (n : ℕ) → callRefusal limit p l c ≡ n → Rest → Played p ρ (view p ρ l) (here ws l h c ++ rest) last
       go zero e ih =

@@ -19,7 +19,7 @@ use Rattle.rules.proofs.Tests.{look, clash, refuted, and-holds, and-both, or-ho
 use Rattle.rules.proofs.Acceptance.{Accepted}
 use Rattle.rules.proofs.Closing.{closed-done}
 use Rattle.theory.proofs.Nesting.{Nested}
-use Rattle.restoration.proofs.Theorems01.{fire-accepted, moved-nested, closed-nested, turned-forward, turned-nested, mover-awake, Sound, event-roots, event-abandoning, signal-sound, fire-sound, unfinished}
+use Rattle.restoration.proofs.Theorems01.{fire-accepted, moved-nested, closed-nested, turned-forward, turned-nested, mover-awake, Sound, event-abandoning, work, worked}
 use Rattle.automaton.specs.Listing.{listedFrom, listed, listedDown, everyOf}
 use Rattle.automaton.specs.Configuration.{Conf}
 use Rattle.automaton.specs.Semantics.{FailReading, basicAlone, nestedToo, Act, sucAt, failAt, compAt, devAt, nestsucAt, nestfailAt, nestcompAt, trace, VStep, Run, stop, step}
@@ -33,7 +33,7 @@ use Rattle.automaton.proofs.ClosingSteps.{closing-run}
 use Rattle.automaton.proofs.AbandoningSteps.{abandoning-run}
 use Rattle.automaton.proofs.TurningSteps.{going-forward, turning-run}
 use Rattle.automaton.proofs.FiringSteps.{fire-run}
-use Rattle.automaton.proofs.CallSteps.{finished-view}
+use Rattle.automaton.proofs.CallSteps.{stepwise}
 use Rattle.automaton.proofs.Enabled.{suc-enabled, fail-enabled}
 use Rattle.automaton.proofs.Confluence.{silent-unique, fail-unique, run-steps, run-acts, settled-exhausted}
 use Rattle.automaton.proofs.OnePlace.{comp-unique, suc-unique, view-once}
@@ -223,17 +223,16 @@ module _ (p : Plan) (ρ : FailReading) (ok : Accepted p) (limit : ℕ) (l : Ledg
       (subst (λ z. Exhausts p ρ isSilent z c) (event-between e c x ∙ sym (event-between e d y)) (x .settling)) (y .settling)
 
   -- A signal.
-  signal-big : (a : SignalArguments) → callRefusal limit p l (signal a) ≡ 0 → OnSignal p ρ (view p ρ l) (view p ρ (afterSignal p l))
-  unfolding afterSignal
+  signal-big : (a : SignalArguments) → callRefusal limit p l (signal a) ≡ 0 → OnSignal p ρ (view p ρ l) (view p ρ (abandoned p (turned l)))
   signal-big a h =
-      let k = signal-sound limit p ok l s a (unfinished limit p ok l s (signal a) h refl) in
+      let k = worked limit p ok l s (signal a) h in
       record {
         between = view p ρ (turned l);
         turning = (run-steps p ρ isFail (turning-run p ρ ok l n) (turners-fail p ρ l), none-going p ρ ok l n);
         settling = (
           run-steps p ρ isSilent (abandoning-run p ρ ok (turned l) (turned-nested p ok l n nothing)) (abandonings-silent p ρ (turned l)),
           settled-exhausted p ρ (view p ρ (abandoned p (turned l)))
-              (view-settled p ρ ok (abandoned p (turned l)) (k .formed .nested) (k .closing) (k .abandoning)),
+              (view-settled p ρ ok (abandoned p (turned l)) (k .nested) (k .closing) (k .abandoning)),
         );
       }
 
@@ -250,15 +249,15 @@ module _ (p : Plan) (ρ : FailReading) (ok : Accepted p) (limit : ℕ) (l : Ledg
   pub record Fired (t : ℕ) : Type 0 where
     pub between : Conf
     pub firing : VStep p ρ (view p ρ l) (compAt t (newest (l t .held) .code)) between
-    pub settling : Exhausts p ρ isSilent between (view p ρ (afterFire p l t))
+    pub settling : Exhausts p ρ isSilent between (view p ρ (abandoned p (fired p l t)))
     pub acts : actsIn p ρ (settling .0) ≡ firingActs t
 
   pub fire-fired : (a : FireArguments) → callRefusal limit p l (fire a) ≡ 0 → Fired (a .track)
-  unfolding afterFire firingActs
+  unfolding firingActs
   fire-fired a h =
       let t = a .track in
       let may = fire-accepted limit p l a h .1 in
-      let k = fire-sound limit p ok l s t may (unfinished limit p ok l s (fire a) h refl) in
+      let k = worked limit p ok l s (fire a) h in
       let (b, v, r) = first-of p ρ (fire-run p ρ ok l n t (s .formed .good t) may) _ _ refl in
       let silent =
       back-silent p ρ t (deviationStep t (optional (newest (l t .held) .deviation)) ++ abandonings p ρ (fired p l t))
@@ -269,14 +268,14 @@ module _ (p : Plan) (ρ : FailReading) (ok : Accepted p) (limit : ℕ) (l : Ledg
         firing = v;
         settling = (
           run-steps p ρ isSilent r silent,
-          settled-exhausted p ρ (view p ρ (afterFire p l t))
-              (view-settled p ρ ok (abandoned p (fired p l t)) (k .formed .nested) (k .closing) (k .abandoning)),
+          settled-exhausted p ρ (view p ρ (abandoned p (fired p l t)))
+              (view-settled p ρ ok (abandoned p (fired p l t)) (k .nested) (k .closing) (k .abandoning)),
         );
         acts = run-acts p ρ isSilent r silent;
       }
 
   fire-big : (a : FireArguments) → callRefusal limit p l (fire a) ≡ 0
-      → OnFiring p ρ (a .track) (newest (l (a .track) .held) .code) (view p ρ l) (view p ρ (afterFire p l (a .track)))
+      → OnFiring p ρ (a .track) (newest (l (a .track) .held) .code) (view p ρ l) (view p ρ (abandoned p (fired p l (a .track))))
   fire-big a h = let x = fire-fired a h in record { between = x .between; firing = x .firing; settling = x .settling }
 
   fire-one : (A j k : ℕ) (c d : Conf) → OnFiring p ρ A j (view p ρ l) c → OnFiring p ρ A k (view p ρ l) d → c ≡ d
@@ -285,13 +284,8 @@ module _ (p : Plan) (ρ : FailReading) (ok : Accepted p) (limit : ℕ) (l : Ledg
       silent-unique p ρ ok (y .between) c d (subst (λ z. Exhausts p ρ isSilent z c) same (x .settling)) (y .settling)
 
   -- what is reached before finish is looked for
-  worked : Call → Conf
-  worked (event a) = view p ρ (closed p (moved p l (a .event)))
-  worked (signal a) = view p ρ (afterSignal p l)
-  worked (fire a) = view p ρ (afterFire p l (a .track))
-
-  big : (c : Call) → callRefusal limit p l c ≡ 0 → Big p ρ c (view p ρ l) (worked c)
-  unfolding Big worked
+  big : (c : Call) → callRefusal limit p l c ≡ 0 → Big p ρ c (view p ρ l) (view p ρ (work p l c))
+  unfolding Big
   big (event a) h = event-big (a .event)
   big (signal a) h = signal-big a h
   big (fire a) h = (newest (l (a .track) .held) .code, fire-big a h)
@@ -303,18 +297,10 @@ module _ (p : Plan) (ρ : FailReading) (ok : Accepted p) (limit : ℕ) (l : Ledg
   one-only (signal a) d e x y = signal-one (view p ρ l) d e x y
   one-only (fire a) d e x y = fire-one (a .track) (x .0) (y .0) d e (x .1) (y .1)
 
-  worked-ended : (c : Call) → view p ρ (after p l c) ≡ afterFinish p c (worked c)
-  unfolding worked after afterEvent afterFinish
-  worked-ended (event a) =
-      let m = moved p l (a .event) in
-      finished-view p ρ ok (closed p m) (closed-nested p ok m (moved-nested p l (a .event) ok n)) (event-roots limit p ok l (s .formed) (a .event) (s .roots))
-  worked-ended (signal a) = refl
-  worked-ended (fire a) = refl
-
   -- an accepted call leads exactly where the automaton's big steps end
   pub exactly-big : (c : Call) → callRefusal limit p l c ≡ 0 → (d : Conf) → Ends p ρ c (view p ρ l) d ↔ (d ≡ view p ρ (after p l c))
   unfolding Ends
-  exactly-big c h d = (
-    λ x. let (e, b, q) = x in q ∙ ap (afterFinish p c) (one-only c e (worked c) b (big c h)) ∙ sym (worked-ended c),
-    λ q. (worked c, big c h, q ∙ worked-ended c),
-  )
+  exactly-big c h d =
+      let m = view p ρ (work p l c) in
+      let left = stepwise p ρ ok limit l s c h .left in
+      (λ x. let (e, b, q) = x in q ∙ ap (afterFinish p) (one-only c e m b (big c h)) ∙ sym left, λ q. (m, big c h, q ∙ left))

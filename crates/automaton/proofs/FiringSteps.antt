@@ -211,6 +211,5 @@ module _ (p : Plan) (ρ : FailReading) (ok : Accepted p) (l : Ledger) (n : Neste
           subst (λ z. Run p ρ (view p ρ l) (compAt t code ∷ nestcompAt t ∷ devAt t d ∷ []) z) (in-place (goto p t d rest) (deviated d e)) (step comp-step (step back-step (step (dev-step d e) stop)))
 
   -- and then the abandonings
-  pub fire-run : Run p ρ (view p ρ l) (compAt t code ∷ nestcompAt t ∷ (deviationStep t leads ++ abandonings p ρ m)) (view p ρ (afterFire p l t))
-  unfolding afterFire
+  pub fire-run : Run p ρ (view p ρ l) (compAt t code ∷ nestcompAt t ∷ (deviationStep t leads ++ abandonings p ρ m)) (view p ρ (abandoned p (fired p l t)))
   fire-run = run-then p ρ firing-run (abandoning-run p ρ ok m fired-on)

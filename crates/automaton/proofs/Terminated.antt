@@ -1,5 +1,6 @@
--- A scope can close exactly if its vector has terminated, and be abandoned exactly if it has compensated. A scope's tracks are all in
--- one mode, so its vector is never mixed; a track in a final state has no open scope, so one that has is neither. Assumes nothing.
+-- A scope can close exactly if its vector has terminated, and be abandoned exactly if it has compensated; finish is due exactly if the vector of
+-- the roots has terminated. A scope's tracks are all in one mode, so its vector is never mixed, as that of the roots may be; a track in a final
+-- state has no open scope, so one that has is neither. Assumes nothing.
 use mathlib.Core.Path.{_≡_, refl, sym, ap, ap₂, _∙_, subst}
 use mathlib.Core.Logic.{inl, inr}
 use mathlib.Core.Bool as bool
@@ -11,26 +12,28 @@ use Rattle.rules.specs.declared.Mode.{Mode}
 use Rattle.rules.specs.declared.Mode.the-variants.{Asleep, Forward, Undoing}
 use Rattle.rules.specs.Plan.{Plan, trackCount, host, owner, isFinal}
 use Rattle.rules.specs.Ledger.{Entry, Ledger, isAwake, isForward, isUndoing, isEmpty}
-use Rattle.rules.specs.Scope.{isOpen, hasOpenScope}
+use Rattle.rules.specs.Scope.{isOpen, hasOpenScope, isEnded, isBare}
+use Rattle.rules.specs.Finish.{isFinishing}
 use Rattle.rules.specs.Event.{isClosing}
 use Rattle.rules.specs.Signal.{isAbandoning}
-use Rattle.rules.specs.Signal as signal
 use Rattle.rules.proofs.Tests.{look, clash, refuted, and-holds, and-both, or-holds}
 use Rattle.rules.proofs.Acceptance.{Accepted}
 use Rattle.rules.proofs.Scopes.{by-host, host-by, open-at, open-find, busy-find}
 use Rattle.rules.proofs.Closing.{closing-final}
 use Rattle.rules.proofs.Abandoning.{bare-parts}
+use Rattle.rules.proofs.Finishing.{finishing-done, done-finishing}
 use Rattle.rules.proofs.Modes.{undoing-forward}
 use Rattle.theory.proofs.Nesting.{Awake, Nested, open-host}
+use Rattle.theory.proofs.SoundParts.{RootsAwake}
 use Rattle.theory.proofs.ClosingNested.{closing-of, final-free}
 use Rattle.theory.proofs.SoundBegin.{abandoning-bare}
 use Rattle.theory.proofs.SoundEvent.{abandoning-of}
 use Rattle.automaton.specs.Listing.{listed, someOf, everyOf}
 use Rattle.automaton.specs.Configuration.{NConf, Conf, Vect, members, pushComp, isForwards, isBackwards, isEmptyStack, isTerminated, isCompensated, hasTerminated, hasCompensated}
 use Rattle.automaton.specs.Semantics.{FailReading}
-use Rattle.automaton.specs.View.{stackOf, directionOf, isWithin, basic, nested, viewOf, scopeView}
+use Rattle.automaton.specs.View.{stackOf, directionOf, isWithin, isOnTop, basic, nested, viewOf, view, scopeView}
 use Rattle.automaton.proofs.Listings.{alike, listed-every, listed-every-at, listed-some, listed-some-find}
-use Rattle.automaton.proofs.Frames.{within-parts, within-of, shown-free, shown-busy, view-law}
+use Rattle.automaton.proofs.Frames.{within-parts, within-of, top-parts, top-of, shown-free, shown-busy, view-law}
 
 pub members-vect : (xs : List NConf) → members (Vect xs) ≡ xs
 unfolding members Vect
@@ -77,13 +80,14 @@ module _ (p : Plan) where
     abbrev v : Conf
     v = Vect (listed (trackCount p) f g)
 
-    terminated-of : ((u : ℕ) → u < trackCount p → f u ≡ true → isTerminated p (g u) ≡ true) → (w : ℕ) → w < trackCount p → f w ≡ true → hasTerminated p v ≡ true
+    terminated-of : ((u : ℕ) → u < trackCount p → f u ≡ true → (isTerminated p (g u) || isCompensated p (g u)) ≡ true)
+        → (w : ℕ) → w < trackCount p → f w ≡ true → isTerminated p (g w) ≡ true → hasTerminated p v ≡ true
     unfolding hasTerminated
-    terminated-of h w b y =
+    terminated-of h w b y z =
         rw (members-vect (listed (trackCount p) f g))
         (and-both (someOf (isTerminated p) (listed (trackCount p) f g)) (everyOf (λ n. isTerminated p n || isCompensated p n) (listed (trackCount p) f g))
-        (listed-some (isTerminated p) (trackCount p) f g w b y (h w b y))
-        (listed-every (λ n. isTerminated p n || isCompensated p n) (trackCount p) f g (λ k c z. ap (λ x. x || isCompensated p (g k)) (h k c z))))
+        (listed-some (isTerminated p) (trackCount p) f g w b y z)
+        (listed-every (λ n. isTerminated p n || isCompensated p n) (trackCount p) f g h))
 
     pub terminated-at : hasTerminated p v ≡ true
         → ((w : ℕ) × (w < trackCount p) × (f w ≡ true) × (isTerminated p (g w) ≡ true))
@@ -133,7 +137,7 @@ module _ (p : Plan) (ok : Accepted p) (l : Ledger) (n : Nested p l) where
 
 module _ (p : Plan) (ρ : FailReading) (ok : Accepted p) (l : Ledger) (n : Nested p l) where
   -- a track's configuration is terminated exactly if the track is forward in a final state, compensated exactly if it is bare
-  pub view-terminated : (t : ℕ) → Awake l t → isTerminated p (viewOf p ρ l t) ≡ (isForward (l t .mode) && isFinal p (l t .state))
+  pub view-terminated : (t : ℕ) → Awake l t → isTerminated p (viewOf p ρ l t) ≡ isEnded p l t
   view-terminated t a =
       ap (isTerminated p) (view-law p ρ l ok t (n .below t a))
       ∙ elim (look (hasOpenScope p l t)) [
@@ -147,8 +151,8 @@ module _ (p : Plan) (ρ : FailReading) (ok : Accepted p) (l : Ledger) (n : Neste
       scope : ℕ → Conf
       scope t = Vect (listed (trackCount p) (isWithin p l t) (viewOf p ρ l))
 
-  pub view-compensated : (t : ℕ) → Awake l t → isCompensated p (viewOf p ρ l t) ≡ signal.isBare p l t
-  unfolding signal.isBare
+  pub view-compensated : (t : ℕ) → Awake l t → isCompensated p (viewOf p ρ l t) ≡ isBare p l t
+  unfolding isBare
   view-compensated t a =
       ap (isCompensated p) (view-law p ρ l ok t (n .below t a))
       ∙ elim (look (hasOpenScope p l t)) [
@@ -169,12 +173,13 @@ module _ (p : Plan) (ρ : FailReading) (ok : Accepted p) (l : Ledger) (n : Neste
         alike (isClosing p l s) (hasTerminated p (Vect (listed (trackCount p) (isWithin p l (owner p s)) (viewOf p ρ l))))
         (λ c.
         let (w, b, e, a) = some-track p ok l n s open-s in
-        terminated-of p (isWithin p l (owner p s)) (viewOf p ρ l)
-        (λ u d y.
+        let y = host-within p ok l n s open-s w e in
+        let all : (u : ℕ) → u < trackCount p → isWithin p l (owner p s) u ≡ true → isTerminated p (viewOf p ρ l u) ≡ true =
+        λ u d y.
         let (f, v) = within-host p ok l n s open-s u y in
         let (i, j) = closing-final p l s u c d f in
-        view-terminated u v ∙ and-both (isForward (l u .mode)) (isFinal p (l u .state)) i j)
-        w b (host-within p ok l n s open-s w e))
+        view-terminated u v ∙ and-both (isForward (l u .mode)) (isFinal p (l u .state)) i j in
+        terminated-of p (isWithin p l (owner p s)) (viewOf p ρ l) (λ u d y. ap (λ x. x || isCompensated p (viewOf p ρ l u)) (all u d y)) w b y (all w b y))
         (λ h.
         let (q, all) = terminated-at p (isWithin p l (owner p s)) (viewOf p ρ l) h in
         let (w, b, y, k) = q in
@@ -203,3 +208,30 @@ module _ (p : Plan) (ρ : FailReading) (ok : Accepted p) (l : Ledger) (n : Neste
         (λ u f.
         let y = host-within p ok l n s open-s u f in
         sym (view-compensated u (within-host p ok l n s open-s u y .1)) ∙ compensated-at p (isWithin p l (owner p s)) (viewOf p ρ l) h u (ok .hosted u s f) y))
+
+  -- Finish is due exactly if the vector of the roots has terminated, which may be mixed
+  pub finishing-terminated : RootsAwake p l → isFinishing p l ≡ hasTerminated p (view p ρ l)
+  unfolding view
+  finishing-terminated roots =
+      alike (isFinishing p l) (hasTerminated p (Vect (listed (trackCount p) (isOnTop p l) (viewOf p ρ l))))
+      (λ h.
+      let d = finishing-done p l h in
+      let r = d .root in
+      let a = roots r (d .low) (d .unhosted) in
+      terminated-of p (isOnTop p l) (viewOf p ρ l)
+      (λ t b y. let (e, w) = top-parts p l t y in ap₂ (λ x z. x || z) (view-terminated t w) (view-compensated t w) ∙ d .every t b e)
+      r (d .low) (top-of p l r (d .unhosted) a) (view-terminated r a ∙ d .ended))
+      (λ h.
+      let (q, all) = terminated-at p (isOnTop p l) (viewOf p ρ l) h in
+      let (r, b, y, k) = q in
+      let (e, w) = top-parts p l r y in
+      done-finishing p l
+      (record {
+        every = λ t c f.
+            let a = roots t c f in
+            sym (ap₂ (λ x z. x || z) (view-terminated t a) (view-compensated t a)) ∙ all t c (top-of p l t f a);
+        root = r;
+        low = b;
+        unhosted = e;
+        ended = sym (view-terminated r w) ∙ k;
+      }))

@@ -13,7 +13,7 @@ use Rattle.rules.specs.declared.Mode.{Mode}
 use Rattle.rules.specs.Plan.{Plan, trackCount, isRoot, isHostedBy}
 use Rattle.rules.specs.Ledger.{Ledger, isAwake, isForward}
 use Rattle.rules.specs.Scope.{hasOpenScope}
-use Rattle.rules.specs.Signal.{turned, afterSignal}
+use Rattle.rules.specs.Signal.{turned, abandoned}
 use Rattle.rules.specs.Call.{nothing}
 use Rattle.rules.proofs.Tests.{look, clash, none-some, refuted, and-holds}
 use Rattle.rules.proofs.Acceptance.{Accepted}
@@ -193,6 +193,5 @@ module _ (p : Plan) (ρ : FailReading) (ok : Accepted p) (l : Ledger) (n : Neste
       ]))
 
   -- and then the abandonings
-  pub signal-run : Run p ρ (view p ρ l) (turners p ρ l ++ abandonings p ρ (turned l)) (view p ρ (afterSignal p l))
-  unfolding afterSignal
+  pub signal-run : Run p ρ (view p ρ l) (turners p ρ l ++ abandonings p ρ (turned l)) (view p ρ (abandoned p (turned l)))
   signal-run = run-then p ρ turning-run (abandoning-run p ρ ok m (turned-nested p ok l n nothing))

@@ -8,7 +8,7 @@ use Rattle.rules.specs.Plan.{Plan, trackCount}
 use Rattle.rules.specs.Ledger.{Ledger, ledgerAt}
 use Rattle.rules.specs.Call.{Answer, refusal, done, Call, callOutcome, beginOutcome}
 use Rattle.automaton.specs.Listing.{everyOf}
-use Rattle.automaton.specs.Configuration.{Conf, Vect, members, isTerminated}
+use Rattle.automaton.specs.Configuration.{Conf, Vect, hasTerminated}
 use Rattle.automaton.specs.Semantics.{FailReading, Act, Run}
 use Rattle.automaton.specs.View.{view, actsOf}
 use Rattle.automaton.specs.BigSteps.{Ends}
@@ -38,8 +38,8 @@ EndsFrom limit bs p ρ ws [] c d = d ≡ c
 EndsFrom limit bs p ρ ws (call ∷ cs) c d =
     (e : Conf) × Answered p ρ (callOutcome limit bs ws call .answer) call c e × EndsFrom limit bs p ρ (callOutcome limit bs ws call .words) cs e d
 
--- a run to what the ledger shows, or to a vector all of whose automata are terminated, of which nothing is shown
+-- a run to what the ledger shows, or to a vector that has terminated, of which nothing is shown
 pub record Played (p : Plan) (ρ : FailReading) (start : Conf) (acts : List Act) (l : Ledger) : Type 0 where
   pub reached : Conf
   pub run : Run p ρ start acts reached
-  pub shown : (view p ρ l ≡ reached) ⊎ ((everyOf (isTerminated p) (members reached) ≡ true) × (view p ρ l ≡ Vect []))
+  pub shown : (view p ρ l ≡ reached) ⊎ ((hasTerminated p reached ≡ true) × (view p ρ l ≡ Vect []))

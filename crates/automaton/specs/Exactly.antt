@@ -32,7 +32,7 @@ module _ (p : Plan) (ρ : FailReading) (limit : ℕ) (l : Ledger) (c : Call) whe
     pub run : Run p ρ (view p ρ l) (actsOf p ρ l c) reached
     -- no silent rule applies afterwards
     pub settled : Settled p ρ reached
-    pub left : view p ρ (after p l c) ≡ afterFinish p c reached
+    pub left : view p ρ (after p l c) ≡ afterFinish p reached
     pub told : figures p l c ≡ countedSteps p ρ l c
 
   -- and both ways: the automaton's big steps, which speak of no ledger, end in the view afterwards and nowhere else

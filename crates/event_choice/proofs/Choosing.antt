@@ -1,10 +1,10 @@
 -- From the passes to the choice: the words name the event's moves, so what was judged of those moves is what the rules say. Assumes nothing.
-use mathlib.Core.Path.{_≡_, refl, sym, ap, _∙_, subst, fun-ext}
+use mathlib.Core.Path.{_≡_, sym, ap, _∙_, subst, fun-ext}
 use mathlib.Core.Logic.{inl, inr}
-use mathlib.Core.Bool.{Bool, true, false, cond, not, _&&_}
+use mathlib.Core.Bool.{Bool, false, not, _&&_}
 use mathlib.Core.List.{List}
-use mathlib.Core.Option.{Option, none, some}
-use Prim.Native.Nat.{ℕ, _<_, _≤_}
+use mathlib.Core.Option.{none, some}
+use Prim.Native.Nat.{ℕ}
 use native.Mathlib.Omega.{arith}
 use lib.Dec.{eqb, leb, ltb}
 use lib.ListN.{length, getD, replicate}
@@ -12,9 +12,9 @@ use borrow.Author.Tests.{ltb-true, ltb-false}
 use Rattle.rules.specs.declared.Counts.{Counts}
 use Rattle.rules.specs.Fold.{someBelow, countBelow}
 use Rattle.rules.specs.Layout.{entryLimit}
-use Rattle.rules.specs.Plan.{Plan, planOf, trackCount, transitionCount, noState, optional, transition, isFinal}
+use Rattle.rules.specs.Plan.{Plan, planOf, trackCount, noState, optional, transition, isFinal}
 use Rattle.rules.specs.Ledger.{Configuration, Ledger, isForward, sleeping}
-use Rattle.rules.specs.Event.{isMove, hasCode, move, moves, moved, closesScope, closed, closings, isFinishing, isFull}
+use Rattle.rules.specs.Event.{isMove, hasCode, move, moves, moved, closed, closings}
 use Rattle.rules.proofs.Tests.{look, clash}
 use Rattle.rules.proofs.Folds.{some-not, some-same, count-same}
 use Rattle.rules.proofs.Acceptance.{Accepted, transition-for}
@@ -25,14 +25,13 @@ use Rattle.ledger.specs.Ladder.{Going, ledgerOf}
 use Rattle.lookup.specs.Figures.{Figures, Numbers}
 use Rattle.lookup.proofs.Facts.{plan-facts, few-tracks, live-of-going, beyond}
 use Rattle.lookup.proofs.FiguresLaws.{figure-each}
-use Rattle.event_choice.specs.declared.Choice.{Choice}
 use Rattle.event_choice.specs.declared.judging.Survey.{Survey}
 use Rattle.event_choice.specs.declared.judging.Verdict.{Verdict}
 use Rattle.event_choice.specs.Next.{InRange, movesOf, isLast, closesNext}
 use Rattle.event_choice.specs.Chosen.{Surveyed, Judged, Chosen}
 use Rattle.event_choice.proofs.Visits.{word-some, moves-at}
-use Rattle.event_choice.proofs.Moved.{mover-facts, closes-before, closings-before, finishes-before, full-before}
-use Rattle.event_choice.proofs.Ending.{none-closes, no-closings, no-finish, full-moves}
+use Rattle.event_choice.proofs.Moved.{mover-facts, closes-before, closings-before, full-before}
+use Rattle.event_choice.proofs.Ending.{none-closes, no-closings, full-moves}
 
 is-move : (p : Plan) (w : ℕ) → not (eqb w noState) ≡ isMove (optional w)
 unfolding optional isMove
@@ -84,7 +83,7 @@ module _ (bs : List ℕ) (c : Counts) (ws : List ℕ) (g : Going bs c ws) (event
 
   -- no move leads to a final state
   pub chosen-early : {v : Survey} → Surveyed p l ts (c .tracks) v → v .ends ≡ false
-      → Chosen p l (record { event = event; taken = ts; closing = replicate slots false; moved = v .moved; closed = 0; finishing = false; full = v .full })
+      → Chosen p l (record { event = event; taken = ts; closing = replicate slots false; moved = v .moved; closed = 0; full = v .full })
   unfolding isLast sleeping isForward
   chosen-early {v} s z =
       record {
@@ -92,7 +91,6 @@ module _ (bs : List ℕ) (c : Counts) (ws : List ℕ) (g : Going bs c ws) (event
         closing = figure-each false _ false (trackCount p) (few-tracks bs c (g .checked .lent .accepts)) (λ t b. sym (none-closes p ok l live event stays t));
         many-moved = count-all (s .many);
         many-closed = sym (no-closings p ok l live event stays);
-        finishing = sym (no-finish p ok l live event stays);
         full =
             s .fills ∙ ap (λ k. someBelow k (λ t. hasCode p (optional (getD ts t 0)) && leb entryLimit (length (l t .held)))) (sym (track-count bs c))
             ∙ some-same (trackCount p) _ _ (λ t b. ap (λ o. hasCode p o && leb entryLimit (length (l t .held))) (taken-all .at t b))
@@ -115,7 +113,7 @@ module _ (bs : List ℕ) (c : Counts) (ws : List ℕ) (g : Going bs c ws) (event
   module _ {n : ℕ} (count : n ≡ countBelow (c .tracks) (λ t. not (eqb (getD ts t 0) noState))) where
     pub chosen-all : {ms : List Bool} {v : Verdict} → Figures false ms (c .tracks) (closesNext p l (movesOf ts (c .tracks)))
         → Judged p l (movesOf ts (c .tracks)) (c .tracks) v
-        → Chosen p l (record { event = event; taken = ts; closing = ms; moved = n; closed = v .closed; finishing = v .finishing; full = v .full })
+        → Chosen p l (record { event = event; taken = ts; closing = ms; moved = n; closed = v .closed; full = v .full })
     chosen-all {ms} {v} f j =
         let q = sym (track-count bs c) in
         let h = subst (λ n. Judged p l (move p l event) n v) q (subst (λ goes. Judged p l goes (c .tracks) v) moves-are j) in
@@ -125,6 +123,5 @@ module _ (bs : List ℕ) (c : Counts) (ws : List ℕ) (g : Going bs c ws) (event
           closing = record { size = k .size; at = λ t b. k .at t b ∙ sym (closes-before p ok l live event t b) };
           many-moved = count-all count;
           many-closed = h .closings ∙ sym (closings-before p ok l live event);
-          finishing = h .finishes ∙ sym (finishes-before p ok l live event);
           full = h .fills ∙ sym (full-before p ok l live event entryLimit);
         }

@@ -1,21 +1,21 @@
--- Where no move leads to a final state, no scope closes and nothing finishes: a track that is in a final state after the moves was there before, and
--- nothing was due then. Assumes nothing.
-use mathlib.Core.Path.{_≡_, sym, ap, _∙_}
+-- Where no move leads to a final state, no scope closes: a track that is in a final state after the moves was there before, and no closing was due
+-- then. Assumes nothing.
+use mathlib.Core.Path.{_≡_, ap, _∙_}
 use mathlib.Core.Logic.{inl, inr}
-use mathlib.Core.Bool.{Bool, true, false, not, _&&_, _||_, and-false, or-false}
-use mathlib.Core.Option.{Option, some}
+use mathlib.Core.Bool.{true, false, _&&_, and-false, or-false}
+use mathlib.Core.Option.{some}
 use Prim.Native.Nat.{ℕ, _<_}
 use lib.Dec.{leb}
 use lib.ListN.{length}
 use Rattle.rules.specs.Fold.{someBelow}
-use Rattle.rules.specs.Plan.{Plan, trackCount, stateCount, transition, isRoot, isFinal}
-use Rattle.rules.specs.Ledger.{Configuration, Ledger, isAwake, isForward}
+use Rattle.rules.specs.Plan.{Plan, trackCount, stateCount, transition, isFinal}
+use Rattle.rules.specs.Ledger.{Configuration, Ledger, isAwake}
 use Rattle.rules.specs.Opening.{fresh, wakes}
-use Rattle.rules.specs.Event.{destinationOf, hasCode, move, moved, isClosing, closesScope, closed, closings, isFinishing, isReplaced, isFull}
-use Rattle.rules.proofs.Tests.{look, look-option, clash, refuted, and-holds}
-use Rattle.rules.proofs.Folds.{every-at, every-same, some-same}
+use Rattle.rules.specs.Event.{destinationOf, hasCode, move, moved, isClosing, closesScope, closings, isReplaced, isFull}
+use Rattle.rules.proofs.Tests.{look, look-option, clash, refuted}
+use Rattle.rules.proofs.Folds.{some-same}
 use Rattle.rules.proofs.Acceptance.{Accepted}
-use Rattle.rules.proofs.Closing.{closing-alike, closing-final, closed-steady}
+use Rattle.rules.proofs.Closing.{closing-alike, closing-final}
 use Rattle.rules.proofs.Soundness.{Live}
 use Rattle.event_choice.proofs.Moved.{moved-mover, moved-woken, moved-kept}
 use Rattle.event_choice.proofs.Still.{count-none}
@@ -53,24 +53,6 @@ module _ (p : Plan) (ok : Accepted p) (l : Ledger) (live : Live p l) (e : ℕ)
   pub no-closings : closings p m ≡ 0
   unfolding closings
   no-closings = count-none (stateCount p) (isClosing p m) none-due
-
-  pub no-finish : isFinishing p (closed p m) ≡ false
-  unfolding isFinishing
-  no-finish =
-      rw (closed-steady p m none-due)
-      (refuted (isFinishing p m)
-      (λ k.
-      clash k
-      (every-same (trackCount p) _ _
-      (λ t b.
-      elim (look (isRoot p t)) [
-        | inr r ↦ rw r
-        | inl r ↦
-            let f : (isForward (m t .mode) && isFinal p (m t .state)) ≡ true =
-            rw r at (every-at (trackCount p) (λ t. not (isRoot p t) || (isForward (m t .mode) && isFinal p (m t .state))) k t b) in
-            ap (λ (c : Configuration). not (isRoot p t) || (isForward (c .mode) && isFinal p (c .state))) (kept t b (and-holds (isForward (m t .mode)) _ f .1))
-      ])
-      ∙ live .finish)))
 
   pub full-moves : (limit : ℕ) → isFull p limit l e ≡ someBelow (trackCount p) (λ t. hasCode p (move p l e t) && leb limit (length (l t .held)))
   unfolding isFull isReplaced

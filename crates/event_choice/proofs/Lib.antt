@@ -4,5 +4,6 @@ pub mod Takers
 pub mod Moved
 pub mod Still
 pub mod Ending
+pub mod Undoing
 pub mod OneMove
 pub mod Choosing

@@ -10,21 +10,20 @@ use lib.ListN.{length}
 use borrow.Author.Tests.{eq-eqb, eqb-true, not-true}
 use Rattle.rules.specs.declared.Mode.the-variants.{Forward}
 use Rattle.rules.specs.Fold.{someBelow, everyBelow, countBelow}
-use Rattle.rules.specs.Plan.{Plan, trackCount, stateCount, host, owner, transition, mover, replacement, isRoot, isFinal, isStateOf, isHostedBy, everyIn, firstState, transitionFor}
+use Rattle.rules.specs.Plan.{Plan, trackCount, stateCount, host, owner, transition, mover, replacement, isFinal, isStateOf, isHostedBy, everyIn, firstState, transitionFor}
 use Rattle.rules.specs.Ledger.{Configuration, Ledger, isAwake, isForward}
 use Rattle.rules.specs.Scope.{isOpen, hasOpenScope}
 use Rattle.rules.specs.Opening.{fresh, wakes}
-use Rattle.rules.specs.Event.{install, installed, destinationOf, installedBy, hasCode, move, moved, isClosing, closesScope, closed, closings, isFinishing, isReplaced, isFull}
+use Rattle.rules.specs.Event.{install, installed, destinationOf, installedBy, hasCode, move, moved, isClosing, closesScope, closings, isReplaced, isFull}
 use Rattle.rules.proofs.Modes.{forward-awake, forward-is}
 use Rattle.rules.proofs.Tests.{look, look-option, clash, none-some, refuted, and-holds, and-both, implies, implied, strong, same-test}
-use Rattle.rules.proofs.Folds.{every-at, every-of, every-same, some-same, count-same}
+use Rattle.rules.proofs.Folds.{every-at, every-of, some-same, count-same}
 use Rattle.rules.proofs.Counting.{count-pairs}
 use Rattle.rules.proofs.Acceptance.{Accepted, transition-for}
-use Rattle.rules.proofs.Scopes.{in-host, host-in, by-host, host-by, root-none, every-in-at, every-in-of, open-at, open-find, shut-at, busy-at, busy-find, free-at}
+use Rattle.rules.proofs.Scopes.{in-host, host-in, by-host, host-by, every-in-at, every-in-of, open-at, open-find, shut-at, busy-at, busy-find, free-at}
 use Rattle.rules.proofs.Opening.{wakes-root, wakes-entered, wakes-woken, enter-to, enter-woken, enter-kept}
-use Rattle.rules.proofs.Closing.{closed-root, closed-alike}
 use Rattle.rules.proofs.Soundness.{Live}
-use Rattle.event_choice.specs.Next.{nextOf, endsBy, codeBy, endsNext, closesNext, finishesNext, fullNext}
+use Rattle.event_choice.specs.Next.{nextOf, endsBy, codeBy, endsNext, closesNext, fullNext}
 use Rattle.event_choice.proofs.Visits.{own-low}
 use Rattle.event_choice.proofs.Takers.{is-owner}
 
@@ -254,20 +253,6 @@ module _ (p : Plan) (ok : Accepted p) (l : Ledger) (live : Live p l) (event : �
     where
       mine : (t : ℕ) → t < trackCount p → closesScope p m t ≡ true → isStateOf p t (m t .state) ≡ true
       mine t b c = moved-own t b (and-holds (isAwake (m t .mode)) (isClosing p m (m t .state)) (unfold closesScope in c) .0)
-
-  -- finish: a root is in its next state, in its mode
-  pub finishes-before : isFinishing p (closed p m) ≡ finishesNext p l (move p l event)
-  unfolding isFinishing finishesNext
-  finishes-before =
-      every-same (trackCount p) _ _
-      (λ t b.
-      elim (look (isRoot p t)) [
-        | inr r ↦ rw r
-        | inl r ↦
-            let e = root-none p t r in
-            let (x, y) = closed-alike p m t (closed-root p m t e) in
-            ap₂ (λ d s. not (isRoot p t) || (isForward d && isFinal p s)) x y ∙ ap (λ z. not (isRoot p t) || z) (ends t (live .roots t b e))
-      ])
 
   -- 21, on the ledger before the call
   given : (t : ℕ) → t < trackCount p

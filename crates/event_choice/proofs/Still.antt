@@ -2,7 +2,7 @@
 -- and so not after it. Assumes nothing.
 use mathlib.Core.Path.{_≡_, refl, ap, _∙_, fun-ext}
 use mathlib.Core.Logic.{inl, inr}
-use mathlib.Core.Bool.{Bool, false, cond, and-false}
+use mathlib.Core.Bool.{Bool, false, cond}
 use mathlib.Core.Option.{Option, none, some}
 use Prim.Native.Nat.{ℕ, zero, suc, _+_, _<_, _≤_}
 use native.Mathlib.Nat.{not-suc-le-zero}
@@ -11,11 +11,11 @@ use lib.Dec.{ltb, eqb}
 use borrow.Author.Tests.{ltb-true, ltb-false, eqb-true, eqb-false}
 use Rattle.rules.specs.Fold.{countBelow}
 use Rattle.rules.specs.Plan.{Plan, trackCount, stateCount}
-use Rattle.rules.specs.Ledger.{Ledger, isAwake, isForward, sleeping}
+use Rattle.rules.specs.Ledger.{Ledger, isForward, sleeping}
 use Rattle.rules.specs.Scope.{isOpen}
-use Rattle.rules.specs.Event.{destinationOf, installedBy, hasCode, isMove, move, moves, moved, isClosing, closesScope, closed, closings, isFinishing, finished, isReplaced, isFull, afterEvent}
+use Rattle.rules.specs.Event.{destinationOf, installedBy, isMove, move, moves, moved, isClosing, closed, closings, afterEvent}
+use Rattle.rules.specs.Finish.{finished}
 use Rattle.rules.proofs.Tests.{look, clash, refuted, and-holds}
-use Rattle.rules.proofs.Folds.{some-none}
 use Rattle.rules.proofs.Acceptance.{Accepted}
 use Rattle.rules.proofs.Scopes.{open-find}
 use Rattle.rules.proofs.Opening.{enter-none}

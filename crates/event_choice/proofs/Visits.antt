@@ -13,18 +13,19 @@ use Rattle.rules.specs.declared.Counts.{Counts}
 use Rattle.rules.specs.declared.Track.{Track}
 use Rattle.rules.specs.Fold.{everyBelow, someBelow, countBelow}
 use Rattle.rules.specs.Layout.{entryLimit}
-use Rattle.rules.specs.Plan.{Plan, planOf, trackCount, stateCount, noState, optional, owner, transition, mover, replacement, isRoot, isFinal, isStateOf, isHostedBy, firstState}
+use Rattle.rules.specs.Plan.{Plan, planOf, trackCount, stateCount, noState, optional, owner, transition, mover, replacement, isFinal, isStateOf, isHostedBy, firstState}
 use Rattle.rules.specs.Ledger.{Configuration, Ledger, isAwake, sleeping}
 use Rattle.rules.specs.Scope.{hasOpenScope}
 use Rattle.rules.specs.Event.{hasCode}
 use Rattle.rules.proofs.Tests.{look, and-holds}
-use Rattle.rules.proofs.Folds.{every-more, some-more, count-more}
+use Rattle.rules.proofs.Folds.{every-more, count-more}
 use Rattle.plan.proofs.FieldLaws.{track-count, state-count, transition-count}
 use Rattle.ledger.specs.Ladder.{Accepts, Going, ledgerOf}
 use Rattle.ledger.specs.Words.{trackOf}
+use Rattle.ledger.proofs.Loops.{some-visit}
 use Rattle.ledger.proofs.ReadTracks.{mode-as, state-as, count-as}
 use Rattle.lookup.proofs.Facts.{plan-facts, live-of-going, storable, owner-low}
-use Rattle.event_choice.specs.Next.{movesOf, nextOf, endsBy, codeBy, isLast, endsNext, closesNext, finishesNext, fullNext}
+use Rattle.event_choice.specs.Next.{movesOf, nextOf, endsBy, codeBy, isLast, endsNext, closesNext, fullNext}
 
 -- a word names a number, or none
 pub word-none : {x : ℕ} → x ≡ noState → optional x ≡ none
@@ -180,23 +181,10 @@ pub none-more : (f : ℕ → Bool) (n t : ℕ) → n ≡ countBelow t f → f t 
 none-more f n t e g = let h = count-more t f in let z : _≡_ {A = ℕ} (cond (f t) 1 0) 0 = rw g in omega arith
 
 pub some-or-more : (f : ℕ → Bool) {t : ℕ} {d r e : Bool} → d ≡ someBelow t f → r ≡ f t → e ≡ (d || r) → e ≡ someBelow (t + 1) f
-some-or-more f {t} e g h = h ∙ ap₂ (λ x y. x || y) e g ∙ sym (some-more t f)
+some-or-more f {t} e g h = h ∙ some-visit f t e g
 
 module _ (p : Plan) (l : Ledger) (ts : List ℕ) (n t : ℕ) (b : t < n) {k : Track} (read : k ≡ trackOf (l t)) where
-  pub finishes-more : {f r d : Bool} → f ≡ everyBelow t (λ i. not (isRoot p i) || endsNext p l (movesOf ts n) i)
-      → r ≡ (not (isRoot p t) || endsBy p (k .mode) (k .state) (optional (getD ts t 0))) → d ≡ (f && r)
-      → d ≡ everyBelow (t + 1) (λ i. not (isRoot p i) || endsNext p l (movesOf ts n) i)
-  finishes-more e g h =
-      h ∙ ap₂ (λ x y. x && y) e (g ∙ ap (λ x. not (isRoot p t) || x) (ends-read p l ts n t b read refl))
-      ∙ sym (every-more t (λ i. not (isRoot p i) || endsNext p l (movesOf ts n) i))
-
   pub full-more : {f r d q : Bool} → f ≡ someBelow t (fullNext p l (movesOf ts n) entryLimit) → q ≡ closesNext p l (movesOf ts n) t
       → r ≡ (leb entryLimit (k .count) && not (eqb (codeBy p (k .state) (optional (getD ts t 0)) q) 0)) → d ≡ (f || r)
       → d ≡ someBelow (t + 1) (fullNext p l (movesOf ts n) entryLimit)
   full-more e f g h = some-or-more (fullNext p l (movesOf ts n) entryLimit) e (full-read p l ts n t b read f g) h
-
--- all tracks together
-pub finishes-all : (bs : List ℕ) (c : Counts) (l : Ledger) (goes : ℕ → Option ℕ) {n : ℕ} {r : Bool} → n ≡ c .tracks
-    → r ≡ everyBelow n (λ i. not (isRoot (planOf bs c) i) || endsNext (planOf bs c) l goes i) → r ≡ finishesNext (planOf bs c) l goes
-unfolding finishesNext
-finishes-all bs c l goes e f = rw (e ∙ sym (track-count bs c)) at f

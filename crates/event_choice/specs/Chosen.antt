@@ -10,12 +10,12 @@ use Rattle.rules.specs.Fold.{someBelow, countBelow}
 use Rattle.rules.specs.Layout.{entryLimit}
 use Rattle.rules.specs.Plan.{Plan, trackCount, noState, optional}
 use Rattle.rules.specs.Ledger.{Ledger}
-use Rattle.rules.specs.Event.{hasCode, move, moves, moved, closesScope, closed, closings, isFinishing, isFull}
+use Rattle.rules.specs.Event.{hasCode, move, moves, moved, closesScope, closings, isFull}
 use Rattle.lookup.specs.Figures.{Figures, Numbers}
 use Rattle.event_choice.specs.declared.Choice.{Choice}
 use Rattle.event_choice.specs.declared.judging.Survey.{Survey}
 use Rattle.event_choice.specs.declared.judging.Verdict.{Verdict}
-use Rattle.event_choice.specs.Next.{isLast, closesNext, finishesNext, fullNext}
+use Rattle.event_choice.specs.Next.{isLast, closesNext, fullNext}
 
 -- what is known of the moves that words name for the tracks below n
 pub record Surveyed (p : Plan) (l : Ledger) (ts : List ℕ) (n : ℕ) (r : Survey) : Type 0 where
@@ -26,7 +26,6 @@ pub record Surveyed (p : Plan) (l : Ledger) (ts : List ℕ) (n : ℕ) (r : Surve
 -- what is known from the moves of the tracks below n
 pub record Judged (p : Plan) (l : Ledger) (goes : ℕ → Option ℕ) (n : ℕ) (r : Verdict) : Type 0 where
   pub closings : r .closed ≡ countBelow n (closesNext p l goes)
-  pub finishes : r .finishing ≡ finishesNext p l goes
   pub fills : r .full ≡ someBelow n (fullNext p l goes entryLimit)
 
 -- the whole choice
@@ -35,5 +34,4 @@ pub record Chosen (p : Plan) (l : Ledger) (r : Choice) : Type 0 where
   pub closing : Figures false (r .closing) (trackCount p) (closesScope p (moved p l (r .event)))
   pub many-moved : r .moved ≡ countBelow (trackCount p) (moves p l (r .event))
   pub many-closed : r .closed ≡ closings p (moved p l (r .event))
-  pub finishing : r .finishing ≡ isFinishing p (closed p (moved p l (r .event)))
   pub full : r .full ≡ isFull p entryLimit l (r .event)

@@ -10,7 +10,7 @@ use Rattle.rules.specs.Names.{TrackNumber, StateNumber, TransitionNumber, Event
 use Rattle.rules.specs.declared.Counts.{Counts}
 use Rattle.rules.specs.declared.Mode.{Mode}
 use Rattle.rules.specs.Fold.{everyBelow}
-use Rattle.rules.specs.Plan.{Plan, trackCount, noState, optional, transition, replacement, isRoot, isFinal, isHostedBy}
+use Rattle.rules.specs.Plan.{Plan, trackCount, noState, optional, transition, replacement, isFinal, isHostedBy}
 use Rattle.rules.specs.Ledger.{Ledger, isAwake, isForward}
 use Rattle.rules.specs.Scope.{hasOpenScope}
 
@@ -53,10 +53,6 @@ module _ (p : Plan) (l : Ledger) (goes : ℕ → Option ℕ) where
   -- the track has an open scope, and every awake track there will be forward in a final state
   unfoldable pub closesNext : ℕ → Bool
   closesNext t = hasOpenScope p l t && everyBelow (trackCount p) (λ u. not (isHostedBy p t u && isAwake (l u .mode)) || endsNext u)
-
-  -- every root will be forward in a final state
-  unfoldable pub finishesNext : Bool
-  finishesNext = everyBelow (trackCount p) (λ t. not (isRoot p t) || endsNext t)
 
   -- a track that is given a code holds as many entries as it can
   unfoldable pub fullNext : ℕ → ℕ → Bool

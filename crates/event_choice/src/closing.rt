@@ -16,7 +16,7 @@ ghost use Rattle.lookup.specs.Figures.{Figures, Only};
 ghost use Rattle.event_choice.specs.Next.{InRange, movesOf, endsBy, endsNext, closesNext};
 
 // Whether a track that takes a transition, 65535 for none, will be forward in a final state.
-pub fn ends(plan: &[u8], c: Counts, k: Track, x: u16) -> bool
+fn ends(plan: &[u8], c: Counts, k: Track, x: u16) -> bool
     requires { ⌜ Accepts (now plan) c × (k .state < c .states) × ((x ≡ noState → ⊥) → x < c .transitions) ⌝ }
     ensures { λ r. ⌜ r ≡ endsBy (planOf (now (plan .entry)) c) (k .mode) (k .state) (optional x) ⌝ }
 {

@@ -1,5 +1,4 @@
-// What is known of an event before a word is written: whether a track that it gives an entry is full, whether it finishes, and the figures.
-use crate::closing;
+// What is known of an event before a word is written: whether a track that it gives an entry is full, and the figures.
 use ledger::layout::ENTRY_LIMIT;
 use lookup::reading;
 use plan::fields;
@@ -7,17 +6,17 @@ use plan::fields::NO_STATE;
 use rules::Counts;
 use rules::Track;
 ghost use mathlib.Core.Path.{_≡_};
-ghost use mathlib.Core.Bool.{false, cond, not, _&&_, _||_};
+ghost use mathlib.Core.Bool.{false, cond, not, _&&_};
 ghost use mathlib.Core.Option.{some};
 ghost use Prim.Native.Nat.{_<_, _≤_};
 ghost use lib.Dec.{eqb, leb};
 ghost use lib.ListN.{length};
 ghost use Rattle.rules.specs.Layout.{entryLimit};
-ghost use Rattle.rules.specs.Plan.{planOf, noState, optional, isRoot};
+ghost use Rattle.rules.specs.Plan.{planOf, noState, optional};
 ghost use Rattle.rules.specs.Event.{hasCode};
 ghost use Rattle.ledger.specs.Ladder.{Accepts, Lent, Going, ledgerOf};
 ghost use Rattle.lookup.specs.Figures.{Figures};
-ghost use Rattle.event_choice.specs.Next.{InRange, movesOf, endsBy, codeBy, isLast, closesNext};
+ghost use Rattle.event_choice.specs.Next.{InRange, movesOf, codeBy, isLast, closesNext};
 ghost use Rattle.event_choice.specs.Chosen.{Surveyed, Judged};
 
 // The code that a track is given: its transition's, or the replacement if its scope closes; 0 for none.
@@ -44,17 +43,6 @@ fn is_full(plan: &[u8], c: Counts, k: Track, x: u16, closes: bool) -> bool
         return false;
     }
     code_given(plan, c, k, x, closes) != 0
-}
-
-// Whether a track, if it is a root, will be forward in a final state.
-fn root_ends(plan: &[u8], c: Counts, k: Track, x: u16, t: usize) -> bool
-    requires { ⌜ Accepts (now plan) c × (k .state < c .states) × ((x ≡ noState → ⊥) → x < c .transitions) × (t < c .tracks) ⌝ }
-    ensures { λ r. ⌜ r ≡ (not (isRoot (planOf (now (plan .entry)) c) t) || endsBy (planOf (now (plan .entry)) c) (k .mode) (k .state) (optional x)) ⌝ }
-{
-    if !fields::is_root(plan, c, t) {
-        return true;
-    }
-    closing::ends(plan, c, k, x)
 }
 
 fn one_where(test: bool) -> u16
@@ -117,10 +105,9 @@ pub fn moves(plan: &[u8], c: Counts, ledger: &[u16], taken: &[u16; 32]) -> Surve
     }
 }
 
-// Of an event: how many scopes close, whether it finishes, and whether a track that it gives an entry is full.
+// Of an event: how many scopes close, and whether a track that it gives an entry is full.
 pub struct Verdict {
     pub closed: u16,
-    pub finishing: bool,
     pub full: bool,
 }
 
@@ -138,7 +125,6 @@ pub fn judge(
 {
     let tracks = c.tracks;
     let mut closed: u16 = 0;
-    let mut finishing = true;
     let mut full = false;
     let mut t: usize = 0;
     while t < tracks {
@@ -146,13 +132,11 @@ pub fn judge(
         let x = taken[t];
         let closes = closing[t];
         closed += one_where(closes);
-        finishing = finishing & root_ends(plan, c, k, x, t);
         full = full | is_full(plan, c, k, x, closes);
         t += 1;
     }
     Verdict {
         closed: closed,
-        finishing: finishing,
         full: full,
     }
 }

@@ -1,4 +1,4 @@
-// What an event will do, read off the ledger before a word is written: the moves, the scopes that close, 21, finish and the figures.
+// What an event will do, read off the ledger before a word is written: the moves, the scopes that close, 21 and the figures.
 pub mod closing;
 pub mod indexed;
 pub mod judging;
@@ -15,19 +15,18 @@ ghost use Rattle.lookup.specs.Figures.{Figures, Numbers};
 ghost use Rattle.transition_index.specs.Indexed.{Indexed};
 ghost use Rattle.event_choice.specs.Chosen.{Chosen};
 
-// For each track the transition that it takes, 65535 for none, and whether its open scope closes; how many do either; whether the event
-// finishes, and whether a track that it gives an entry is full.
+// For each track the transition that it takes, 65535 for none, and whether its open scope closes; how many do either; and whether a track
+// that it gives an entry is full.
 pub struct Choice {
     pub event: u16,
     pub taken: [u16; 32],
     pub closing: [bool; 32],
     pub moved: u16,
     pub closed: u16,
-    pub finishing: bool,
     pub full: bool,
 }
 
-// What an event does, given which tracks have an open scope, and its moves. Where none leads to a final state, no scope closes and nothing finishes.
+// What an event does, given which tracks have an open scope, and its moves. Where none leads to a final state, no scope closes.
 fn choose_by(
     plan: &[u8],
     c: Counts,
@@ -48,7 +47,6 @@ fn choose_by(
             closing: [false; 32],
             moved: m.moved,
             closed: 0,
-            finishing: false,
             full: m.full,
         };
     }
@@ -60,7 +58,6 @@ fn choose_by(
         closing: closing,
         moved: m.moved,
         closed: v.closed,
-        finishing: v.finishing,
         full: v.full,
     }
 }

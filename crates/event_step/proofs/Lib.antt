@@ -1,2 +1,3 @@
 -- Laws of an event's outcome.
 pub mod Answering
+pub mod Ended

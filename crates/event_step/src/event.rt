@@ -1,5 +1,6 @@
-// An event: its refusals, judged before a word is written, then its step and its figures.
+// An event: its refusals, judged before a word is written, then its step, finish, and its figures.
 use event_choice::Choice;
+use finish::finishing;
 use lookup::opens;
 use lookup::reading;
 use rules::Counts;
@@ -17,15 +18,18 @@ ghost use Rattle.transition_index.specs.Indexed.{Indexed};
 ghost use Rattle.event_choice.specs.Chosen.{Chosen};
 ghost use Rattle.event_step.specs.Outcome.{goingOutcome};
 
-// An event other than 0 on a ledger that is not over, its choice made, given the first state of each track. Where no track moves nothing changes.
+// An event other than 0 on a ledger that is not over, its choice made, given which tracks have an open scope and the first state of each.
+// Where no track moves nothing changes.
 fn go_on(
     plan: &[u8],
     c: Counts,
     ledger: &mut [u16],
     choice: Choice,
+    opens: &[bool; 32],
     firsts: &[u16; 32],
 ) -> EventAnswer
     requires { ⌜ Going (now plan) c (now ledger) × Chosen (planOf (now plan) c) (ledgerOf c (now ledger)) choice
+        × Figures false (now opens) (c .tracks) (hasOpenScope (planOf (now plan) c) (ledgerOf c (now ledger)))
         × Figures 0 (now firsts) (c .tracks) (firstState (planOf (now plan) c)) ⌝ }
     ensures { λ r. ⌜ Meets (goingOutcome (planOf (now (plan .entry)) c) (now (ledger .entry)) (choice .event)) (eventTold r) (now (ledger .exit)) ⌝ }
 {
@@ -38,6 +42,7 @@ fn go_on(
     }
     let closed = choice.closed;
     event_writing::write(plan, c, &mut ledger[..], choice, firsts);
+    finishing::finish(plan, c, &mut ledger[..], opens);
     EventAnswer::Moved(movers, closed)
 }
 
@@ -63,7 +68,7 @@ pub fn event(
         return EventAnswer::Refused(20);
     }
     let choice = event_choice::choose(plan, c, &ledger[..], event, opens);
-    go_on(plan, c, &mut ledger[..], choice, firsts)
+    go_on(plan, c, &mut ledger[..], choice, opens, firsts)
 }
 
 // The same, given the first state of each track and an index of the transitions: who has many events makes them once. The open scopes
@@ -89,5 +94,5 @@ pub fn event_indexed(
     }
     let opens = opens::open_scopes(plan, c, &ledger[..]);
     let choice = event_choice::choose_indexed(plan, c, &ledger[..], event, &opens, head, next);
-    go_on(plan, c, &mut ledger[..], choice, firsts)
+    go_on(plan, c, &mut ledger[..], choice, &opens, firsts)
 }

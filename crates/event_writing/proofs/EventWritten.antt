@@ -2,32 +2,33 @@
 -- before left, so together they are the event. Assumes nothing.
 use mathlib.Core.Path.{_≡_, sym, ap, _∙_, subst}
 use mathlib.Core.Logic.{inl, inr}
-use mathlib.Core.Bool.{true, false, _&&_, _||_}
+use mathlib.Core.Bool.{true, false, not, _&&_, _||_}
 use mathlib.Core.List.{List}
 use mathlib.Core.Option.{Option, none, some}
 use Prim.Native.Nat.{ℕ, _<_, _≤_}
 use native.Mathlib.Omega.{arith}
-use lib.Dec.{leb, ltb}
+use lib.Dec.{eqb, leb, ltb}
 use lib.ListN.{length}
 use borrow.Author.Tests.{leb-false, ltb-true, ltb-false}
 use Rattle.rules.specs.declared.Counts.{Counts}
 use Rattle.rules.specs.Layout.{entryLimit}
-use Rattle.rules.specs.Plan.{Plan, planOf, trackCount, host}
+use Rattle.rules.specs.Plan.{Plan, planOf, trackCount, noState, host, replacement}
 use Rattle.rules.specs.Ledger.{Configuration, Ledger, isAwake, isForward, sleeping, written}
 use Rattle.rules.specs.Opening.{fresh, wakes, entered, enter}
-use Rattle.rules.specs.Event.{destinationOf, installedBy, hasCode, move, moved, closesScope, closed, finished, isReplaced, isFull, afterEvent}
+use Rattle.rules.specs.Event.{destinationOf, installedBy, hasCode, move, moved, isClosing, isClosed, closesScope, closed, isReplaced, isFull}
 use Rattle.rules.proofs.Modes.{forward-awake}
 use Rattle.rules.proofs.Tests.{look, look-option, clash, refuted, and-holds, and-both, or-right}
 use Rattle.rules.proofs.Folds.{some-not}
 use Rattle.rules.proofs.Acceptance.{Accepted}
 use Rattle.rules.proofs.Opening.{wakes-root, wakes-same}
+use Rattle.rules.proofs.Closing.{closed-root, closed-asleep, closed-replaced, closed-kept}
 use Rattle.rules.proofs.Soundness.{Live}
 use Rattle.rules.proofs.Stored.{Storable, written-same}
 use Rattle.plan.proofs.FieldLaws.{track-count}
 use Rattle.ledger.specs.Ladder.{Tidy, Going, ledgerOf}
 use Rattle.lookup.specs.Figures.{Numbers}
 use Rattle.lookup.proofs.Facts.{plan-facts, live-of-going, tidy-words, storable, beyond}
-use Rattle.lookup.proofs.OneTrackLaws.{Stores, storable-of, read-back, orderly-after, then}
+use Rattle.lookup.proofs.OneTrackLaws.{Stores, stores-sleeping, stores-at, storable-of, read-back, orderly-after, then}
 use Rattle.opening.specs.Entering.{statesOf, Sleepers}
 use Rattle.opening.proofs.EnteringLaws.{entered-stores}
 use Rattle.event_choice.specs.declared.Choice.{Choice}
@@ -38,7 +39,7 @@ use Rattle.event_choice.proofs.Moved.{mover-facts, woken-asleep, moved-kept, mo
 use Rattle.event_choice.proofs.Still.{none-close}
 use Rattle.event_choice.proofs.Choosing as choosing
 use Rattle.event_writing.specs.EventParts.{Movers, Closings}
-use Rattle.event_writing.proofs.InstallingPass.{installing-stores}
+use Rattle.event_writing.proofs.InstallingPass.{installed-stores, installing-stores}
 
 module _ (bs : List ℕ) (c : Counts) (ws : List ℕ) (g : Going bs c ws) (r : Choice) (ch : Chosen (planOf bs c) (ledgerOf c ws) r) where
   abbrev p : Plan
@@ -73,12 +74,6 @@ module _ (bs : List ℕ) (c : Counts) (ws : List ℕ) (g : Going bs c ws) (r : C
 
   moves-are : movesOf (r .taken) (c .tracks) ≡ move p l e
   moves-are = choosing.moves-are bs c ws g e took
-
-  -- every track goes to sleep
-  pub finish-written : r .finishing ≡ true → {vs : List ℕ} → vs ≡ written entryLimit (c .tracks) (λ t. sleeping) ws
-      → vs ≡ written entryLimit (c .tracks) (afterEvent p l e) ws
-  unfolding afterEvent finished
-  finish-written f d = d ∙ written-same entryLimit (c .tracks) _ _ ws (λ t b. sym (rw (sym (ch .finishing) ∙ f)))
 
   module _ (free : r .full ≡ false) where
     -- a track that is given an entry has room for it
@@ -131,6 +126,63 @@ module _ (bs : List ℕ) (c : Counts) (ws : List ℕ) (g : Going bs c ws) (r : C
     stores-first =
         storable-of entryLimit (c .tracks) first (installing-stores c ws o p (r .taken) movers) (λ t b. idle t (none-beyond t b) ∙ asleep-beyond t b)
 
+    no-host : (t : ℕ) → c .tracks ≤ t → host p t ≡ none
+    no-host t b = elim (look-option (host p t)) [ inl q ↦ q | inr q ↦ absurd (let k = ok .hosted t (q .0) (q .1) in let n = track-count bs c in omega arith) ]
+
+    -- the ledger after the moves can be written
+    stores-second : Storable entryLimit (c .tracks) m
+    unfolding moved enter
+    stores-second =
+        storable-of entryLimit (c .tracks) m
+        (λ t.
+        let s = subst (λ x. Stores entryLimit x) (same t) (installing-stores c ws o p (r .taken) movers t) in
+        entered-stores entryLimit p (installedBy p (move p l e t) (l t)) t (to t) (wakes p to t) s)
+        (λ t b. moved-kept p ok l live e t (none-beyond t b) (wakes-root p ok to t (no-host t b)) ∙ asleep-beyond t b)
+
+    -- what is awake then is one of the plan's tracks
+    awake-low : (t : ℕ) → isAwake (m t .mode) ≡ true → t < trackCount p
+    unfolding sleeping isAwake
+    awake-low t a =
+        elim (look (ltb t (trackCount p))) [
+          | inl b ↦ ltb-true t (trackCount p) b
+          | inr b ↦ clash a (ap (λ (x : Configuration). isAwake (x .mode)) (stores-second .beyond t (omega (arith, ltb-false t (trackCount p) b, track-count bs c))))
+        ]
+
+    -- room for the replacement
+    replaced-room : (t : ℕ) → t < trackCount p → isReplaced p m t ≡ true → length (m t .held) < entryLimit
+    unfolding isReplaced
+    replaced-room t b h =
+        let s = closing-still p ok l live e t (sym (closes-before p ok l live e t b) ∙ and-holds (closesScope p m t) _ h .0) in
+        let k = spare t b (or-right (hasCode p (move p l e t)) (isReplaced p m t) h) in
+        omega (arith, ap (λ (x : Configuration). length (x .held)) s)
+
+    stores-closed : (t : ℕ) → Stores entryLimit (closed p m t)
+    unfolding closesScope isReplaced
+    stores-closed t =
+        let s = stores-at entryLimit (c .tracks) m stores-second t in
+        elim (look (isClosed p m t)) [
+          | inl q ↦ subst (Stores entryLimit) (sym (closed-asleep p m t q)) (stores-sleeping entryLimit)
+          | inr q ↦
+              elim (look (closesScope p m t)) [
+                | inr y ↦ subst (Stores entryLimit) (sym (closed-kept p m t q y)) s
+                | inl y ↦
+                    let a = and-holds (isAwake (m t .mode)) _ y .0 in
+                    subst (Stores entryLimit) (sym (closed-replaced p m t q y))
+                    (installed-stores (replacement p (m t .state)) noState (m t) s a
+                    (λ n. replaced-room t (awake-low t a) (and-both (closesScope p m t) (not (eqb (replacement p (m t .state)) 0)) y n)))
+              ]
+        ]
+
+    -- so can the ledger after the closings
+    pub stores-all : Storable entryLimit (c .tracks) (closed p m)
+    unfolding closesScope sleeping isAwake
+    stores-all =
+        storable-of entryLimit (c .tracks) (closed p m) stores-closed
+        (λ t b.
+        let z = stores-second .beyond t b in
+        let n : closesScope p m t ≡ false = ap (λ (x : Configuration). isAwake (x .mode) && isClosing p m (x .state)) z in
+        closed-kept p m t (closed-root p m t (no-host t b)) n ∙ z)
+
     module _ {vs : List ℕ} (d : vs ≡ written entryLimit (c .tracks) first ws) where
       pub first-tidy : Tidy vs (c .tracks)
       first-tidy = orderly-after c ws o first stores-first d
@@ -161,18 +213,6 @@ module _ (bs : List ℕ) (c : Counts) (ws : List ℕ) (g : Going bs c ws) (r : C
               let h : t < trackCount p = omega (arith, track-count bs c) in
               (λ i. entered (same t i) (fresh p t) (goes-to t h i) (wakes-same p ok (statesOf ts) to goes-to t i)))
 
-          stores-second : Storable entryLimit (c .tracks) m
-          unfolding moved enter
-          stores-second =
-              storable-of entryLimit (c .tracks) m
-              (λ t.
-              let s = subst (λ x. Stores entryLimit x) (same t) (installing-stores c ws o p (r .taken) movers t) in
-              entered-stores entryLimit p (installedBy p (move p l e t) (l t)) t (to t) (wakes p to t) s)
-              (λ t b. moved-kept p ok l live e t (none-beyond t b) (wakes-root p ok to t (no-host t b)) ∙ asleep-beyond t b)
-            where
-              no-host : (t : ℕ) → c .tracks ≤ t → host p t ≡ none
-              no-host t b = elim (look-option (host p t)) [ inl q ↦ q | inr q ↦ absurd (let k = ok .hosted t (q .0) (q .1) in let n = track-count bs c in omega arith) ]
-
           read-second : ledgerOf c us ≡ m
           read-second = read-back c ws o m stores-second second
 
@@ -180,29 +220,20 @@ module _ (bs : List ℕ) (c : Counts) (ws : List ℕ) (g : Going bs c ws) (r : C
           second-tidy = orderly-after c ws o m stores-second second
 
           pub closings : Closings p (ledgerOf c us) (r .closing)
-          unfolding closesScope isReplaced
+          unfolding closesScope
           closings =
               subst (λ (k : Ledger). Closings p k (r .closing)) (sym read-second)
               (record {
                 marks = ch .closing;
                 state = λ t b h. own-low p t (m t .state) (moved-own p ok l live e t b (and-holds (isAwake (m t .mode)) _ h .0));
-                room = λ t b h.
-                    let s = closing-still p ok l live e t (sym (closes-before p ok l live e t b) ∙ and-holds (closesScope p m t) _ h .0) in
-                    let k = spare t b (or-right (hasCode p (move p l e t)) (isReplaced p m t) h) in
-                    omega (arith, ap (λ (x : Configuration). length (x .held)) s);
+                room = replaced-room;
                 hosting = moved-up p ok l live e;
               })
 
           -- the scopes are closed, if any is due to
-          pub none-closed : r .finishing ≡ false → r .closed ≡ 0 → us ≡ written entryLimit (c .tracks) (afterEvent p l e) ws
-          unfolding afterEvent finished
-          none-closed z n =
-              let k = none-close p ok m (sym (ch .many-closed) ∙ n) in
-              second ∙ written-same entryLimit (c .tracks) _ _ ws (λ t b. sym (rw (sym (ch .finishing) ∙ z) (ap (λ (x : Ledger). x t) k)))
+          pub none-closed : r .closed ≡ 0 → us ≡ written entryLimit (c .tracks) (closed p m) ws
+          none-closed n = second ∙ ap (λ (x : Ledger). written entryLimit (c .tracks) x ws) (sym (none-close p ok m (sym (ch .many-closed) ∙ n)))
 
-          pub all-written : r .finishing ≡ false → {xs : List ℕ} → xs ≡ written entryLimit (c .tracks) (closed p (ledgerOf c us)) us
-              → xs ≡ written entryLimit (c .tracks) (afterEvent p l e) ws
-          unfolding afterEvent finished
-          all-written z x =
-              then c ws o m stores-second second (closed p) x
-              ∙ written-same entryLimit (c .tracks) _ _ ws (λ t b. sym (rw (sym (ch .finishing) ∙ z)))
+          pub all-written : {xs : List ℕ} → xs ≡ written entryLimit (c .tracks) (closed p (ledgerOf c us)) us
+              → xs ≡ written entryLimit (c .tracks) (closed p m) ws
+          all-written x = then c ws o m stores-second second (closed p) x

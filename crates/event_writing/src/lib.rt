@@ -1,4 +1,4 @@
-// The writing of an event, as the rules have it: the movers install their entries, all enter their destinations, scopes close; or all sleep.
+// The writing of an event, as the rules have it: the movers install their entries, all enter their destinations, scopes close. Finish is apart.
 use event_choice::Choice;
 use ledger::track;
 use lookup::reading;
@@ -14,7 +14,7 @@ ghost use lib.ListN.{length, getD};
 ghost use Rattle.rules.specs.Layout.{entryLimit};
 ghost use Rattle.rules.specs.Plan.{planOf, noState, optional, replacement, firstState};
 ghost use Rattle.rules.specs.Ledger.{written, isAwake};
-ghost use Rattle.rules.specs.Event.{installed, installedBy, destinationOf, hasCode, closed, afterEvent};
+ghost use Rattle.rules.specs.Event.{installed, installedBy, destinationOf, hasCode, moved, closed};
 ghost use Rattle.ledger.specs.Ladder.{Tidy, Accepts, Going, ledgerOf};
 ghost use Rattle.lookup.specs.Figures.{Figures, Numbers};
 ghost use Rattle.lookup.specs.OneTrack.{withConfiguration};
@@ -123,18 +123,15 @@ fn close_scopes(plan: &[u8], c: Counts, ledger: &mut [u16], closing: &[bool; 32]
     }
 }
 
-// Writes the ledger that the event leaves, given the first state of each track.
+// Writes the moves and the closings of the event, given the first state of each track.
 pub fn write(plan: &[u8], c: Counts, ledger: &mut [u16], choice: Choice, firsts: &[u16; 32])
     requires { ⌜ Going (now plan) c (now ledger) × Chosen (planOf (now plan) c) (ledgerOf c (now ledger)) choice × (choice .full ≡ false)
         × Figures 0 (now firsts) (c .tracks) (firstState (planOf (now plan) c)) ⌝ }
     ensures { λ _. ⌜ now (ledger .exit)
         ≡ written entryLimit (c .tracks)
-        (afterEvent (planOf (now (plan .entry)) c) (ledgerOf c (now (ledger .entry))) (choice .event)) (now (ledger .entry)) ⌝ }
+        (closed (planOf (now (plan .entry)) c) (moved (planOf (now (plan .entry)) c) (ledgerOf c (now (ledger .entry))) (choice .event)))
+        (now (ledger .entry)) ⌝ }
 {
-    if choice.finishing {
-        track::put_all_to_sleep(&mut ledger[..], c.tracks);
-        return;
-    }
     let taken = choice.taken;
     let closing = choice.closing;
     let to = install_moves(plan, c, &mut ledger[..], &taken);

@@ -1,12 +1,12 @@
 -- Loops that test each number in rising order. One that leaves at the first that fails: one more passed, one that fails, and the end. One
--- that visits all and keeps whether all passed: one more, and the end. Assumes nothing.
+-- that visits all and keeps whether all passed, or whether some did: one more, and the end. Assumes nothing.
 use mathlib.Core.Path.{_≡_, sym, ap₂, _∙_}
-use mathlib.Core.Bool.{Bool, true, false, _&&_}
+use mathlib.Core.Bool.{Bool, true, false, _&&_, _||_}
 use Prim.Native.Nat.{ℕ, _+_, _<_, _≤_}
 use native.Mathlib.Omega.{arith}
-use Rattle.rules.specs.Fold.{everyBelow}
+use Rattle.rules.specs.Fold.{someBelow, everyBelow}
 use Rattle.rules.proofs.Tests.{clash, refuted}
-use Rattle.rules.proofs.Folds.{every-at, every-more}
+use Rattle.rules.proofs.Folds.{every-at, every-more, some-more}
 
 -- f is what is tested of each number; r is what the test answered, q what it answered of all before
 module _ (f : ℕ → Bool) (i : ℕ) where
@@ -21,6 +21,9 @@ module _ (f : ℕ → Bool) (i : ℕ) where
 
   pub every-visit : {q r : Bool} → q ≡ everyBelow i f → r ≡ f i → (q && r) ≡ everyBelow (i + 1) f
   every-visit h e = ap₂ (λ (a b : Bool). a && b) h e ∙ sym (every-more i f)
+
+  pub some-visit : {q r : Bool} → q ≡ someBelow i f → r ≡ f i → (q || r) ≡ someBelow (i + 1) f
+  some-visit h e = ap₂ (λ (a b : Bool). a || b) h e ∙ sym (some-more i f)
 
   pub every-done : (n : ℕ) {q : Bool} → q ≡ everyBelow i f → i ≤ n → n ≤ i → q ≡ everyBelow n f
   every-done n h a b = let e : i ≡ n = omega arith in rw e at h

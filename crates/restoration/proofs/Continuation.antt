@@ -4,39 +4,47 @@
 use Prim.{tt}
 use mathlib.Core.Path.{_≡_, refl, sym, ap, _∙_, subst}
 use mathlib.Core.Logic.{_⊎_, inl, inr}
-use mathlib.Core.Bool.{true, false}
+use mathlib.Core.Bool.{true, false, and-false, _&&_}
 use mathlib.Core.List.{List, [], _∷_, _++_}
+use mathlib.Core.Option.{none, some}
 use Prim.Native.Nat.{ℕ, zero, suc, _*_, _<_, _≤_}
 use native.Mathlib.Omega.{arith}
 use lib.ListN.{length}
+use lib.Dec.{eqb}
+use borrow.Author.Tests.{eqb-true}
 use Rattle.rules.specs.declared.Counts.{Counts}
 use Rattle.rules.specs.Fold.{someBelow}
-use Rattle.rules.specs.Plan.{Plan, trackCount, planOf}
+use Rattle.rules.specs.Plan.{Plan, trackCount, planOf, optional, host, isFinal}
 use Rattle.rules.specs.Acceptance.{accepted, readPlan}
 use Rattle.rules.specs.Ledger.{Configuration, Ledger, isForward, isUndoing, isEmpty, ledgerAt}
-use Rattle.rules.specs.Scope.{hasOpenScope, isOver}
+use Rattle.rules.specs.Scope.{hasOpenScope, isEnded, isOver}
+use Rattle.rules.specs.Finish.{isFinishing}
 use Rattle.rules.specs.Signal.{turned, abandoned, afterSignal}
-use Rattle.rules.specs.Fire.{mayFire, fired, afterFire}
+use Rattle.rules.specs.Fire.{newest, mayFire, removed, deviatesTo, fired, afterFire}
 use Rattle.rules.specs.Call.{Answer, refusal, done, Call, signal, fire, nothing, after, next, callOutcome, beginOutcome}
 use Rattle.rules.specs.Transcript.{heldTotal, firingsOf}
 use Rattle.rules.specs.Books.{Books}
 use Rattle.rules.specs.ReferenceRun.{wordsFrom, wordsAfter, answersFrom, booksAfter, ledgerAfter, AllWithdrawn}
-use Rattle.rules.proofs.Tests.{look, clash, refuted}
-use Rattle.rules.proofs.Modes.{forward-awake, awake-undoing, undoing-is}
+use Rattle.rules.proofs.Tests.{look, look-option, clash}
+use Rattle.rules.proofs.Modes.{awake-undoing, undoing-is}
 use Rattle.rules.proofs.Folds.{some-find, some-not}
 use Rattle.rules.proofs.Acceptance.{Accepted, accepts}
 use Rattle.rules.proofs.Scopes.{root-none}
-use Rattle.rules.proofs.Abandoning.{awake-kept}
+use Rattle.rules.proofs.Opening.{enter-to}
+use Rattle.rules.proofs.Finishing.{none-ended, finish-not}
 use Rattle.rules.proofs.Ready.{may-fire}
 use Rattle.theory.specs.Seams as seam
-use Rattle.theory.proofs.Entries.{empty-nil}
+use Rattle.theory.proofs.Nesting.{Nested}
+use Rattle.theory.proofs.Entries.{Good, deviates, empty-nil}
+use Rattle.theory.proofs.FiringNested.{fired-is, removed-mode, deviates-here, deviates-not, fired-still}
+use Rattle.theory.proofs.SoundRetraction.{fired-awake, fired-root}
 use Rattle.theory.proofs.SoundKept.{sound-not-over, kept-sound}
 use Rattle.theory.proofs.Progress.{some-firing}
 use Rattle.theory.proofs.FiringsFall.{call-fewer, most-held}
 use Rattle.restoration.specs.Firings.{firingsIn}
 use Rattle.restoration.specs.Continuation.{withdrawing}
 use Rattle.restoration.proofs.Document01.{next-accepted, laws01}
-use Rattle.restoration.proofs.Theorems01.{Sound, turned-forward, signal-sound, fire-sound, unfinished}
+use Rattle.restoration.proofs.Theorems01.{Sound, signal-sound, signal-forward, signal-unended, fire-sound}
 use Rattle.restoration.proofs.SoundWords.{Holds, call-holds}
 use Rattle.restoration.proofs.Restoration.{history-holds, restored}
 use Rattle.restoration.proofs.Allowed.{signal-allowed, fire-allowed, fire-done}
@@ -45,13 +53,12 @@ use Rattle.restoration.proofs.Allowed.{signal-allowed, fire-allowed, fi
 module _ (limit : ℕ) (p : Plan) (ok : Accepted p) (l : Ledger) (s : Sound limit p l) where
   signalled : next limit p l (signal nothing) ≡ abandoned p (turned l)
   unfolding after afterSignal
-  signalled = next-accepted limit p l (signal nothing) (signal-allowed limit p l (sound-not-over limit p ok l s))
+  signalled =
+      next-accepted limit p l (signal nothing) (signal-allowed limit p l (sound-not-over limit p ok l s))
+      ∙ finish-not p (abandoned p (turned l)) (signal-unended p ok nothing l)
 
   signalled-sound : Sound limit p (next limit p l (signal nothing))
-  signalled-sound =
-      subst (Sound limit p) (sym signalled)
-      (signal-sound limit p ok l s nothing
-      (unfinished limit p ok l s (signal nothing) (signal-allowed limit p l (sound-not-over limit p ok l s)) refl))
+  signalled-sound = subst (Sound limit p) (sym signalled) (signal-sound limit p ok l s nothing (signal-unended p ok nothing l))
 
   signalled-fewer : heldTotal p (next limit p l (signal nothing)) ≤ heldTotal p l
   signalled-fewer =
@@ -59,22 +66,54 @@ module _ (limit : ℕ) (p : Plan) (ok : Accepted p) (l : Ledger) (s : Sound limi
 
   -- no track is forward
   none-forward : (t : ℕ) → isForward (next limit p l (signal nothing) t .mode) ≡ false
-  none-forward t =
-      ap (λ (m : Ledger). isForward (m t .mode)) signalled
-      ∙ refuted (isForward (abandoned p (turned l) t .mode))
-      (λ f.
-      let q = awake-kept p ok (turned l) t (forward-awake (abandoned p (turned l) t .mode) f) .1 in
-      clash (ap (λ (c : Configuration). isForward (c .mode)) (sym q) ∙ f) (turned-forward p ok nothing l t))
+  none-forward t = ap (λ (m : Ledger). isForward (m t .mode)) signalled ∙ signal-forward p ok nothing l t
 
   module _ (t : ℕ) (may : mayFire p l t ≡ true) where
-    fired-so : next limit p l (fire (record { track = t })) ≡ abandoned p (fired p l t)
-    unfolding after afterFire
-    fired-so = next-accepted limit p l (fire (record { track = t })) (fire-allowed limit p l t may)
+    -- where no track is forward a firing ends no root: the fired one alone may go forward, in a state that is not final
+    fired-unended : ((u : ℕ) → isForward (l u .mode) ≡ false) → isFinishing p (abandoned p (fired p l t)) ≡ false
+    fired-unended unforward =
+        none-ended p (abandoned p (fired p l t))
+        (λ u b e.
+        elim (look (eqb u t)) [
+          | inr k ↦ stays u b e (unfold deviatesTo in rw k)
+          | inl k ↦
+              elim (look-option (optional (newest (l t .held) .deviation))) [
+                | inl d ↦ stays u b e (deviates-not p l t d u)
+                | inr d ↦ subst (λ v. isEnded p (abandoned p (fired p l t)) v ≡ false) (sym (eqb-true u t k)) (enters (d .0) (d .1))
+              ]
+        ])
+      where
+        n : Nested p l
+        n = s .formed .nested
 
-    fired-sound : Sound limit p (next limit p l (fire (record { track = t })))
-    fired-sound =
-        subst (Sound limit p) (sym fired-so)
-        (fire-sound limit p ok l s t may (unfinished limit p ok l s (fire (record { track = t })) (fire-allowed limit p l t may) refl))
+        good : Good p t (l t .held)
+        good = s .formed .good t
+
+        stays : (u : ℕ) → u < trackCount p → host p u ≡ none → deviatesTo l t u ≡ none → isEnded p (abandoned p (fired p l t)) u ≡ false
+        stays u b e d =
+            let q = fired-still p l t ok n good (may-fire p l t may .3) (fired-awake laws01 limit p ok l s t may) u (s .roots u b e) d in
+            let m : abandoned p (fired p l t) u .mode ≡ l u .mode =
+            ap (λ (c : Configuration). c .mode) (fired-root laws01 limit p ok l s t may u e ∙ q) ∙ removed-mode p l t u in
+            ap (λ x. isForward x && isFinal p (abandoned p (fired p l t) u .state)) m
+            ∙ ap (λ x. x && isFinal p (abandoned p (fired p l t) u .state)) (unforward u)
+
+        enters : (d : ℕ) → optional (newest (l t .held) .deviation) ≡ some d → isEnded p (abandoned p (fired p l t)) t ≡ false
+        enters d q =
+            let (e, o, f) = deviates p t d (l t .held) good q in
+            let st : abandoned p (fired p l t) t .state ≡ d =
+            ap (λ (c : Configuration). c .state)
+            (fired-root laws01 limit p ok l s t may t e ∙ ap (λ m. m t) (fired-is p l t)
+            ∙ enter-to p ok (deviatesTo l t) (removed l t) t d (deviates-here p l t ∙ q)) in
+            ap (λ x. isForward (abandoned p (fired p l t) t .mode) && x) (ap (isFinal p) st ∙ f) ∙ and-false (isForward (abandoned p (fired p l t) t .mode))
+
+    fired-so : ((u : ℕ) → isForward (l u .mode) ≡ false) → next limit p l (fire (record { track = t })) ≡ abandoned p (fired p l t)
+    unfolding after afterFire
+    fired-so still =
+        next-accepted limit p l (fire (record { track = t })) (fire-allowed limit p l t may)
+        ∙ finish-not p (abandoned p (fired p l t)) (fired-unended still)
+
+    fired-sound : ((u : ℕ) → isForward (l u .mode) ≡ false) → Sound limit p (next limit p l (fire (record { track = t })))
+    fired-sound still = subst (Sound limit p) (sym (fired-so still)) (fire-sound limit p ok l s t may (fired-unended still))
 
     fired-fewer : heldTotal p (next limit p l (fire (record { track = t }))) < heldTotal p l
     fired-fewer = let i = call-fewer laws01 limit p ok tt l (seam.fire (record { track = t })) (fire-allowed limit p l t may) refl in omega arith
@@ -129,7 +168,7 @@ module _ (limit : ℕ) (bs : List ℕ) (k : Counts) (read : readPlan bs ≡ acce
               t,
               next limit p m (fire (record { track = t })),
               call-holds limit bs k read ws′ m g (fire (record { track = t })),
-              fired-sound limit p ok m v t may,
+              fired-sound limit p ok m v t may (none-forward limit p ok l s),
               omega arith,
               rw (fire-done limit bs k read ws′ m g t may),
             )

@@ -1,45 +1,37 @@
 -- Document 01's rules are an instance of the seams: the parameters are the rules' own functions, and each law follows from their text. The
 -- theory itself unfolds nothing that a later request may change. Assumes nothing.
 use Prim.{Unit, tt}
-use mathlib.Core.Path.{_≡_, refl, sym, ap, _∙_, fun-ext}
-use mathlib.Core.Logic.{_⊎_, inl, inr}
-use mathlib.Core.Bool.{Bool, true, false, not, _&&_, _||_, and-false}
+use mathlib.Core.Path.{_≡_, refl, ap, _∙_, fun-ext}
+use mathlib.Core.Logic.{inl, inr}
+use mathlib.Core.Bool.{Bool, true, false, not, _&&_, _||_}
 use mathlib.Core.List.{_++_}
 use mathlib.Core.Option.{Option, none, some}
-use Prim.Native.Nat.{ℕ, zero, suc, _<_}
+use Prim.Native.Nat.{ℕ, zero, suc}
 use lib.ListN.{length}
 use lib.Dec.{eqb, leb}
 use borrow.Author.Tests.{ne-eqb, not-true, not-false, leb-false}
 use Rattle.rules.specs.Fold.{firstRefusal}
-use Rattle.rules.specs.Plan.{Plan, trackCount, noState, optional, host, replacement, isRoot, isFinal, transitionFor}
-use Rattle.rules.specs.Ledger.{Configuration, Ledger, isForward, sleeping}
+use Rattle.rules.specs.Plan.{Plan, trackCount, noState, replacement, transitionFor}
+use Rattle.rules.specs.Ledger.{Configuration, Ledger, isForward}
 use Rattle.rules.specs.Scope.{hasOpenScope, isOver}
 use Rattle.rules.specs.Opening.{enter}
 use Rattle.rules.specs.Event as rule-event
-use Rattle.rules.specs.Event.{hasCode, move, moved, closed, isFinishing, finished, isReplaced, isFull, afterEvent}
+use Rattle.rules.specs.Event.{hasCode, move, moved, closed, isReplaced, isFull, afterEvent}
+use Rattle.rules.specs.Finish.{isFinishing, finished}
 use Rattle.rules.specs.Signal as rule-signal
-use Rattle.rules.specs.Signal.{isBare, abandoned, afterSignal}
-use Rattle.rules.specs.Fire.{newest, mayFire, removed, deviatesTo, fired, afterFire}
+use Rattle.rules.specs.Signal.{abandoned, afterSignal}
+use Rattle.rules.specs.Fire.{mayFire, fired, afterFire}
 use Rattle.rules.specs.Call as call
 use Rattle.rules.specs.Call.{EventArguments, SignalArguments, FireArguments, callRefusals, callRefusal, after, next}
 use Rattle.rules.specs.FinishedRun.{taken, movesBelow, movesOf}
-use Rattle.rules.proofs.Tests.{look, look-option, clash, none-some, and-holds, or-fails, passed, implies, implied}
-use Rattle.rules.proofs.Modes.{undoing-forward}
-use Rattle.rules.proofs.Folds.{some-not, every-at, every-of}
-use Rattle.rules.proofs.Acceptance.{Accepted, transition-for}
-use Rattle.rules.proofs.Scopes.{root-of, root-none}
-use Rattle.rules.proofs.Opening.{enter-to}
+use Rattle.rules.proofs.Tests.{clash, none-some, and-holds, passed}
+use Rattle.rules.proofs.Folds.{some-not}
+use Rattle.rules.proofs.Acceptance.{transition-for}
 use Rattle.rules.proofs.Closing as closing
-use Rattle.rules.proofs.Ready.{may-fire}
-use Rattle.theory.specs.Roots.{rootOf}
-use Rattle.theory.specs.Seams.{Seams, CallOf, event, signal, fire, isEvent, installed, installedBy, install, recorded, goes, changeOf, turned, work}
+use Rattle.rules.proofs.Finishing.{goes-on, finish-cases}
+use Rattle.theory.specs.Seams.{Seams, CallOf, event, signal, fire, installed, installedBy, install, recorded, goes, changeOf, turned, work}
 use Rattle.theory.proofs.Composition.{when, join}
-use Rattle.theory.proofs.Nesting.{Nested, root-above}
-use Rattle.theory.proofs.Entries.{deviates}
-use Rattle.theory.proofs.FiringNested.{fired-is, removed-mode, deviates-here, deviates-not, fired-still}
-use Rattle.theory.proofs.SoundParts.{Sound}
-use Rattle.theory.proofs.Laws.{Takes, ended, Settled, Spare, Laws, Unfinished}
-use Rattle.theory.proofs.SoundRetraction.{track-untouched, fired-awake, fired-root}
+use Rattle.theory.proofs.Laws.{Takes, Settled, Spare, Laws, Unfinished}
 
 -- The rules' calls, as the theory's.
 abbrev Calls : Type 0
@@ -60,7 +52,7 @@ there-and-back (call.event a) = refl
 there-and-back (call.signal a) = refl
 there-and-back (call.fire a) = refl
 
--- A change is named by its transition, a retraction by its code; a signal turns every forward track; finish is looked for after an event;
+-- A change is named by its transition, a retraction by its code; a signal turns every forward track; finish is looked for after every call;
 -- there are no leading words.
 abbrev pub document01 : Seams
 document01 =
@@ -80,7 +72,7 @@ document01 =
       retraction = λ e. e .code;
       isTurned = λ p a t. true;
       isFinishing = isFinishing;
-      looksForFinish = isEvent;
+      looksForFinish = λ c. true;
       Head = Unit {0};
       firstHead = λ p. tt;
       nextHead = λ limit p h l c. tt;
@@ -134,41 +126,6 @@ moves-are p S l a =
     moves-below-join p S l (a .event) (trackCount p)
     ∙ ap (join (trackCount p)) (fun-ext (λ t. ap (when (S t)) (same-taken a (move p l (a .event) t))))
 
--- Finish: it is due where every root has ended.
-module _ (p : Plan) where
-  -- a root that has not ended keeps the ledger going
-  not-ended : (l : Ledger) (t : ℕ) → t < trackCount p → host p t ≡ none → ended p l t ≡ false → isFinishing p l ≡ false
-  unfolding isFinishing
-  not-ended l t b e n =
-      elim (look (isFinishing p l)) [
-        | inr h ↦ h
-        | inl h ↦
-            let q = every-at (trackCount p) (λ t. not (isRoot p t) || ended p l t) h t b in
-            let r : ended p l t ≡ true = rw (root-of p t e) at q in
-            clash r n
-      ]
-
-  -- finish is due only where it was, if no root ended meanwhile
-  finish-back : (l m : Ledger) → ((t : ℕ) → host p t ≡ none → ended p m t ≡ true → ended p l t ≡ true) → isFinishing p l ≡ false
-      → isFinishing p m ≡ false
-  unfolding isFinishing
-  finish-back l m f n =
-      elim (look (isFinishing p m)) [
-        | inr h ↦ h
-        | inl h ↦
-            clash
-            (every-of (trackCount p) (λ t. not (isRoot p t) || ended p l t)
-            (λ t b.
-            implied (isRoot p t) (ended p l t)
-            (λ r. f t (root-none p t r) (implies (isRoot p t) (ended p m t) (every-at (trackCount p) (λ t. not (isRoot p t) || ended p m t) h t b) r))))
-            n
-      ]
-
-finish-cases : (p : Plan) (l : Ledger) → ((finished p l ≡ l) × (isFinishing p l ≡ false)) ⊎ ((t : ℕ) → finished p l t ≡ sleeping)
-unfolding finished
-finish-cases p l =
-    elim (look (isFinishing p l)) [ inl h ↦ inr (λ t. rw h) | inr h ↦ inl (fun-ext (λ t. rw h), h) ]
-
 -- Settling and refusals.
 module _ (limit : ℕ) (p : Plan) (l : Ledger) where
   pub next-accepted : (c : call.Call) → callRefusal limit p l c ≡ 0 → next limit p l c ≡ after p l c
@@ -183,17 +140,16 @@ module _ (limit : ℕ) (p : Plan) (l : Ledger) where
   unfolding rule-signal.turned
   turned-is a = refl
 
-  settled : (c : Calls) → callRefusal limit p l (asRules c) ≡ 0
-      → Settled document01 p (isEvent c) (work document01 p l c) (next limit p l (asRules c))
+  -- every call ends with finish
+  ends : (m k : Ledger) → k ≡ finished p m → Settled document01 p true m k
+  ends m k q = elim (finish-cases p m) [ inl f ↦ inl (q ∙ f .0, λ h. f .1) | inr o ↦ inr (λ t. ap (λ (x : Ledger). x t) q ∙ o t) ]
+
+  settled : (c : Calls) → callRefusal limit p l (asRules c) ≡ 0 → Settled document01 p true (work document01 p l c) (next limit p l (asRules c))
   unfolding after afterEvent afterSignal afterFire
-  settled (event a) z =
-      let q = next-accepted (call.event a) z in
-      elim (finish-cases p (closed p (moved p l (a .event)))) [
-        | inl f ↦ inl (q ∙ f .0, λ h. f .1)
-        | inr o ↦ inr (λ t. ap (λ (m : Ledger). m t) q ∙ o t)
-      ]
-  settled (signal a) z = inl (next-accepted (call.signal a) z ∙ ap (abandoned p) (turned-is a), λ h. clash h refl)
-  settled (fire a) z = inl (next-accepted (call.fire a) z, λ h. clash h refl)
+  settled (event a) z = ends (closed p (moved p l (a .event))) _ (next-accepted (call.event a) z)
+  settled (signal a) z =
+      ends (abandoned p (turned document01 p l a)) _ (next-accepted (call.signal a) z ∙ ap (λ (m : Ledger). finished p (abandoned p m)) (turned-is a))
+  settled (fire a) z = ends (abandoned p (fired p l (a .track))) _ (next-accepted (call.fire a) z)
 
   -- 21 leaves room for an entry
   has-spare : (a : EventArguments) → isFull p limit l (a .event) ≡ false → Spare document01 limit p l a
@@ -234,7 +190,7 @@ laws01 =
       closed-kept = λ p l a. closing.closed-kept p l;
       moves-are = moves-are;
       turned-up = λ p ok a t h e. refl;
-      goes-on = λ p l t b e n. not-ended p l t b e (or-fails (ended p l t) (isBare p l t) n .0);
+      goes-on = goes-on;
       settled = λ limit p h l c z. settled limit p l c z;
       refused = λ limit p h l c n. (next-refused limit p l (asRules c) n, refl);
       event-accepted = λ limit p h l a z. let (o, r) = event-accepted limit p l a z in (o, has-spare limit p l a r);
@@ -242,47 +198,6 @@ laws01 =
       fire-accepted = λ limit p h l. fire-accepted limit p l;
     }
 
--- Where finish is not looked for after a call, it is not due: a signal ends no root, and after a firing the root above the fired track is
--- undoing, or just went forward into a state that is not final.
-module _ (limit : ℕ) (p : Plan) (ok : Accepted p) (l : Ledger) (s : Sound document01 limit p l) where
-  abbrev n : Nested p l
-  n = s .formed .nested
-
-  signal-unfinished : (a : SignalArguments) → isFinishing p (abandoned p (turned document01 p l a)) ≡ false
-  signal-unfinished a =
-      let T = turned document01 p l a in
-      finish-back p l (abandoned p T)
-      (λ t e h.
-      let f = and-holds (isForward (abandoned p T t .mode)) (isFinal p (abandoned p T t .state)) h .0 in
-      ap (λ (c : Configuration). isForward (c .mode) && isFinal p (c .state)) (sym (track-untouched laws01 limit p ok l s a t f)) ∙ h)
-      (s .finish)
-
-  fire-unfinished : (t : ℕ) → mayFire p l t ≡ true → isFinishing p (abandoned p (fired p l t)) ≡ false
-  fire-unfinished t may =
-      let X = fired p l t in
-      let a = fired-awake laws01 limit p ok l s t may in
-      let g = s .formed .good t in
-      let (b, u, e, free) = may-fire p l t may in
-      elim (look-option (optional (newest (l t .held) .deviation))) [
-        | inr d ↦
-            let (e, o, f) = deviates p t (d .0) (l t .held) g (d .1) in
-            let st : abandoned p X t .state ≡ d .0 =
-            ap (λ (c : Configuration). c .state)
-            (fired-root laws01 limit p ok l s t may t e ∙ ap (λ m. m t) (fired-is p l t)
-            ∙ enter-to p ok (deviatesTo l t) (removed l t) t (d .0) (deviates-here p l t ∙ d .1)) in
-            not-ended p (abandoned p X) t b e
-            (rw (ap (isFinal p) st ∙ f, and-false (isForward (abandoned p X t .mode))))
-        | inl d ↦
-            let r = rootOf p t in
-            let (c, e, m) = root-above p ok l n t a in
-            let q = fired-still p l t ok n g free a r (s .roots r c e) (deviates-not p l t d r) in
-            let md : abandoned p X r .mode ≡ l t .mode =
-            ap (λ (c : Configuration). c .mode) (fired-root laws01 limit p ok l s t may r e ∙ q) ∙ removed-mode p l t r ∙ m in
-            not-ended p (abandoned p X) r c e
-            (rw (ap isForward md ∙ undoing-forward (l t .mode) u))
-      ]
-
+-- Finish is looked for after every call.
 pub unfinished01 : Unfinished document01
-unfinished01 limit p ok h l s (event a) z n = clash refl n
-unfinished01 limit p ok h l s (signal a) z n = signal-unfinished limit p ok l s a
-unfinished01 limit p ok h l s (fire a) z n = fire-unfinished limit p ok l s (a .track) (fire-accepted limit p l a z .1)
+unfinished01 limit p ok h l s c z n = clash refl n

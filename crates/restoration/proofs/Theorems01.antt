@@ -3,7 +3,7 @@
 use Prim.{tt}
 use mathlib.Core.Path.{_≡_, refl, sym, ap, _∙_, subst, fun-ext}
 use mathlib.Core.Logic.{_⊎_}
-use mathlib.Core.Bool.{Bool, true, false}
+use mathlib.Core.Bool.{true, false, _&&_}
 use mathlib.Core.List.{List, [], _∷_, _++_}
 use mathlib.Core.Option.{Option, none, some}
 use Prim.Native.Nat.{ℕ, _<_}
@@ -11,14 +11,19 @@ use Rattle.rules.specs.Plan.{Plan, trackCount, transitionCount, transition, hos
 use Rattle.rules.specs.Ledger.{Configuration, Ledger, isAwake, isForward, isUndoing, isEmpty}
 use Rattle.rules.specs.Scope.{hasOpenScope, isOver}
 use Rattle.rules.specs.Opening.{enter}
-use Rattle.rules.specs.Event.{install, installed, destinationOf, installedBy, move, moved, isClosed, closed, isFinishing}
+use Rattle.rules.specs.Event.{install, installed, destinationOf, installedBy, move, moved, isClosing, isClosed, closed}
+use Rattle.rules.specs.Finish.{isFinishing}
 use Rattle.rules.specs.Signal.{turned, isAbandoning, abandoned}
 use Rattle.rules.specs.Fire.{mayFire, fired}
 use Rattle.rules.specs.Call.{EventArguments, SignalArguments, Call, event, signal, fire, callRefusal, next}
 use Rattle.rules.specs.Books.{act}
 use Rattle.rules.specs.FinishedRun.{Reached, start, then, Running, by-begin, by-call, over-event, over-signal, over-fire, Finished}
-use Rattle.rules.proofs.Tests.{clash}
+use Rattle.rules.proofs.Tests.{clash, refuted}
+use Rattle.rules.proofs.Modes.{forward-awake}
 use Rattle.rules.proofs.Acceptance.{Accepted}
+use Rattle.rules.proofs.Closing.{closed-done}
+use Rattle.rules.proofs.Abandoning.{awake-kept, abandoned-done}
+use Rattle.rules.proofs.Finishing.{none-ended}
 use Rattle.rules.proofs.Ready as fireable
 use Rattle.theory.specs.Seams as seam
 use Rattle.theory.proofs.Nesting.{Awake, Nested}
@@ -30,6 +35,7 @@ use Rattle.theory.proofs.Turning as turning
 use Rattle.theory.proofs.MovingNested as moving
 use Rattle.theory.proofs.ClosingNested as closing
 use Rattle.theory.proofs.SignalNested as leaving
+use Rattle.theory.proofs.Forming.{abandoned-formed}
 use Rattle.theory.proofs.SoundEvent as sound-event
 use Rattle.theory.proofs.SoundRetraction as sound-retraction
 use Rattle.theory.proofs.SoundKept as kept
@@ -151,6 +157,17 @@ module _ (p : Plan) (ok : Accepted p) (a : SignalArguments) (l : Ledger) where
   pub turned-forward : (t : ℕ) → isForward (turned l t .mode) ≡ false
   turned-forward t = ap (λ (m : Ledger). isForward (m t .mode)) same-turned ∙ turning.turned-forward laws01 p l a t refl
 
+  -- so no track is forward after it, no root has ended, and finish is not due
+  pub signal-forward : (t : ℕ) → isForward (abandoned p (turned l) t .mode) ≡ false
+  signal-forward t =
+      refuted (isForward (abandoned p (turned l) t .mode))
+      (λ f.
+      let q = awake-kept p ok (turned l) t (forward-awake (abandoned p (turned l) t .mode) f) .1 in
+      clash (ap (λ (c : Configuration). isForward (c .mode)) (sym q) ∙ f) (turned-forward t))
+
+  pub signal-unended : isFinishing p (abandoned p (turned l)) ≡ false
+  signal-unended = none-ended p (abandoned p (turned l)) (λ t b e. ap (λ x. x && isFinal p (abandoned p (turned l) t .state)) (signal-forward t))
+
 module _ (p : Plan) (ok : Accepted p) (l : Ledger) (n : Nested p l) where
   pub turned-nested : (a : SignalArguments) → Nested p (turned l)
   turned-nested a = subst (Nested p) (sym (same-turned p ok a l)) (leaving.turned-nested laws01 p ok l n a)
@@ -171,16 +188,18 @@ module _ (limit : ℕ) (p : Plan) (ok : Accepted p) (l : Ledger) (f : Formed lim
   pub event-abandoning : ((s : ℕ) → isAbandoning p l s ≡ false) → (s : ℕ) → isAbandoning p (closed p (moved p l e)) s ≡ false
   event-abandoning = sound-event.event-abandoning laws01 limit p ok l f (record { event = e })
 
-abbrev pub looksForFinish : Call → Bool
-looksForFinish (event a) = true
-looksForFinish (signal a) = false
-looksForFinish (fire a) = false
-
 -- what a call does, finish apart
 abbrev pub work : Plan → Ledger → Call → Ledger
 work p l (event a) = closed p (moved p l (a .event))
 work p l (signal a) = abandoned p (turned l)
 work p l (fire a) = abandoned p (fired p l (a .track))
+
+-- a ledger with nothing left to settle but finish
+pub record Worked (limit : ℕ) (p : Plan) (l : Ledger) : Type 0 where
+  pub nested : Nested p l
+  pub roots : RootsAwake p l
+  pub closing : (s : ℕ) → isClosing p l s ≡ false
+  pub abandoning : (s : ℕ) → isAbandoning p l s ≡ false
 
 module _ (limit : ℕ) (p : Plan) (ok : Accepted p) (l : Ledger) (s : Sound limit p l) where
   pub signal-sound : (a : SignalArguments) → isFinishing p (abandoned p (turned l)) ≡ false → Sound limit p (abandoned p (turned l))
@@ -194,12 +213,31 @@ module _ (limit : ℕ) (p : Plan) (ok : Accepted p) (l : Ledger) (s : Sound limi
   pub fire-sound : (t : ℕ) → mayFire p l t ≡ true → isFinishing p (abandoned p (fired p l t)) ≡ false → Sound limit p (abandoned p (fired p l t))
   fire-sound = sound-retraction.fire-sound laws01 limit p ok l s
 
-  -- where finish is not looked for after a call, it is not due
-  pub unfinished : (c : Call) → callRefusal limit p l c ≡ 0 → looksForFinish c ≡ false → isFinishing p (work p l c) ≡ false
-  unfinished (event a) h n = clash refl n
-  unfinished (signal a) h n =
-      subst (λ m. isFinishing p (abandoned p m) ≡ false) (sym (same-turned p ok a l)) (unfinished01 limit p ok tt l s (seam.signal a) h refl)
-  unfinished (fire a) h n = unfinished01 limit p ok tt l s (seam.fire a) h refl
+  -- what an accepted call leaves has nothing left to settle but finish
+  pub worked : (c : Call) → callRefusal limit p l c ≡ 0 → Worked limit p (work p l c)
+  worked (event a) h =
+      let m = moved p l (a .event) in
+      record {
+        nested = closed-nested p ok m (moved-nested p l (a .event) ok (s .formed .nested));
+        roots = event-roots limit p ok l (s .formed) (a .event) (s .roots);
+        closing = closed-done p m;
+        abandoning = event-abandoning limit p ok l (s .formed) (a .event) (s .abandoning);
+      }
+  worked (signal a) h =
+      let k = signal-sound a (signal-unended p ok a l) in
+      record { nested = k .formed .nested; roots = k .roots; closing = k .closing; abandoning = k .abandoning }
+  worked (fire a) h =
+      let t = a .track in
+      let may = fire-accepted limit p l a h .1 in
+      let X = fired p l t in
+      record {
+        nested = abandoned-formed limit p ok X (fired-formed t may) .nested;
+        roots = λ u b e.
+            ap (λ (c : Configuration). isAwake (c .mode)) (sound-retraction.fired-root laws01 limit p ok l s t may u e)
+            ∙ sound-retraction.fired-roots laws01 limit p ok l s t may u (s .roots u b e);
+        closing = sound-retraction.fire-closing laws01 limit p ok l s t may;
+        abandoning = abandoned-done p ok X;
+      }
 
 -- an accepted call leaves its work, or all asleep
 pub next-cases : (limit : ℕ) (p : Plan) (ok : Accepted p) (l : Ledger) (c : Call) → callRefusal limit p l c ≡ 0

@@ -13,8 +13,8 @@ use Rattle.rules.specs.declared.Mode.the-variants.{Asleep, Forward, Undo
 use Rattle.rules.specs.Fold.{everyBelow}
 use Rattle.rules.specs.Plan.{Plan, trackCount, host, owner, isIn, isHostedBy, everyIn}
 use Rattle.rules.specs.Ledger.{Configuration, Ledger, isAwake, isUndoing, isEmpty, sleeping}
-use Rattle.rules.specs.Scope.{isOpen, hasOpenScope}
-use Rattle.rules.specs.Signal.{isBare, isAbandoning, isSpentTo, isSpent, isLeft, isAbandoned, abandoned}
+use Rattle.rules.specs.Scope.{isOpen, hasOpenScope, isBare}
+use Rattle.rules.specs.Signal.{isAbandoning, isSpentTo, isSpent, isLeft, isAbandoned, abandoned}
 use Rattle.rules.proofs.Tests.{look, look-option, clash, refuted, and-holds, and-both, or-right, implies, implied}
 use Rattle.rules.proofs.Folds.{every-at, every-of, every-same}
 use Rattle.rules.proofs.Acceptance.{Accepted}

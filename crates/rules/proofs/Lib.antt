@@ -10,6 +10,7 @@ pub mod Scopes
 pub mod Opening
 pub mod Closing
 pub mod Abandoning
+pub mod Finishing
 pub mod Ready
 pub mod Soundness
 pub mod TrackWords

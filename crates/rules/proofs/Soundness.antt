@@ -12,7 +12,8 @@ use Rattle.rules.specs.Fold.{someBelow}
 use Rattle.rules.specs.Plan.{Plan, trackCount, stateCount, host, owner, isRoot, isStateOf, everyIn}
 use Rattle.rules.specs.Ledger.{Ledger, isAwake, isForward, isUndoing}
 use Rattle.rules.specs.Scope.{isOpen}
-use Rattle.rules.specs.Event.{isClosing, isFinishing}
+use Rattle.rules.specs.Event.{isClosing}
+use Rattle.rules.specs.Finish.{isFinishing}
 use Rattle.rules.specs.Signal.{isAbandoning}
 use Rattle.rules.specs.Soundness.{everyHeld, sameMode, rootsAwake, statesOwn, codesReal, goodDeviation, deviationsGood, isWhole, scopesWhole, isHostedWell, hostsAwake, closingDone, finishDone, abandoningDone, isLive}
 use Rattle.rules.proofs.Tests.{look, clash, refuted, and-holds, and-both, or-holds, or-right, implies, implied}

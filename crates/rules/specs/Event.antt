@@ -1,4 +1,4 @@
--- An event: the moves (the report's SUC), closing (NESTSUC) and finish. Assumes nothing.
+-- An event: the moves (the report's SUC), closing (NESTSUC), and then finish. Assumes nothing.
 use mathlib.Core.Bool.{Bool, true, false, cond, not, _&&_, _||_}
 use mathlib.Core.List.{List, _∷_}
 use mathlib.Core.Option.{Option, none, some}
@@ -6,11 +6,12 @@ use Prim.Native.Nat.{ℕ}
 use lib.ListN.{length}
 use lib.Dec.{leb, eqb}
 use Rattle.rules.specs.Names.{TrackNumber, StateNumber, TransitionNumber, EventNumber, Code}
-use Rattle.rules.specs.Fold.{someBelow, everyBelow, countBelow}
-use Rattle.rules.specs.Plan.{Plan, trackCount, stateCount, noState, transition, replacement, isRoot, isFinal, host, everyIn, transitionFor}
+use Rattle.rules.specs.Fold.{someBelow, countBelow}
+use Rattle.rules.specs.Plan.{Plan, trackCount, stateCount, noState, transition, replacement, host, everyIn, transitionFor}
 use Rattle.rules.specs.Ledger.{Entry, Configuration, Ledger, isAwake, isForward, sleeping}
 use Rattle.rules.specs.Opening.{enter}
-use Rattle.rules.specs.Scope.{isOpen, hasOpenScope}
+use Rattle.rules.specs.Scope.{isOpen, hasOpenScope, isEnded}
+use Rattle.rules.specs.Finish.{finished}
 
 -- "A code other than 0 is installed as the newest entry, with its deviation."
 unfoldable pub install : Code → StateNumber → List Entry → List Entry
@@ -53,7 +54,7 @@ module _ (p : Plan) where
 
     -- "an open forward scope whose tracks are all in final states": closing is due to the scope of s
     unfoldable pub isClosing : StateNumber → Bool
-    isClosing s = isOpen p l s && everyIn p s (λ t. isForward (l t .mode) && isFinal p (l t .state))
+    isClosing s = isOpen p l s && everyIn p s (isEnded p l)
 
     -- the track is in a scope to which closing is due
     unfoldable pub isClosed : TrackNumber → Bool
@@ -74,14 +75,6 @@ module _ (p : Plan) where
     unfoldable pub closings : ℕ
     closings = countBelow (stateCount p) isClosing
 
-    -- "if all roots are forward in final states"
-    unfoldable pub isFinishing : Bool
-    isFinishing = everyBelow (trackCount p) (λ t. not (isRoot p t) || (isForward (l t .mode) && isFinal p (l t .state)))
-
-    -- Finish: "every track goes to sleep"
-    unfoldable pub finished : Ledger
-    finished t = cond isFinishing sleeping (l t)
-
   -- on the ledger after the moves: the track's scope closes and gives it a replacement
   unfoldable pub isReplaced : Ledger → TrackNumber → Bool
   isReplaced m t = closesScope m t && not (eqb (replacement p (m t .state)) 0)
@@ -94,4 +87,4 @@ module _ (p : Plan) where
 
   -- an event, its settlings done
   unfoldable pub afterEvent : Ledger → EventNumber → Ledger
-  afterEvent l event = finished (closed (moved l event))
+  afterEvent l event = finished p (closed (moved l event))

@@ -10,6 +10,7 @@ use Rattle.rules.specs.Plan.{Plan, trackCount, noState, optional}
 use Rattle.rules.specs.Ledger.{Entry, Ledger, isUndoing, isEmpty}
 use Rattle.rules.specs.Opening.{enter}
 use Rattle.rules.specs.Scope.{hasOpenScope}
+use Rattle.rules.specs.Finish.{finished}
 use Rattle.rules.specs.Signal.{abandoned}
 
 unfoldable pub newest : List Entry → Entry
@@ -45,6 +46,6 @@ module _ (p : Plan) (l : Ledger) where
   unfoldable pub lowestReady : Option TrackNumber
   lowestReady = firstBelow (trackCount p) mayFire
 
--- a firing, its settling done
+-- a firing, its settlings done: "after any accepted call, abandoning done"
 unfoldable pub afterFire : Plan → Ledger → TrackNumber → Ledger
-afterFire p l t = abandoned p (fired p l t)
+afterFire p l t = finished p (abandoned p (fired p l t))

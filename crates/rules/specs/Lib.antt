@@ -9,6 +9,7 @@ pub mod Leading
 pub mod Ledger
 pub mod Scope
 pub mod Opening
+pub mod Finish
 pub mod Event
 pub mod Signal
 pub mod Fire

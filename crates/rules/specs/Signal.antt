@@ -1,4 +1,4 @@
--- A signal: turning (the report's FAIL) and abandoning (NESTFAIL and NESTCOMP). Assumes nothing.
+-- A signal: turning (the report's FAIL), abandoning (NESTFAIL and NESTCOMP), and then finish. Assumes nothing.
 use mathlib.Core.Bool.{Bool, true, false, cond, not, _&&_, _||_}
 use mathlib.Core.Option.{none, some}
 use Prim.Native.Nat.{ℕ, zero, suc}
@@ -7,7 +7,8 @@ use Rattle.rules.specs.declared.Mode.the-variants.{Undoing}
 use Rattle.rules.specs.Fold.{everyBelow, countBelow}
 use Rattle.rules.specs.Plan.{Plan, trackCount, host, isHostedBy, everyIn}
 use Rattle.rules.specs.Ledger.{Configuration, Ledger, isAwake, isForward, isUndoing, isEmpty, sleeping}
-use Rattle.rules.specs.Scope.{isOpen, hasOpenScope}
+use Rattle.rules.specs.Scope.{isOpen, isBare}
+use Rattle.rules.specs.Finish.{finished}
 
 -- "turns every forward track to undoing"
 unfoldable pub turnedTrack : Configuration → Configuration
@@ -21,14 +22,10 @@ module _ (p : Plan) (l : Ledger) where
   unfoldable pub turnings : ℕ
   turnings = countBelow (trackCount p) (λ t. isForward (l t .mode))
 
-  -- undoing, holding nothing and without an open scope
-  unfoldable pub isBare : TrackNumber → Bool
-  isBare t = isUndoing (l t .mode) && isEmpty (l t .held) && not (hasOpenScope p l t)
-
   -- "an open scope goes to sleep, with nothing installed, if its tracks are all undoing, hold nothing and have no open scope": abandoning
   -- is due to the scope of s
   unfoldable pub isAbandoning : StateNumber → Bool
-  isAbandoning s = isOpen p l s && everyIn p s isBare
+  isAbandoning s = isOpen p l s && everyIn p s (isBare p l)
 
   -- Abandoning "climbs from scope to host until nothing changes". In the end each open scope is asleep whose tracks are all spent:
   -- undoing, holding nothing, and hosting no track awake that is not spent itself, as far as n levels show it.
@@ -54,6 +51,6 @@ module _ (p : Plan) (l : Ledger) where
   unfoldable pub abandoned : Ledger
   abandoned t = cond (isAbandoned t) sleeping (l t)
 
--- a signal, its settling done
+-- a signal, its settlings done: "after any accepted call, abandoning done"
 unfoldable pub afterSignal : Plan → Ledger → Ledger
-afterSignal p l = abandoned p (turned l)
+afterSignal p l = finished p (abandoned p (turned l))

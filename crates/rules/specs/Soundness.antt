@@ -13,7 +13,8 @@ use Rattle.rules.specs.Layout.{headWords, countPlace, entryWidth, trackW
 use Rattle.rules.specs.Plan.{Plan, trackCount, stateCount, noState, host, owner, isRoot, isStateOf, isFinal, everyIn}
 use Rattle.rules.specs.Ledger.{Entry, Ledger, isAwake, isForward, isUndoing, ledgerAt}
 use Rattle.rules.specs.Scope.{isOver}
-use Rattle.rules.specs.Event.{isClosing, isFinishing}
+use Rattle.rules.specs.Event.{isClosing}
+use Rattle.rules.specs.Finish.{isFinishing}
 use Rattle.rules.specs.Signal.{isAbandoning}
 
 -- "its words are as just described", of the track whose words start at a place

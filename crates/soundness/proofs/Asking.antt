@@ -3,8 +3,8 @@ use mathlib.Core.Path.{_≡_, refl, sym, ap, _∙_}
 use mathlib.Core.Logic.{inl, inr}
 use mathlib.Core.Bool.{Bool, true, false, not, _&&_, _||_, and-comm, or-true}
 use mathlib.Core.List.{List}
-use Prim.Native.Nat.{ℕ, zero, suc, _+_, _*_, _<_, _≤_}
-use lib.ListN.{length, getD, List·getD-eq-default}
+use Prim.Native.Nat.{ℕ, zero, suc, _+_, _*_, _<_}
+use lib.ListN.{length, getD}
 use lib.Dec.{eqb}
 use borrow.Author.Tests.{not-true, not-false}
 use Rattle.rules.specs.declared.Counts.{Counts}
@@ -12,8 +12,8 @@ use Rattle.rules.specs.declared.Mode.{Mode}
 use Rattle.rules.specs.declared.Track.{Track}
 use Rattle.rules.specs.Fold.{everyBelow}
 use Rattle.rules.specs.Layout.{entryLimit, headWords, entryWidth, trackPlace, entriesPlace}
-use Rattle.rules.specs.Plan.{Plan, State, stateCount, state, noState, hostWord, host, owner, isRoot, isStateOf, isFinal}
-use Rattle.rules.specs.Ledger.{Entry, Configuration, Ledger, isAwake, isForward, sleeping, entryAt, heldAt, configurationAt, ledgerAt}
+use Rattle.rules.specs.Plan.{Plan, state, noState, hostWord, host, owner, isRoot, isStateOf}
+use Rattle.rules.specs.Ledger.{Entry, Configuration, Ledger, isAwake, sleeping, entryAt, heldAt, configurationAt, ledgerAt}
 use Rattle.rules.specs.Soundness.{everyHeld, sameMode, goodDeviation, isHostedWell}
 use Rattle.rules.proofs.Tests.{look-option}
 use Rattle.rules.proofs.TrackWords.{length-heldAt}
@@ -24,13 +24,6 @@ use Rattle.ledger.specs.Words.{trackOf, entryPlace}
 use Rattle.ledger.proofs.ReadTracks.{mode-as, state-as}
 use Rattle.lookup.proofs.Facts.{host-is}
 use Rattle.soundness.specs.Parts.{goodEntry, soundTrack}
-
--- beyond the last state none is final
-pub final-beyond : (p : Plan) (s : ℕ) → stateCount p ≤ s → false ≡ isFinal p s
-unfolding isFinal state stateCount
-final-beyond p s h =
-    let e = ap (λ (x : State). not (eqb (x .final) 0)) (List·getD-eq-default (p .states) _ h) in
-    sym e
 
 -- the entries that a track holds, by their numbers
 held-below : (f : Entry → Bool) (ws : List ℕ) (at n : ℕ) → everyBelow n (λ k. f (entryAt ws (at + entryWidth * k))) ≡ everyHeld f (heldAt ws at n)
@@ -71,17 +64,6 @@ module _ (p : Plan) (l : Ledger) (t : ℕ) where
   asleep-well : isAwake (l t .mode) ≡ false → isHostedWell p l t ≡ true
   unfolding isHostedWell
   asleep-well a = elim (look-option (host p t)) [ inl e ↦ rw (e, isHostedWell) | inr e ↦ rw (e .1, isHostedWell, a) ]
-
-  -- a root that is not done, as the code asks it
-  pub finish-asked : {k : Track} {root done : Bool} → k ≡ trackOf (l t) → root ≡ isRoot p t → done ≡ (isForward (k .mode) && isFinal p (k .state))
-      → not (root && not done) ≡ (not (isRoot p t) || (isForward (l t .mode) && isFinal p (l t .state)))
-  unfolding trackOf
-  finish-asked e r d = rw (r, d, e) (not-both (isRoot p t) (isForward (l t .mode) && isFinal p (l t .state)))
-    where
-      not-both : (a b : Bool) → not (a && not b) ≡ (not a || b)
-      not-both true true = refl
-      not-both true false = refl
-      not-both false b = refl
 
   module _ {k : Track} {q : Bool} (e : k ≡ trackOf (l t)) (f : q ≡ isAwake (k .mode)) where
     -- a track asleep holds nothing, and has to be hosted

@@ -12,7 +12,8 @@ use Rattle.rules.specs.Layout.{entryLimit}
 use Rattle.rules.specs.Plan.{Plan, planOf, trackCount, stateCount, isRoot, isStateOf}
 use Rattle.rules.specs.Ledger.{Entry, Ledger, isAwake, ledgerAt}
 use Rattle.rules.specs.Scope.{isOver}
-use Rattle.rules.specs.Event.{isClosing, isFinishing}
+use Rattle.rules.specs.Event.{isClosing}
+use Rattle.rules.specs.Finish.{isFinishing}
 use Rattle.rules.specs.Signal.{isAbandoning}
 use Rattle.rules.specs.Soundness.{areTidy, everyHeld, rootsAwake, statesOwn, codesReal, goodDeviation, deviationsGood, isWhole, scopesWhole, isHostedWell, hostsAwake, closingDone, finishDone, abandoningDone, isLive, isSound}
 use Rattle.rules.proofs.Folds.{every-same}

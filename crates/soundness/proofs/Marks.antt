@@ -16,9 +16,9 @@ use Rattle.rules.specs.declared.Track.{Track}
 use Rattle.rules.specs.Fold.{someBelow}
 use Rattle.rules.specs.Plan.{Plan, planOf, trackCount, noState, hostWord, host, isIn, isFinal, everyIn, someIn}
 use Rattle.rules.specs.Ledger.{Ledger, isAwake, isForward, isUndoing}
-use Rattle.rules.specs.Scope.{isOpen, hasOpenScope}
+use Rattle.rules.specs.Scope.{isOpen, hasOpenScope, isBare}
 use Rattle.rules.specs.Event.{isClosing}
-use Rattle.rules.specs.Signal.{isBare, isAbandoning}
+use Rattle.rules.specs.Signal.{isAbandoning}
 use Rattle.rules.specs.Soundness.{isWhole}
 use Rattle.rules.proofs.Tests.{look}
 use Rattle.rules.proofs.Folds.{every-same, some-more}

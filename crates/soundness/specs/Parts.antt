@@ -11,9 +11,9 @@ use Rattle.rules.specs.declared.Counts.{Counts}
 use Rattle.rules.specs.Fold.{someBelow}
 use Rattle.rules.specs.Plan.{Plan, planOf, isRoot, isStateOf, isFinal, isIn}
 use Rattle.rules.specs.Ledger.{Entry, Ledger, isAwake, isForward}
-use Rattle.rules.specs.Scope.{isOver, hasOpenScope}
+use Rattle.rules.specs.Scope.{isOver, hasOpenScope, isBare}
 use Rattle.rules.specs.Event.{isClosing}
-use Rattle.rules.specs.Signal.{isBare, isAbandoning}
+use Rattle.rules.specs.Signal.{isAbandoning}
 use Rattle.rules.specs.Soundness.{everyHeld, goodDeviation, isWhole, isHostedWell}
 use Rattle.plan.specs.Passes.{stateSlots}
 use Rattle.ledger.specs.Ladder.{ledgerOf}

@@ -1,4 +1,5 @@
 // The entries that a track holds: their codes and their deviations.
+use finish::done;
 use ledger::track as words;
 use plan::fields;
 use plan::fields::NO_STATE;
@@ -8,22 +9,10 @@ ghost use mathlib.Core.Bool.{true};
 ghost use Prim.Native.Nat.{_<_};
 ghost use lib.ListN.{length};
 ghost use Rattle.rules.specs.Layout.{entryLimit};
-ghost use Rattle.rules.specs.Plan.{planOf, isFinal};
+ghost use Rattle.rules.specs.Plan.{planOf};
 ghost use Rattle.rules.specs.Soundness.{areTidy, everyHeld, goodDeviation};
-ghost use Rattle.plan.specs.Holds.{Holds};
 ghost use Rattle.ledger.specs.Ladder.{Accepts, Lent, ledgerOf};
 ghost use Rattle.soundness.specs.Parts.{goodEntry};
-
-// Whether a number is a final state, whatever the number.
-pub fn is_final(plan: &[u8], c: Counts, s: usize) -> bool
-    requires { ⌜ Holds (now plan) c ⌝ }
-    ensures { λ r. ⌜ r ≡ isFinal (planOf (now (plan .entry)) c) s ⌝ }
-{
-    if c.states <= s {
-        return false;
-    }
-    fields::is_final(plan, c, s)
-}
 
 // "a deviation held is 65535, or, in a root, a non-final state of that root"
 fn good_deviation(plan: &[u8], c: Counts, t: usize, deviation: u16) -> bool
@@ -36,7 +25,7 @@ fn good_deviation(plan: &[u8], c: Counts, t: usize, deviation: u16) -> bool
     let s = deviation as usize;
     let root = fields::is_root(plan, c, t);
     let own = fields::is_state_of(plan, c, t, s);
-    let last = is_final(plan, c, s);
+    let last = done::is_final(plan, c, s);
     root & own & !last
 }
 

@@ -1,17 +1,14 @@
 // What soundness asks of scopes, by marks that one pass over the tracks sets for the states that host them.
-use crate::tracks;
+use finish::done;
 use ledger::track as words;
 use lookup::reading;
 use plan::fields;
 use plan::fields::NO_STATE;
 use rules::Counts;
-use rules::Track;
 ghost use mathlib.Core.Path.{_≡_};
-ghost use mathlib.Core.Bool.{false, not, _&&_};
-ghost use lib.Dec.{eqb};
+ghost use mathlib.Core.Bool.{false};
 ghost use Rattle.rules.specs.Fold.{everyBelow};
 ghost use Rattle.rules.specs.Plan.{planOf};
-ghost use Rattle.rules.specs.Ledger.{isUndoing};
 ghost use Rattle.rules.specs.Scope.{hasOpenScope};
 ghost use Rattle.ledger.specs.Ladder.{Lent, ledgerOf};
 ghost use Rattle.lookup.specs.Figures.{Figures};
@@ -23,16 +20,6 @@ pub struct ScopeMarks {
     pub asleep: [bool; 128],
     pub unfinished: [bool; 128],
     pub busy: [bool; 128],
-}
-
-// Whether a track is bare: undoing, holding nothing and without an open scope, as `inner` tells.
-fn is_bare(k: Track, inner: bool) -> bool
-    ensures { λ r. ⌜ r ≡ (isUndoing (k .mode) && eqb (k .count) 0 && not inner) ⌝ }
-{
-    let m = k.mode;
-    let undoing = words::is_undoing(m);
-    let empty = k.count == 0;
-    undoing & empty & !inner
 }
 
 // The marks of every scope.
@@ -54,11 +41,11 @@ fn mark_scopes(plan: &[u8], c: Counts, ledger: &[u16], opens: &[bool; 32]) -> Sc
             let k = reading::track(c, ledger, t);
             let m = k.mode;
             let is_awake = words::is_awake(m);
-            let done = tracks::is_done(plan, c, k);
-            let bare = is_bare(k, opens[t]);
+            let ended = done::is_ended(plan, c, k);
+            let bare = done::is_bare(k, opens[t]);
             awake[s] = awake[s] | is_awake;
             asleep[s] = asleep[s] | !is_awake;
-            unfinished[s] = unfinished[s] | !done;
+            unfinished[s] = unfinished[s] | !ended;
             busy[s] = busy[s] | !bare;
         }
         t += 1;

@@ -1,6 +1,7 @@
 // A sound ledger: tidy words, and over or all clauses.
 use crate::scopes;
 use crate::tracks;
+use finish::finishing;
 use ledger::tidy;
 use lookup::opens;
 use lookup::reading;
@@ -22,7 +23,7 @@ fn is_live(plan: &[u8], c: Counts, ledger: &[u16], opens: &[bool; 32]) -> bool
     ensures { λ r. ⌜ r ≡ isLive (planOf (now (plan .entry)) c) (ledgerOf c (now (ledger .entry))) ⌝ }
 {
     let tracks = tracks::are_sound(plan, c, ledger);
-    let finishing = tracks::is_finishing(plan, c, ledger);
+    let finishing = finishing::is_finishing(plan, c, ledger, opens);
     let scopes = scopes::are_sound(plan, c, ledger, opens);
     tracks & !finishing & scopes
 }

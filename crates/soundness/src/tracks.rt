@@ -6,17 +6,14 @@ use plan::fields;
 use plan::fields::NO_STATE;
 use rules::Counts;
 use rules::Mode;
-use rules::Track;
 ghost use mathlib.Core.Path.{_≡_};
-ghost use mathlib.Core.Bool.{true, _&&_};
+ghost use mathlib.Core.Bool.{true};
 ghost use Prim.Native.Nat.{_<_};
 ghost use Rattle.rules.specs.Layout.{entryLimit};
 ghost use Rattle.rules.specs.Fold.{everyBelow};
-ghost use Rattle.rules.specs.Plan.{planOf, isFinal};
-ghost use Rattle.rules.specs.Ledger.{isAwake, isForward};
-ghost use Rattle.rules.specs.Event.{isFinishing};
+ghost use Rattle.rules.specs.Plan.{planOf};
+ghost use Rattle.rules.specs.Ledger.{isAwake};
 ghost use Rattle.rules.specs.Soundness.{areTidy, isHostedWell};
-ghost use Rattle.plan.specs.Holds.{Holds};
 ghost use Rattle.ledger.specs.Ladder.{Lent, ledgerOf};
 ghost use Rattle.soundness.specs.Parts.{soundTrack};
 
@@ -67,34 +64,4 @@ pub fn are_sound(plan: &[u8], c: Counts, ledger: &[u16]) -> bool
         t += 1;
     }
     all
-}
-
-// Whether a track is forward in a final state.
-pub fn is_done(plan: &[u8], c: Counts, k: Track) -> bool
-    requires { ⌜ Holds (now plan) c ⌝ }
-    ensures { λ r. ⌜ r ≡ (isForward (k .mode) && isFinal (planOf (now (plan .entry)) c) (k .state)) ⌝ }
-{
-    let m = k.mode;
-    if !words::is_forward(m) {
-        return false;
-    }
-    entries::is_final(plan, c, k.state as usize)
-}
-
-// "if all roots are forward in final states"
-pub fn is_finishing(plan: &[u8], c: Counts, ledger: &[u16]) -> bool
-    requires { ⌜ Lent (now plan) c (now ledger) ⌝ }
-    ensures { λ r. ⌜ r ≡ isFinishing (planOf (now (plan .entry)) c) (ledgerOf c (now (ledger .entry))) ⌝ }
-{
-    let tracks = c.tracks;
-    let mut t: usize = 0;
-    while t < tracks {
-        let root = fields::is_root(plan, c, t);
-        let done = is_done(plan, c, reading::track(c, ledger, t));
-        if root & !done {
-            return false;
-        }
-        t += 1;
-    }
-    true
 }

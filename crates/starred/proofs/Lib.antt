@@ -1,3 +1,4 @@
--- The starred runs, and the leading words on the sample plan.
+-- The starred runs, the leading words on the sample plan, and links that end half withdrawn.
 pub mod Starred
 pub mod LeadingRuns
+pub mod HalfWithdrawn

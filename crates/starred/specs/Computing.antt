@@ -7,10 +7,11 @@ use Rattle.rules.specs.Acceptance.{noTrack, badState, badHost, badFirst, badHos
 use Rattle.rules.specs.Layout.{entryLimit, leadingWords, headWords, entryWidth, trackWidth, trackPlace, entriesPlace, wordCount}
 use Rattle.rules.specs.Leading.{numbersTotal, planSum, stamped, otherPlan}
 use Rattle.rules.specs.Ledger.{isAwake, isForward, isUndoing, isEmpty, sleeping, modeWord, heldWords, modeOf, entryAt, heldAt, configurationAt, configurationWords, ledgerWords, written, ledgerAt}
-use Rattle.rules.specs.Scope.{isOpen, hasOpenScope, isOver}
+use Rattle.rules.specs.Scope.{isOpen, hasOpenScope, isBare, isOver}
 use Rattle.rules.specs.Opening.{fresh, wakesIn, wakes, entered, enter, rootsFirst, begun}
-use Rattle.rules.specs.Event.{install, installed, destinationOf, installedBy, hasCode, isMove, move, moves, moved, isClosing, isClosed, closesScope, closed, closings, isFinishing, finished, isReplaced, isFull, afterEvent}
-use Rattle.rules.specs.Signal.{turnedTrack, turned, turnings, isBare, isAbandoning, isSpentTo, isSpent, isLeft, isAbandoned, abandoned, afterSignal}
+use Rattle.rules.specs.Finish.{rootsDone, someRootEnded, isFinishing, finished}
+use Rattle.rules.specs.Event.{install, installed, destinationOf, installedBy, hasCode, isMove, move, moves, moved, isClosing, isClosed, closesScope, closed, closings, isReplaced, isFull, afterEvent}
+use Rattle.rules.specs.Signal.{turnedTrack, turned, turnings, isAbandoning, isSpentTo, isSpent, isLeft, isAbandoned, abandoned, afterSignal}
 use Rattle.rules.specs.Fire.{newest, older, mayFire, removed, deviatesTo, fired, ready, lowestReady, afterFire}
 use Rattle.rules.specs.Soundness.{goodMode, goodCount, unusedZero, asleepZero, isTidy, areTidy, everyHeld, sameMode, rootsAwake, statesOwn, codesReal, goodDeviation, deviationsGood, isWhole, scopesWhole, isHostedWell, hostsAwake, closingDone, finishDone, abandoningDone, isLive, isSound}
 use Rattle.rules.specs.Call.{refusedOr, underPlan, tooShort, ledgerRefusals, ledgerRefusal, callRefusals, callRefusal, figures, after, next, callOutcome, eventOutcome, signalOutcome, fireOutcome, beginOutcome, readyOutcome, heldPart, entriesPart}
@@ -19,8 +20,8 @@ use Rattle.rules.specs.Journal.{journalLength, isBroken, recordOf, itemAt, fire
 use Rattle.rules.specs.Transcript.{refusalLine, planLine, tallyLine, deviationText, doneLine, callLine, firingsOf, heldTotal, ledgerOf, lastLine, callText, replay, ownWords, transcript}
 use Rattle.rules.specs.FinishedRun.{taken, movesBelow, movesOf}
 use Rattle.rules.specs.ReferenceRun.{wordsFrom, wordsAfter, answersFrom, answersAfter, ledgerAfter}
-use Rattle.starred.specs.SamplePlan.{bytesOf, planOfCodes, planP, neighbourP, alikeP, journalP, lentFor}
+use Rattle.starred.specs.SamplePlan.{bytesOf, planOfCodes, planP, neighbourP, alikeP, twoRoots, journalP, lentFor}
 
 unfoldable pub computing : ℕ
-unfolding someBelow everyBelow countBelow sumBelow greatestBelow firstBelow tabulateFrom tabulate firstRefusal word sizeAt kindAt lengthOf mostOf countOf oneMore noCounts judgeRecord scanFrom scan noState optional trackRecord stateRecord transitionRecord stateAt transitionAt planOf trackCount stateCount transitionCount hostWord state transition host owner replacement isRoot isStateOf isFinal isIn isHostedBy isHosting everyIn someIn first firstState transitionFor mover reachBy heightTo height climbTo climb isInside isAbove noTrack badState badHost badFirst badHosting badTransition badDeviation repeatsEvent tooHigh judgePlan judged readPlan entryLimit leadingWords headWords entryWidth trackWidth trackPlace entriesPlace wordCount numbersTotal planSum stamped otherPlan isAwake isForward isUndoing isEmpty sleeping modeWord heldWords modeOf entryAt heldAt configurationAt configurationWords ledgerWords written ledgerAt isOpen hasOpenScope isOver fresh wakesIn wakes entered enter rootsFirst begun install installed destinationOf installedBy hasCode isMove move moves moved isClosing isClosed closesScope closed closings isFinishing finished isReplaced isFull afterEvent turnedTrack turned turnings isBare isAbandoning isSpentTo isSpent isLeft isAbandoned abandoned afterSignal newest older mayFire removed deviatesTo fired ready lowestReady afterFire goodMode goodCount unusedZero asleepZero isTidy areTidy everyHeld sameMode rootsAwake statesOwn codesReal goodDeviation deviationsGood isWhole scopesWhole isHostedWell hostsAwake closingDone finishDone abandoningDone isLive isSound refusedOr underPlan tooShort ledgerRefusals ledgerRefusal callRefusals callRefusal figures after next callOutcome eventOutcome signalOutcome fireOutcome beginOutcome readyOutcome heldPart entriesPart ascii decimalTo decimal fieldsText line journalLength isBroken recordOf itemAt fireLowestCall refusalLine planLine tallyLine deviationText doneLine callLine firingsOf heldTotal ledgerOf lastLine callText replay ownWords transcript taken movesBelow movesOf wordsFrom wordsAfter answersFrom answersAfter ledgerAfter bytesOf planOfCodes planP neighbourP alikeP journalP lentFor
+unfolding someBelow everyBelow countBelow sumBelow greatestBelow firstBelow tabulateFrom tabulate firstRefusal word sizeAt kindAt lengthOf mostOf countOf oneMore noCounts judgeRecord scanFrom scan noState optional trackRecord stateRecord transitionRecord stateAt transitionAt planOf trackCount stateCount transitionCount hostWord state transition host owner replacement isRoot isStateOf isFinal isIn isHostedBy isHosting everyIn someIn first firstState transitionFor mover reachBy heightTo height climbTo climb isInside isAbove noTrack badState badHost badFirst badHosting badTransition badDeviation repeatsEvent tooHigh judgePlan judged readPlan entryLimit leadingWords headWords entryWidth trackWidth trackPlace entriesPlace wordCount numbersTotal planSum stamped otherPlan isAwake isForward isUndoing isEmpty sleeping modeWord heldWords modeOf entryAt heldAt configurationAt configurationWords ledgerWords written ledgerAt isOpen hasOpenScope isBare isOver fresh wakesIn wakes entered enter rootsFirst begun install installed destinationOf installedBy hasCode isMove move moves moved isClosing isClosed closesScope closed rootsDone someRootEnded isFinishing finished closings isReplaced isFull afterEvent turnedTrack turned turnings isAbandoning isSpentTo isSpent isLeft isAbandoned abandoned afterSignal newest older mayFire removed deviatesTo fired ready lowestReady afterFire goodMode goodCount unusedZero asleepZero isTidy areTidy everyHeld sameMode rootsAwake statesOwn codesReal goodDeviation deviationsGood isWhole scopesWhole isHostedWell hostsAwake closingDone finishDone abandoningDone isLive isSound refusedOr underPlan tooShort ledgerRefusals ledgerRefusal callRefusals callRefusal figures after next callOutcome eventOutcome signalOutcome fireOutcome beginOutcome readyOutcome heldPart entriesPart ascii decimalTo decimal fieldsText line journalLength isBroken recordOf itemAt fireLowestCall refusalLine planLine tallyLine deviationText doneLine callLine firingsOf heldTotal ledgerOf lastLine callText replay ownWords transcript taken movesBelow movesOf wordsFrom wordsAfter answersFrom answersAfter ledgerAfter bytesOf planOfCodes planP neighbourP alikeP twoRoots journalP lentFor
 computing = 0

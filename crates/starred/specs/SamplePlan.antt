@@ -42,6 +42,33 @@ neighbourP = planOfCodes 50 61
 unfoldable pub alikeP : List ℕ
 alikeP = planOfCodes 51 50
 
+-- Two roots. The first goes from 0 to 1 on event 1, with a deviation back to 0, and from 0 to its final state 2 on event 2. The second enters the
+-- hosting state 4, on event 1 without a code, on event 5 with one; the track hosted there goes from 6 to 7 on event 3
+unfoldable pub twoRoots : List ℕ
+twoRoots =
+    bytesOf
+    (6 ∷ 1 ∷ 65535
+    ∷ 6 ∷ 1 ∷ 65535
+    ∷ 6 ∷ 1 ∷ 4
+    ∷ 10 ∷ 2 ∷ 0 ∷ 0 ∷ 0
+    ∷ 10 ∷ 2 ∷ 0 ∷ 0 ∷ 0
+    ∷ 10 ∷ 2 ∷ 0 ∷ 1 ∷ 0
+    ∷ 10 ∷ 2 ∷ 1 ∷ 0 ∷ 0
+    ∷ 10 ∷ 2 ∷ 1 ∷ 0 ∷ 90
+    ∷ 10 ∷ 2 ∷ 1 ∷ 1 ∷ 0
+    ∷ 10 ∷ 2 ∷ 2 ∷ 0 ∷ 0
+    ∷ 10 ∷ 2 ∷ 2 ∷ 0 ∷ 0
+    ∷ 10 ∷ 2 ∷ 2 ∷ 1 ∷ 0
+    ∷ 14 ∷ 3 ∷ 0 ∷ 1 ∷ 41 ∷ 0 ∷ 1
+    ∷ 14 ∷ 3 ∷ 0 ∷ 2 ∷ 42 ∷ 65535 ∷ 2
+    ∷ 14 ∷ 3 ∷ 3 ∷ 1 ∷ 0 ∷ 65535 ∷ 4
+    ∷ 14 ∷ 3 ∷ 3 ∷ 5 ∷ 51 ∷ 65535 ∷ 4
+    ∷ 14 ∷ 3 ∷ 4 ∷ 4 ∷ 0 ∷ 65535 ∷ 5
+    ∷ 14 ∷ 3 ∷ 6 ∷ 3 ∷ 61 ∷ 65535 ∷ 7
+    ∷ 14 ∷ 3 ∷ 7 ∷ 6 ∷ 62 ∷ 65535 ∷ 8
+    ∷ 4 ∷ 4
+    ∷ [])
+
 -- "events 10, 11, 12, signal, four times kind 19"
 unfoldable pub journalP : List ℕ
 journalP =

@@ -8,10 +8,9 @@ use Prim.Native.Nat.{ℕ, _<_}
 use lib.ListN.{length}
 use Rattle.rules.specs.Plan.{Plan, trackCount, transitionCount, noState, transition, host, owner, replacement, isFinal}
 use Rattle.rules.specs.Ledger.{Ledger, isForward, sleeping}
-use Rattle.rules.specs.Scope.{hasOpenScope, isOver}
+use Rattle.rules.specs.Scope.{hasOpenScope, isOver, isBare}
 use Rattle.rules.specs.Opening.{enter}
 use Rattle.rules.specs.Event.{hasCode, isClosed, closesScope, isReplaced}
-use Rattle.rules.specs.Signal.{isBare}
 use Rattle.rules.specs.Fire.{mayFire}
 use Rattle.rules.proofs.Acceptance.{Accepted}
 use Rattle.theory.specs.Seams.{Seams, Call, event, signal, fire, installed, recorded, goes, changeOf, work}

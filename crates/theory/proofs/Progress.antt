@@ -9,8 +9,7 @@ use borrow.Author.Tests.{not-true}
 use Rattle.rules.specs.declared.Mode.the-variants.{Undoing}
 use Rattle.rules.specs.Plan.{Plan, trackCount, someIn}
 use Rattle.rules.specs.Ledger.{Ledger, isUndoing, isEmpty}
-use Rattle.rules.specs.Scope.{hasOpenScope}
-use Rattle.rules.specs.Signal.{isBare}
+use Rattle.rules.specs.Scope.{hasOpenScope, isBare}
 use Rattle.rules.specs.Fire.{mayFire}
 use Rattle.rules.proofs.Tests.{look, clash}
 use Rattle.rules.proofs.Modes.{is-undoing}

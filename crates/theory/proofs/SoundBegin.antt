@@ -9,10 +9,10 @@ use lib.Dec.{ltb}
 use borrow.Author.Tests.{ltb-true}
 use Rattle.rules.specs.Plan.{Plan, trackCount, host, isRoot, isStateOf, isFinal, firstState, everyIn}
 use Rattle.rules.specs.Ledger.{Ledger, isAwake, isForward, sleeping}
-use Rattle.rules.specs.Scope.{isOpen, hasOpenScope}
+use Rattle.rules.specs.Scope.{isOpen, hasOpenScope, isBare}
 use Rattle.rules.specs.Opening.{fresh, wakes, rootsFirst, begun}
 use Rattle.rules.specs.Event.{isClosing}
-use Rattle.rules.specs.Signal.{isBare, isAbandoning}
+use Rattle.rules.specs.Signal.{isAbandoning}
 use Rattle.rules.proofs.Tests.{look, look-option, clash, none-some, refuted, and-holds}
 use Rattle.rules.proofs.Modes.{is-forward, undoing-forward}
 use Rattle.rules.proofs.Acceptance.{Accepted}

@@ -9,10 +9,10 @@ use lib.ListN.{length}
 use lib.Dec.{eqb}
 use Rattle.rules.specs.Plan.{Plan, noState, host, owner, transition, replacement, isFinal, everyIn}
 use Rattle.rules.specs.Ledger.{Configuration, Ledger, isAwake, isUndoing, isEmpty}
-use Rattle.rules.specs.Scope.{isOpen, hasOpenScope}
+use Rattle.rules.specs.Scope.{isOpen, hasOpenScope, isBare}
 use Rattle.rules.specs.Opening.{enter}
 use Rattle.rules.specs.Event.{hasCode, isClosing, isClosed, closesScope, isReplaced}
-use Rattle.rules.specs.Signal.{isBare, isAbandoning}
+use Rattle.rules.specs.Signal.{isAbandoning}
 use Rattle.rules.proofs.Tests.{look, look-option, clash, refuted, and-both, or-right}
 use Rattle.rules.proofs.Acceptance.{Accepted}
 use Rattle.rules.proofs.Scopes.{in-host, every-in-of, open-at, open-find, busy-at, busy-find}

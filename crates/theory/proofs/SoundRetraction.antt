@@ -118,7 +118,7 @@ module _ {σ : Seams} (ω : Laws σ) (limit : ℕ) (p : Plan) (ok : Accepted p) 
     pub fired-root : (u : ℕ) → host p u ≡ none → abandoned p X u ≡ X u
     fired-root u e = left-root p ok X (fired-formed .nested) u e
 
-    fired-roots : (u : ℕ) → Awake l u → Awake X u
+    pub fired-roots : (u : ℕ) → Awake l u → Awake X u
     fired-roots u a = ap (λ m. isAwake (m u .mode)) (fired-is p l t) ∙ go (fate p ok (removed l t) (deviatesTo l t) u)
       where
         go : Fate p ok (removed l t) (deviatesTo l t) u → isAwake (enter p (deviatesTo l t) (removed l t) u .mode) ≡ true
@@ -132,7 +132,7 @@ module _ {σ : Seams} (ω : Laws σ) (limit : ℕ) (p : Plan) (ok : Accepted p) 
         let q = fired-still p l t ok n good free fired-awake u a (deviates-hosted p l t ok n good free fired-awake u h e) in
         (ap (λ (c : Configuration). c .mode) q ∙ removed-mode p l t u, ap (λ (c : Configuration). c .state) q ∙ removed-state p l t u)
 
-    fire-closing : (z : ℕ) → isClosing p (abandoned p X) z ≡ false
+    pub fire-closing : (z : ℕ) → isClosing p (abandoned p X) z ≡ false
     fire-closing z =
         refuted (isClosing p (abandoned p X) z)
         (λ c.

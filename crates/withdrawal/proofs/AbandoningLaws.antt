@@ -14,6 +14,7 @@ use Rattle.rules.specs.declared.Counts.{Counts}
 use Rattle.rules.specs.Plan.{Plan, planOf, trackCount, noState, host, owner}
 use Rattle.rules.specs.Layout.{entryLimit}
 use Rattle.rules.specs.Ledger.{Configuration, Ledger, isAwake, isUndoing, isEmpty, written}
+use Rattle.rules.specs.Scope.{hasOpenScope}
 use Rattle.rules.specs.Signal.{abandoned}
 use Rattle.rules.proofs.Tests.{look, and-holds}
 use Rattle.rules.proofs.Passes.{upTo}
@@ -22,11 +23,13 @@ use Rattle.ledger.specs.Ladder.{Tidy, Accepts, ledgerOf}
 use Rattle.lookup.specs.HostTrack.{hostTrack}
 use Rattle.ledger.specs.Words.{withAsleep}
 use Rattle.lookup.proofs.Facts.{plan-facts, few-tracks, no-host-track, host-of-track}
+use Rattle.lookup.specs.Figures.{Figures}
 use Rattle.lookup.specs.OneTrack.{withConfiguration}
 use Rattle.withdrawal.specs.declared.abandoning.Scopes.{Scopes}
 use Rattle.withdrawal.specs.Scopes.{Nested, Counted, keptBy, keeping, Due, Climbed, Cleared, LeftOpen}
 use Rattle.lookup.proofs.OneTrackLaws.{holds, kept-track, put-asleep, Fitting, pass-start, pass-orderly, pass-length, pass-more, pass-end}
 use Rattle.lookup.proofs.OneTrackLaws.{Stores, stores-sleeping, stores-at}
+use Rattle.withdrawal.proofs.Storing.{abandoned-read}
 use Rattle.withdrawal.proofs.Climbing.{keep-root, keep-open, keep-shut, keep-case, keep-sleeping, Step, step-busy, step-root, some-busy, step-more, step-due, step-on, cleared-start, cleared-shut, cleared-busy, cleared-more, cleared-end}
 
 -- a climb: still busy, a root, others busy, and on to the host's track
@@ -92,7 +95,13 @@ module _ (bs : List ℕ) (c : Counts) (acc : Accepts bs c) (ws : List ℕ) where
   module _ (x : Scopes) (t : ℕ) where
     pub visit-end : c .tracks ≤ t → Cleared (planOf bs c) (ledgerOf c ws) x t
         → LeftOpen (planOf bs c) (ledgerOf c ws) (x .opens)
-    visit-end h k = cleared-end (planOf bs c) (plan-facts bs c acc) (ledgerOf c ws) x t (omega (arith, track-count bs c)) k
+    visit-end h k =
+        let q = cleared-end (planOf bs c) (plan-facts bs c acc) (ledgerOf c ws) x t (omega (arith, track-count bs c)) k in
+        let f = k .figures .counted in
+        record {
+          same = q;
+          marks = record { size = f .opens-size; at = λ u b. f .mark u b ∙ ap (λ (m : Ledger). hasOpenScope (planOf bs c) m u) q };
+        }
 
     module _ (b : t < c .tracks) (k : Cleared (planOf bs c) (ledgerOf c ws) x t) where
       there : t < trackCount (planOf bs c)
@@ -178,4 +187,11 @@ module _ (bs : List ℕ) (c : Counts) (ws : List ℕ) (o : Tidy ws (c .tracks)) 
 
     pub leaving-end : c .tracks ≤ i → vs ≡ written entryLimit (c .tracks) (abandoned (planOf bs c) (ledgerOf c ws)) ws
     unfolding keeping
-    leaving-end h = pass-end c ws o left leaving-fits i b e h ∙ ap (λ (m : Ledger). written entryLimit (c .tracks) m ws) k
+    leaving-end h = pass-end c ws o left leaving-fits i b e h ∙ ap (λ (m : Ledger). written entryLimit (c .tracks) m ws) (k .same)
+
+    -- which tracks have an open scope then
+    pub leaving-marks : c .tracks ≤ i → Figures false opens (c .tracks) (hasOpenScope (planOf bs c) (ledgerOf c vs))
+    leaving-marks h =
+        subst (λ (m : Ledger). Figures false opens (c .tracks) (hasOpenScope (planOf bs c) m))
+        (sym (abandoned-read (planOf bs c) c o (leaving-end h)))
+        (subst (λ n. Figures false opens n (hasOpenScope (planOf bs c) (abandoned (planOf bs c) (ledgerOf c ws)))) (track-count bs c) (k .marks))

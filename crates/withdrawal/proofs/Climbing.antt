@@ -14,8 +14,8 @@ use lib.Seq.{getD-set-same, getD-set-other}
 use borrow.Author.Tests.{eqb-true, eqb-false, not-true}
 use Rattle.rules.specs.Plan.{Plan, trackCount, host, owner, isIn, isHostedBy, everyIn}
 use Rattle.rules.specs.Ledger.{Configuration, Ledger, isAwake, isUndoing, isEmpty, sleeping}
-use Rattle.rules.specs.Scope.{isOpen, hasOpenScope}
-use Rattle.rules.specs.Signal.{isBare, isAbandoning, abandoned}
+use Rattle.rules.specs.Scope.{isOpen, hasOpenScope, isBare}
+use Rattle.rules.specs.Signal.{isAbandoning, abandoned}
 use Rattle.rules.proofs.Tests.{look, look-option, clash, none-some, refuted, and-holds, and-both, and-not}
 use Rattle.rules.proofs.Folds.{some-same, some-none, count-same}
 use Rattle.rules.proofs.Acceptance.{Accepted}

@@ -16,8 +16,7 @@ use Rattle.rules.specs.declared.Track.{Track}
 use Rattle.rules.specs.Fold.{countBelow}
 use Rattle.rules.specs.Plan.{Plan, planOf, noState, owner, isHostedBy}
 use Rattle.rules.specs.Ledger.{Ledger, isAwake, isUndoing, isEmpty}
-use Rattle.rules.specs.Scope.{hasOpenScope}
-use Rattle.rules.specs.Signal.{isBare}
+use Rattle.rules.specs.Scope.{hasOpenScope, isBare}
 use Rattle.rules.proofs.Tests.{look, clash, none-some, refuted, and-not}
 use Rattle.rules.proofs.Folds.{count-same, count-more, count-most as most}
 use Rattle.rules.proofs.Scopes.{by-host, host-by}

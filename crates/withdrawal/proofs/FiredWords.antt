@@ -17,6 +17,7 @@ use Rattle.rules.specs.Plan.{Plan, planOf, trackCount, host}
 use Rattle.rules.specs.Ledger.{Entry, Configuration, Ledger, isAwake, sleeping, entryAt, heldAt, configurationAt, ledgerAt, written}
 use Rattle.rules.specs.Scope.{isOver}
 use Rattle.rules.specs.Opening.{wakes, enter}
+use Rattle.rules.specs.Finish.{finished}
 use Rattle.rules.specs.Signal.{abandoned}
 use Rattle.rules.specs.Fire.{newest, older, mayFire, removed, deviatesTo, fired, afterFire}
 use Rattle.rules.specs.Call.{refusal, done, fire, callRefusal, callRefusals, figures, after, fireOutcome, Meets}
@@ -235,9 +236,10 @@ module _ {bs : List ℕ} {c : Counts} {ws : List ℕ} {t : ℕ} (a : Fireable bs
       pub fired-nested : Nested p (ledgerOf c us)
       fired-nested = subst (Nested p) (sym (read-back c ws in-order (fired p l t) stored-fired fired-words)) (nested-fired p l live ok t parts)
 
-      pub fire-done : {code : ℕ} → code ≡ newest (l t .held) .code → {xs : List ℕ} → xs ≡ written entryLimit (c .tracks) (abandoned p (ledgerOf c us)) us
+      pub fire-done : {code : ℕ} → code ≡ newest (l t .held) .code → {xs : List ℕ}
+          → xs ≡ written entryLimit (c .tracks) (finished p (abandoned p (ledgerOf c us))) us
           → Meets (fireOutcome entryLimit bs ws (record { track = t })) (done (code ∷ dev ∷ [])) xs
       unfolding fireOutcome callRefusal callRefusals firstRefusal figures after afterFire
       fire-done k h =
           done-call bs c ws (a .checked) (fire (record { track = t })) (rw (a .not-over, a .may)) (rw (k, e))
-          (then c ws in-order (fired p l t) stored-fired fired-words (abandoned p) h)
+          (then c ws in-order (fired p l t) stored-fired fired-words (λ m. finished p (abandoned p m)) h)

@@ -10,6 +10,7 @@ use Rattle.rules.specs.Plan.{Plan, trackCount, planOf}
 use Rattle.rules.specs.Layout.{entryLimit}
 use Rattle.rules.specs.Ledger.{Ledger, isForward, ledgerAt, written}
 use Rattle.rules.specs.Scope.{isOver}
+use Rattle.rules.specs.Finish.{finished}
 use Rattle.rules.specs.Signal.{turned, turnings, abandoned, afterSignal}
 use Rattle.rules.specs.Call.{refusal, done, Outcome, nothing, Call, signal, refusedOr, underPlan, ledgerRefusals, callRefusals, callRefusal, figures, after, callOutcome, signalOutcome, Meets}
 use Rattle.rules.proofs.LedgerChecks.{passes-first}
@@ -85,11 +86,11 @@ module _ (bs : List ℕ) (c : Counts) (ws : List ℕ) (g : Checked bs c ws) wher
 
   pub signal-done : {n : ℕ} {vs us : List ℕ} → isOver p (ledgerOf c ws) ≡ false
       → n ≡ countBelow (c .tracks) (λ t. isForward (ledgerOf c ws t .mode)) → vs ≡ written entryLimit (c .tracks) (turned (ledgerOf c ws)) ws
-      → us ≡ written entryLimit (c .tracks) (abandoned p (ledgerOf c vs)) vs
+      → us ≡ written entryLimit (c .tracks) (finished p (abandoned p (ledgerOf c vs))) vs
       → Meets (signalOutcome entryLimit bs ws nothing) (done (n ∷ [])) us
   unfolding signalOutcome callRefusal callRefusals firstRefusal figures after turnings afterSignal
   signal-done o f v w =
       let l : Ledger = ledgerOf c ws in
       done-call (signal nothing) (rw o)
       (ap (λ (n : ℕ). n ∷ []) (f ∙ ap (λ (m : ℕ). countBelow m (λ t. isForward (l t .mode))) (sym (track-count bs c))))
-      (then c ws orderly (turned l) (storable-turned entryLimit (c .tracks) l (holds c ws orderly)) v (abandoned p) w)
+      (then c ws orderly (turned l) (storable-turned entryLimit (c .tracks) l (holds c ws orderly)) v (λ m. finished p (abandoned p m)) w)

@@ -8,9 +8,10 @@ use lib.ListN.{length, getD}
 use Rattle.rules.specs.Fold.{countBelow}
 use Rattle.rules.specs.Plan.{Plan, trackCount, host, owner, isHostedBy}
 use Rattle.rules.specs.Ledger.{Configuration, Ledger, isAwake, sleeping}
-use Rattle.rules.specs.Scope.{hasOpenScope}
-use Rattle.rules.specs.Signal.{isBare, isAbandoning, abandoned}
+use Rattle.rules.specs.Scope.{hasOpenScope, isBare}
+use Rattle.rules.specs.Signal.{isAbandoning, abandoned}
 use Rattle.plan.specs.Passes.{slots}
+use Rattle.lookup.specs.Figures as figures
 use Rattle.withdrawal.specs.declared.abandoning.Scopes.{Scopes}
 
 module _ (p : Plan) where
@@ -73,5 +74,6 @@ module _ (p : Plan) where
       pub due : (s : ℕ) → isAbandoning p (keeping (x .opens) l) s ≡ true → n ≤ owner p s
 
     -- the tracks whose scope abandoning leaves open
-    abbrev pub LeftOpen : List Bool → Type 0
-    LeftOpen opens = keeping opens l ≡ abandoned p l
+    pub record LeftOpen (opens : List Bool) : Type 0 where
+      pub same : keeping opens l ≡ abandoned p l
+      pub marks : figures.Figures false opens (trackCount p) (hasOpenScope p (abandoned p l))

@@ -17,8 +17,9 @@ ghost use Rattle.rules.specs.Ledger.{isUndoing, isEmpty, written};
 ghost use Rattle.rules.specs.Scope.{hasOpenScope};
 ghost use Rattle.rules.specs.Signal.{abandoned};
 ghost use Rattle.ledger.specs.Ladder.{Room, Tidy, Accepts, Lent, ledgerOf};
+ghost use Rattle.lookup.specs.Figures.{Figures};
 ghost use Rattle.lookup.specs.OneTrack.{withConfiguration};
-ghost use Rattle.withdrawal.specs.Scopes.{Nested, isBusy, Counted, keptBy, Due, Climbed, Cleared, LeftOpen};
+ghost use Rattle.withdrawal.specs.Scopes.{Nested, isBusy, Counted, keptBy, Due, Climbed, LeftOpen};
 
 // For each track: whether it has an open scope, and how many busy tracks it hosts there.
 pub struct Scopes {
@@ -165,11 +166,13 @@ fn leave_track(plan: &[u8], c: Counts, ledger: &mut [u16], opens: &[bool; 32], t
     track::put_to_sleep(&mut ledger[..], t);
 }
 
-// Abandoning, with nothing installed.
-pub fn abandon(plan: &[u8], c: Counts, ledger: &mut [u16])
+// Abandoning, with nothing installed; the tracks whose scope is open then.
+pub fn abandon(plan: &[u8], c: Counts, ledger: &mut [u16]) -> [bool; 32]
     requires { ⌜ Accepts (now plan) c × Tidy (now ledger) (c .tracks) × Nested (planOf (now plan) c) (ledgerOf c (now ledger)) ⌝ }
-    ensures { λ _. ⌜ now (ledger .exit)
-        ≡ written entryLimit (c .tracks) (abandoned (planOf (now (plan .entry)) c) (ledgerOf c (now (ledger .entry)))) (now (ledger .entry)) ⌝ }
+    ensures { λ r. ⌜ (now (ledger .exit)
+        ≡ written entryLimit (c .tracks) (abandoned (planOf (now (plan .entry)) c) (ledgerOf c (now (ledger .entry)))) (now (ledger .entry)))
+        × Tidy (now (ledger .exit)) (c .tracks)
+        × Figures false r (c .tracks) (hasOpenScope (planOf (now (plan .entry)) c) (ledgerOf c (now (ledger .exit)))) ⌝ }
 {
     let opens = left_open(plan, c, &ledger[..]);
     let tracks = c.tracks;
@@ -178,4 +181,5 @@ pub fn abandon(plan: &[u8], c: Counts, ledger: &mut [u16])
         leave_track(plan, c, &mut ledger[..], &opens, t);
         t += 1;
     }
+    opens
 }

@@ -1,5 +1,6 @@
-// A firing: the newest entry of a track that may be fired, its deviation entered, and then abandoning.
+// A firing: the newest entry of a track that may be fired, its deviation entered, then abandoning, then finish.
 use crate::abandoning;
+use finish::finishing;
 use ledger::track as words;
 use lookup::reading;
 use lookup::ready;
@@ -78,6 +79,7 @@ pub fn fire(
     let deviation = words::entry_deviation(&ledger[..], t, newest);
     words::remove_newest(&mut ledger[..], t);
     deviate(plan, c, &mut ledger[..], firsts, t, deviation);
-    abandoning::abandon(plan, c, &mut ledger[..]);
+    let left = abandoning::abandon(plan, c, &mut ledger[..]);
+    finishing::finish(plan, c, &mut ledger[..], &left);
     FireAnswer::Fired(code, deviation)
 }

@@ -1,5 +1,6 @@
-// A signal: every forward track turns to undoing, and then abandoning.
+// A signal: every forward track turns to undoing, then abandoning, then finish.
 use crate::abandoning;
+use finish::finishing;
 use ledger::track;
 use lookup::reading;
 use opening::writing;
@@ -59,6 +60,7 @@ pub fn signal(plan: &[u8], c: Counts, ledger: &mut [u16]) -> SignalAnswer
         return SignalAnswer::Refused(20);
     }
     let count = turn_all(c, &mut ledger[..]);
-    abandoning::abandon(plan, c, &mut ledger[..]);
+    let left = abandoning::abandon(plan, c, &mut ledger[..]);
+    finishing::finish(plan, c, &mut ledger[..], &left);
     SignalAnswer::Turned(count)
 }

@@ -1,62 +1,54 @@
 -- After t visits the verdict is that on the tracks below t. Assumes nothing.
 use mathlib.Core.Path.{_≡_, refl, ap, _∙_}
-use mathlib.Core.Bool.{cond, not, _||_}
+use mathlib.Core.Bool.{cond}
 use Prim.Native.Nat.{_≤_, _-_}
 use native.Mathlib.Omega.{arith}
 use denote.Ref.{now}
-use Rattle.rules.specs.Fold.{everyBelow, someBelow, countBelow}
+use Rattle.rules.specs.Fold.{someBelow, countBelow}
 use Rattle.rules.specs.Layout.{entryLimit}
-use Rattle.rules.specs.Plan.{planOf, noState, isRoot}
+use Rattle.rules.specs.Plan.{planOf, noState}
 use Rattle.ledger.specs.Ladder.{ledgerOf}
-use Rattle.event_choice.specs.Next.{movesOf, endsNext, closesNext, fullNext}
-use Rattle.event_choice.proofs.Visits.{state-low, one-more, finishes-more, full-more, finishes-all}
+use Rattle.event_choice.specs.Next.{movesOf, closesNext, fullNext}
+use Rattle.event_choice.proofs.Visits.{state-low, one-more, full-more}
 use borrow.Author.Needs.{needs}
 use Rattle.event_choice.proofs.judging.judge.Statement.{statement}
 use Rattle.event_choice.proofs.judging.judge.Tie as tie
 
 abbrev Inv-loop : tie.InvT-loop
-Inv-loop plan c ledger taken closing tracks closed₀ finishing₀ full₀ t₀ closed finishing full t =
+Inv-loop plan c ledger taken closing tracks closed₀ full₀ t₀ closed full t =
     let p = planOf plan c in
     let l = ledgerOf c ledger in
     let goes = movesOf taken (c .tracks) in
     (t ≤ c .tracks) × (closed ≤ t) × (closed ≡ countBelow t (closesNext p l goes))
-    × (finishing ≡ everyBelow t (λ i. not (isRoot p i) || endsNext p l goes i)) × (full ≡ someBelow t (fullNext p l goes entryLimit))
+    × (full ≡ someBelow t (fullNext p l goes entryLimit))
 
 abbrev μ-loop : tie.MeasureT-loop
-μ-loop plan c ledger taken closing tracks closed₀ finishing₀ full₀ t₀ closed finishing full t = c .tracks - t
+μ-loop plan c ledger taken closing tracks closed₀ full₀ t₀ closed full t = c .tracks - t
 
 loop-holds : tie.Need-loop-holds Inv-loop μ-loop
-unfolding countBelow everyBelow someBelow
-loop-holds c = (omega arith, omega arith, refl, refl, refl)
-
-root-ends-requires : tie.Need-root-ends-requires Inv-loop μ-loop
-unfolding noState
-root-ends-requires c κs =
-    let a = c .before .before .before .before .before .before .before .before .pre in
-    let b = c .before .before .before .before .loop-test .taken in
-    (a .0 .checked .lent .accepts, state-low _ _ _ _ (a .0) b (c .before .before .before .track .ensures), a .1 .low _ b, b)
+unfolding countBelow someBelow
+loop-holds c = (omega arith, omega arith, refl, refl)
 
 is-full-requires : tie.Need-is-full-requires Inv-loop μ-loop
 unfolding noState
 is-full-requires c κs =
-    let a = c .before .before .before .before .before .before .before .before .before .pre in
-    let b = c .before .before .before .before .before .loop-test .taken in
-    (a .0 .checked .lent .accepts, state-low _ _ _ _ (a .0) b (c .before .before .before .before .track .ensures), a .1 .low _ b)
+    let a = c .before .before .before .before .before .before .before .before .pre in
+    let b = c .before .before .before .before .loop-test .taken in
+    (a .0 .checked .lent .accepts, state-low _ _ _ _ (a .0) b (c .before .before .before .track .ensures), a .1 .low _ b)
 
 loop-again : tie.Need-loop-again Inv-loop μ-loop
 loop-again c =
-    let a = c .before .before .before .before .before .before .before .before .before .before in
+    let a = c .before .before .before .before .before .before .before .before .before in
     let p = planOf (now (a .args .plan)) (a .args .c) in
     let l = ledgerOf (a .args .c) (now (a .args .ledger)) in
-    let inv = c .before .before .before .before .before .before .before .loop .inv in
-    let b = c .before .before .before .before .before .before .loop-test .taken in
-    let k = c .before .before .before .before .before .track .ensures in
+    let inv = c .before .before .before .before .before .before .loop .inv in
+    let b = c .before .before .before .before .before .loop-test .taken in
+    let k = c .before .before .before .before .track .ensures in
     let m = a .pre .2 .at _ b in (
       omega arith,
-      omega (arith, inv .1, c .before .before .one-where .ensures .1),
-      one-more (closesNext p l _) _ _ _ (inv .2) (c .before .before .one-where .ensures .0 ∙ ap (λ x. cond x 1 0) m),
-      finishes-more p l _ _ _ b k (inv .3) (c .before .root-ends .ensures) refl,
-      full-more p l _ _ _ b k (inv .4) m (c .is-full .ensures) refl,
+      omega (arith, inv .1, c .before .one-where .ensures .1),
+      one-more (closesNext p l _) _ _ _ (inv .2) (c .before .one-where .ensures .0 ∙ ap (λ x. cond x 1 0) m),
+      full-more p l _ _ _ b k (inv .3) m (c .is-full .ensures) refl,
     )
 
 returns : tie.Need-returns Inv-loop μ-loop
@@ -66,13 +58,12 @@ returns c =
     let e : c .before .loop .t ≡ a .args .c .tracks = omega arith in
     record {
       closings = rw e at (inv .2);
-      finishes = finishes-all (now (a .args .plan)) (a .args .c) (ledgerOf (a .args .c) (now (a .args .ledger))) _ e (inv .3);
-      fills = rw e at (inv .4);
+      fills = rw e at (inv .3);
     }
 
 pub judge-spec : {M : Type 1} → statement M
 judge-spec =
     tie.close
     (tie.spec Inv-loop μ-loop loop-holds (λ c κs. search needs) (λ c. search needs) (λ c. search needs) (λ c. search needs) (λ c κs. search needs)
-    (λ c. search needs) root-ends-requires is-full-requires (λ c. search needs) (λ c. search needs)
+    (λ c. search needs) is-full-requires (λ c. search needs) (λ c. search needs)
     loop-again returns)

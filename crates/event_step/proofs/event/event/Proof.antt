@@ -14,7 +14,10 @@ choose-requires : tie.Need-choose-requires
 choose-requires c κs = let g = going-of _ _ _ (c .before .before .before .before .before .before .before .pre .0) _ (c .before .before .before .before .if1 .left) _ (c .before .before .is-over .ensures) (c .before .if2 .left) in (g, c .before .before .before .before .before .before .before .pre .1 (g .goes-on))
 
 go-on-requires : tie.Need-go-on-requires
-go-on-requires c κs = (going-of _ _ _ (c .before .before .before .before .before .before .before .before .before .pre .0) _ (c .before .before .before .before .before .before .if1 .left) _ (c .before .before .before .before .is-over .ensures) (c .before .before .before .if2 .left), c .before .choose .ensures .0, c .before .before .before .before .before .before .before .before .before .pre .2)
+go-on-requires c κs =
+    let a = c .before .before .before .before .before .before .before .before .before .pre in
+    let g = going-of _ _ _ (a .0) _ (c .before .before .before .before .before .before .if1 .left) _ (c .before .before .before .before .is-over .ensures) (c .before .before .before .if2 .left) in
+    (g, c .before .choose .ensures .0, a .1 (g .goes-on), a .2)
 
 returns-3 : tie.Need-returns-3
 returns-3 c = event-going _ _ _ (c .before .before .before .before .before .before .before .before .before .before .before .before .pre .0) _ (c .before .before .before .before .before .before .before .before .before .if1 .left) _ (c .before .before .before .before .before .before .before .is-over .ensures) (c .before .before .before .before .before .before .if2 .left) _ _ (rw (c .before .before .before .before .choose .ensures .1) at (c .before .before .go-on .ensures))

@@ -14,10 +14,13 @@ choose-indexed-requires : tie.Need-choose-indexed-requires
 choose-indexed-requires c κs = (going-of _ _ _ (c .before .before .before .before .before .before .before .before .before .before .pre .0) _ (c .before .before .before .before .before .before .before .if1 .left) _ (c .before .before .before .before .before .is-over .ensures) (c .before .before .before .before .if2 .left), c .before .before .open-scopes .ensures, c .before .before .before .before .before .before .before .before .before .before .pre .2)
 
 go-on-requires : tie.Need-go-on-requires
-go-on-requires c κs = (going-of _ _ _ (c .before .before .before .before .before .before .before .before .before .before .before .before .pre .0) _ (c .before .before .before .before .before .before .before .before .before .if1 .left) _ (c .before .before .before .before .before .before .before .is-over .ensures) (c .before .before .before .before .before .before .if2 .left), c .before .choose-indexed .ensures .0, c .before .before .before .before .before .before .before .before .before .before .before .before .pre .1)
+go-on-requires c κs =
+    let a = c .before .before .before .before .before .before .before .before .before .before .before .before .before .pre in
+    let g = going-of _ _ _ (a .0) _ (c .before .before .before .before .before .before .before .before .before .before .if1 .left) _ (c .before .before .before .before .before .before .before .before .is-over .ensures) (c .before .before .before .before .before .before .before .if2 .left) in
+    (g, c .before .before .choose-indexed .ensures .0, c .before .before .before .before .before .open-scopes .ensures, a .1)
 
 returns-3 : tie.Need-returns-3
-returns-3 c = event-going _ _ _ (c .before .before .before .before .before .before .before .before .before .before .before .before .before .before .before .pre .0) _ (c .before .before .before .before .before .before .before .before .before .before .before .before .if1 .left) _ (c .before .before .before .before .before .before .before .before .before .before .is-over .ensures) (c .before .before .before .before .before .before .before .before .before .if2 .left) _ _ (rw (c .before .before .before .before .choose-indexed .ensures .1) at (c .before .before .go-on .ensures))
+returns-3 c = event-going _ _ _ (c .before .before .before .before .before .before .before .before .before .before .before .before .before .before .before .before .pre .0) _ (c .before .before .before .before .before .before .before .before .before .before .before .before .before .if1 .left) _ (c .before .before .before .before .before .before .before .before .before .before .before .is-over .ensures) (c .before .before .before .before .before .before .before .before .before .before .if2 .left) _ _ (rw (c .before .before .before .before .before .choose-indexed .ensures .1) at (c .before .before .go-on .ensures))
 
 pub event-indexed-spec : {M : Type 1} → statement M
 event-indexed-spec =

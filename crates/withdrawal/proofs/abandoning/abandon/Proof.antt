@@ -9,7 +9,7 @@ use Rattle.rules.specs.Ledger.{written}
 use Rattle.rules.proofs.Passes.{upTo}
 use Rattle.ledger.specs.Ladder.{ledgerOf}
 use Rattle.withdrawal.specs.Scopes.{keptBy}
-use Rattle.withdrawal.proofs.AbandoningLaws.{leaving-start, leaving-orderly, leaving-length, leaving-more, leaving-end}
+use Rattle.withdrawal.proofs.AbandoningLaws.{leaving-start, leaving-orderly, leaving-length, leaving-more, leaving-end, leaving-marks}
 use Rattle.withdrawal.proofs.abandoning.abandon.Statement.{statement}
 use Rattle.withdrawal.proofs.abandoning.abandon.Tie as tie
 
@@ -40,7 +40,14 @@ same-length : tie.Need-same-length Inv-loop μ-loop
 same-length c = leaving-length _ _ _ (c .before .before .before .before .before .before .pre .1) _ (c .before .before .left-open .ensures) _ (c .before .loop .inv .0) (c .before .loop .inv .1)
 
 returns : tie.Need-returns Inv-loop μ-loop
-returns c = leaving-end _ _ _ (c .before .before .before .before .before .before .pre .1) _ (c .before .before .left-open .ensures) _ (c .before .loop .inv .0) (c .before .loop .inv .1) (omega arith)
+returns c =
+    let o = c .before .before .before .before .before .before .pre .1 in
+    let k = c .before .before .left-open .ensures in
+    let i = c .before .loop .inv in (
+      leaving-end _ _ _ o _ k _ (i .0) (i .1) (omega arith),
+      leaving-orderly _ _ _ o _ k _ (i .0) (i .1),
+      leaving-marks _ _ _ o _ k _ (i .0) (i .1) (omega arith),
+    )
 
 pub abandon-spec : {M : Type 1} → statement M
 abandon-spec =

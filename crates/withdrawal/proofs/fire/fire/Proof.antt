@@ -1,8 +1,10 @@
--- Over, not to be fired, or fired: the entry is read and removed, its deviation entered, and climbing from the track ends abandoning.
+-- Over, not to be fired, or fired: the entry is read and removed, its deviation entered, then abandoning and finish.
 -- Assumes nothing.
 use native.Mathlib.Omega.{arith}
 use borrow.Author.Needs.{needs}
 use Rattle.rules.specs.Answers.{fireTold}
+use Rattle.finish.proofs.Roots.{all-known}
+use Rattle.withdrawal.proofs.Storing.{settled-words}
 use Rattle.withdrawal.proofs.FiredWords.{fire-over, fire-not, going-on, fireable, low, counted, within-words, removable, removed-words, code-is, deviation-is, removed-orderly, sleepers, fired-orderly, fired-nested, fire-done}
 use Rattle.withdrawal.proofs.fire.fire.Statement.{statement}
 use Rattle.withdrawal.proofs.fire.fire.Tie as tie
@@ -58,13 +60,16 @@ abandon-requires c κs =
     let e = deviation-is a (c .before .before .before .before .before .before .before .before .before .before .before .before .before .before .track .ensures) (c .before .before .before .before .before .before .before .before .before .entry-deviation .ensures) in
     (c .before .before .before .before .before .before .before .before .before .before .before .before .before .before .before .before .before .before .before .before .before .before .before .before .pre .0 .lent .accepts, fired-orderly a d e (c .before .before .before .deviate .ensures), fired-nested a d e (c .before .before .before .deviate .ensures))
 
+finish-requires : tie.Need-finish-requires
+finish-requires c κs = let d = c .before .before .before .before .abandon .ensures in (c .before .before .before .before .before .before .before .before .before .before .before .before .before .before .before .before .before .before .before .before .before .before .before .before .before .before .before .before .before .pre .0 .lent .accepts, d .1, all-known _ _ (d .2))
+
 returns-3 : tie.Need-returns-3
 unfolding fireTold
 returns-3 c =
-    let a = fireable (c .before .before .before .before .before .before .before .before .before .before .before .before .before .before .before .before .before .before .before .before .before .before .before .before .before .before .before .pre .0) (c .before .before .before .before .before .before .before .before .before .before .before .before .before .before .before .before .before .before .before .before .before .before .before .is-over .ensures) (c .before .before .before .before .before .before .before .before .before .before .before .before .before .before .before .before .before .before .before .before .before .before .if1 .left) _ (c .before .before .before .before .before .before .before .before .before .before .before .before .before .before .before .before .before .before .before .before .may-fire .ensures) (c .before .before .before .before .before .before .before .before .before .before .before .before .before .before .before .before .before .before .before .if2 .left) in
-    let d = removed-words a (c .before .before .before .before .before .before .before .before .before .before .before .before .before .before .before .before .before .track .ensures) (c .before .before .before .before .before .before .before .before .before .before .remove-newest .ensures) in
-    let e = deviation-is a (c .before .before .before .before .before .before .before .before .before .before .before .before .before .before .before .before .before .track .ensures) (c .before .before .before .before .before .before .before .before .before .before .before .before .entry-deviation .ensures) in
-    fire-done a d e (c .before .before .before .before .before .before .deviate .ensures) (code-is a (c .before .before .before .before .before .before .before .before .before .before .before .before .before .before .before .before .before .track .ensures) (c .before .before .before .before .before .before .before .before .before .before .before .before .before .before .entry-code .ensures)) (c .before .before .abandon .ensures)
+    let a = fireable (c .before .before .before .before .before .before .before .before .before .before .before .before .before .before .before .before .before .before .before .before .before .before .before .before .before .before .before .before .before .before .before .before .pre .0) (c .before .before .before .before .before .before .before .before .before .before .before .before .before .before .before .before .before .before .before .before .before .before .before .before .before .before .before .before .is-over .ensures) (c .before .before .before .before .before .before .before .before .before .before .before .before .before .before .before .before .before .before .before .before .before .before .before .before .before .before .before .if1 .left) _ (c .before .before .before .before .before .before .before .before .before .before .before .before .before .before .before .before .before .before .before .before .before .before .before .before .before .may-fire .ensures) (c .before .before .before .before .before .before .before .before .before .before .before .before .before .before .before .before .before .before .before .before .before .before .before .before .if2 .left) in
+    let d = removed-words a (c .before .before .before .before .before .before .before .before .before .before .before .before .before .before .before .before .before .before .before .before .before .before .track .ensures) (c .before .before .before .before .before .before .before .before .before .before .before .before .before .before .before .remove-newest .ensures) in
+    let e = deviation-is a (c .before .before .before .before .before .before .before .before .before .before .before .before .before .before .before .before .before .before .before .before .before .before .track .ensures) (c .before .before .before .before .before .before .before .before .before .before .before .before .before .before .before .before .before .entry-deviation .ensures) in
+    fire-done a d e (c .before .before .before .before .before .before .before .before .before .before .before .deviate .ensures) (code-is a (c .before .before .before .before .before .before .before .before .before .before .before .before .before .before .before .before .before .before .before .before .before .before .track .ensures) (c .before .before .before .before .before .before .before .before .before .before .before .before .before .before .before .before .before .before .before .entry-code .ensures)) (settled-words _ _ (fired-orderly a d e (c .before .before .before .before .before .before .before .before .before .before .before .deviate .ensures)) (c .before .before .before .before .before .before .before .abandon .ensures .0) (c .before .before .finish .ensures))
 
 pub fire-spec : {M : Type 1} → statement M
 fire-spec =
@@ -84,5 +89,6 @@ fire-spec =
     remove-newest-requires
     deviate-requires
     abandon-requires
+    finish-requires
     (λ c. search needs)
     returns-3)

@@ -1,9 +1,9 @@
 -- Beyond the last state none is final. Assumes nothing.
 use Rattle.plan.proofs.FieldLaws.{state-count}
-use Rattle.soundness.proofs.Asking.{final-beyond}
+use Rattle.finish.proofs.Roots.{final-beyond}
 use borrow.Author.Needs.{needs}
-use Rattle.soundness.proofs.entries.is_final.Statement.{statement}
-use Rattle.soundness.proofs.entries.is_final.Tie as tie
+use Rattle.finish.proofs.done.is_final.Statement.{statement}
+use Rattle.finish.proofs.done.is_final.Tie as tie
 
 returns : tie.Need-returns
 returns c = final-beyond _ _ (rw state-count (c .if1 .taken))

@@ -1,7 +1,7 @@
 -- The tests of the contract. Assumes nothing.
 use borrow.Author.Needs.{needs}
-use Rattle.soundness.proofs.scopes.is_bare.Statement.{statement}
-use Rattle.soundness.proofs.scopes.is_bare.Tie as tie
+use Rattle.finish.proofs.done.is_bare.Statement.{statement}
+use Rattle.finish.proofs.done.is_bare.Tie as tie
 
 returns : tie.Need-returns
 returns c = rw (c .before .is-undoing .ensures)

@@ -1,0 +1,3 @@
+-- Finish as the code asks it and does it.
+pub mod Roots
+pub mod Sleeping

@@ -1,0 +1,2 @@
+-- What finish is told of open scopes.
+pub mod UndoingScopes
