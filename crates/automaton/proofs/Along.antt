@@ -12,7 +12,7 @@ use Rattle.rules.specs.Plan.{Plan, trackCount, planOf, isRoot}
 use Rattle.rules.specs.Acceptance.{accepted, readPlan}
 use Rattle.rules.specs.Ledger.{Configuration, Ledger, isAwake, isEmpty, ledgerAt}
 use Rattle.rules.specs.Opening.{begun}
-use Rattle.rules.specs.Call.{done, Call, event, signal, fire, callRefusal, after, next, callOutcome, beginOutcome}
+use Rattle.rules.specs.Call.{done, Call, callRefusal, after, next, callOutcome, beginOutcome}
 use Rattle.rules.specs.ReferenceRun.{wordsFrom, wordsAfter, ledgerAfter, AllWithdrawn}
 use Rattle.rules.proofs.Tests.{look, clash}
 use Rattle.rules.proofs.Acceptance.{Accepted, accepts}
@@ -26,7 +26,6 @@ use Rattle.restoration.proofs.Document01.{laws01}
 use Rattle.restoration.proofs.Restoration.{list-holds}
 use Rattle.restoration.proofs.SoundWords.{Holds, begin-holds, call-holds, call-accepted, call-refused}
 use Rattle.restoration.proofs.Theorems01.{over-refused, next-accepted, next-refused, sleeping-asleep, Sound, Over, Kept, over-is}
-use Rattle.automaton.specs.Listing.{everyOf}
 use Rattle.automaton.specs.Configuration.{Conf, Vect, hasTerminated, hasCompensated, init}
 use Rattle.automaton.specs.Semantics.{FailReading, Act, Run, stop}
 use Rattle.automaton.specs.View.{isOnTop, viewOf, view, actsOf}

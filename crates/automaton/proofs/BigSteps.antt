@@ -11,9 +11,9 @@ use lib.Dec.{eqb}
 use borrow.Author.Tests.{eqb-true, eqb-false}
 use Rattle.rules.specs.Plan.{Plan, trackCount, optional}
 use Rattle.rules.specs.Ledger.{Ledger}
-use Rattle.rules.specs.Event.{moves, moved, closesScope, closed, afterEvent}
-use Rattle.rules.specs.Signal.{turned, abandoned, afterSignal}
-use Rattle.rules.specs.Fire.{newest, fired, afterFire}
+use Rattle.rules.specs.Event.{moves, moved, closesScope, closed}
+use Rattle.rules.specs.Signal.{turned, abandoned}
+use Rattle.rules.specs.Fire.{newest, fired}
 use Rattle.rules.specs.Call.{SignalArguments, FireArguments, nothing, Call, event, signal, fire, callRefusal, after}
 use Rattle.rules.proofs.Tests.{look, clash, refuted, and-holds, and-both, or-holds, or-right}
 use Rattle.rules.proofs.Acceptance.{Accepted}
@@ -33,7 +33,7 @@ use Rattle.automaton.proofs.ClosingSteps.{closing-run}
 use Rattle.automaton.proofs.AbandoningSteps.{abandoning-run}
 use Rattle.automaton.proofs.TurningSteps.{going-forward, turning-run}
 use Rattle.automaton.proofs.FiringSteps.{fire-run}
-use Rattle.automaton.proofs.CallSteps.{stepwise}
+use Rattle.automaton.proofs.CallSteps.{after-view}
 use Rattle.automaton.proofs.Enabled.{suc-enabled, fail-enabled}
 use Rattle.automaton.proofs.Confluence.{silent-unique, fail-unique, run-steps, run-acts, settled-exhausted}
 use Rattle.automaton.proofs.OnePlace.{comp-unique, suc-unique, view-once}
@@ -302,5 +302,5 @@ module _ (p : Plan) (ρ : FailReading) (ok : Accepted p) (limit : ℕ) (l : Ledg
   unfolding Ends
   exactly-big c h d =
       let m = view p ρ (work p l c) in
-      let left = stepwise p ρ ok limit l s c h .left in
+      let left = after-view p ρ ok limit l s c h in
       (λ x. let (e, b, q) = x in q ∙ ap (afterFinish p) (one-only c e m b (big c h)) ∙ sym left, λ q. (m, big c h, q ∙ left))

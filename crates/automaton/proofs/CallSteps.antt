@@ -1,33 +1,29 @@
 -- Every accepted call on every sound ledger is its steps: the runs of its parts put together, with nothing left to settle. On ledgers, and
 -- on words. Assumes nothing.
-use mathlib.Core.Path.{_≡_, refl, sym, ap, _∙_, fun-ext}
+use mathlib.Core.Path.{_≡_, refl, sym, ap, _∙_}
 use mathlib.Core.Logic.{inl, inr}
-use mathlib.Core.Bool.{cond, not, and-false, _&&_, _||_}
+use mathlib.Core.Bool.{cond, and-false, _&&_}
 use mathlib.Core.List.{[]}
 use Prim.Native.Nat.{ℕ}
-use Rattle.rules.specs.Plan.{Plan, trackCount, isRoot, isFinal}
-use Rattle.rules.specs.Ledger.{Configuration, Ledger, isAwake, isForward, sleeping}
-use Rattle.rules.specs.Event.{moved, closed, afterEvent}
+use Rattle.rules.specs.Plan.{Plan, trackCount, isRoot}
+use Rattle.rules.specs.Ledger.{Configuration, Ledger, isAwake, sleeping}
+use Rattle.rules.specs.Event.{moved, afterEvent}
 use Rattle.rules.specs.Finish.{isFinishing, finished}
-use Rattle.rules.specs.Signal.{turned, abandoned, afterSignal}
-use Rattle.rules.specs.Fire.{fired, afterFire}
-use Rattle.rules.specs.Call.{EventArguments, SignalArguments, FireArguments, Call, event, signal, fire, callRefusal, after}
-use Rattle.rules.proofs.Tests.{look, implies, implied}
-use Rattle.rules.proofs.Folds.{every-at, every-of}
+use Rattle.rules.specs.Signal.{afterSignal}
+use Rattle.rules.specs.Fire.{afterFire}
+use Rattle.rules.specs.Call.{Call, event, signal, fire, callRefusal, after}
+use Rattle.rules.proofs.Tests.{look}
 use Rattle.rules.proofs.Acceptance.{Accepted}
-use Rattle.rules.proofs.Scopes.{root-of, root-none}
 use Rattle.rules.proofs.Finishing.{finish-due, finish-not}
 use Rattle.theory.proofs.Nesting.{Nested}
 use Rattle.theory.proofs.SoundParts.{RootsAwake}
 use Rattle.restoration.proofs.Theorems01.{fire-accepted, moved-nested, sleeping-asleep, Sound, work, worked}
-use Rattle.automaton.specs.Listing.{listed, everyOf}
-use Rattle.automaton.specs.Configuration.{Vect, members, isTerminated}
+use Rattle.automaton.specs.Configuration.{Vect}
 use Rattle.automaton.specs.Semantics.{FailReading, Run}
 use Rattle.automaton.specs.View.{isOnTop, viewOf, view, actsOf}
 use Rattle.automaton.specs.BigSteps.{afterFinish}
 use Rattle.automaton.specs.Exactly.{Stepwise}
-use Rattle.automaton.proofs.Listings.{alike, listed-none, listed-every, listed-every-at, run-then}
-use Rattle.automaton.proofs.Frames.{top-parts, top-of}
+use Rattle.automaton.proofs.Listings.{listed-none, run-then}
 use Rattle.automaton.proofs.Terminated.{finishing-terminated}
 use Rattle.automaton.proofs.Settled.{view-settled}
 use Rattle.automaton.proofs.MovingSteps.{moving-run}
@@ -46,7 +42,7 @@ module _ (p : Plan) (ρ : FailReading) (ok : Accepted p) where
       (λ t b. ap (λ (c : Configuration). isRoot p t && isAwake (c .mode)) (o t) ∙ ap (λ x. isRoot p t && x) sleeping-asleep ∙ and-false (isRoot p t)))
 
   -- Finish: nothing is left to show where the vector has terminated
-  pub finished-view : (l : Ledger) → Nested p l → RootsAwake p l → view p ρ (finished p l) ≡ afterFinish p (view p ρ l)
+  finished-view : (l : Ledger) → Nested p l → RootsAwake p l → view p ρ (finished p l) ≡ afterFinish p (view p ρ l)
   unfolding afterFinish
   finished-view l n roots =
       elim (look (isFinishing p l)) [
@@ -70,12 +66,15 @@ module _ (p : Plan) (ρ : FailReading) (ok : Accepted p) where
     work-run (signal a) h = signal-run p ρ ok l n
     work-run (fire a) h = fire-run p ρ ok l n (a .track) (s .formed .good (a .track)) (fire-accepted limit p l a h .1)
 
-    -- what a call leaves is finished
-    pub after-work : (c : Call) → after p l c ≡ finished p (work p l c)
+    -- and then finish
+    after-work : (c : Call) → after p l c ≡ finished p (work p l c)
     unfolding after afterEvent afterSignal afterFire
     after-work (event a) = refl
     after-work (signal a) = refl
     after-work (fire a) = refl
+
+    pub after-view : (c : Call) → callRefusal limit p l c ≡ 0 → view p ρ (after p l c) ≡ afterFinish p (view p ρ (work p l c))
+    after-view c h = let w = worked limit p ok l s c h in ap (view p ρ) (after-work c) ∙ finished-view (work p l c) (w .nested) (w .roots)
 
     -- every accepted call on every sound ledger
     pub stepwise : (c : Call) → callRefusal limit p l c ≡ 0 → Stepwise p ρ limit l c
@@ -86,6 +85,6 @@ module _ (p : Plan) (ρ : FailReading) (ok : Accepted p) where
           reached = view p ρ m;
           run = work-run c h;
           settled = view-settled p ρ ok m (w .nested) (w .closing) (w .abandoning);
-          left = ap (view p ρ) (after-work c) ∙ finished-view m (w .nested) (w .roots);
+          left = after-view c h;
           told = figures-counted p ρ ok l n limit c;
         }

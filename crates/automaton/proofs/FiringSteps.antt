@@ -13,7 +13,8 @@ use Rattle.rules.specs.Plan.{Plan, trackCount, optional, host, isHostedBy, isAb
 use Rattle.rules.specs.Ledger.{Entry, Configuration, Ledger, isAwake, isForward, isEmpty}
 use Rattle.rules.specs.Scope.{hasOpenScope}
 use Rattle.rules.specs.Opening.{enter}
-use Rattle.rules.specs.Fire.{newest, older, mayFire, removed, deviatesTo, fired, afterFire}
+use Rattle.rules.specs.Signal.{abandoned}
+use Rattle.rules.specs.Fire.{newest, older, mayFire, removed, deviatesTo, fired}
 use Rattle.rules.proofs.Tests.{look, look-option, clash, none-some}
 use Rattle.rules.proofs.Acceptance.{Accepted}
 use Rattle.rules.proofs.Forest.{above-lower}

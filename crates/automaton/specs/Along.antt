@@ -7,7 +7,6 @@ use Prim.Native.Nat.{ℕ}
 use Rattle.rules.specs.Plan.{Plan, trackCount}
 use Rattle.rules.specs.Ledger.{Ledger, ledgerAt}
 use Rattle.rules.specs.Call.{Answer, refusal, done, Call, callOutcome, beginOutcome}
-use Rattle.automaton.specs.Listing.{everyOf}
 use Rattle.automaton.specs.Configuration.{Conf, Vect, hasTerminated}
 use Rattle.automaton.specs.Semantics.{FailReading, Act, Run}
 use Rattle.automaton.specs.View.{view, actsOf}
