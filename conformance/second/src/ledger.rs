@@ -222,6 +222,16 @@ pub fn track_words_mut(words: &mut [u16], track: usize) -> &mut [u16] {
     &mut words[track_start(track)..][..TRACK_WORDS]
 }
 
+/// Finish: every root has ended, forward in a final state, or is spent, undoing
+/// with nothing held and no open scope; and at least one has ended.
+pub fn finishes(
+    plan: &Plan,
+    has_ended: impl Fn(usize) -> bool,
+    is_spent: impl Fn(usize) -> bool,
+) -> bool {
+    plan.roots().all(|t| has_ended(t) || is_spent(t)) && plan.roots().any(has_ended)
+}
+
 /// The clauses that make a ledger sound. All are about the tracks' words. The
 /// first four say that these are as described; the others bind only a ledger
 /// that is not all asleep.
@@ -480,23 +490,30 @@ impl<'a> View<'a> {
             .all(|(t, host)| !self.is_awake(host) || self.mode(host) == self.mode(t))
     }
 
-    /// No open forward scope has its tracks all in final states.
-    fn no_closing_left(&self) -> bool {
-        let closes = |t| self.is_forward(t) && self.in_final_state(t);
-        !self.scopes().any(|scope| members(scope).all(closes))
+    /// Forward in a final state.
+    fn has_ended(&self, track: usize) -> bool {
+        self.is_forward(track) && self.in_final_state(track)
     }
 
-    /// Not all roots are forward in final states.
+    /// Undoing, with nothing held and no open scope.
+    fn is_spent(&self, track: usize) -> bool {
+        self.is_undoing(track) && self.count(track) == 0 && !self.has_open_scope(track)
+    }
+
+    /// No open forward scope has its tracks all in final states.
+    fn no_closing_left(&self) -> bool {
+        let closes = |scope| members(scope).all(|t| self.has_ended(t));
+        !self.scopes().any(closes)
+    }
+
+    /// The roots are not such that every track goes to sleep.
     fn no_finish_left(&self) -> bool {
-        !self
-            .plan
-            .roots()
-            .all(|t| self.is_forward(t) && self.in_final_state(t))
+        !finishes(self.plan, |t| self.has_ended(t), |t| self.is_spent(t))
     }
 
     /// No open scope's tracks are all undoing, hold nothing and have no open scope.
     fn no_abandoning_left(&self) -> bool {
-        let spent = |t| self.is_undoing(t) && self.count(t) == 0 && !self.has_open_scope(t);
-        !self.scopes().any(|scope| members(scope).all(spent))
+        let abandoned = |scope| members(scope).all(|t| self.is_spent(t));
+        !self.scopes().any(abandoned)
     }
 }

@@ -1,7 +1,8 @@
 //! The rules of the compensating automaton, on an accepted plan and a sound
-//! ledger. A refused call changes nothing.
+//! ledger. A refused call changes nothing. Finish follows every event, signal
+//! and firing, as their last settling.
 
-use crate::ledger::{Entry, Ledger, Mode, Track};
+use crate::ledger::{self, Entry, Ledger, Mode, Track};
 use crate::plan::{members, Plan, Transition, NONE};
 use crate::refusal::{demand, Refusal};
 
@@ -103,18 +104,30 @@ fn close(plan: &Plan, ledger: &mut Ledger) -> Result<u16, Refusal> {
 
 /// An open forward scope whose tracks are all in final states.
 fn closes(plan: &Plan, ledger: &Ledger, hosting: u16) -> bool {
-    members(plan.scope(hosting)).all(|t| in_final_forward(plan, &ledger.tracks[t]))
+    members(plan.scope(hosting)).all(|t| has_ended(plan, ledger, t))
 }
 
-fn in_final_forward(plan: &Plan, track: &Track) -> bool {
+/// Forward in a final state.
+pub fn has_ended(plan: &Plan, ledger: &Ledger, track: usize) -> bool {
+    let track = &ledger.tracks[track];
     track.mode == Mode::Forward && plan.is_final(track.state)
 }
 
-/// Finish: all roots forward in final states put every track to sleep.
+/// Undoing, with nothing held and no open scope.
+pub fn is_spent(plan: &Plan, ledger: &Ledger, track: usize) -> bool {
+    ledger.tracks[track].mode == Mode::Undoing
+        && ledger.tracks[track].held() == 0
+        && !ledger.has_open_scope(plan, track)
+}
+
+/// Finish: every root ended or spent, at least one ended, puts every track to
+/// sleep.
 fn finish(plan: &Plan, ledger: &mut Ledger) {
-    let done = plan
-        .roots()
-        .all(|t| in_final_forward(plan, &ledger.tracks[t]));
+    let done = ledger::finishes(
+        plan,
+        |t| has_ended(plan, ledger, t),
+        |t| is_spent(plan, ledger, t),
+    );
     if done {
         ledger.tracks.fill(Track::ASLEEP);
     }
@@ -127,7 +140,8 @@ fn sleep(ledger: &mut Ledger, scope: u32) {
     }
 }
 
-/// Signal: every forward track turns; then abandoning. Answers how many turned.
+/// Signal: every forward track turns; then abandoning and finish, which no
+/// signal brings about, since it leaves no root forward. Answers how many turned.
 pub fn signal(plan: &Plan, ledger: &mut Ledger) -> Result<u16, Refusal> {
     demand(!ledger.is_over(), Refusal::Over)?;
     let mut turned = 0;
@@ -138,27 +152,24 @@ pub fn signal(plan: &Plan, ledger: &mut Ledger) -> Result<u16, Refusal> {
         }
     }
     abandon(plan, ledger);
+    finish(plan, ledger);
     Ok(turned)
 }
 
 /// Abandoning, until nothing changes.
 fn abandon(plan: &Plan, ledger: &mut Ledger) {
-    while let Some(hosting) = plan.hosting_states().find(|&s| is_spent(plan, ledger, s)) {
+    while let Some(hosting) = plan.hosting_states().find(|&s| lapses(plan, ledger, s)) {
         sleep(ledger, plan.scope(hosting));
     }
 }
 
 /// A scope whose tracks are all undoing, hold nothing and have no open scope.
-fn is_spent(plan: &Plan, ledger: &Ledger, hosting: u16) -> bool {
-    members(plan.scope(hosting)).all(|t| {
-        ledger.tracks[t].mode == Mode::Undoing
-            && ledger.tracks[t].held() == 0
-            && !ledger.has_open_scope(plan, t)
-    })
+fn lapses(plan: &Plan, ledger: &Ledger, hosting: u16) -> bool {
+    members(plan.scope(hosting)).all(|t| is_spent(plan, ledger, t))
 }
 
 /// Fire: the newest entry is removed; a deviation turns the track forward;
-/// then abandoning. Answers the entry.
+/// then abandoning, then finish. Answers the entry.
 pub fn fire(plan: &Plan, ledger: &mut Ledger, track: u16) -> Result<Entry, Refusal> {
     demand(!ledger.is_over(), Refusal::Over)?;
     let track = usize::from(track);
@@ -168,6 +179,7 @@ pub fn fire(plan: &Plan, ledger: &mut Ledger, track: u16) -> Result<Entry, Refus
         deviate(plan, ledger, track, entry.deviation);
     }
     abandon(plan, ledger);
+    finish(plan, ledger);
     Ok(entry)
 }
 

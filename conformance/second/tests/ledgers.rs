@@ -134,7 +134,7 @@ fn no_settling_is_left() {
         track_words_mut(&mut spent, track)[..2].copy_from_slice(&[2, state]);
     }
     assert_eq!(ledger::violated(&plan, &spent), [Clause::NoAbandoningLeft]);
-    // Undoing in final states is no settling left.
+    // One root undoing in its final state is no settling left.
     finished[2] = 2;
     assert_eq!(ledger::violated(&plan, &finished), []);
 }

@@ -71,7 +71,7 @@ fn a_self_loop_of_a_hosting_state_reopens_its_scope() {
 }
 
 #[test]
-fn roots_may_be_in_two_modes_and_only_finish_together() {
+fn an_ended_root_waits_for_the_entry_of_another() {
     // Two roots like `looping`, the first deviating to its first state.
     let mut plan = looping();
     plan.tracks.push(track(NONE));

@@ -65,6 +65,55 @@ pub fn looping() -> Records {
     }
 }
 
+/// A transition of code 50 whose deviation is its own source.
+pub fn detour(source: u16, event: u16, destination: u16) -> Transition {
+    Transition {
+        deviation: source,
+        ..step(source, event, 50, destination)
+    }
+}
+
+/// Two roots that both move by event 1. Root 0 has states 0, 1 and 2 (final);
+/// its first transition deviates to state 0, event 2 ends it with code 51,
+/// event 3 at once and without a code. Root 1 has states 3, 4 and 5 (final);
+/// event 4 ends it.
+pub fn two_links() -> Records {
+    Records {
+        tracks: vec![track(NONE); 2],
+        states: (0..6)
+            .map(|n| state(n / 3, u16::from(n % 3 == 2), 0))
+            .collect(),
+        transitions: vec![
+            detour(0, 1, 1),
+            step(1, 2, 51, 2),
+            step(0, 3, 0, 2),
+            step(3, 1, 60, 4),
+            step(4, 4, 0, 5),
+        ],
+    }
+}
+
+/// The same with a scope in root 1: its state 4 hosts track 2 with states 6, 7
+/// and 8 (final), and state 7 hosts track 3 with states 9 and 10 (final). Root
+/// 1 enters its scope with this code. Event 5 opens the inner scope, event 6
+/// loops in it with code 90, event 7 ends it, event 8 ends the outer one.
+pub fn scoped_links(code: u16) -> Records {
+    let mut plan = two_links();
+    plan.tracks.extend([track(4), track(7)]);
+    plan.states[4].replacement = 80;
+    let outer = [state(2, 0, 0), state(2, 0, 0), state(2, 1, 0)];
+    plan.states.extend(outer);
+    plan.states.extend([state(3, 0, 0), state(3, 1, 0)]);
+    plan.transitions[3].code = code;
+    plan.transitions.extend([
+        step(6, 5, 0, 7),
+        step(9, 6, 90, 9),
+        step(9, 7, 0, 10),
+        step(7, 8, 0, 8),
+    ]);
+    plan
+}
+
 pub fn journal(records: &[Record]) -> Vec<u8> {
     let mut bytes = Vec::new();
     for record in records {
