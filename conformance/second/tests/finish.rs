@@ -302,16 +302,6 @@ fn a_closing_is_not_the_end_since_its_host_has_not_ended() {
     desk.over();
 }
 
-/// Root 0 loops under event 1 and ends with a code by event 2 and without one
-/// by event 3; its event 9 deviates to its first state. Root 1 has one state.
-fn looping_link() -> Records {
-    let mut plan = looping();
-    plan.tracks.push(track(NONE));
-    plan.states.push(state(1, 0, 0));
-    plan.transitions.push(detour(0, 9, 0));
-    plan
-}
-
 #[test]
 fn an_entry_that_finish_would_drop_still_needs_room() {
     let mut desk = Desk::begun(&looping_link());
@@ -332,12 +322,7 @@ fn an_entry_that_finish_would_drop_still_needs_room() {
 
 #[test]
 fn one_event_may_end_several_roots_beside_a_spent_one() {
-    let mut plan = two_links();
-    plan.tracks.push(track(NONE));
-    plan.states.push(state(2, 0, 0));
-    plan.transitions[3].deviation = 3;
-    plan.transitions[4] = step(3, 3, 0, 5);
-    let mut desk = Desk::begun(&plan);
+    let mut desk = Desk::begun(&three_links());
     desk.event(1, 2, 0);
     desk.signal(3);
     desk.fire(1, 60, 3);

@@ -1,12 +1,14 @@
 //! The stored calls: each a plan, lent words and a call, and by this program
-//! its answer and the words afterwards. They show the leading words, which no
-//! run of `unwind` can show, since it begins its own ledger.
+//! its answer and the words afterwards. They show what no run of `unwind` can
+//! show, since it begins its own ledger and keeps it sound: the leading words,
+//! and what soundness makes of a finish left to do.
 
 use crate::generate::singles::Call::{self, Entries, Event, Fire, Ready, Signal};
-use crate::samples::{sample, sample_records, state, step, track};
+use crate::samples::{sample, sample_records, scoped_links, state, step, track, two_links};
 use crate::vectors;
+use second::ledger::{track_words_mut, words_needed};
 use second::manager;
-use second::plan::{Records, NONE};
+use second::plan::{self, Records, NONE};
 
 /// Where they stand, from the repository's root.
 pub const FILE: &str = "conformance/cases/calls.txt";
@@ -34,6 +36,8 @@ pub fn all() -> Vec<Stored> {
         unsound(),
         few_words(),
         alike(),
+        near_finish(),
+        finish_left(),
     ];
     parts.into_iter().flatten().collect()
 }
@@ -213,4 +217,73 @@ fn alike() -> Vec<Stored> {
         stored(&format!("{unsound}: own ledger"), &roots, &words, Event(1)),
         stored(&format!("{unsound}: 18"), &moved, &words, Event(1)),
     ]
+}
+
+/// The words that a begin and then calls leave, one more than the plan needs.
+fn worked(plan: &[u8], calls: &[Call]) -> Vec<u16> {
+    let needed = plan::read(plan).map_or(0, |plan| words_needed(&plan));
+    let mut words = vec![0xA5A5; needed + 1];
+    manager::begin(plan, &mut words);
+    for &call in calls {
+        vectors::answer(plan, &mut words, call);
+    }
+    words
+}
+
+/// Root 0 has ended, holding nothing, and root 1 is undoing and holds 60.
+fn entry_left(plan: &[u8]) -> Vec<u16> {
+    worked(plan, &[Event(1), Signal, Fire(0), Event(3)])
+}
+
+/// The words with the start of a track's words changed.
+fn with_track(mut words: Vec<u16>, track: usize, own: &[u16]) -> Vec<u16> {
+    track_words_mut(&mut words, track)[..own.len()].copy_from_slice(own);
+    words
+}
+
+/// Ledgers that are not over and a call away from it.
+fn near_finish() -> Vec<Stored> {
+    let (plan, scoped) = (two_links().encode(), scoped_links(0).encode());
+    let entry = entry_left(&plan);
+    let spent = worked(&plan, &[Event(1), Signal, Fire(0), Fire(1)]);
+    let inner = [Event(1), Event(5), Event(6), Signal, Fire(0), Event(3)];
+    let scope = worked(&scoped, &inner);
+    let both = worked(&plan, &[Signal]);
+    let on = |shows: &str, words: &[u16], call| stored(shows, &plan, words, call);
+    let inside = |shows: &str, call| stored(shows, &scoped, &scope, call);
+    vec![
+        on("one root ended, one with an entry: ready", &entry, Ready),
+        on("one root ended, its last entry fired", &entry, Fire(1)),
+        on("one root taken back, the other ends", &spent, Event(3)),
+        inside("one root ended, one with a scope: ready", Ready),
+        inside("one root ended, the last scope abandoned", Fire(3)),
+        on("both roots taken back: ready", &both, Ready),
+        on("both roots taken back: signal", &both, Signal),
+        on("both roots taken back, a firing: 22", &both, Fire(0)),
+    ]
+}
+
+/// Ledgers with the finish left to do.
+fn finish_left() -> Vec<Stored> {
+    let plan = two_links().encode();
+    let entry = entry_left(&plan);
+    let spent = with_track(entry.clone(), 1, &[2, 4, 0, 0, 0]);
+    let holding = with_track(spent.clone(), 0, &[1, 2, 1, 51, NONE]);
+    let last = with_track(spent.clone(), 1, &[2, 5]);
+    let both = with_track(spent.clone(), 1, &[1, 5]);
+    let exchanged = with_track(with_track(spent.clone(), 0, &[2, 1]), 1, &[1, 5]);
+    let begin = Stored {
+        shows: "a begin takes a ledger with the finish left to do".to_string(),
+        line: vectors::begin_line(&plan, &spent),
+    };
+    let left = |shows: &str, words: &[u16]| stored(shows, &plan, words, Ready);
+    let mut calls = by_each_call("one root ended, one taken back, 18", &plan, &spent);
+    calls.extend([
+        left("one root taken back, one ended: 18", &exchanged),
+        left("one root ended with an entry, one taken back: 18", &holding),
+        left("one root taken back in its final state: 18", &last),
+        left("both roots ended: 18", &both),
+        begin,
+    ]);
+    calls
 }

@@ -2,7 +2,10 @@
 //! its whole output.
 
 use crate::generate::plans;
-use crate::samples::{brothers, journal, looping, sample, sample_records, state, step, track};
+use crate::samples::{
+    brothers, journal, looping, looping_link, sample, sample_records, scoped_links, state, step,
+    three_links, track, two_links,
+};
 use second::journal::Record::{self, Event, Fire, FireLowest, Signal};
 use second::journal::MAX_BYTES;
 use second::plan::{Records, State, Transition, MAX_STATES, MAX_TRACKS, MAX_TRANSITIONS, NONE};
@@ -24,6 +27,8 @@ pub fn all() -> Vec<Case> {
         mistakes(),
         full(),
         scopes(),
+        endings(),
+        missed_endings(),
         limits(),
         unread_plans(),
         unfit_plans(),
@@ -239,6 +244,97 @@ fn scopes() -> Vec<Case> {
             "deviation_opens_scope",
             |p| p.transitions[0].deviation = 1,
             &reopened,
+        ),
+    ]
+}
+
+/// `two_links` with a change to its records.
+fn links(change: impl FnOnce(&mut Records)) -> Records {
+    let mut plan = two_links();
+    change(&mut plan);
+    plan
+}
+
+/// Event 1, the signal and the deviation of root 0, and then the others.
+fn deviated(then: &[Record]) -> Vec<Record> {
+    [&[Event(1), Signal, Fire(0)], then].concat()
+}
+
+/// The same under `scoped_links`, with an entry in its inner scope.
+fn scope_left(then: &[Record]) -> Vec<Record> {
+    let before = [Event(1), Event(5), Event(6), Signal, Fire(0)];
+    [&before, then].concat()
+}
+
+/// Ledgers that become over with one root taken back, and what is refused then.
+fn endings() -> Vec<Case> {
+    let over = [Signal, Event(1), Fire(0), FireLowest];
+    let then = |records: &[Record]| deviated(&[records, &over].concat());
+    let ended = [Event(1), Event(2)];
+    let fired = [&ended[..], &[FireLowest]].concat();
+    let scope = [&fired[..], &over].concat();
+    let host = [&ended[..], &[Fire(3), Fire(3), Fire(1)], &over].concat();
+    let closing = [Fire(1), Event(5), Event(7), Event(8), Event(4)];
+    let mut closes = scoped_links(60);
+    closes.transitions[0].deviation = NONE;
+    closes.transitions[3].deviation = 4;
+    let mut full = vec![Event(9), Signal, Fire(0)];
+    full.extend(often(32, 1, &[Event(2), Event(3)]));
+    full.extend(over);
+    vec![
+        case(
+            "half_withdrawn_by_event",
+            &two_links(),
+            &then(&[Fire(1), Event(1), Event(2)]),
+        ),
+        case("half_withdrawn_by_firing", &two_links(), &then(&fired)),
+        case(
+            "half_withdrawn_by_last_scope",
+            &scoped_links(0),
+            &scope_left(&scope),
+        ),
+        case(
+            "half_withdrawn_by_host_after_scope",
+            &scoped_links(60),
+            &scope_left(&host),
+        ),
+        case(
+            "half_withdrawn_three_roots",
+            &three_links(),
+            &then(&[Fire(1), Event(3)]),
+        ),
+        case("half_withdrawn_after_closing", &closes, &then(&closing)),
+        case("half_withdrawn_full_root", &looping_link(), &full),
+    ]
+}
+
+/// Ledgers that are not over, each for one reason.
+fn missed_endings() -> Vec<Case> {
+    let idle = [FireLowest, Event(1), Signal];
+    let withdrawn = [&[Event(1), Signal, Fire(1), Fire(0), Fire(0)], &idle[..]];
+    // A firing that is 22, an event that moves none, a signal that turns the
+    // root that has ended, and the other root's entry.
+    let left = |ready: u16| {
+        let after = [Event(3), Fire(0), Event(1), Signal, Fire(ready)];
+        [&after[..], &idle].concat()
+    };
+    let deviation = [Event(3), Fire(1), Event(1), Event(4), Signal];
+    vec![
+        case(
+            "all_withdrawn_not_over",
+            &links(|p| p.transitions[0].deviation = NONE),
+            &withdrawn.concat(),
+        ),
+        case("entry_left_not_over", &two_links(), &deviated(&left(1))),
+        case(
+            "scope_left_not_over",
+            &scoped_links(0),
+            &scope_left(&left(3)),
+        ),
+        case(
+            "deviation_not_over",
+            &links(|p| p.transitions[3].deviation = 3),
+            &deviated(&deviation),
         ),
     ]
 }

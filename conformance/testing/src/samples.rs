@@ -114,6 +114,27 @@ pub fn scoped_links(code: u16) -> Records {
     plan
 }
 
+/// `looping` with event 9, which deviates to the first state, and a second root
+/// with one state.
+pub fn looping_link() -> Records {
+    let mut plan = looping();
+    plan.tracks.push(track(NONE));
+    plan.states.push(state(1, 0, 0));
+    plan.transitions.push(detour(0, 9, 0));
+    plan
+}
+
+/// `two_links` with root 1 deviating and ending as root 0 does, and a third
+/// root with one state.
+pub fn three_links() -> Records {
+    let mut plan = two_links();
+    plan.tracks.push(track(NONE));
+    plan.states.push(state(2, 0, 0));
+    plan.transitions[3].deviation = 3;
+    plan.transitions[4] = step(3, 3, 0, 5);
+    plan
+}
+
 pub fn journal(records: &[Record]) -> Vec<u8> {
     let mut bytes = Vec::new();
     for record in records {

@@ -104,7 +104,8 @@ fn named_calls(rng: &mut Rng, plan: &Plan) -> Vec<Call> {
     calls
 }
 
-fn answer(plan: &[u8], words: &mut [u16], call: Call) -> String {
+/// Makes a call; its answer as text.
+pub fn answer(plan: &[u8], words: &mut [u16], call: Call) -> String {
     match call {
         Call::Event(event) => moved_text(manager::event(plan, words, event)),
         Call::Signal => number_text(manager::signal(plan, words)),

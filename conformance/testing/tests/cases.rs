@@ -54,7 +54,7 @@ fn answers(shows: &str) -> Vec<String> {
 #[test]
 fn stored_calls_show_what_they_say() {
     assert_eq!(answers("P begun"), ["begun"]);
-    assert_eq!(answers("a begin "), ["begun", "R17"]);
+    assert_eq!(answers("a begin "), ["begun", "R17", "begun"]);
     let own = ["D0,0", "D0", "D51,65535", "D6", "0033ffff"];
     assert_eq!(answers("P's ledger under P"), own);
     let refused = ["R24", "R24", "R24", "R24", ""];
@@ -65,6 +65,61 @@ fn stored_calls_show_what_they_say() {
     assert_eq!(answers("a mode of 3"), ["R18", "R24", ""]);
     assert_eq!(answers("P's ledger under a plan alike"), ["D1,0", "D6"]);
     assert_eq!(answers("plans alike"), ["D1,0", "R18"]);
+    assert_eq!(answers("one root ended, one with an entry"), ["D2"]);
+    assert_eq!(answers("one root ended, one with a scope"), ["D8"]);
+    assert_eq!(answers("both roots taken back"), ["D0", "D0", "R22"]);
+    let left = ["R18", "R18", "R18", "R18", ""];
+    assert_eq!(answers("one root ended, one taken back"), left);
+    assert_eq!(answers("both roots ended"), ["R18"]);
+}
+
+#[test]
+fn stored_calls_that_finish_leave_zeros_behind_the_leading_words() {
+    let finishing = [
+        ("one root ended, its last entry fired", "D60,65535"),
+        ("one root taken back, the other ends", "D1,0"),
+        ("one root ended, the last scope abandoned", "D90,65535"),
+    ];
+    for (shows, answered) in finishing {
+        assert_eq!(answers(shows), [answered]);
+        let mut calls = calls::all().into_iter();
+        let call = calls.find(|call| call.shows == shows).expect("stored");
+        let left = call.line.rsplit(';').next().expect("words");
+        let tracks = &left[8..left.len() - 4];
+        assert!(tracks.chars().all(|digit| digit == '0'), "{shows}");
+        assert!(left.ends_with("a5a5"), "{shows}");
+    }
+}
+
+/// The lines that a stored run prints.
+fn lines(name: &str) -> Vec<String> {
+    let folder = root().join("conformance/cases").join(name);
+    let output = fs::read_to_string(folder.join("output")).expect("an output");
+    output.lines().map(str::to_string).collect()
+}
+
+#[test]
+fn stored_runs_end_half_withdrawn_or_are_not_over() {
+    let cases = cases::all().into_iter();
+    let names =
+        cases.filter_map(|c| Some(c.folder.strip_prefix("conformance/cases/")?.to_string()));
+    let names: Vec<String> = names.collect();
+    let (mut over, mut not_over) = (0, 0);
+    for name in &names {
+        let lines = lines(name);
+        let refused = lines.iter().filter(|line| *line == "R 20").count();
+        if name.starts_with("half_withdrawn_") {
+            assert_eq!(refused, 4, "{name}");
+            assert!(lines.last().expect("a line").starts_with("H 0 "), "{name}");
+            over += 1;
+        } else if name.ends_with("_withdrawn_not_over") || name.ends_with("_left_not_over") {
+            assert_eq!(refused, 0, "{name}");
+            let end = ["R 22", "E 1 0 0", "S 0", "H 0 2"];
+            assert_eq!(lines[lines.len() - 4..], end, "{name}");
+            not_over += 1;
+        }
+    }
+    assert_eq!((over, not_over), (7, 3));
 }
 
 #[test]
@@ -77,7 +132,7 @@ fn stored_calls_are_refused_with_the_number_that_they_name() {
             named += 1;
         }
     }
-    assert_eq!(named, 21);
+    assert_eq!(named, 26);
 }
 
 #[test]
