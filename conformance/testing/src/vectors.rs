@@ -15,14 +15,19 @@ use second::manager::{self, Answer};
 use second::plan::{self, Plan};
 use second::rules::Moved;
 
-/// `H;plan;lent words;calls;answers;words after`: a history from begin.
+/// `H;plan;lent words;calls;answers;words after`: a history from begin, now and
+/// then a short one that ends half withdrawn.
 pub fn history_line(rng: &mut Rng, limit: usize) -> String {
-    let bytes = plans::bytes(rng, limit);
+    let (bytes, records) = if rng.chance(6) {
+        journals::half_withdrawn(rng, limit)
+    } else {
+        any_history(rng, limit)
+    };
     let plan = plan::read(&bytes).expect("a good plan is accepted");
     let lent = ledgers::garbage(rng, &plan);
     let mut words = lent.clone();
     let mut answers = vec![begin(&bytes, &mut words)];
-    let calls = named_calls(rng, &plan);
+    let calls = named_calls(&plan, &records);
     for &call in &calls {
         answers.push(answer(&bytes, &mut words, call));
     }
@@ -86,12 +91,19 @@ fn begin(plan: &[u8], words: &mut [u16]) -> String {
     }
 }
 
-/// A steered history with each firing under the name of its track.
-fn named_calls(rng: &mut Rng, plan: &Plan) -> Vec<Call> {
-    let records = journals::history(rng, plan).0;
+/// Any plan and a history steered through it.
+fn any_history(rng: &mut Rng, limit: usize) -> (Vec<u8>, Vec<Record>) {
+    let bytes = plans::bytes(rng, limit);
+    let plan = plan::read(&bytes).expect("a good plan is accepted");
+    let records = journals::history(rng, &plan).0;
+    (bytes, records)
+}
+
+/// A history with each firing under the name of its track.
+fn named_calls(plan: &Plan, records: &[Record]) -> Vec<Call> {
     let mut ledger = second::rules::begin(plan);
     let mut calls = Vec::new();
-    for record in records {
+    for &record in records {
         let lowest = second::rules::ready(plan, &ledger).trailing_zeros();
         calls.push(match record {
             Record::Event(event) => Call::Event(event),

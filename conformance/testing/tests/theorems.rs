@@ -4,6 +4,11 @@ use std::fs;
 use std::io::Write;
 use std::process::{Command, Stdio};
 
+use second::manager;
+use testing::generate::singles::Call;
+use testing::samples::two_links;
+use testing::vectors;
+
 /// What the first file holds below its imports, of cases given as lines;
 /// nothing where a line is no case.
 fn theorems(name: &str, lines: &str) -> Option<String> {
@@ -64,6 +69,25 @@ fn calls_refused_as_24_are_a_sort_of_their_own() {
     assert_eq!(text.matches("pub case-").count(), 2);
     assert!(text.contains("(s) (refusal 24) (0 ∷ 0 ∷"), "{text}");
     assert!(text.contains("pub case-2 : EntriesAgree"), "{text}");
+}
+
+#[test]
+fn calls_with_roots_in_both_modes_are_a_sort_of_their_own() {
+    let plan = two_links().encode();
+    let mut words = vec![0; 136];
+    manager::begin(&plan, &mut words);
+    for call in [Call::Event(1), Call::Signal, Call::Fire(0), Call::Event(3)] {
+        vectors::answer(&plan, &mut words, call);
+    }
+    // Of two like firings and a signal, as many different ones as wanted.
+    let calls = [Call::Fire(1), Call::Fire(1), Call::Signal];
+    let line = |call| vectors::call_line(&plan, &words, call) + "\n";
+    let text = theorems("parted", &calls.map(line).concat()).expect("theorems");
+    assert_eq!(text.matches("pub case-").count(), 2);
+    let zeros = "0 ∷ ".repeat(134);
+    let fired = format!("(f 1) (done (60 ∷ 65535 ∷ [])) (146 ∷ 1073 ∷ {zeros}[])");
+    assert!(text.contains(&fired), "{text}");
+    assert!(text.contains("(s) (done (1 ∷ []))"), "{text}");
 }
 
 #[test]

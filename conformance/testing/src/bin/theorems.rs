@@ -3,8 +3,9 @@
 //! proved by computing the definitions of the rules.
 //!
 //! Taken are HISTORIES histories, PLANS refused plans and LEDGERS calls on
-//! damaged ledgers, and fewer whole runs, accepted plans, and calls on sound
-//! ledgers and on those of other plans: of each sort as many different ones as
+//! damaged ledgers, and fewer histories that end half withdrawn, whole runs,
+//! accepted plans, and calls on sound ledgers, on those with roots in both
+//! modes and on those of other plans: of each sort as many different ones as
 //! there are. Cases too large to be computed quickly are dropped.
 
 use std::collections::{BTreeSet, HashMap};
@@ -13,10 +14,13 @@ use std::io;
 use std::path::Path;
 use std::process::ExitCode;
 
-use second::ledger::{self, track_words};
+use second::ledger::{self, track_words, Clause};
+use second::manager::{self, Answer};
 use second::plan::{self, Plan};
 use second::record::{self, Header};
+use testing::generate::singles::Call;
 use testing::theorems::{parts, statement};
+use testing::vectors;
 
 /// Theorems to a file.
 const FILE: usize = 30;
@@ -36,6 +40,8 @@ use Rattle.agreement.specs.Statements.{e, f, s, acceptedWith, \
 #[derive(Clone, Copy, PartialEq)]
 enum Sort {
     History,
+    /// A history that some root was taken back in and that is over.
+    HalfWithdrawn,
     Run,
     Refused,
     /// Refused for too many records or too great a height: never small.
@@ -44,7 +50,10 @@ enum Sort {
     Damaged,
     /// A call on a ledger whose leading words are not the plan's.
     OtherPlan,
-    /// A signal or a firing that is done: what abandoning follows.
+    /// An event, a signal or a firing that is done with roots in both modes:
+    /// what finish may follow, or may not.
+    Parted,
+    /// Another signal or firing that is done: what abandoning follows.
     Undoing,
     Other,
 }
@@ -57,7 +66,7 @@ struct Share {
     limit: usize,
 }
 
-fn shares(histories: usize, plans: usize, ledgers: usize) -> [Share; 9] {
+fn shares(histories: usize, plans: usize, ledgers: usize) -> [Share; 11] {
     let share = |sort, name, wanted, limit| Share {
         sort,
         name,
@@ -66,12 +75,24 @@ fn shares(histories: usize, plans: usize, ledgers: usize) -> [Share; 9] {
     };
     [
         share(Sort::History, "histories", histories, 700),
+        share(
+            Sort::HalfWithdrawn,
+            "histories that end half withdrawn",
+            histories / 10,
+            1000,
+        ),
         share(Sort::Run, "whole runs", histories / 10, 1200),
         share(Sort::Refused, "refused plans", plans, 300),
         share(Sort::Oversized, "plans refused as 6 or 16", plans / 20, 500),
         share(Sort::Accepted, "accepted plans", plans / 20, 300),
         share(Sort::Damaged, "calls on damaged ledgers", ledgers, 200),
         share(Sort::OtherPlan, "calls refused as 24", ledgers / 4, 200),
+        share(
+            Sort::Parted,
+            "calls done with roots in both modes",
+            ledgers / 4,
+            240,
+        ),
         share(Sort::Undoing, "signals and firings done", ledgers / 4, 240),
         share(Sort::Other, "other calls", ledgers / 4, 200),
     ]
@@ -94,7 +115,13 @@ fn fields_of(line: &str) -> Vec<&str> {
 fn sort_of(fields: &[&str]) -> Option<(Sort, usize)> {
     let plan = fields.get(1)?.len() / 2;
     Some(match *fields {
-        ["H", _, _, calls, _, _] => (Sort::History, plan * (1 + parts(calls, ',').count())),
+        ["H", bytes, lent, calls, _, _] => {
+            let sort = match ending(bytes, lent, calls) {
+                Some(Ending { parted: true, .. }) => Sort::HalfWithdrawn,
+                _ => Sort::History,
+            };
+            (sort, plan * (1 + parts(calls, ',').count()))
+        }
         ["U", _, journal, _] => (Sort::Run, plan * (1 + journal.len() / 8)),
         ["P", _, "6" | "16"] => (Sort::Oversized, plan),
         ["P", _, answer] if answer.starts_with('A') => (Sort::Accepted, plan),
@@ -102,6 +129,9 @@ fn sort_of(fields: &[&str]) -> Option<(Sort, usize)> {
         ["L", _, _, _, "R17" | "R18", _] => (Sort::Damaged, plan),
         ["L", bytes, words, _, "R24" | "", _] if !differing(bytes, words).is_empty() => {
             (Sort::OtherPlan, plan)
+        }
+        ["L", bytes, words, call, answer, _] if is_parted(bytes, words, call, answer) => {
+            (Sort::Parted, plan)
         }
         ["L", _, _, call, answer, _] if is_undoing(call, answer) => (Sort::Undoing, plan),
         ["L", _, _, _, _, _] => (Sort::Other, plan),
@@ -111,6 +141,71 @@ fn sort_of(fields: &[&str]) -> Option<(Sort, usize)> {
 
 fn is_undoing(call: &str, answer: &str) -> bool {
     call.starts_with(['S', 'F']) && answer.starts_with('D')
+}
+
+/// Whether an event, a signal or a firing is done with roots in both modes.
+fn is_parted(plan: &str, words: &str, call: &str, answer: &str) -> bool {
+    let done = call.starts_with(['E', 'S', 'F']) && answer.starts_with('D');
+    let plan = plan::read(&numbers(plan, 2)).ok().filter(|_| done);
+    plan.map_or(false, |plan| parted(&plan, &numbers(words, 4)))
+}
+
+/// Whether some root is forward and some root undoing.
+fn parted(plan: &Plan, words: &[u16]) -> bool {
+    let some = |mode| plan.roots().any(|t| track_words(words, t)[0] == mode);
+    some(1) && some(2)
+}
+
+/// Whether every track is asleep.
+fn is_over(plan: &Plan, words: &[u16]) -> bool {
+    (0..plan.track_count()).all(|t| track_words(words, t)[0] == 0)
+}
+
+/// The call that put every track to sleep in a history: its letter, and whether
+/// roots were in both modes before it.
+struct Ending {
+    letter: char,
+    parted: bool,
+}
+
+/// The ending of a history, if it has one.
+fn ending(plan: &str, lent: &str, calls: &str) -> Option<Ending> {
+    let (bytes, mut words): (Vec<u8>, Vec<u16>) = (numbers(plan, 2), numbers(lent, 4));
+    let plan = plan::read(&bytes).ok()?;
+    if manager::begin(&bytes, &mut words) != Answer::Done(()) {
+        return None;
+    }
+    parts(calls, ',').find_map(|text| {
+        let parted = parted(&plan, &words);
+        vectors::answer(&bytes, &mut words, call(text)?);
+        let letter = text.chars().next()?;
+        is_over(&plan, &words).then_some(Ending { letter, parted })
+    })
+}
+
+/// The call of a history's text.
+fn call(text: &str) -> Option<Call> {
+    let number = || text.get(1..)?.parse().ok();
+    match text.get(..1)? {
+        "E" => Some(Call::Event(number()?)),
+        "S" => Some(Call::Signal),
+        "F" => Some(Call::Fire(number()?)),
+        _ => None,
+    }
+}
+
+/// How the roots stand, in rising order: mode, whether in a final state, whether
+/// holding entries, whether with an open scope.
+fn standings(plan: &Plan, words: &[u16]) -> Vec<(u16, bool, bool, bool)> {
+    let awake = |t: usize| track_words(words, t)[0] != 0;
+    let standing = |t: usize| {
+        let own = track_words(words, t);
+        let open = plan::members(plan.scope(own[1])).any(awake);
+        (own[0], plan.is_final(own[1]), own[2] > 0, open)
+    };
+    let mut standings: Vec<_> = plan.roots().map(standing).collect();
+    standings.sort_unstable();
+    standings
 }
 
 /// Which of the leading words is not the plan's; none where the plan is
@@ -128,15 +223,17 @@ fn differing(plan: &str, words: &str) -> Vec<&'static str> {
     }
 }
 
-/// What a case shows: a history its plan's height and the outcomes of its
-/// calls, a run its sorts of lines, a plan its refusal, a call what it changes,
-/// the clauses violated or the leading words that are not the plan's.
+/// What a case shows: a history its plan's height, the outcomes of its calls
+/// and what ends it, a run its sorts of lines, a plan its refusal, a call what
+/// it changes and how the roots stand where they are in both modes, the clauses
+/// violated or the leading words that are not the plan's.
 fn shows(fields: &[&str]) -> String {
     match *fields {
-        ["H", plan, _, calls, answers, _] => {
+        ["H", plan, lent, calls, answers, _] => {
             let made = parts(calls, ',').zip(parts(answers, '|').skip(1));
             let outcomes: BTreeSet<String> = made.map(|(c, a)| outcome(c, a)).collect();
-            format!("{:?} {outcomes:?}", height(plan))
+            let ending = ending(plan, lent, calls).map(|ending| ending.letter);
+            format!("{:?} {outcomes:?} {ending:?}", height(plan))
         }
         ["U", _, _, output] => {
             let output = String::from_utf8(numbers(output, 2)).unwrap_or_default();
@@ -149,17 +246,25 @@ fn shows(fields: &[&str]) -> String {
             format!("{} {:?}", &call[..1], differing(plan, before))
         }
         ["L", plan, before, call, answer, after] => match plan::read(&numbers(plan, 2)) {
-            Ok(plan) if answer == "R18" => {
-                format!("{:?}", ledger::violated(&plan, &numbers(before, 4)))
-            }
+            Ok(plan) if answer == "R18" => violations(&plan, &numbers(before, 4)),
             Ok(plan) if answer.starts_with('D') => {
-                let changes = changes(&plan, &numbers(before, 4), &numbers(after, 4));
-                format!("{} {changes}", outcome(call, answer))
+                let (before, after) = (numbers(before, 4), numbers(after, 4));
+                let roots = parted(&plan, &before).then(|| standings(&plan, &before));
+                let changes = changes(&plan, &before, &after);
+                format!("{} {changes} {roots:?}", outcome(call, answer))
             }
             _ => outcome(call, answer),
         },
         _ => String::new(),
     }
+}
+
+/// The clauses violated, and for a finish left to do how the roots stand.
+fn violations(plan: &Plan, words: &[u16]) -> String {
+    let violated = ledger::violated(plan, words);
+    let left = violated == [Clause::NoFinishLeft];
+    let roots = left.then(|| standings(plan, words));
+    format!("{violated:?} {roots:?}")
 }
 
 /// Of a plan refused as 3: whether a kind falls, rather than being none.
@@ -217,24 +322,38 @@ fn numbers<Number: TryFrom<u32>>(hex: &str, digits: usize) -> Vec<Number> {
         .collect()
 }
 
+/// A line of `vectors`, with its sort and its size.
+struct Line {
+    text: String,
+    sort: Sort,
+    size: usize,
+}
+
+impl Line {
+    fn of(text: String) -> Option<Line> {
+        let (sort, size) = sort_of(&fields_of(&text))?;
+        Some(Line { text, sort, size })
+    }
+}
+
 /// The cases of a share, those that show something new first, and how many
 /// were too large.
-fn choose(share: &Share, lines: &[String]) -> (Vec<Case>, usize) {
+fn choose(share: &Share, lines: &[Line]) -> (Vec<Case>, usize) {
     let mut seen: HashMap<String, usize> = HashMap::new();
     let mut cases = Vec::new();
     let mut dropped = 0;
     for (number, line) in lines.iter().enumerate() {
-        let fields = fields_of(line);
-        match sort_of(&fields) {
-            Some((sort, size)) if sort == share.sort && size <= share.limit => {
-                let before = seen.entry(shows(&fields)).or_default();
-                let (line, rank) = (line.clone(), *before);
-                cases.push(Case { number, line, rank });
-                *before += 1;
-            }
-            Some((sort, _)) => dropped += usize::from(sort == share.sort),
-            None => {}
+        if line.sort != share.sort {
+            continue;
         }
+        if line.size > share.limit {
+            dropped += 1;
+            continue;
+        }
+        let before = seen.entry(shows(&fields_of(&line.text))).or_default();
+        let (line, rank) = (line.text.clone(), *before);
+        cases.push(Case { number, line, rank });
+        *before += 1;
     }
     cases.sort_by_key(|case| case.rank);
     cases.truncate(share.wanted);
@@ -247,7 +366,7 @@ fn theorem(sort: Sort, case: &Case) -> Option<String> {
     let Case { number, line, .. } = case;
     let says = statement(&fields_of(line))?;
     let proof = match sort {
-        Sort::History => "(refl, refl)",
+        Sort::History | Sort::HalfWithdrawn => "(refl, refl)",
         _ => "refl",
     };
     let name = format!("case-{number}");
@@ -272,9 +391,8 @@ fn write(folder: &Path, theorems: &[String]) -> io::Result<()> {
 
 fn run(folder: &Path, shares: &[Share]) -> io::Result<()> {
     let lines: Vec<String> = io::stdin().lines().collect::<Result<_, _>>()?;
-    if lines.iter().any(|line| sort_of(&fields_of(line)).is_none()) {
-        return Err(io::ErrorKind::InvalidData.into());
-    }
+    let lines: Option<Vec<Line>> = lines.into_iter().map(Line::of).collect();
+    let lines = lines.ok_or(io::ErrorKind::InvalidData)?;
     let mut theorems = Vec::new();
     for share in shares {
         let (cases, dropped) = choose(share, &lines);

@@ -16,6 +16,10 @@ struct Temper {
     useless: usize,
     /// Signals while something can move.
     signal: usize,
+    /// The same while roots are in both modes.
+    again: usize,
+    /// Firings while something can move as well.
+    fire: usize,
     /// Events repeated while they still move something.
     repeat: usize,
     /// Events chosen for a move into a final state.
@@ -138,12 +142,17 @@ fn cut_short(rng: &mut Rng, bytes: &mut Vec<u8>) {
 
 /// A steered history from begin, and the ledger it leaves.
 pub fn history(rng: &mut Rng, plan: &Plan) -> (Vec<Record>, Ledger) {
-    let temper = temper(rng);
+    let temper = temper(rng, plan);
+    let length = history_length(rng);
+    steered(rng, &temper, plan, length)
+}
+
+fn steered(rng: &mut Rng, temper: &Temper, plan: &Plan, length: usize) -> (Vec<Record>, Ledger) {
     let mut ledger = rules::begin(plan);
     let mut records: Vec<Record> = Vec::new();
-    let mut left = history_length(rng);
+    let mut left = length;
     while left > 0 {
-        let record = next_record(rng, &temper, plan, &ledger, records.last());
+        let record = next_record(rng, temper, plan, &ledger, records.last());
         journal::perform(plan, &mut ledger, record);
         records.push(record);
         left -= 1;
@@ -154,23 +163,81 @@ pub fn history(rng: &mut Rng, plan: &Plan) -> (Vec<Record>, Ledger) {
     (records, ledger)
 }
 
+/// Records of a short history.
+const SHORT: usize = 8;
+
+/// Tries at a short history that ends half withdrawn.
+const TRIES: usize = 400;
+
+/// A small plan and a short history, most often one that is over at its end
+/// with some root taken back: by an event or by a firing, equally often.
+pub fn half_withdrawn(rng: &mut Rng, limit: usize) -> (Vec<u8>, Vec<Record>) {
+    let by_event = rng.chance(50);
+    let mut tries = TRIES;
+    loop {
+        let bytes = plans::small_linked_records(rng, limit).encode();
+        let plan = plan::read(&bytes).expect("a good plan is accepted");
+        let temper = parting(rng);
+        let records = steered(rng, &temper, &plan, SHORT).0;
+        let wanted = |last| matches!(last, Record::Event(_)) == by_event;
+        tries -= 1;
+        if tries == 0 || parted_end(&plan, &records).map_or(false, wanted) {
+            return (bytes, records);
+        }
+    }
+}
+
+/// The record that put every track to sleep, where roots were in both modes
+/// before it.
+fn parted_end(plan: &Plan, records: &[Record]) -> Option<Record> {
+    let mut ledger = rules::begin(plan);
+    for &record in records {
+        let parted = is_parted(plan, &ledger);
+        journal::perform(plan, &mut ledger, record);
+        if ledger.is_over() {
+            return Some(record).filter(|_| parted);
+        }
+    }
+    None
+}
+
 /// Whether nothing more can happen: over, or all undoing with none ready.
 fn is_spent(plan: &Plan, ledger: &Ledger) -> bool {
     let forward = ledger.tracks.iter().any(|t| t.mode == Mode::Forward);
     !forward && rules::ready(plan, ledger) == 0
 }
 
-fn temper(rng: &mut Rng) -> Temper {
+fn temper(rng: &mut Rng, plan: &Plan) -> Temper {
+    let several = plan.roots().nth(1).is_some();
+    if rng.chance(if several { 45 } else { 5 }) {
+        return parting(rng);
+    }
     let pumping = rng.chance(25);
+    let signal = if pumping {
+        rng.between(1, 3)
+    } else {
+        rng.pick(&[3, 6, 15]).unwrap_or(0)
+    };
     Temper {
         useless: rng.pick(&[0, 5, 10, 30]).unwrap_or(0),
-        signal: if pumping {
-            rng.between(1, 3)
-        } else {
-            rng.pick(&[3, 6, 15]).unwrap_or(0)
-        },
+        signal,
+        again: signal,
+        fire: 55,
         repeat: if pumping { 95 } else { 20 },
         haste: rng.pick(&[0, 20, 50]).unwrap_or(0),
+    }
+}
+
+/// Signals early, then lets some roots go forward to their ends while others
+/// are taken back.
+fn parting(rng: &mut Rng) -> Temper {
+    Temper {
+        useless: rng.pick(&[0, 5, 10]).unwrap_or(0),
+        signal: rng.between(10, 35),
+        again: rng.below(4),
+        fire: rng.pick(&[10, 30, 60, 90]).unwrap_or(0),
+        repeat: 10,
+        haste: rng.between(40, 95),
     }
 }
 
@@ -196,11 +263,16 @@ fn next_record(
     }
     let events = moving_events(plan, ledger, |_| true);
     let ready: Vec<usize> = members(rules::ready(plan, ledger)).collect();
-    let fires = !ready.is_empty() && (events.is_empty() || rng.chance(55));
+    let fires = !ready.is_empty() && (events.is_empty() || rng.chance(temper.fire));
     if fires {
         return firing(rng, plan, &ready);
     }
-    if rng.chance(temper.signal) {
+    let signal = if is_parted(plan, ledger) {
+        temper.again
+    } else {
+        temper.signal
+    };
+    if rng.chance(signal) {
         return Record::Signal;
     }
     match before {
@@ -209,6 +281,12 @@ fn next_record(
         }
         _ => moving_event(rng, temper, plan, ledger, &events),
     }
+}
+
+/// Whether some root is forward and some root undoing.
+fn is_parted(plan: &Plan, ledger: &Ledger) -> bool {
+    let some = |mode| plan.roots().any(|t| ledger.tracks[t].mode == mode);
+    some(Mode::Forward) && some(Mode::Undoing)
 }
 
 /// A firing that is allowed, or now and then of any track.

@@ -53,6 +53,102 @@ pub fn crafted(rng: &mut Rng, plan: &Plan) -> Ledger {
     ledger
 }
 
+/// A sound ledger that is often one call away from finish: all roots ended
+/// or spent but for one, which has an event to come, an entry or an open
+/// scope; or all roots spent.
+pub fn near_finish(rng: &mut Rng, plan: &Plan) -> Ledger {
+    let mut ledger = half_withdrawn(rng, plan);
+    let roots: Vec<usize> = plan.roots().collect();
+    let root = rng.pick(&roots).unwrap_or(0);
+    match rng.below(100) {
+        0..=32 => before_end(rng, plan, &mut ledger, root),
+        33..=54 => hold(rng, plan, &mut ledger, root),
+        55..=89 => {
+            let hosts = |t: &usize| plan.states_of(*t).any(|s| plan.scope(s) != 0);
+            let hosts: Vec<usize> = roots.iter().copied().filter(hosts).collect();
+            let root = rng.pick(&hosts).unwrap_or(root);
+            hold_inside(rng, plan, &mut ledger, root)
+        }
+        _ => {
+            for &root in &roots {
+                ledger.tracks[root] = spent(rng, plan, root);
+            }
+        }
+    }
+    repair(rng, plan, &mut ledger);
+    ledger
+}
+
+/// Every root ended or spent, and no scope open: mostly finish is left to do.
+fn half_withdrawn(rng: &mut Rng, plan: &Plan) -> Ledger {
+    let mut ledger = Ledger::asleep(plan);
+    let percent = rng.pick(&[30, 60, 90]).unwrap_or(0);
+    for root in plan.roots() {
+        let last = final_state(rng, plan, root).filter(|_| rng.chance(percent));
+        match last {
+            Some(state) => {
+                ledger.tracks[root] = Track::awake(Mode::Forward, state);
+                fill(rng, plan, &mut ledger, root);
+            }
+            None => ledger.tracks[root] = spent(rng, plan, root),
+        }
+    }
+    ledger
+}
+
+/// Undoing in any state of the track, with nothing held.
+fn spent(rng: &mut Rng, plan: &Plan, track: usize) -> Track {
+    let own: Vec<u16> = plan.states_of(track).collect();
+    Track::awake(Mode::Undoing, rng.pick(&own).unwrap_or(0))
+}
+
+/// The track forward in a state that a transition leads from to a final one, if
+/// there is such a state, else in the first; now and then full.
+fn before_end(rng: &mut Rng, plan: &Plan, ledger: &mut Ledger, track: usize) {
+    let ends = |s: &u16| {
+        let mut exits = plan.transitions_from(*s);
+        exits.any(|x| plan.is_final(x.destination))
+    };
+    let before: Vec<u16> = plan.states_of(track).filter(ends).collect();
+    let state = rng.pick(&before);
+    let state = state.unwrap_or_else(|| plan.first_state(track));
+    ledger.tracks[track] = Track::awake(Mode::Forward, state);
+    let deviations = deviations(plan, track);
+    let held = rng.pick(&[0, 1, CAPACITY]).unwrap_or(0);
+    for _ in 0..held {
+        ledger.tracks[track].install(any_entry(rng, &deviations));
+    }
+}
+
+/// The track undoing with an entry or two, now and then with deviations.
+fn hold(rng: &mut Rng, plan: &Plan, ledger: &mut Ledger, track: usize) {
+    ledger.tracks[track] = spent(rng, plan, track);
+    let deviations = deviations(plan, track);
+    for _ in 0..rng.pick(&[1, 1, 1, 2]).unwrap_or(1) {
+        ledger.tracks[track].install(any_entry(rng, &deviations));
+    }
+}
+
+/// The track undoing with its scope open and an entry inside that scope, and
+/// now and then one of its own; without a scope, as `hold` has it.
+fn hold_inside(rng: &mut Rng, plan: &Plan, ledger: &mut Ledger, track: usize) {
+    let own = plan.states_of(track);
+    let hosting: Vec<u16> = own.filter(|&s| plan.scope(s) != 0).collect();
+    let state = match rng.pick(&hosting) {
+        Some(state) => state,
+        None => return hold(rng, plan, ledger, track),
+    };
+    ledger.tracks[track] = Track::awake(Mode::Undoing, state);
+    if rng.chance(15) {
+        ledger.tracks[track].install(any_entry(rng, &[]));
+    }
+    for hosted in members(plan.scope(state)) {
+        ledger.tracks[hosted] = spent(rng, plan, hosted);
+    }
+    let inner = any_member(rng, plan.scope(state));
+    hold_inside(rng, plan, ledger, inner);
+}
+
 fn any_mode(rng: &mut Rng) -> Mode {
     if rng.chance(60) {
         Mode::Forward
@@ -115,34 +211,44 @@ fn any_entry(rng: &mut Rng, deviations: &[u16]) -> Entry {
 
 /// Takes away every settling left to do.
 fn repair(rng: &mut Rng, plan: &Plan, ledger: &mut Ledger) {
-    let roots = plan.roots().fold(0, |bits, t| bits | 1 << t);
     let scopes: Vec<u32> = plan.hosting_states().map(|s| plan.scope(s)).collect();
-    for &group in scopes.iter().chain([&roots]) {
-        keep_from_settling(plan, ledger, any_member(rng, group), group);
-    }
     for &scope in &scopes {
-        keep_from_abandoning(rng, ledger, scope);
+        keep_from_closing(rng, plan, ledger, scope);
+        keep_from_abandoning(rng, plan, ledger, scope);
     }
+    keep_from_finishing(rng, plan, ledger);
 }
 
 /// Moves one track back to its first state where all are in final states.
-fn keep_from_settling(plan: &Plan, ledger: &mut Ledger, track: usize, group: u32) {
-    let settles = |t: usize| {
-        let track = &ledger.tracks[t];
-        track.mode == Mode::Forward && plan.is_final(track.state)
-    };
-    if members(group).all(settles) {
+fn keep_from_closing(rng: &mut Rng, plan: &Plan, ledger: &mut Ledger, scope: u32) {
+    if members(scope).all(|t| rules::has_ended(plan, ledger, t)) {
+        let track = any_member(rng, scope);
         ledger.tracks[track].state = plan.first_state(track);
     }
 }
 
-/// Gives one track an entry where all are undoing and hold nothing.
-fn keep_from_abandoning(rng: &mut Rng, ledger: &mut Ledger, scope: u32) {
-    let spent = |t: usize| {
-        let track = &ledger.tracks[t];
-        track.mode == Mode::Undoing && track.held() == 0
-    };
-    if members(scope).all(spent) {
+/// Where all roots have ended or are spent and some root has ended: gives one
+/// that is spent an entry, or moves one that has ended back to its first state.
+fn keep_from_finishing(rng: &mut Rng, plan: &Plan, ledger: &mut Ledger) {
+    let (ended, others): (Vec<usize>, Vec<usize>) = plan
+        .roots()
+        .partition(|&t| rules::has_ended(plan, ledger, t));
+    let is_spent = |&t: &usize| rules::is_spent(plan, ledger, t);
+    if ended.is_empty() || !others.iter().all(is_spent) {
+        return;
+    }
+    match rng.pick(&others).filter(|_| rng.chance(60)) {
+        Some(root) => hold(rng, plan, ledger, root),
+        None => {
+            let root = rng.pick(&ended).unwrap_or(0);
+            ledger.tracks[root].state = plan.first_state(root);
+        }
+    }
+}
+
+/// Gives one track an entry where all are spent.
+fn keep_from_abandoning(rng: &mut Rng, plan: &Plan, ledger: &mut Ledger, scope: u32) {
+    if members(scope).all(|t| rules::is_spent(plan, ledger, t)) {
         let track = any_member(rng, scope);
         ledger.tracks[track].install(any_entry(rng, &[]));
     }
@@ -267,6 +373,7 @@ fn damage(rng: &mut Rng, plan: &Plan, words: &mut [u16], clause: Clause) {
         Clause::HostsInHostingState => own[1] = other_state(rng, plan, track, own[1]),
         Clause::ScopesInHostMode => own[0] = if own[0] == 1 { 2 } else { 1 },
         Clause::NoClosingLeft => to_final(rng, plan, words, |p, t| !p.is_root(t)),
+        Clause::NoFinishLeft if rng.chance(60) => half_withdrawn(rng, plan).encode(words),
         Clause::NoFinishLeft => to_final(rng, plan, words, Plan::is_root),
         Clause::NoAbandoningLeft => spend(rng, plan, words),
     }

@@ -25,6 +25,8 @@ struct Taste {
     last: usize,
     /// Percent of transitions with code 0.
     codeless: usize,
+    /// Percent of the roots' transitions with a code that deviate.
+    deviating: usize,
 }
 
 /// The records of an accepted plan of at most `limit` tracks.
@@ -37,6 +39,36 @@ pub fn records(rng: &mut Rng, limit: usize) -> Records {
 pub fn records_of(rng: &mut Rng, tracks: usize) -> Records {
     let taste = taste_of(rng, tracks);
     sketch(rng, &taste)
+}
+
+/// The records of an accepted plan of at most `limit` tracks, most often with
+/// several roots whose ways are short and deviate.
+pub fn linked_records(rng: &mut Rng, limit: usize) -> Records {
+    several_roots(rng, |rng| linked_taste(rng, limit))
+}
+
+/// The same with two or three tracks of about two states each.
+pub fn small_linked_records(rng: &mut Rng, limit: usize) -> Records {
+    several_roots(rng, |rng| {
+        let mut taste = linked_taste(rng, limit.min(3));
+        taste.states = 2 * taste.tracks;
+        taste.transitions = rng.between(taste.tracks, 2 * taste.tracks);
+        taste
+    })
+}
+
+/// A plan of several roots, if a few tries find one.
+fn several_roots(rng: &mut Rng, taste: impl Fn(&mut Rng) -> Taste) -> Records {
+    let mut tries = 4;
+    loop {
+        let taste = taste(rng);
+        let records = sketch(rng, &taste);
+        let roots = records.tracks.iter().filter(|t| t.host == NONE).count();
+        tries -= 1;
+        if roots > 1 || tries == 0 {
+            return records;
+        }
+    }
 }
 
 /// Records good but for the height of a track, which mostly exceeds 8 where
@@ -96,6 +128,9 @@ pub fn chain(tracks: usize) -> Records {
 }
 
 fn taste(rng: &mut Rng, limit: usize) -> Taste {
+    if rng.chance(15) {
+        return linked_taste(rng, limit);
+    }
     let most = limit.clamp(1, MAX_TRACKS);
     let (low, high) = track_range(rng);
     let tracks = rng.between(low.min(most), high.min(most));
@@ -115,6 +150,25 @@ fn taste_of(rng: &mut Rng, tracks: usize) -> Taste {
         height: MAX_HEIGHT,
         last: rng.between(5, 40),
         codeless: if rng.chance(30) { 40 } else { 12 },
+        deviating: 25,
+    }
+}
+
+/// Two to seven tracks, about half of them roots, with few states each.
+fn linked_taste(rng: &mut Rng, limit: usize) -> Taste {
+    let most = limit.clamp(1, MAX_TRACKS);
+    let tracks = rng.between(most.min(2), most.min(7));
+    let extra: usize = (0..tracks).map(|_| rng.between(1, 2)).sum();
+    Taste {
+        tracks,
+        states: tracks + extra,
+        transitions: rng.between(2 * tracks, 5 * tracks),
+        roots: rng.between(25, 80),
+        parallel: rng.between(5, 40),
+        deep: rng.between(30, 90),
+        last: rng.between(10, 50),
+        deviating: rng.between(30, 90),
+        ..taste_of(rng, tracks)
     }
 }
 
@@ -337,7 +391,12 @@ fn add_transition(
     } else {
         rng.code()
     };
-    let deviation = deviation(rng, layout, plan, source, code);
+    let deviates = code != 0 && rng.chance(taste.deviating);
+    let deviation = if deviates {
+        deviation(rng, layout, plan, source)
+    } else {
+        NONE
+    };
     plan.transitions.push(Transition {
         source,
         event,
@@ -347,11 +406,11 @@ fn add_transition(
     });
 }
 
-/// A deviation for a root's transition with a code, often into a hosting state.
-fn deviation(rng: &mut Rng, layout: &Layout, plan: &Records, source: u16, code: u16) -> u16 {
+/// A deviation for a root's transition, often into a hosting state; none in a
+/// hosted track.
+fn deviation(rng: &mut Rng, layout: &Layout, plan: &Records, source: u16) -> u16 {
     let track = usize::from(plan.states[usize::from(source)].track);
-    let root = plan.tracks[track].host == NONE;
-    if !root || code == 0 || !rng.chance(25) {
+    if plan.tracks[track].host != NONE {
         return NONE;
     }
     let open = &layout.open[track];

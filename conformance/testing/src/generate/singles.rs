@@ -1,4 +1,5 @@
-//! Single calls on sound ledgers, on damaged ones, and on those of other plans.
+//! Single calls on sound ledgers, some of them near their finish, on damaged
+//! ones, and on those of other plans.
 
 use super::damage;
 use super::journals;
@@ -6,6 +7,7 @@ use super::ledgers;
 use super::neighbours;
 use super::plans;
 use super::rng::Rng;
+use second::journal::{self, Record};
 use second::ledger::{self, Clause, Ledger, LEADING_WORDS};
 use second::plan::{self, members, Plan};
 use second::rules;
@@ -34,11 +36,12 @@ pub struct Single {
 /// Tries at a plan that allows the wanted damage.
 const TRIES: usize = 24;
 
-/// A single call: on a sound ledger, a damaged one, too few words, a damaged
-/// plan, or a ledger of another plan.
+/// A single call: on a sound ledger, one near its finish, a damaged one, too
+/// few words, a damaged plan, or a ledger of another plan.
 pub fn single(rng: &mut Rng, limit: usize) -> Single {
     match rng.below(100) {
-        0..=51 => on_sound(rng, limit),
+        0..=45 => on_sound(rng, limit),
+        46..=51 => on_near_finish(rng, limit),
         52..=74 => on_violated(rng, limit),
         75..=80 => on_flipped(rng, limit),
         81..=84 => on_few_words(rng, limit),
@@ -58,6 +61,13 @@ fn good_plan(rng: &mut Rng, limit: usize) -> (Vec<u8>, Plan) {
     }
 }
 
+/// A plan that most often has several roots.
+fn linked_plan(rng: &mut Rng, limit: usize) -> (Vec<u8>, Plan) {
+    let bytes = plans::linked_records(rng, limit).encode();
+    let plan = plan::read(&bytes).expect("a good plan is accepted");
+    (bytes, plan)
+}
+
 fn on_sound(rng: &mut Rng, limit: usize) -> Single {
     let (bytes, plan) = good_plan(rng, limit);
     let ledger = ledgers::sound(rng, &plan);
@@ -69,12 +79,48 @@ fn on_sound(rng: &mut Rng, limit: usize) -> Single {
     }
 }
 
+/// A ledger near its finish, and mostly a call that finishes.
+fn on_near_finish(rng: &mut Rng, limit: usize) -> Single {
+    let (bytes, plan) = linked_plan(rng, limit);
+    let ledger = ledgers::near_finish(rng, &plan);
+    let finishing = finishing_call(rng, &plan, &ledger).filter(|_| rng.chance(80));
+    Single {
+        words: ledgers::lend(rng, &ledger),
+        call: finishing.unwrap_or_else(|| steered_call(rng, &plan, &ledger)),
+        plan: bytes,
+        begun_under: None,
+    }
+}
+
+/// A call that leaves the ledger over, if there is one.
+fn finishing_call(rng: &mut Rng, plan: &Plan, ledger: &Ledger) -> Option<Call> {
+    let events = journals::moving_events(plan, ledger, |s| plan.is_final(s));
+    let events = events.into_iter().map(Record::Event);
+    let ready = members(rules::ready(plan, ledger)).map(|t| Record::Fire(t as u16));
+    let finishes = |&record: &Record| {
+        let mut after = ledger.clone();
+        journal::perform(plan, &mut after, record);
+        after.is_over()
+    };
+    let finishing: Vec<Record> = events.chain(ready).filter(finishes).collect();
+    match rng.pick(&finishing)? {
+        Record::Event(event) => Some(Call::Event(event)),
+        Record::Fire(track) => Some(Call::Fire(track)),
+        _ => None,
+    }
+}
+
 /// One clause violated alone; where no plan allows it, words flipped.
 fn on_violated(rng: &mut Rng, limit: usize) -> Single {
     let clauses: Vec<Clause> = Clause::all().collect();
     let clause = rng.pick(&clauses).unwrap_or(Clause::ModesKnown);
     for _ in 0..TRIES {
-        let (bytes, plan) = good_plan(rng, limit);
+        let linked = clause == Clause::NoFinishLeft && rng.chance(50);
+        let (bytes, plan) = if linked {
+            linked_plan(rng, limit)
+        } else {
+            good_plan(rng, limit)
+        };
         if let Some(words) = ledgers::violate(rng, &plan, clause) {
             let call = any_call(rng, &plan);
             return Single {
