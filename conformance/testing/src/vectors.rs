@@ -4,21 +4,25 @@
 use std::fmt::Write;
 
 use crate::generate::damage;
-use crate::generate::journals;
+use crate::generate::journals::{self, Case};
 use crate::generate::ledgers;
 use crate::generate::plans;
 use crate::generate::rng::Rng;
 use crate::generate::singles::{self, Call};
+use crate::samples;
 use second::journal::{self, Record};
 use second::ledger::Entry;
 use second::manager::{self, Answer};
 use second::plan::{self, Plan};
 use second::rules::Moved;
 
+/// Percent of histories and runs that are short and end half withdrawn.
+const HALF_WITHDRAWN: usize = 6;
+
 /// `H;plan;lent words;calls;answers;words after`: a history from begin, now and
 /// then a short one that ends half withdrawn.
 pub fn history_line(rng: &mut Rng, limit: usize) -> String {
-    let (bytes, records) = if rng.chance(6) {
+    let (bytes, records) = if rng.chance(HALF_WITHDRAWN) {
         journals::half_withdrawn(rng, limit)
     } else {
         any_history(rng, limit)
@@ -76,9 +80,16 @@ pub fn begin_line(plan: &[u8], lent: &[u16]) -> String {
     format!("L;{plan};{lent};B;{answer};{}", word_hex(&words))
 }
 
-/// `U;plan;journal;output`: a whole run of `unwind`.
+/// `U;plan;journal;output`: a whole run of `unwind`, now and then a short one
+/// that ends half withdrawn.
 pub fn unwind_line(rng: &mut Rng, limit: usize) -> String {
-    let case = journals::case(rng, limit);
+    let case = if rng.chance(HALF_WITHDRAWN) {
+        let (plan, records) = journals::half_withdrawn(rng, limit);
+        let journal = samples::journal(&records);
+        Case { plan, journal }
+    } else {
+        journals::case(rng, limit)
+    };
     let output = journal::unwind(&case.plan, &case.journal);
     let (plan, journal) = (byte_hex(&case.plan), byte_hex(&case.journal));
     format!("U;{plan};{journal};{}", byte_hex(&output))

@@ -14,13 +14,12 @@ use std::io;
 use std::path::Path;
 use std::process::ExitCode;
 
+use second::journal::{self, Record, Records};
 use second::ledger::{self, track_words, Clause};
-use second::manager::{self, Answer};
 use second::plan::{self, Plan};
 use second::record::{self, Header};
-use testing::generate::singles::Call;
+use second::rules;
 use testing::theorems::{parts, statement};
-use testing::vectors;
 
 /// Theorems to a file.
 const FILE: usize = 30;
@@ -115,9 +114,9 @@ fn fields_of(line: &str) -> Vec<&str> {
 fn sort_of(fields: &[&str]) -> Option<(Sort, usize)> {
     let plan = fields.get(1)?.len() / 2;
     Some(match *fields {
-        ["H", bytes, lent, calls, _, _] => {
-            let sort = match ending(bytes, lent, calls) {
-                Some(Ending { parted: true, .. }) => Sort::HalfWithdrawn,
+        ["H", bytes, _, calls, _, _] => {
+            let sort = match ending(bytes, records(calls)) {
+                Some((_, true)) => Sort::HalfWithdrawn,
                 _ => Sort::History,
             };
             (sort, plan * (1 + parts(calls, ',').count()))
@@ -156,42 +155,37 @@ fn parted(plan: &Plan, words: &[u16]) -> bool {
     some(1) && some(2)
 }
 
-/// Whether every track is asleep.
-fn is_over(plan: &Plan, words: &[u16]) -> bool {
-    (0..plan.track_count()).all(|t| track_words(words, t)[0] == 0)
-}
-
-/// The call that put every track to sleep in a history: its letter, and whether
-/// roots were in both modes before it.
-struct Ending {
-    letter: char,
-    parted: bool,
-}
-
-/// The ending of a history, if it has one.
-fn ending(plan: &str, lent: &str, calls: &str) -> Option<Ending> {
-    let (bytes, mut words): (Vec<u8>, Vec<u16>) = (numbers(plan, 2), numbers(lent, 4));
-    let plan = plan::read(&bytes).ok()?;
-    if manager::begin(&bytes, &mut words) != Answer::Done(()) {
-        return None;
-    }
-    parts(calls, ',').find_map(|text| {
-        let parted = parted(&plan, &words);
-        vectors::answer(&bytes, &mut words, call(text)?);
-        let letter = text.chars().next()?;
-        is_over(&plan, &words).then_some(Ending { letter, parted })
+/// What put every track to sleep in a history: the letter of the record, and
+/// whether roots were in both modes before it.
+fn ending(plan: &str, mut records: impl Iterator<Item = Record>) -> Option<(char, bool)> {
+    let plan = plan::read(&numbers(plan, 2)).ok()?;
+    let mut ledger = rules::begin(&plan);
+    records.find_map(|record| {
+        let parted = parted(&plan, &ledger.words());
+        journal::perform(&plan, &mut ledger, record);
+        let letter = match record {
+            Record::Event(_) => 'E',
+            Record::Signal => 'S',
+            Record::Fire(_) | Record::FireLowest => 'F',
+        };
+        ledger.is_over().then_some((letter, parted))
     })
 }
 
-/// The call of a history's text.
-fn call(text: &str) -> Option<Call> {
-    let number = || text.get(1..)?.parse().ok();
-    match text.get(..1)? {
-        "E" => Some(Call::Event(number()?)),
-        "S" => Some(Call::Signal),
-        "F" => Some(Call::Fire(number()?)),
+/// The records of a history's calls.
+fn records(calls: &str) -> impl Iterator<Item = Record> + '_ {
+    let record = |call: &str| match (call.get(..1)?, call.get(1..)?) {
+        ("E", event) => Some(Record::Event(event.parse().ok()?)),
+        ("S", _) => Some(Record::Signal),
+        ("F", track) => Some(Record::Fire(track.parse().ok()?)),
         _ => None,
-    }
+    };
+    parts(calls, ',').filter_map(record)
+}
+
+/// The whole records of a journal.
+fn run_records(journal: &[u8]) -> impl Iterator<Item = Record> + '_ {
+    Records::new(journal).filter_map(Result::ok)
 }
 
 /// How the roots stand, in rising order: mode, whether in a final state, whether
@@ -224,21 +218,22 @@ fn differing(plan: &str, words: &str) -> Vec<&'static str> {
 }
 
 /// What a case shows: a history its plan's height, the outcomes of its calls
-/// and what ends it, a run its sorts of lines, a plan its refusal, a call what
-/// it changes and how the roots stand where they are in both modes, the clauses
-/// violated or the leading words that are not the plan's.
+/// and its ending, a run its sorts of lines and its ending, a plan its refusal,
+/// a call what it changes and how the roots stand where they are in both modes,
+/// the clauses violated or the leading words that are not the plan's.
 fn shows(fields: &[&str]) -> String {
     match *fields {
-        ["H", plan, lent, calls, answers, _] => {
+        ["H", plan, _, calls, answers, _] => {
             let made = parts(calls, ',').zip(parts(answers, '|').skip(1));
             let outcomes: BTreeSet<String> = made.map(|(c, a)| outcome(c, a)).collect();
-            let ending = ending(plan, lent, calls).map(|ending| ending.letter);
+            let ending = ending(plan, records(calls));
             format!("{:?} {outcomes:?} {ending:?}", height(plan))
         }
-        ["U", _, _, output] => {
+        ["U", plan, journal, output] => {
             let output = String::from_utf8(numbers(output, 2)).unwrap_or_default();
             let firsts: BTreeSet<&str> = output.lines().filter_map(|l| l.get(..1)).collect();
-            format!("{firsts:?}")
+            let ending = ending(plan, run_records(&numbers(journal, 2)));
+            format!("{firsts:?} {ending:?}")
         }
         ["P", plan, "3"] => format!("3 {}", falls(&numbers(plan, 2))),
         ["P", _, answer] => parts(answer, ',').take(1).collect(),
