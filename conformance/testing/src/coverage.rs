@@ -4,7 +4,9 @@ use crate::generate::journals::{self, Case};
 use crate::generate::rng::Rng;
 use crate::generate::singles::{self, Call, Single};
 use second::journal::{self, Outcome, Record, Records};
-use second::ledger::{self, track_words, words_needed, Clause, Ledger, CAPACITY, LEADING_WORDS};
+use second::ledger::{
+    self, track_words, words_needed, Clause, Ledger, Mode, CAPACITY, LEADING_WORDS,
+};
 use second::manager::{self, Answer};
 use second::plan::{self, members, Plan, MAX_TRACKS, NONE};
 use second::refusal::Refusal;
@@ -29,6 +31,24 @@ pub enum Happening {
     NestedClosings,
     ClosingWithoutReplacement,
     Finish,
+    FinishAllForward,
+    FinishBesideSpent,
+    FinishByLastEntry,
+    FinishByAbandoning,
+    FinishByAbandoningTwoUp,
+    FinishOfThreeRoots,
+    FinishDropsByEvent,
+    FinishDropsByFiring,
+    HalfWithdrawnByEvent,
+    HalfWithdrawnByFiring,
+    AllSpentBySignal,
+    AllSpentByFiring,
+    EntryLeft,
+    ScopeLeft,
+    DeviationBesideEnded,
+    SignalTurnsEnded,
+    FinishLeftForward,
+    FinishLeftBesideSpent,
     Signal,
     Abandoning,
     AbandoningClimbsTwo,
@@ -40,6 +60,7 @@ pub enum Happening {
     DeviationIntoHosting,
     ScopeReopens,
     FullByDroppedEntry,
+    FullBesideSpent,
     FullByReplacement,
     Entry32Installed,
     Height8Accepted,
@@ -63,7 +84,7 @@ pub enum Happening {
     AlikeUnsound,
 }
 
-const HAPPENINGS: usize = 39;
+const HAPPENINGS: usize = 58;
 
 /// Refusals 1 to 24.
 const REFUSALS: usize = 24;
@@ -99,7 +120,97 @@ const HAPPENING_FLOORS: [(Happening, &str, u64); HAPPENINGS] = [
         "closing, replacement 0",
         5_000,
     ),
-    (Happening::Finish, "finish", 7_000),
+    (Happening::Finish, "finish", 9_500),
+    (
+        Happening::FinishAllForward,
+        "finish by an event, all roots forward",
+        6_500,
+    ),
+    (
+        Happening::FinishBesideSpent,
+        "finish by an event, another root spent",
+        1_400,
+    ),
+    (
+        Happening::FinishByLastEntry,
+        "finish by a firing of a root's last entry",
+        800,
+    ),
+    (
+        Happening::FinishByAbandoning,
+        "finish by a firing that abandons",
+        750,
+    ),
+    (
+        Happening::FinishByAbandoningTwoUp,
+        "finish by abandoning two scopes or more",
+        150,
+    ),
+    (
+        Happening::FinishOfThreeRoots,
+        "finish, ended and spent, of 3 roots or more",
+        2_000,
+    ),
+    (
+        Happening::FinishDropsByEvent,
+        "entries dropped by a finishing event",
+        5_500,
+    ),
+    (
+        Happening::FinishDropsByFiring,
+        "entries dropped by a finishing firing",
+        1_200,
+    ),
+    (
+        Happening::HalfWithdrawnByEvent,
+        "history ending half withdrawn by event",
+        400,
+    ),
+    (
+        Happening::HalfWithdrawnByFiring,
+        "history ending half withdrawn by firing",
+        200,
+    ),
+    (
+        Happening::AllSpentBySignal,
+        "several roots spent by a signal, not over",
+        1_000,
+    ),
+    (
+        Happening::AllSpentByFiring,
+        "several roots spent by a firing, not over",
+        1_300,
+    ),
+    (
+        Happening::EntryLeft,
+        "not over for an entry of an undoing root",
+        1_800,
+    ),
+    (
+        Happening::ScopeLeft,
+        "not over for a scope of an undoing root",
+        1_300,
+    ),
+    (
+        Happening::DeviationBesideEnded,
+        "not over for a deviation, others ended",
+        200,
+    ),
+    (
+        Happening::SignalTurnsEnded,
+        "signal that turns ended roots alone",
+        300,
+    ),
+    (
+        Happening::FinishLeftForward,
+        "18: finish left to do, all forward",
+        700,
+    ),
+    (
+        Happening::FinishLeftBesideSpent,
+        "18: finish left to do, some root spent",
+        650,
+    ),
     (Happening::Signal, "signal", 20_000),
     (Happening::Abandoning, "abandoning", 9_000),
     (
@@ -138,6 +249,11 @@ const HAPPENING_FLOORS: [(Happening, &str, u64); HAPPENINGS] = [
         Happening::FullByDroppedEntry,
         "21 by an entry dropped in the call",
         1_000,
+    ),
+    (
+        Happening::FullBesideSpent,
+        "21 by an entry dropped beside a spent root",
+        150,
     ),
     (Happening::FullByReplacement, "21 by a replacement", 500),
     (Happening::Entry32Installed, "32nd entry installed", 600),
@@ -256,6 +372,47 @@ struct Change<'a> {
     after: &'a Ledger,
 }
 
+/// How the roots of a ledger stand: forward in a final state, undoing with
+/// nothing held and no open scope, undoing with an entry and no open scope,
+/// undoing with an open scope, forward in another state.
+#[derive(Clone, Copy, Default)]
+struct Roots {
+    ended: usize,
+    spent: usize,
+    holding: usize,
+    scoped: usize,
+    moving: usize,
+}
+
+impl Roots {
+    fn of(plan: &Plan, ledger: &Ledger) -> Roots {
+        let mut roots = Roots::default();
+        for t in plan.roots() {
+            let count = if rules::has_ended(plan, ledger, t) {
+                &mut roots.ended
+            } else if ledger.tracks[t].mode != Mode::Undoing {
+                &mut roots.moving
+            } else if ledger.has_open_scope(plan, t) {
+                &mut roots.scoped
+            } else if ledger.tracks[t].held() > 0 {
+                &mut roots.holding
+            } else {
+                &mut roots.spent
+            };
+            *count += 1;
+        }
+        roots
+    }
+
+    fn all_spent(self) -> bool {
+        self.ended + self.holding + self.scoped + self.moving == 0
+    }
+
+    fn undoing(self) -> usize {
+        self.spent + self.holding + self.scoped
+    }
+}
+
 /// What a history has seen so far, by hosting state.
 struct Past {
     closed: Vec<bool>,
@@ -338,12 +495,24 @@ impl Coverage {
                     let closing = matches!(outcome, Outcome::Event(..));
                     nested |= closing && change.closes_around(&mut past);
                     reopened |= change.reopens(&mut past);
+                    self.half_withdrawn(&change, outcome);
                 }
                 Err(refusal) => self.refused(refusal),
             }
         }
         self.count_if(nested, Happening::NestedClosings);
         self.count_if(reopened, Happening::ScopeReopens);
+    }
+
+    /// Counts the end of a history that some root was taken back in.
+    fn half_withdrawn(&mut self, change: &Change, outcome: Outcome) {
+        if change.ends_half_withdrawn() {
+            match outcome {
+                Outcome::Event(..) => self.count(Happening::HalfWithdrawnByEvent),
+                Outcome::Fire(..) => self.count(Happening::HalfWithdrawnByFiring),
+                _ => unreachable!("finish by neither an event nor a firing"),
+            }
+        }
     }
 
     fn accepted(&mut self, plan: &Plan) {
@@ -372,8 +541,7 @@ impl Coverage {
     fn event(&mut self, change: &Change, moved: u16) {
         self.count_if(moved > 0, Happening::EventMoves);
         self.count_if(moved > 1, Happening::EventMovesSeveral);
-        let over = change.after.is_over();
-        self.count_if(over, Happening::Finish);
+        self.finish_by_event(change);
         let closed = change.fallen_asleep();
         for &hosting in &closed {
             self.count(Happening::Closing);
@@ -384,9 +552,65 @@ impl Coverage {
         self.count_if(change.fills(), Happening::Entry32Installed);
     }
 
+    fn finish_by_event(&mut self, change: &Change) {
+        if change.finishes() {
+            self.finish(change);
+            let beside = change.ends_half_withdrawn();
+            self.count_if(!beside, Happening::FinishAllForward);
+            self.count_if(beside, Happening::FinishBesideSpent);
+            let holds = change.before.total_held() > 0;
+            self.count_if(holds, Happening::FinishDropsByEvent);
+        } else {
+            self.finish_missed(change);
+        }
+    }
+
+    fn finish_by_firing(&mut self, change: &Change, deviation: u16) {
+        let after = Roots::of(change.plan, change.after);
+        if change.finishes() {
+            self.finish(change);
+            let climb = change.climb(&change.fallen_asleep());
+            self.count_if(climb == 0, Happening::FinishByLastEntry);
+            self.count_if(climb > 0, Happening::FinishByAbandoning);
+            self.count_if(climb > 1, Happening::FinishByAbandoningTwoUp);
+            let drops = change.before.total_held() > 1;
+            self.count_if(drops, Happening::FinishDropsByFiring);
+        } else if after.all_spent() {
+            self.count_if(after.spent > 1, Happening::AllSpentByFiring);
+        } else {
+            self.finish_missed(change);
+            let alone = after.ended > 0 && after.moving == 1 && after.holding + after.scoped == 0;
+            let deviates = alone && deviation != NONE;
+            self.count_if(deviates, Happening::DeviationBesideEnded);
+        }
+    }
+
+    fn finish(&mut self, change: &Change) {
+        self.count(Happening::Finish);
+        let three = change.plan.roots().count() >= 3;
+        let half = change.ends_half_withdrawn();
+        self.count_if(three && half, Happening::FinishOfThreeRoots);
+    }
+
+    /// Counts what keeps a ledger from being over whose forward roots have all
+    /// ended.
+    fn finish_missed(&mut self, change: &Change) {
+        let after = Roots::of(change.plan, change.after);
+        if after.ended > 0 && after.moving == 0 {
+            self.count_if(after.scoped == 0, Happening::EntryLeft);
+            self.count_if(after.holding == 0, Happening::ScopeLeft);
+        }
+    }
+
     fn signal(&mut self, change: &Change) {
         self.count(Happening::Signal);
         self.abandoning(change);
+        let before = Roots::of(change.plan, change.before);
+        let after = Roots::of(change.plan, change.after);
+        let spent = after.all_spent() && !before.all_spent();
+        self.count_if(spent && after.spent > 1, Happening::AllSpentBySignal);
+        let turns = before.ended > 0 && before.moving == 0;
+        self.count_if(turns, Happening::SignalTurnsEnded);
     }
 
     fn abandoning(&mut self, change: &Change) {
@@ -404,6 +628,7 @@ impl Coverage {
         self.count_if(deviation != NONE, Happening::FiringDeviates);
         let hosting = change.plan.scope(deviation) != 0;
         self.count_if(hosting, Happening::DeviationIntoHosting);
+        self.finish_by_firing(change, deviation);
         self.abandoning(change);
         let climb = change.climb(&change.fallen_asleep());
         self.count_if(climb > 0, Happening::AbandoningByFiring);
@@ -443,6 +668,8 @@ impl Coverage {
             .iter()
             .any(|&s| full(plan.track_of(s)) && plan.replacement(s) != 0);
         self.count_if(dropped, Happening::FullByDroppedEntry);
+        let beside = dropped && change.ends_half_withdrawn();
+        self.count_if(beside, Happening::FullBesideSpent);
         self.count_if(replaced, Happening::FullByReplacement);
     }
 
@@ -465,8 +692,20 @@ impl Coverage {
         self.alike(single, violated.is_empty());
         if let [clause] = violated[..] {
             self.clauses[clause as usize] += 1;
+            self.finish_left(&plan, single, clause);
         }
         self.answer(single, Some(&plan).filter(|_| violated.is_empty()));
+    }
+
+    /// Counts a call that is refused as 18 for a finish left to do.
+    fn finish_left(&mut self, plan: &Plan, single: &Single, clause: Clause) {
+        let numbered = !matches!(single.call, Call::Entries(_));
+        if clause == Clause::NoFinishLeft && numbered {
+            let mode = |t| track_words(&single.words, t)[0];
+            let spent = plan.roots().any(|t| mode(t) == 2);
+            self.count_if(!spent, Happening::FinishLeftForward);
+            self.count_if(spent, Happening::FinishLeftBesideSpent);
+        }
     }
 
     fn few_words(&mut self, plan: &Plan, words: usize) {
@@ -586,6 +825,16 @@ impl Coverage {
 }
 
 impl Change<'_> {
+    /// Whether the call put every track to sleep.
+    fn finishes(&self) -> bool {
+        self.after.is_over() && !self.before.is_over()
+    }
+
+    /// Whether it did so with some root undoing.
+    fn ends_half_withdrawn(&self) -> bool {
+        self.finishes() && Roots::of(self.plan, self.before).undoing() > 0
+    }
+
     /// The scopes open before and asleep after, by hosting state.
     fn fallen_asleep(&self) -> Vec<u16> {
         self.plan

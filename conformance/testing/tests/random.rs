@@ -1,9 +1,9 @@
 //! Generated cases against what must hold of all of them.
 
 use second::journal::{self, Outcome, Record};
-use second::ledger::{self, Clause, Ledger};
+use second::ledger::{self, Clause, Ledger, Mode};
 use second::manager::{self, Answer};
-use second::plan::{self, Plan, MAX_TRACKS};
+use second::plan::{self, Plan, MAX_TRACKS, NONE};
 use second::refusal::Refusal;
 use second::rules;
 use testing::coverage;
@@ -220,6 +220,113 @@ fn some_firing_is_allowed_while_an_undoing_track_holds_an_entry() {
     }
 }
 
+/// Whether the track is forward in a final state.
+fn has_ended(plan: &Plan, ledger: &Ledger, track: usize) -> bool {
+    let track = &ledger.tracks[track];
+    track.mode == Mode::Forward && plan.is_final(track.state)
+}
+
+/// Whether the track is undoing and the scope of its state asleep.
+fn is_undoing_alone(plan: &Plan, ledger: &Ledger, track: usize) -> bool {
+    let mut scope = plan::members(plan.scope(ledger.tracks[track].state));
+    ledger.tracks[track].mode == Mode::Undoing && !scope.any(|t| ledger.tracks[t].is_awake())
+}
+
+/// What must hold of a call that puts every track to sleep.
+fn finish_is_allowed(plan: &Plan, before: &Ledger, outcome: Outcome) {
+    let roots: Vec<usize> = plan.roots().collect();
+    match outcome {
+        Outcome::Event(_, m) => {
+            assert!(m.moved > 0 && m.closed == 0);
+            let waits = |&t: &usize| is_undoing_alone(plan, before, t);
+            let (spent, others): (Vec<usize>, Vec<usize>) = roots.iter().partition(|t| waits(t));
+            assert!(spent.iter().all(|&t| before.tracks[t].held() == 0));
+            let forward = |&t: &usize| before.tracks[t].mode == Mode::Forward;
+            assert!(!others.is_empty() && others.iter().all(forward));
+            let moving = |&t: &usize| !has_ended(plan, before, t);
+            assert!(others.iter().filter(|t| moving(t)).count() <= usize::from(m.moved));
+        }
+        Outcome::Fire(_, entry) => {
+            assert_eq!(entry.deviation, NONE);
+            let ended: Vec<usize> = roots
+                .iter()
+                .copied()
+                .filter(|&t| has_ended(plan, before, t))
+                .collect();
+            assert!(!ended.is_empty() && ended.len() < roots.len());
+            let dropped: usize = ended.iter().map(|&t| before.tracks[t].held()).sum();
+            assert_eq!(before.total_held(), dropped + 1);
+        }
+        _ => panic!("finish by {outcome:?}"),
+    }
+}
+
+#[test]
+fn a_finish_is_by_an_event_or_a_firing_once_all_else_is_spent() {
+    let (mut by_event, mut by_firing) = (0, 0);
+    for index in 0..4_000 {
+        let mut rng = Rng::for_case(7, 10, index);
+        let plan = plans::linked_records(&mut rng, MAX_TRACKS).encode();
+        let plan = plan::read(&plan).expect("accepted");
+        let mut ledger = rules::begin(&plan);
+        for record in journals::history(&mut rng, &plan).0 {
+            let before = ledger.clone();
+            let outcome = journal::perform(&plan, &mut ledger, record);
+            if ledger.is_over() && !before.is_over() {
+                finish_is_allowed(&plan, &before, outcome);
+                by_event += u32::from(matches!(outcome, Outcome::Event(..)));
+                by_firing += u32::from(matches!(outcome, Outcome::Fire(..)));
+            }
+        }
+    }
+    assert!(by_event > 800 && by_firing > 80, "{by_event} {by_firing}");
+}
+
+#[test]
+fn ledgers_near_their_finish_are_sound_and_often_a_call_away() {
+    let (mut away, mut spent) = (0, 0);
+    for index in 0..2_000 {
+        let mut rng = Rng::for_case(7, 11, index);
+        let plan = plans::linked_records(&mut rng, MAX_TRACKS).encode();
+        let plan = plan::read(&plan).expect("accepted");
+        let near = ledgers::near_finish(&mut rng, &plan);
+        assert!(!near.is_over() && ledger::is_sound(&plan, &near.words()));
+        let events = journals::moving_events(&plan, &near, |_| true);
+        let tracks = 0..plan.track_count() as u16;
+        let records = events.into_iter().map(Record::Event);
+        let mut records = records.chain(tracks.map(Record::Fire));
+        away += u32::from(records.any(|record| {
+            let mut after = near.clone();
+            journal::perform(&plan, &mut after, record);
+            after.is_over()
+        }));
+        let undoing = near.tracks.iter().all(|t| t.mode != Mode::Forward);
+        spent += u32::from(undoing && near.total_held() == 0);
+    }
+    assert!(away > 700 && spent > 100, "{away} {spent}");
+}
+
+#[test]
+fn short_histories_end_half_withdrawn_by_events_and_by_firings() {
+    let (mut by_event, mut by_firing) = (0, 0);
+    for index in 0..200 {
+        let mut rng = Rng::for_case(7, 12, index);
+        let (bytes, records) = journals::half_withdrawn(&mut rng, 3);
+        let plan = plan::read(&bytes).expect("accepted");
+        assert!(plan.track_count() <= 3 && records.len() <= 8);
+        let mut ledger = rules::begin(&plan);
+        for record in records {
+            let undoing = plan.roots().any(|t| ledger.tracks[t].mode == Mode::Undoing);
+            let outcome = journal::perform(&plan, &mut ledger, record);
+            if undoing && ledger.is_over() {
+                by_event += u32::from(matches!(outcome, Outcome::Event(..)));
+                by_firing += u32::from(matches!(outcome, Outcome::Fire(..)));
+            }
+        }
+    }
+    assert!(by_event > 70 && by_firing > 70, "{by_event} {by_firing}");
+}
+
 #[test]
 fn lines_are_made_again_from_the_same_seed() {
     let lines: [fn(&mut Rng, usize) -> String; 4] = [
@@ -243,6 +350,6 @@ fn lines_are_made_again_from_the_same_seed() {
 fn a_small_batch_reaches_most_rows() {
     let rows = coverage::batch(3, 300).rows();
     let reached = rows.iter().filter(|row| row.count > 0).count();
-    assert_eq!(rows.len(), 80);
-    assert!(reached >= 76, "{reached}");
+    assert_eq!(rows.len(), 99);
+    assert!(reached >= 94, "{reached}");
 }

@@ -85,7 +85,8 @@ fn calls_with_roots_in_both_modes_are_a_sort_of_their_own() {
     let text = theorems("parted", &calls.map(line).concat()).expect("theorems");
     assert_eq!(text.matches("pub case-").count(), 2);
     let zeros = "0 ∷ ".repeat(134);
-    let fired = format!("(f 1) (done (60 ∷ 65535 ∷ [])) (146 ∷ 1073 ∷ {zeros}[])");
+    let sum = words[1];
+    let fired = format!("(f 1) (done (60 ∷ 65535 ∷ [])) (146 ∷ {sum} ∷ {zeros}[])");
     assert!(text.contains(&fired), "{text}");
     assert!(text.contains("(s) (done (1 ∷ []))"), "{text}");
 }
