@@ -93,7 +93,7 @@ impl Sets {
             (scope & !self.awake == 0) & (scope & !done != 0) & (scope & !spent != 0)
         };
         plan.roots & !self.awake == 0
-            && plan.roots & !done != 0
+            && !finishes(plan, done, spent)
             && members(self.open).all(scope_fits)
     }
 
@@ -121,6 +121,12 @@ impl Sets {
     pub fn may_move(&self) -> u32 {
         self.forward & !self.open
     }
+}
+
+/// Whether every root is done or spent, and at least one is done.
+#[inline(always)]
+pub fn finishes(plan: &Plan, done: u32, spent: u32) -> bool {
+    (plan.roots & !(done | spent) == 0) & (plan.roots & done != 0)
 }
 
 /// The scope that a track with an open scope has open.

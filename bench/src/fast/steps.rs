@@ -1,7 +1,8 @@
 //! What the calls do, on an accepted plan and the words of a sound ledger's
 //! tracks, whose sets they bring up to date with them.
 
-use super::ledger::{members, open_scope, Sets, CAPACITY, FORWARD, PAIRS, TRACK_WORDS, UNDOING};
+use super::ledger::{finishes, members, open_scope, Sets};
+use super::ledger::{CAPACITY, FORWARD, PAIRS, TRACK_WORDS, UNDOING};
 use super::plan::{Plan, NONE};
 use super::{Entry, Moved, Refused};
 
@@ -52,6 +53,13 @@ fn close(words: &mut [u16], sets: &mut Sets, host: usize, scope: u32) {
     sets.open &= !(1 << host);
 }
 
+/// Puts every track to sleep.
+#[inline(always)]
+fn finish(plan: &Plan, words: &mut [u16], sets: &mut Sets) {
+    words[..plan.tracks * TRACK_WORDS].fill(0);
+    *sets = Sets::default();
+}
+
 /// Installs a code other than 0 in a track that is not full.
 #[inline(always)]
 fn install(words: &mut [u16], sets: &mut Sets, track: usize, entry: Entry) {
@@ -84,7 +92,8 @@ struct Chosen {
     closing: u32,
 }
 
-/// Event: tracks moved, scopes closed.
+/// Event: tracks moved, scopes closed. It leaves undoing tracks as they are, so
+/// that those spent afterwards are those spent before.
 #[inline(always)]
 pub fn event(
     plan: &Plan,
@@ -107,9 +116,8 @@ pub fn event(
     chosen.choose_moves(plan, words, sets, event)?;
     let done = sets.forward & chosen.last;
     chosen.choose_closing(plan, words, sets, done)?;
-    if plan.roots & !done == 0 {
-        words[..plan.tracks * TRACK_WORDS].fill(0);
-        *sets = Sets::default();
+    if finishes(plan, done, sets.spent()) {
+        finish(plan, words, sets);
     } else {
         chosen.write(plan, words, sets);
     }
@@ -195,7 +203,8 @@ impl Chosen {
 }
 
 /// Signal: every forward track turns; then abandoning, inner scopes first,
-/// whose hosts have the higher numbers. Answers how many turned.
+/// whose hosts have the higher numbers. No root is forward then, so that none
+/// is done, and nothing finishes. Answers how many turned.
 #[inline(always)]
 pub fn signal(plan: &Plan, words: &mut [u16], sets: &mut Sets) -> Result<u16, Refused> {
     if sets.awake == 0 {
@@ -226,8 +235,9 @@ fn abandon(plan: &Plan, words: &mut [u16], sets: &mut Sets, host: usize) -> bool
     spent
 }
 
-/// Fire: the newest entry is removed; a deviation turns the track forward, and
-/// the last entry abandons its scope, and so on up. Answers the entry.
+/// Fire: the newest entry is removed. A deviation turns the track forward, in a
+/// state that is not final, so that nothing finishes. Otherwise the last entry
+/// abandons its scope, and so on up; then finish. Answers the entry.
 #[inline(always)]
 pub fn fire(plan: &Plan, words: &mut [u16], sets: &mut Sets, track: u16) -> Result<Entry, Refused> {
     if sets.awake == 0 {
@@ -252,6 +262,9 @@ pub fn fire(plan: &Plan, words: &mut [u16], sets: &mut Sets, track: u16) -> Resu
     let mut inner = track;
     while plan.host[inner] != NONE && abandon(plan, words, sets, usize::from(plan.above[inner])) {
         inner = usize::from(plan.above[inner]);
+    }
+    if finishes(plan, sets.done(), sets.spent()) {
+        finish(plan, words, sets);
     }
     Ok(entry)
 }
