@@ -55,7 +55,7 @@ pub fn print(rounds: &mut Rounds, cases: &[Case]) {
     );
     println!("|---|---|---:|---:|---:|---:|---:|");
     for case in cases {
-        for name in CALLS {
+        for name in CALLS.into_iter().chain([FINISHING]) {
             let given = case.given(name, LEDGERS);
             if given.is_empty() {
                 continue;
@@ -72,6 +72,9 @@ pub fn print(rounds: &mut Rounds, cases: &[Case]) {
 
 /// The names of the calls timed.
 pub const CALLS: [&str; 6] = ["begin", "event", "signal", "fire", "ready", "entries"];
+
+/// The name of a firing that ends a link half withdrawn, which few plans have.
+pub const FINISHING: &str = "fire, finishing";
 
 /// One round of the proved calls alone.
 pub fn one(cases: &[Case], plan: &str, call: &str) {

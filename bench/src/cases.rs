@@ -1,5 +1,6 @@
-//! What is timed: plan P, the samples and random plans of three sizes, with
-//! ledgers that a history left, on each of which a call does something.
+//! What is timed: plan P, the samples, a plan of two roots and random plans of
+//! three sizes, with ledgers that a history left, on each of which a call does
+//! something.
 
 use std::fs;
 use std::io;
@@ -14,7 +15,8 @@ use testing::generate::rng::Rng;
 use testing::generate::{journals, plans};
 use testing::samples;
 
-use crate::calls::{Given, CALLS};
+use crate::calls::{Given, CALLS, FINISHING};
+use crate::shapes;
 
 /// The folder of the samples.
 const SAMPLES: &str = concat!(env!("CARGO_MANIFEST_DIR"), "/../samples");
@@ -32,8 +34,13 @@ impl Case {
     /// what the start of a process takes. The random plans are made from a
     /// fixed seed.
     pub fn all() -> io::Result<Vec<Case>> {
-        let mut cases = vec![Case::new("P", samples::sample()).expect("P is accepted")];
+        let accepted = |name, plan| Case::new(name, plan).expect("an accepted plan");
+        let mut cases = vec![accepted("P", samples::sample())];
         cases.extend(Case::samples(Path::new(SAMPLES))?);
+        cases.push(accepted(
+            "half withdrawn",
+            shapes::half_withdrawn().encode(),
+        ));
         cases.push(Case::found("small", (3, 3), (6, 9), (5, 10)));
         cases.push(Case::found("middle", (12, 14), (40, 60), (70, 110)));
         cases.push(Case::found("largest", (32, 32), (128, 128), (256, 256)));
@@ -123,12 +130,17 @@ impl Case {
     }
 
     /// The call, if it is worth timing here: an event that moves, a signal
-    /// that turns, a firing that is allowed, entries that are held.
+    /// that turns, a firing that is allowed, one that ends the link, entries
+    /// that are held.
     fn call(&self, name: &str, ledger: &Ledger, record: Record) -> Option<Call> {
         if ledger.is_over() {
             return None;
         }
-        let ready = || members(rules::ready(&self.read, ledger)).next();
+        let ready = || members(rules::ready(&self.read, ledger));
+        let ends = |&track: &usize| {
+            let mut after = ledger.clone();
+            rules::fire(&self.read, &mut after, track as u16).is_ok() && after.is_over()
+        };
         let holding = || ledger.tracks.iter().position(|track| track.held() > 0);
         match (name, record) {
             ("begin", _) => Some(Call::Begin),
@@ -137,7 +149,8 @@ impl Case {
                 (!moves.is_empty()).then_some(Call::Event(event))
             }
             ("signal", Record::Signal) => Some(Call::Signal),
-            ("fire", _) => ready().map(|track| Call::Fire(track as u16)),
+            ("fire", _) => ready().next().map(|track| Call::Fire(track as u16)),
+            (FINISHING, _) => ready().find(ends).map(|track| Call::Fire(track as u16)),
             ("ready", _) => Some(Call::Ready),
             ("entries", _) => holding().map(|track| Call::Entries(track as u16)),
             _ => None,

@@ -67,3 +67,26 @@ pub fn fan(steps: usize, order: Order) -> Records {
         transitions,
     }
 }
+
+/// Two roots whose link may end half withdrawn. Event 1 gives each an entry,
+/// event 2 moves them to no end, event 3 ends root 0 and event 4 root 1. The
+/// entry of root 1, when fired, sends it back to its first state, from where it
+/// may still end while root 0 is taken back.
+pub fn half_withdrawn() -> Records {
+    let deviating = Transition {
+        deviation: 3,
+        ..step(3, 1, 60, 4)
+    };
+    Records {
+        tracks: vec![track(NONE); 2],
+        states: (0..6).map(|n| state(n / 3, n % 3 / 2, 0)).collect(),
+        transitions: vec![
+            step(0, 1, 50, 1),
+            step(1, 2, 0, 1),
+            step(1, 3, 0, 2),
+            deviating,
+            step(4, 2, 0, 4),
+            step(4, 4, 0, 5),
+        ],
+    }
+}

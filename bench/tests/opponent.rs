@@ -4,10 +4,11 @@
 use bench::fast::run;
 use bench::sides::{self, Call};
 use second::journal::{self, Record};
-use second::ledger::track_start;
-use second::plan::{self, MAX_TRACKS};
+use second::ledger::{track_start, Entry, Ledger, Mode, Track, LEADING_WORDS};
+use second::plan::{self, MAX_TRACKS, NONE};
 use testing::generate::rng::Rng;
 use testing::generate::{damage, journals, ledgers, neighbours, plans, singles};
+use testing::samples::{state, step, track};
 
 /// Makes the call by both on copies of the words; the answer, and the words
 /// afterwards.
@@ -126,8 +127,7 @@ fn repeated_events_of_a_wide_state() {
 /// A root with 256 steps out of its first state, mostly on events of its own.
 fn wide(rng: &mut Rng) -> plan::Records {
     let mut records = testing::samples::looping();
-    let step = |event: u16| testing::samples::step(0, event, 7, 0);
-    records.transitions = (1..=256).map(|n| step(n * 255)).collect();
+    records.transitions = (1..=256).map(|n| step(0, n * 255, 7, 0)).collect();
     rng.shuffle(&mut records.transitions);
     if rng.chance(50) {
         let event = records.transitions[rng.below(256)].event;
@@ -145,4 +145,158 @@ fn texts_of_journals() {
         let found = run::unwind(&case.plan, &case.journal);
         assert!(found == expected, "the text of case {index}");
     }
+}
+
+/// Two roots. Root 0 goes through state 1, which hosts track 2, to its end on
+/// event 3. Root 1 holds code 60 after event 1, which when fired sends it back
+/// to its first state, and ends on event 6.
+fn two_roots() -> plan::Records {
+    let deviating = plan::Transition {
+        deviation: 3,
+        ..step(3, 1, 60, 3)
+    };
+    plan::Records {
+        tracks: [NONE, NONE, 1].map(track).to_vec(),
+        states: vec![
+            state(0, 0, 0),
+            state(0, 0, 90),
+            state(0, 1, 0),
+            state(1, 0, 0),
+            state(1, 1, 0),
+            state(2, 0, 0),
+            state(2, 1, 0),
+        ],
+        transitions: vec![
+            step(0, 1, 50, 1),
+            step(0, 2, 0, 1),
+            step(1, 3, 0, 2),
+            deviating,
+            step(3, 6, 61, 4),
+            step(5, 4, 51, 5),
+            step(5, 5, 0, 6),
+        ],
+    }
+}
+
+/// Whether the tracks of these words are all asleep.
+fn are_over(words: &[u16]) -> bool {
+    words[LEADING_WORDS..].iter().all(|&word| word == 0)
+}
+
+/// The words after a begin and the calls, each given with its two figures.
+fn after(bytes: &[u8], calls: &[(Call, u16, u16)]) -> Vec<u16> {
+    let words = vec![0; track_start(3)];
+    let (_, mut words) = agreed(bytes, &words, Call::Begin, 0);
+    for (&(call, first, second), place) in calls.iter().zip(1..) {
+        assert!(!are_over(&words), "over before {call:?}");
+        let (answer, next) = agreed(bytes, &words, call, place);
+        let figures = u64::from(first) << 16 | u64::from(second) << 32;
+        assert_eq!(answer, figures, "the figures of {call:?}");
+        words = next;
+    }
+    words
+}
+
+/// Every call that an over ledger refuses.
+fn is_over(bytes: &[u8], words: &[u16]) {
+    assert!(are_over(words));
+    for call in [Call::Event(1), Call::Signal, Call::Fire(0), Call::Fire(1)] {
+        assert_eq!(agreed(bytes, words, call, 0).0, 20, "{call:?}");
+    }
+    assert_eq!(agreed(bytes, words, Call::Ready, 0).0, 0);
+}
+
+/// Root 0 is taken back, root 1 deviates and ends; whichever comes last ends
+/// the link. A branch's last firing does so, too.
+#[test]
+fn links_that_end_half_withdrawn() {
+    let bytes = two_roots().encode();
+    let begun = [(Call::Event(1), 2, 0), (Call::Signal, 3, 0)];
+    let ended = [(Call::Fire(1), 60, 3), (Call::Event(6), 1, 0)];
+    let taken_back = [(Call::Fire(0), 50, NONE)];
+    is_over(
+        &bytes,
+        &after(&bytes, &[&begun[..], &ended, &taken_back].concat()),
+    );
+    is_over(
+        &bytes,
+        &after(&bytes, &[&begun[..], &taken_back, &ended].concat()),
+    );
+    let branch = [
+        (Call::Event(2), 1, 0),
+        (Call::Event(1), 1, 0),
+        (Call::Event(4), 1, 0),
+        (Call::Signal, 3, 0),
+    ];
+    let branch_taken_back = [(Call::Fire(2), 51, NONE)];
+    is_over(
+        &bytes,
+        &after(&bytes, &[&branch[..], &ended, &branch_taken_back].concat()),
+    );
+}
+
+/// Where every root is taken back nothing has ended.
+#[test]
+fn a_link_withdrawn_as_a_whole_is_not_over() {
+    let bytes = two_roots().encode();
+    let words = after(
+        &bytes,
+        &[
+            (Call::Event(1), 2, 0),
+            (Call::Signal, 3, 0),
+            (Call::Fire(0), 50, NONE),
+            (Call::Fire(1), 60, 3),
+            (Call::Signal, 1, 0),
+            (Call::Signal, 0, 0),
+            (Call::Ready, 0, 0),
+        ],
+    );
+    assert!(!are_over(&words));
+    assert_eq!(agreed(&bytes, &words, Call::Fire(0), 0).0, 22);
+}
+
+/// Every way in which a track can stand: asleep, or awake in one of its states
+/// in either mode, holding nothing or one entry with one of the deviations.
+fn standings(states: &[u16], deviations: &[u16]) -> Vec<Track> {
+    let mut standings = vec![Track::ASLEEP];
+    for &state in states {
+        for mode in [Mode::Forward, Mode::Undoing] {
+            let holding_nothing = Track::awake(mode, state);
+            standings.push(holding_nothing);
+            standings.extend(deviations.iter().map(|&deviation| {
+                let mut holding = holding_nothing;
+                holding.install(Entry { code: 7, deviation });
+                holding
+            }));
+        }
+    }
+    standings
+}
+
+/// Every ledger of the two roots whose tracks hold at most one entry: 2,223, of
+/// which 337 are sound. 33 events end the link, 15 of them half withdrawn, and
+/// 21 firings do; no signal does.
+#[test]
+fn every_small_ledger_of_two_roots() {
+    let bytes = two_roots().encode();
+    let plan = plan::read(&bytes).expect("accepted");
+    let (mut sound, mut events, mut firings) = (0, 0, 0);
+    let mut ledger = Ledger::asleep(&plan);
+    for root_0 in standings(&[0, 1, 2], &[NONE, 0]) {
+        for root_1 in standings(&[3, 4], &[NONE, 3]) {
+            for branch in standings(&[5, 6], &[NONE]) {
+                ledger.tracks = vec![root_0, root_1, branch];
+                let words = ledger.words();
+                let ends = |call: Call| {
+                    let (answer, after) = agreed(&bytes, &words, call, 0);
+                    usize::from(answer as u16 == 0 && are_over(&after))
+                };
+                sound += usize::from(agreed(&bytes, &words, Call::Ready, 0).0 as u16 == 0);
+                events += (1..=6).map(|event| ends(Call::Event(event))).sum::<usize>();
+                firings += (0..=3).map(|track| ends(Call::Fire(track))).sum::<usize>();
+                assert_eq!(ends(Call::Signal), 0);
+            }
+        }
+    }
+    assert_eq!((sound, events, firings), (337, 33, 21));
 }
