@@ -15,6 +15,12 @@
  * Begin writes the leading words. Event, signal, fire, ready and entries test them: a ledger that was begun under a plan of another length
  * or sum is refused as 24, checked between 17 and 18. So are zeros: a ledger starts with a begin.
  *
+ * A ledger ends once each of its roots is either forward in a final state, or undoing with nothing held and no open scope, and at least one
+ * is forward in a final state. Every track then goes to sleep, and what was still held is dropped unfired: the ledger is over. An event may
+ * end it, and so may a firing. Where one root is taken back, and another deviates and reaches its end, whichever comes last ends the ledger.
+ * That call gives its answer as ever; the next event, signal or firing is refused as 20, and ready gives 0. A signal ends no ledger, since
+ * it leaves no track forward; and a ledger whose roots are all taken back is not over.
+ *
  * What a caller owes: a pointer is not null, even where its length is 0, and holds so many bytes or words; the ledger's is at an even
  * address; the plan and the ledger do not overlap; and nothing else writes to either during a call. Plans alike in length and sum are not
  * told apart: among those a ledger is kept with the plan that it was begun under.
@@ -46,8 +52,8 @@ extern "C" {
 #endif
 
 /* 10000 times the major version, 100 times the minor one, and the patch. */
-#define RETRACTION_VERSION 200
-#define RETRACTION_VERSION_TEXT "0.2.0"
+#define RETRACTION_VERSION 300
+#define RETRACTION_VERSION_TEXT "0.3.0"
 
 /* Words of a ledger: the leading ones, those of each track, and all of them with so many tracks. Read tells a plan's tracks. */
 #define RETRACTION_LEADING_WORDS 2

@@ -173,25 +173,62 @@ impl<'plan> Ledger<'plan> {
     }
 
     /// Whether the ledger is over: every track is asleep.
+    ///
+    /// An event or a firing leaves it over once each root is either forward in
+    /// a final state, or undoing with nothing held and no open scope, at least
+    /// one being forward in a final state. What is still held is then dropped
+    /// unfired, and the next event, signal or firing is refused as 20. Where
+    /// every root is taken back the ledger is not over.
+    ///
+    /// ```
+    /// # use retraction::{Plan, Refusal};
+    /// # fn main() -> Result<(), Refusal> {
+    /// // Two roots. Code 60, when fired, sends root 1 back to its first state.
+    /// let plan = Plan::read([
+    ///     6, 0, 1, 0, 255, 255, 6, 0, 1, 0, 255, 255, // tracks 0 and 1
+    ///     10, 0, 2, 0, 0, 0, 0, 0, 0, 0, // state 0 of track 0
+    ///     10, 0, 2, 0, 1, 0, 0, 0, 0, 0, // state 1 of track 1
+    ///     10, 0, 2, 0, 1, 0, 1, 0, 0, 0, // state 2 of track 1, final
+    ///     14, 0, 3, 0, 0, 0, 10, 0, 50, 0, 255, 255, 0, 0, // from 0 on event 10, code 50, to 0
+    ///     14, 0, 3, 0, 1, 0, 10, 0, 60, 0, 1, 0, 1, 0, // from 1 on event 10, code 60, to 1
+    ///     14, 0, 3, 0, 1, 0, 11, 0, 0, 0, 255, 255, 2, 0, // from 1 on event 11, no code, to 2
+    ///     4, 0, 4, 0, // end
+    /// ])?;
+    /// let mut ledger = plan.begin();
+    /// assert_eq!(ledger.event(10)?.moved, 2);
+    /// assert_eq!(ledger.signal()?, 2);
+    /// assert_eq!(ledger.fire(1)?.deviation, Some(1));
+    /// assert_eq!(ledger.event(11)?.moved, 1);
+    /// assert!(!ledger.is_over());
+    /// assert_eq!(ledger.fire(0)?.code, 50);
+    /// assert!(ledger.is_over());
+    /// assert_eq!(ledger.signal(), Err(Refusal::Over));
+    /// # Ok(())
+    /// # }
+    /// ```
     #[must_use]
     pub fn is_over(&self) -> bool {
         self.words[LEADING_WORDS..].iter().all(|&word| word == 0)
     }
 
     /// An event: each forward track without an open scope takes its state's
-    /// transition for it, if it has one. Refused as 19, 20 or 21.
+    /// transition for it, if it has one. It may leave the ledger over
+    /// ([`Ledger::is_over`]). Refused as 19, 20 or 21.
     pub fn event(&mut self, event: u16) -> Result<Moved, Refusal> {
         raw::event(&self.plan.bytes, &mut self.words, event)
     }
 
     /// A withdrawal: every forward track turns to undoing. Answers how many
-    /// turned. Refused as 20.
+    /// turned. It never leaves the ledger over, since no root is forward
+    /// then. Refused as 20.
     pub fn signal(&mut self) -> Result<u16, Refusal> {
         raw::signal(&self.plan.bytes, &mut self.words)
     }
 
-    /// Fires a track: its newest entry is removed, and answered. Refused as 20
-    /// or 22.
+    /// Fires a track: its newest entry is removed, and answered. It may leave
+    /// the ledger over ([`Ledger::is_over`]): the entry is answered all the
+    /// same, and what other tracks still hold is dropped unfired. Refused as
+    /// 20 or 22.
     pub fn fire(&mut self, track: u16) -> Result<Entry, Refusal> {
         raw::fire(&self.plan.bytes, &mut self.words, track)
     }

@@ -94,7 +94,8 @@ pub fn begin(plan: &[u8], ledger: &mut [u16]) -> Result<(), Refusal> {
     Ok(())
 }
 
-/// Tracks moved and scopes closed.
+/// Tracks moved and scopes closed. It may leave the ledger over, as
+/// [`crate::Ledger::is_over`] has it.
 pub fn event(plan: &[u8], ledger: &mut [u16], event: u16) -> Result<Moved, Refusal> {
     let (words, len) = (ledger.as_mut_ptr(), ledger.len());
     // SAFETY: as under `begin`.
@@ -106,7 +107,7 @@ pub fn event(plan: &[u8], ledger: &mut [u16], event: u16) -> Result<Moved, Refus
     })
 }
 
-/// Tracks turned.
+/// Tracks turned. It never leaves the ledger over.
 pub fn signal(plan: &[u8], ledger: &mut [u16]) -> Result<u16, Refusal> {
     let (words, len) = (ledger.as_mut_ptr(), ledger.len());
     // SAFETY: as under `begin`.
@@ -114,7 +115,8 @@ pub fn signal(plan: &[u8], ledger: &mut [u16]) -> Result<u16, Refusal> {
     Ok(bits(accepted(answer)?, 16))
 }
 
-/// The entry fired.
+/// The entry fired. It may leave the ledger over, as
+/// [`crate::Ledger::is_over`] has it.
 pub fn fire(plan: &[u8], ledger: &mut [u16], track: u16) -> Result<Entry, Refusal> {
     let (words, len) = (ledger.as_mut_ptr(), ledger.len());
     // SAFETY: as under `begin`.

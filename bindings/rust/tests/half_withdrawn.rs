@@ -1,0 +1,221 @@
+//! Links that end half withdrawn: one root is taken back, another deviates and reaches its final state.
+
+use retraction::raw::{begin, entries, event, fire, ready, signal};
+use retraction::Refusal::{EventZero, NotReady, Over, Unsound};
+use retraction::{Entry, Moved, Plan, Refusal, LEADING_WORDS, NONE, TRACK_WORDS};
+
+const FORWARD: u16 = 1;
+const UNDOING: u16 = 2;
+
+/// The words that a ledger of the plan has.
+const WORDS: usize = LEADING_WORDS + 3 * TRACK_WORDS;
+
+/// Two roots. Root 0 goes through state 1, which hosts track 2, to its end in state 2. Root 1 stays in state 3 on event 10, and code 60, when
+/// fired, sends it forward there again; it ends in state 4 on event 13.
+const RECORDS: &[&[u16]] = &[
+    &[6, 1, NONE],
+    &[6, 1, NONE],
+    &[6, 1, 1],
+    &[10, 2, 0, 0, 0],
+    &[10, 2, 0, 0, 90],
+    &[10, 2, 0, 1, 0],
+    &[10, 2, 1, 0, 0],
+    &[10, 2, 1, 1, 0],
+    &[10, 2, 2, 0, 0],
+    &[10, 2, 2, 1, 0],
+    &[14, 3, 0, 10, 50, NONE, 1],
+    &[14, 3, 0, 11, 0, NONE, 1],
+    &[14, 3, 1, 12, 0, NONE, 2],
+    &[14, 3, 3, 10, 60, 3, 3],
+    &[14, 3, 3, 13, 61, NONE, 4],
+    &[14, 3, 5, 14, 51, NONE, 5],
+    &[14, 3, 5, 15, 0, NONE, 6],
+    &[4, 4],
+];
+
+fn plan() -> Vec<u8> {
+    let words = RECORDS.iter().flat_map(|record| record.iter());
+    words.flat_map(|word| word.to_le_bytes()).collect()
+}
+
+fn moved(moved: u16, closed: u16) -> Result<Moved, Refusal> {
+    Ok(Moved { moved, closed })
+}
+
+fn fired(code: u16, deviation: Option<u16>) -> Result<Entry, Refusal> {
+    Ok(Entry { code, deviation })
+}
+
+/// The plan begun, then the events given, each with the tracks that it moves, and a signal that turns so many. A word beyond is 7.
+fn withdrawn(events: &[(u16, u16)], turned: u16) -> (Vec<u8>, Vec<u16>) {
+    let (plan, mut ledger) = (plan(), vec![7; WORDS + 1]);
+    assert_eq!(begin(&plan, &mut ledger), Ok(()));
+    for &(number, tracks) in events {
+        assert_eq!(event(&plan, &mut ledger, number), moved(tracks, 0));
+    }
+    assert_eq!(signal(&plan, &mut ledger), Ok(turned));
+    (plan, ledger)
+}
+
+/// Root 1, whose code 60 is its newest, deviates and ends: it then holds code 61.
+fn root_1_ends(plan: &[u8], ledger: &mut [u16]) {
+    assert_eq!(fire(plan, ledger, 1), fired(60, Some(3)));
+    assert_eq!(event(plan, ledger, 13), moved(1, 0));
+}
+
+/// The tracks are all asleep, the leading words and the word beyond are as they were, and every call that needs a ledger not over is 20.
+fn is_over(plan: &[u8], ledger: &[u16]) {
+    let mut begun = vec![7; WORDS + 1];
+    assert_eq!(begin(plan, &mut begun), Ok(()));
+    assert_eq!(ledger[..LEADING_WORDS], begun[..LEADING_WORDS]);
+    assert_eq!(ledger[LEADING_WORDS..WORDS], [0; 3 * TRACK_WORDS]);
+    assert_eq!(ledger[WORDS..], [7]);
+    let mut lent = ledger.to_vec();
+    assert_eq!(event(plan, &mut lent, 0), Err(EventZero));
+    for number in [10, 13] {
+        assert_eq!(event(plan, &mut lent, number), Err(Over));
+    }
+    assert_eq!(signal(plan, &mut lent), Err(Over));
+    for track in [0, 1, 2, 99] {
+        assert_eq!(fire(plan, &mut lent, track), Err(Over));
+        assert_eq!(entries(plan, &lent, track), []);
+    }
+    assert_eq!(ready(plan, &mut lent), Ok(0));
+    assert_eq!(lent, ledger);
+}
+
+/// The firing gives its code; code 61, which root 1 holds, is dropped unfired.
+#[test]
+fn the_last_firing_of_a_root_ends_it() {
+    let (plan, mut ledger) = withdrawn(&[(10, 2)], 3);
+    assert_eq!(ready(&plan, &mut ledger), Ok(0b011));
+    root_1_ends(&plan, &mut ledger);
+    assert_eq!(entries(&plan, &ledger, 1), [61, NONE]);
+    assert_eq!(ready(&plan, &mut ledger), Ok(0b001));
+    assert_eq!(fire(&plan, &mut ledger, 0), fired(50, None));
+    is_over(&plan, &ledger);
+}
+
+#[test]
+fn the_last_event_of_a_root_ends_it() {
+    let (plan, mut ledger) = withdrawn(&[(10, 2)], 3);
+    assert_eq!(fire(&plan, &mut ledger, 0), fired(50, None));
+    assert_eq!(ready(&plan, &mut ledger), Ok(0b010));
+    root_1_ends(&plan, &mut ledger);
+    is_over(&plan, &ledger);
+}
+
+/// Root 0 holds nothing, but its scope is open until track 2 is taken back.
+#[test]
+fn the_last_firing_of_a_branch_ends_it() {
+    let (plan, mut ledger) = withdrawn(&[(11, 1), (10, 1), (14, 1)], 3);
+    root_1_ends(&plan, &mut ledger);
+    assert_eq!(ready(&plan, &mut ledger), Ok(0b100));
+    assert_eq!(fire(&plan, &mut ledger, 2), fired(51, None));
+    is_over(&plan, &ledger);
+}
+
+#[test]
+fn a_firing_that_leaves_an_entry_does_not_end_it() {
+    let (plan, mut ledger) = (plan(), vec![7; WORDS + 1]);
+    assert_eq!(begin(&plan, &mut ledger), Ok(()));
+    assert_eq!(event(&plan, &mut ledger, 10), moved(2, 0));
+    assert_eq!(event(&plan, &mut ledger, 15), moved(1, 1));
+    assert_eq!(signal(&plan, &mut ledger), Ok(2));
+    root_1_ends(&plan, &mut ledger);
+    assert_eq!(fire(&plan, &mut ledger, 0), fired(90, None));
+    assert_eq!(ready(&plan, &mut ledger), Ok(0b001));
+    assert_eq!(fire(&plan, &mut ledger, 0), fired(50, None));
+    is_over(&plan, &ledger);
+}
+
+/// A second signal turns root 1 once more, before it ends: both roots are taken back, and the calls go on.
+#[test]
+fn a_link_withdrawn_as_a_whole_is_not_over() {
+    let (plan, mut ledger) = withdrawn(&[(10, 2)], 3);
+    assert_eq!(fire(&plan, &mut ledger, 0), fired(50, None));
+    assert_eq!(fire(&plan, &mut ledger, 1), fired(60, Some(3)));
+    assert_eq!(signal(&plan, &mut ledger), Ok(1));
+    assert_eq!(ready(&plan, &mut ledger), Ok(0));
+    assert_eq!(ledger[LEADING_WORDS..][..3], [UNDOING, 1, 0]);
+    assert_eq!(ledger[LEADING_WORDS + TRACK_WORDS..][..3], [UNDOING, 3, 0]);
+    assert_eq!(event(&plan, &mut ledger, 13), moved(0, 0));
+    assert_eq!(signal(&plan, &mut ledger), Ok(0));
+    assert_eq!(fire(&plan, &mut ledger, 1), Err(NotReady));
+}
+
+/// Root 1 has ended when the signal turns it back: code 61 is due again, and nothing is over.
+#[test]
+fn a_signal_turns_back_a_root_that_has_ended() {
+    let (plan, mut ledger) = withdrawn(&[(10, 2)], 3);
+    root_1_ends(&plan, &mut ledger);
+    assert_eq!(signal(&plan, &mut ledger), Ok(1));
+    assert_eq!(ready(&plan, &mut ledger), Ok(0b011));
+    assert_eq!(fire(&plan, &mut ledger, 0), fired(50, None));
+    assert_eq!(fire(&plan, &mut ledger, 1), fired(61, None));
+    assert_eq!(ready(&plan, &mut ledger), Ok(0));
+    assert_eq!(signal(&plan, &mut ledger), Ok(0));
+}
+
+/// Mode and state of both roots, which hold nothing, and track 2 asleep.
+fn standing(roots: [(u16, u16); 2]) -> Vec<u16> {
+    let mut ledger = vec![0; WORDS];
+    assert_eq!(begin(&plan(), &mut ledger), Ok(()));
+    for (track, (mode, state)) in roots.into_iter().enumerate() {
+        ledger[LEADING_WORDS + track * TRACK_WORDS..][..2].copy_from_slice(&[mode, state]);
+    }
+    ledger
+}
+
+#[test]
+fn finish_left_to_do_is_18() {
+    for roots in [
+        [(UNDOING, 0), (FORWARD, 4)],
+        [(UNDOING, 1), (FORWARD, 4)],
+        [(UNDOING, 2), (FORWARD, 4)],
+        [(FORWARD, 2), (UNDOING, 3)],
+        [(FORWARD, 2), (UNDOING, 4)],
+        [(FORWARD, 2), (FORWARD, 4)],
+    ] {
+        let before = standing(roots);
+        let (plan, mut ledger) = (plan(), before.clone());
+        assert_eq!(event(&plan, &mut ledger, 10), Err(Unsound), "{roots:?}");
+        assert_eq!(signal(&plan, &mut ledger), Err(Unsound), "{roots:?}");
+        assert_eq!(fire(&plan, &mut ledger, 0), Err(Unsound), "{roots:?}");
+        assert_eq!(ready(&plan, &mut ledger), Err(Unsound), "{roots:?}");
+        assert_eq!(ledger, before);
+    }
+}
+
+#[test]
+fn no_finish_left_to_do_is_sound() {
+    for roots in [
+        [(UNDOING, 0), (UNDOING, 3)],
+        [(UNDOING, 2), (UNDOING, 4)],
+        [(UNDOING, 1), (FORWARD, 3)],
+        [(FORWARD, 1), (FORWARD, 4)],
+    ] {
+        assert_eq!(ready(&plan(), &mut standing(roots)), Ok(0), "{roots:?}");
+    }
+}
+
+#[test]
+fn a_ledger_tells_that_it_is_over() -> Result<(), Refusal> {
+    let plan = Plan::read(plan())?;
+    let mut ledger = plan.begin();
+    assert_eq!(ledger.event(10), moved(2, 0));
+    assert_eq!(ledger.signal(), Ok(3));
+    assert_eq!(ledger.fire(1), fired(60, Some(3)));
+    assert_eq!(ledger.event(13), moved(1, 0));
+    assert!(!ledger.is_over());
+    assert_eq!(ledger.fire(0), fired(50, None));
+    assert!(ledger.is_over());
+    assert_eq!(ledger.ready().count(), 0);
+    assert_eq!(ledger.fire(1), Err(Over));
+    assert!(plan.ledger(ledger.words())?.is_over());
+    assert_eq!(
+        plan.ledger(standing([(UNDOING, 1), (FORWARD, 4)])),
+        Err(Unsound)
+    );
+    Ok(())
+}
