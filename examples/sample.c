@@ -113,6 +113,7 @@ int main(void)
     print_event(11);
     print_event(12);
     print_signal();
+    /* The only root is taken back, and none has reached its end: the ledger is not over, so the fourth firing is refused as 22, not as 20. */
     for (int i = 0; i < 4; i++)
         firings += (unsigned)print_firing(lowest_ready());
     printf("H %u %u\n", entries_held(), firings);
