@@ -37,10 +37,7 @@ impl Case {
         let accepted = |name, plan| Case::new(name, plan).expect("an accepted plan");
         let mut cases = vec![accepted("P", samples::sample())];
         cases.extend(Case::samples(Path::new(SAMPLES))?);
-        cases.push(accepted(
-            "half withdrawn",
-            shapes::half_withdrawn().encode(),
-        ));
+        cases.push(accepted("two roots", shapes::two_roots().encode()));
         cases.push(Case::found("small", (3, 3), (6, 9), (5, 10)));
         cases.push(Case::found("middle", (12, 14), (40, 60), (70, 110)));
         cases.push(Case::found("largest", (32, 32), (128, 128), (256, 256)));
@@ -136,11 +133,8 @@ impl Case {
         if ledger.is_over() {
             return None;
         }
-        let ready = || members(rules::ready(&self.read, ledger));
-        let ends = |&track: &usize| {
-            let mut after = ledger.clone();
-            rules::fire(&self.read, &mut after, track as u16).is_ok() && after.is_over()
-        };
+        let ready = || members(rules::ready(&self.read, ledger)).map(|track| track as u16);
+        let ends = |&track: &u16| finishes(&self.read, ledger, track);
         let holding = || ledger.tracks.iter().position(|track| track.held() > 0);
         match (name, record) {
             ("begin", _) => Some(Call::Begin),
@@ -149,8 +143,8 @@ impl Case {
                 (!moves.is_empty()).then_some(Call::Event(event))
             }
             ("signal", Record::Signal) => Some(Call::Signal),
-            ("fire", _) => ready().next().map(|track| Call::Fire(track as u16)),
-            (FINISHING, _) => ready().find(ends).map(|track| Call::Fire(track as u16)),
+            ("fire", _) => ready().next().map(Call::Fire),
+            (FINISHING, _) => ready().find(ends).map(Call::Fire),
             ("ready", _) => Some(Call::Ready),
             ("entries", _) => holding().map(|track| Call::Entries(track as u16)),
             _ => None,
@@ -205,4 +199,10 @@ impl Case {
         let light = rng.pick(&light).filter(|_| rng.chance(95));
         light.or_else(|| rng.pick(&events)).unwrap_or(1)
     }
+}
+
+/// Whether firing the track leaves the ledger over.
+pub fn finishes(plan: &Plan, ledger: &Ledger, track: u16) -> bool {
+    let mut after = ledger.clone();
+    rules::fire(plan, &mut after, track).is_ok() && after.is_over()
 }

@@ -2,11 +2,12 @@
 //! each call shows.
 
 use bench::sides::Call;
-use second::ledger::{track_start, Ledger};
-use second::plan::{self, Plan, Records};
+use second::ledger::{track_start, Entry, Ledger, Mode, Track};
+use second::plan::{self, Plan, Records, NONE};
 use second::rules;
 
-use crate::calls::{self, Given, CALLS};
+use crate::calls::{self, Given, CALLS, FINISHING};
+use crate::cases::finishes;
 use crate::rounds::Rounds;
 use crate::shapes::{self, Order};
 
@@ -200,11 +201,45 @@ fn refused(plans: &[(Records, usize)], order: &str) -> Row {
 fn entries() -> Table {
     let events = [1, 2, 4, 8, 16, 31];
     let plan = |&events: &usize| (shapes::roots(32, 128, 256), events);
-    let rows = rows(&events.iter().map(plan).collect::<Vec<_>>());
+    let plans: Vec<_> = events.iter().map(plan).collect();
+    let mut rows = rows(&plans);
+    rows.push(finishing(&plans));
     Table {
         what: "Entries held; 32 tracks, all roots, 128 states, 256 transitions",
         unit: "an entry",
         sizes: events.map(|held| 32 * held).to_vec(),
         rows,
+    }
+}
+
+/// Firings that end the link, on plans of roots alone. As many entries are held
+/// as so many events 1 leave: one by the last root, which is undoing, and all
+/// others by the other roots, which have ended.
+fn finishing(plans: &[(Records, usize)]) -> Row {
+    let point = |(records, events): &(Records, usize)| {
+        let bytes = records.encode();
+        let plan = plan::read(&bytes).expect("accepted");
+        let last = plan.track_count() - 1;
+        let entry = Entry {
+            code: 7,
+            deviation: NONE,
+        };
+        let mut ledger = Ledger::asleep(&plan);
+        for root in 0..last {
+            let end = plan.states_of(root).last().expect("a state");
+            ledger.tracks[root] = Track::awake(Mode::Forward, end);
+        }
+        ledger.tracks[last] = Track::awake(Mode::Undoing, plan.first_state(last));
+        ledger.tracks[last].install(entry);
+        for number in 1..plan.track_count() * events {
+            ledger.tracks[number % last].install(entry);
+        }
+        assert!(finishes(&plan, &ledger, last as u16), "a firing that ends");
+        let (words, call) = (ledger.words(), Call::Fire(last as u16));
+        (bytes, Given { words, call })
+    };
+    Row {
+        name: FINISHING.to_string(),
+        points: plans.iter().map(point).collect(),
     }
 }

@@ -72,7 +72,7 @@ pub fn fan(steps: usize, order: Order) -> Records {
 /// event 2 moves them to no end, event 3 ends root 0 and event 4 root 1. The
 /// entry of root 1, when fired, sends it back to its first state, from where it
 /// may still end while root 0 is taken back.
-pub fn half_withdrawn() -> Records {
+pub fn two_roots() -> Records {
     let deviating = Transition {
         deviation: 3,
         ..step(3, 1, 60, 4)
