@@ -105,10 +105,12 @@ impl Case {
     }
 
     /// Ledgers on which the call is accepted and does something; at most so
-    /// many, fewer where few histories lead to one.
+    /// many, fewer where few histories lead to one. Few do to a firing that
+    /// finishes, so that more are tried.
     pub fn given(&self, call: &str, count: usize) -> Vec<Given> {
         let mut given = Vec::new();
-        for index in 0..40 {
+        let histories = if call == FINISHING { 400 } else { 40 };
+        for index in 0..histories {
             let mut rng = Rng::for_case(1, 22, index);
             let (records, _) = journals::history(&mut rng, &self.read);
             let mut ledger = rules::begin(&self.read);

@@ -68,25 +68,31 @@ pub fn fan(steps: usize, order: Order) -> Records {
     }
 }
 
-/// Two roots whose link may end half withdrawn. Event 1 gives each an entry,
-/// event 2 moves them to no end, event 3 ends root 0 and event 4 root 1. The
-/// entry of root 1, when fired, sends it back to its first state, from where it
-/// may still end while root 0 is taken back.
+/// Two roots, whose link ends half withdrawn or not at all. Root 0 has no end.
+/// Event 1 gives each root an entry, event 2 gives none, event 3 gives root 0
+/// another, and event 4 ends root 1. The first entry of root 1, when fired,
+/// sends it forward again, so that it may end while root 0 is taken back.
 pub fn two_roots() -> Records {
     let deviating = Transition {
         deviation: 3,
-        ..step(3, 1, 60, 4)
+        ..step(2, 1, 60, 3)
     };
     Records {
         tracks: vec![track(NONE); 2],
-        states: (0..6).map(|n| state(n / 3, n % 3 / 2, 0)).collect(),
+        states: vec![
+            state(0, 0, 0),
+            state(0, 0, 0),
+            state(1, 0, 0),
+            state(1, 0, 0),
+            state(1, 1, 0),
+        ],
         transitions: vec![
             step(0, 1, 50, 1),
             step(1, 2, 0, 1),
-            step(1, 3, 0, 2),
+            step(1, 3, 51, 1),
             deviating,
-            step(4, 2, 0, 4),
-            step(4, 4, 0, 5),
+            step(3, 2, 0, 3),
+            step(3, 4, 61, 4),
         ],
     }
 }

@@ -71,14 +71,17 @@ fn half_a_million_single_calls() {
 }
 
 /// Ledgers that go on from call to call, from a begin on any words. Now and
-/// then a neighbour's plan is given: 24, and the history goes on.
+/// then a neighbour's plan is given: 24, and the history goes on. Some end half
+/// withdrawn, in a firing.
 #[test]
 fn calls_of_histories() {
+    let mut ending_firings = 0;
     for index in 0..10_000 {
         let mut rng = Rng::for_case(31, 2, index);
         let bytes = plans::bytes(&mut rng, MAX_TRACKS);
         let plan = plan::read(&bytes).expect("accepted");
         let neighbour = neighbours::neighbour(&mut rng, &plan).records().encode();
+        let needed = track_start(plan.track_count());
         let words = ledgers::garbage(&mut rng, &plan);
         let (_, mut words) = agreed(&bytes, &words, Call::Begin, index);
         for record in journals::history(&mut rng, &plan).0 {
@@ -91,9 +94,13 @@ fn calls_of_histories() {
             if rng.chance(10) {
                 assert_eq!(agreed(&neighbour, &words, call, index).0, 24);
             }
-            words = agreed(&bytes, &words, call, index).1;
+            let (answer, after) = agreed(&bytes, &words, call, index);
+            let fired = matches!(call, Call::Fire(_)) && answer as u16 == 0;
+            ending_firings += usize::from(fired && are_over(&after[..needed]));
+            words = after;
         }
     }
+    assert!(ending_firings >= 50, "{ending_firings}");
 }
 
 fn lowest_ready(plan: &[u8], words: &[u16]) -> u16 {
