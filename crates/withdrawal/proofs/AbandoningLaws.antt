@@ -189,9 +189,9 @@ module _ (bs : List ℕ) (c : Counts) (ws : List ℕ) (o : Tidy ws (c .tracks)) 
     unfolding keeping
     leaving-end h = pass-end c ws o left leaving-fits i b e h ∙ ap (λ (m : Ledger). written entryLimit (c .tracks) m ws) (k .same)
 
-    -- which tracks have an open scope then
-    pub leaving-marks : c .tracks ≤ i → Figures false opens (c .tracks) (hasOpenScope (planOf bs c) (ledgerOf c vs))
-    leaving-marks h =
-        subst (λ (m : Ledger). Figures false opens (c .tracks) (hasOpenScope (planOf bs c) m))
-        (sym (abandoned-read (planOf bs c) c o (leaving-end h)))
-        (subst (λ n. Figures false opens n (hasOpenScope (planOf bs c) (abandoned (planOf bs c) (ledgerOf c ws)))) (track-count bs c) (k .marks))
+  -- which tracks have an open scope then
+  pub leaving-marks : {vs : List ℕ} → vs ≡ written entryLimit (c .tracks) (abandoned (planOf bs c) (ledgerOf c ws)) ws
+      → Figures false opens (c .tracks) (hasOpenScope (planOf bs c) (ledgerOf c vs))
+  leaving-marks d =
+      subst (λ (m : Ledger). Figures false opens (c .tracks) (hasOpenScope (planOf bs c) m)) (sym (abandoned-read (planOf bs c) c o d))
+      (subst (λ n. Figures false opens n (hasOpenScope (planOf bs c) (abandoned (planOf bs c) (ledgerOf c ws)))) (track-count bs c) (k .marks))

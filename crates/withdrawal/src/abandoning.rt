@@ -129,12 +129,13 @@ fn is_due(opened: bool, busy: u8) -> bool
     opened & (busy == 0)
 }
 
-// The tracks whose scope is open once nothing is due any more.
-fn left_open(plan: &[u8], c: Counts, ledger: &[u16]) -> [bool; 32]
-    requires { ⌜ Accepts (now plan) c × Tidy (now ledger) (c .tracks) × Nested (planOf (now plan) c) (ledgerOf c (now ledger)) ⌝ }
-    ensures { λ r. ⌜ LeftOpen (planOf (now (plan .entry)) c) (ledgerOf c (now (ledger .entry))) r ⌝ }
+// The scopes that are open once nothing is due any more, given the open ones.
+fn left_open(plan: &[u8], c: Counts, ledger: &[u16], found: Scopes) -> Scopes
+    requires { ⌜ Accepts (now plan) c × Tidy (now ledger) (c .tracks) × Nested (planOf (now plan) c) (ledgerOf c (now ledger))
+        × Counted (planOf (now plan) c) (ledgerOf c (now ledger)) (found .opens) (found .busy) (c .tracks) ⌝ }
+    ensures { λ r. ⌜ LeftOpen (planOf (now (plan .entry)) c) (ledgerOf c (now (ledger .entry))) (r .opens) ⌝ }
 {
-    let mut scopes = open_scopes(plan, c, ledger);
+    let mut scopes = found;
     let tracks = c.tracks;
     let mut t: usize = 0;
     while t < tracks {
@@ -144,7 +145,7 @@ fn left_open(plan: &[u8], c: Counts, ledger: &[u16]) -> [bool; 32]
         }
         t += 1;
     }
-    scopes.opens
+    scopes
 }
 
 // Puts a track to sleep if the scope that it is in is not left open.
@@ -166,6 +167,22 @@ fn leave_track(plan: &[u8], c: Counts, ledger: &mut [u16], opens: &[bool; 32], t
     track::put_to_sleep(&mut ledger[..], t);
 }
 
+// Puts every track to sleep whose scope is not left open.
+fn leave_all(plan: &[u8], c: Counts, ledger: &mut [u16], left: Scopes)
+    requires { ⌜ Accepts (now plan) c × Tidy (now ledger) (c .tracks) × LeftOpen (planOf (now plan) c) (ledgerOf c (now ledger)) (left .opens) ⌝ }
+    ensures { λ _. ⌜ (now (ledger .exit)
+        ≡ written entryLimit (c .tracks) (abandoned (planOf (now (plan .entry)) c) (ledgerOf c (now (ledger .entry)))) (now (ledger .entry)))
+        × Tidy (now (ledger .exit)) (c .tracks) ⌝ }
+{
+    let opens = left.opens;
+    let tracks = c.tracks;
+    let mut t: usize = 0;
+    while t < tracks {
+        leave_track(plan, c, &mut ledger[..], &opens, t);
+        t += 1;
+    }
+}
+
 // Abandoning, with nothing installed; the tracks whose scope is open then.
 pub fn abandon(plan: &[u8], c: Counts, ledger: &mut [u16]) -> [bool; 32]
     requires { ⌜ Accepts (now plan) c × Tidy (now ledger) (c .tracks) × Nested (planOf (now plan) c) (ledgerOf c (now ledger)) ⌝ }
@@ -174,12 +191,8 @@ pub fn abandon(plan: &[u8], c: Counts, ledger: &mut [u16]) -> [bool; 32]
         × Tidy (now (ledger .exit)) (c .tracks)
         × Figures false r (c .tracks) (hasOpenScope (planOf (now (plan .entry)) c) (ledgerOf c (now (ledger .exit)))) ⌝ }
 {
-    let opens = left_open(plan, c, &ledger[..]);
-    let tracks = c.tracks;
-    let mut t: usize = 0;
-    while t < tracks {
-        leave_track(plan, c, &mut ledger[..], &opens, t);
-        t += 1;
-    }
-    opens
+    let found = open_scopes(plan, c, &ledger[..]);
+    let left = left_open(plan, c, &ledger[..], found);
+    leave_all(plan, c, &mut ledger[..], left);
+    left.opens
 }

@@ -1,65 +1,23 @@
--- The invariant: the tracks visited are asleep where their scope is not left open, the others are as they were. Assumes nothing.
-use mathlib.Core.Path.{_≡_}
-use Prim.Native.Nat.{_≤_, _-_}
-use native.Mathlib.Omega.{arith}
+-- The open scopes, those of them that are left open, and the others' tracks put to sleep. Assumes nothing.
 use borrow.Author.Needs.{needs}
-use Rattle.rules.specs.Layout.{entryLimit}
-use Rattle.rules.specs.Plan.{planOf}
-use Rattle.rules.specs.Ledger.{written}
-use Rattle.rules.proofs.Passes.{upTo}
-use Rattle.ledger.specs.Ladder.{ledgerOf}
-use Rattle.withdrawal.specs.Scopes.{keptBy}
-use Rattle.withdrawal.proofs.AbandoningLaws.{leaving-start, leaving-orderly, leaving-length, leaving-more, leaving-end, leaving-marks}
+use Rattle.withdrawal.proofs.AbandoningLaws.{leaving-marks}
 use Rattle.withdrawal.proofs.abandoning.abandon.Statement.{statement}
 use Rattle.withdrawal.proofs.abandoning.abandon.Tie as tie
 
-abbrev Inv-loop : tie.InvT-loop
-Inv-loop plan c ledger₀ opens tracks t₀ ledger t = (t ≤ c .tracks) × (ledger ≡ written entryLimit (c .tracks) (upTo (λ u. keptBy (planOf plan c) opens u (ledgerOf c ledger₀ u)) (ledgerOf c ledger₀) t) ledger₀)
+open-scopes-requires : tie.Need-open-scopes-requires
+open-scopes-requires c κs = let a = c .before .before .before .pre in record { accepts = a .0; room = a .1 .room }
 
-abbrev μ-loop : tie.MeasureT-loop
-μ-loop plan c ledger₀ opens tracks t₀ ledger t = c .tracks - t
+left-open-requires : tie.Need-left-open-requires
+left-open-requires c κs = let a = c .before .before .before .before .before .pre in (a .0, a .1, a .2, c .before .open-scopes .ensures)
 
-left-open-requires : tie.Need-left-open-requires Inv-loop μ-loop
-left-open-requires c κs = c .before .before .before .pre
+leave-all-requires : tie.Need-leave-all-requires
+leave-all-requires c κs = let a = c .before .before .before .before .before .before .before .pre in (a .0, a .1, c .before .left-open .ensures)
 
-loop-holds : tie.Need-loop-holds Inv-loop μ-loop
-loop-holds c = (omega arith, leaving-start _ _ _ (c .before .before .before .before .pre .1) _ (c .left-open .ensures))
-
-leave-track-requires : tie.Need-leave-track-requires Inv-loop μ-loop
-leave-track-requires c κs =
-    let pre = c .before .before .before .before .before .before .before .before .pre in
-    let i = c .before .before .before .loop .inv in
-    (pre .0, leaving-orderly _ _ _ (pre .1) _ (c .before .before .before .before .left-open .ensures) _ (i .0) (i .1), search needs)
-
-loop-again : tie.Need-loop-again Inv-loop μ-loop
-loop-again c =
-    let i = c .before .before .before .before .before .before .loop .inv in
-    (omega arith, leaving-more _ _ _ (c .before .before .before .before .before .before .before .before .before .before .before .pre .1) _ (c .before .before .before .before .before .before .before .left-open .ensures) _ (i .0) (i .1) (c .before .before .leave-track .ensures))
-
-same-length : tie.Need-same-length Inv-loop μ-loop
-same-length c = leaving-length _ _ _ (c .before .before .before .before .before .before .pre .1) _ (c .before .before .left-open .ensures) _ (c .before .loop .inv .0) (c .before .loop .inv .1)
-
-returns : tie.Need-returns Inv-loop μ-loop
+returns : tie.Need-returns
 returns c =
-    let o = c .before .before .before .before .before .before .pre .1 in
-    let k = c .before .before .left-open .ensures in
-    let i = c .before .loop .inv in (
-      leaving-end _ _ _ o _ k _ (i .0) (i .1) (omega arith),
-      leaving-orderly _ _ _ o _ k _ (i .0) (i .1),
-      leaving-marks _ _ _ o _ k _ (i .0) (i .1) (omega arith),
-    )
+    let d = c .before .before .before .leave-all .ensures in
+    (d .0, d .1, leaving-marks _ _ _ (c .before .before .before .before .before .before .before .before .before .before .before .pre .1) _ (c .before .before .before .before .before .left-open .ensures) (d .0))
 
 pub abandon-spec : {M : Type 1} → statement M
 abandon-spec =
-    tie.close
-    (tie.spec
-    Inv-loop
-    μ-loop
-    left-open-requires
-    loop-holds
-    leave-track-requires
-    (λ c. search needs)
-    (λ c. search needs)
-    loop-again
-    same-length
-    returns)
+    tie.close (tie.spec open-scopes-requires left-open-requires leave-all-requires (λ c. search needs) returns)

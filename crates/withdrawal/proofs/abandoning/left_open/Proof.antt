@@ -17,20 +17,17 @@ Inv-loop plan c ledger scopes₀ tracks t₀ scopes t = (t ≤ c .tracks) × Cle
 abbrev μ-loop : tie.MeasureT-loop
 μ-loop plan c ledger scopes₀ tracks t₀ scopes t = c .tracks - t
 
-open-scopes-requires : tie.Need-open-scopes-requires Inv-loop μ-loop
-open-scopes-requires c κs = record { accepts = c .before .before .pre .0; room = c .before .before .pre .1 .room }
-
 loop-holds : tie.Need-loop-holds Inv-loop μ-loop
-loop-holds c = (omega arith, visit-start _ _ (c .before .before .before .pre .0) _ (c .before .before .before .pre .1) (c .before .before .before .pre .2) _ (c .open-scopes .ensures))
+loop-holds c = (omega arith, visit-start _ _ (c .before .before .pre .0) _ (c .before .before .pre .1) (c .before .before .pre .2) _ (c .before .before .pre .3))
 
 climb-requires : tie.Need-climb-requires Inv-loop μ-loop
 climb-requires c κs =
-    let pre = c .before .before .before .before .before .before .before .before .before .pre in
+    let pre = c .before .before .before .before .before .before .before .before .pre in
     (pre .0, pre .1, visit-due _ _ (pre .0) _ _ _ (search needs) (c .before .before .before .before .before .loop .inv .1) (sym (c .before .is-due .ensures) ∙ c .if1 .taken))
 
 loop-again : tie.Need-loop-again Inv-loop μ-loop
 loop-again c =
-    let pre = c .before .before .before .before .before .before .before .before .before .pre in
+    let pre = c .before .before .before .before .before .before .before .before .pre in
     let k = c .before .before .before .before .before .loop .inv .1 in (
       omega arith,
       elim (c .if1 .came) [
@@ -40,7 +37,7 @@ loop-again c =
     )
 
 returns : tie.Need-returns Inv-loop μ-loop
-returns c = visit-end _ _ (c .before .before .before .before .before .before .pre .0) _ _ _ (omega arith) (c .before .before .loop .inv .1)
+returns c = visit-end _ _ (c .before .before .before .before .pre .0) _ _ _ (omega arith) (c .before .loop .inv .1)
 
 pub left-open-spec : {M : Type 1} → statement M
 left-open-spec =
@@ -48,7 +45,6 @@ left-open-spec =
     (tie.spec
     Inv-loop
     μ-loop
-    open-scopes-requires
     loop-holds
     (λ c. search needs)
     (λ c. search needs)
