@@ -2,13 +2,13 @@
 -- the law of calls after which finish is not looked for as υ. Assumes nothing.
 use mathlib.Core.Path.{_≡_}
 use mathlib.Core.Logic.{_⊎_}
-use mathlib.Core.Bool.{Bool, true, false, _&&_, _||_}
+use mathlib.Core.Bool.{Bool, true, false, _||_}
 use mathlib.Core.Option.{none, some}
 use Prim.Native.Nat.{ℕ, _<_}
 use lib.ListN.{length}
-use Rattle.rules.specs.Plan.{Plan, trackCount, transitionCount, noState, transition, host, owner, replacement, isFinal}
+use Rattle.rules.specs.Plan.{Plan, trackCount, transitionCount, noState, transition, host, owner, replacement}
 use Rattle.rules.specs.Ledger.{Ledger, isForward, sleeping}
-use Rattle.rules.specs.Scope.{hasOpenScope, isOver, isBare}
+use Rattle.rules.specs.Scope.{hasOpenScope, isEnded, isBare, isOver}
 use Rattle.rules.specs.Opening.{enter}
 use Rattle.rules.specs.Event.{hasCode, isClosed, closesScope, isReplaced}
 use Rattle.rules.specs.Fire.{mayFire}
@@ -23,10 +23,6 @@ pub record Takes (p : Plan) (l : Ledger) (t x : ℕ) : Type 0 where
   pub free : hasOpenScope p l t ≡ false
   pub real : x < transitionCount p
   pub from : transition p x .source ≡ l t .state
-
--- a root that has ended: forward in a final state
-abbrev pub ended : Plan → Ledger → ℕ → Bool
-ended p l t = isForward (l t .mode) && isFinal p (l t .state)
 
 -- a ledger settled: as the work left it, and finish not due if it is looked for; or all asleep
 abbrev pub Settled : (σ : Seams) → Plan → Bool → Ledger → Ledger → Type 0
@@ -55,7 +51,7 @@ pub record Laws (σ : Seams) : Type 0 where
   -- a signal treats a track and its host's track alike
   pub turned-up : (p : Plan) → Accepted p → (a : σ .Signal) (t h : ℕ) → host p t ≡ some h → σ .isTurned p a t ≡ σ .isTurned p a (owner p h)
   -- a root that neither has ended nor is undone keeps the ledger going
-  pub goes-on : (p : Plan) (l : Ledger) (t : ℕ) → t < trackCount p → host p t ≡ none → (ended p l t || isBare p l t) ≡ false
+  pub goes-on : (p : Plan) (l : Ledger) (t : ℕ) → t < trackCount p → host p t ≡ none → (isEnded p l t || isBare p l t) ≡ false
       → σ .isFinishing p l ≡ false
   -- an accepted call does its work and then settles; a refused call alters nothing
   pub settled : (limit : ℕ) (p : Plan) (h : σ .Head) (l : Ledger) (c : Call σ) → σ .refusal limit p h l c ≡ 0

@@ -9,7 +9,7 @@ use lib.Dec.{ltb}
 use borrow.Author.Tests.{ltb-true}
 use Rattle.rules.specs.Plan.{Plan, trackCount, host, isRoot, isStateOf, isFinal, firstState, everyIn}
 use Rattle.rules.specs.Ledger.{Ledger, isAwake, isForward, sleeping}
-use Rattle.rules.specs.Scope.{isOpen, hasOpenScope, isBare}
+use Rattle.rules.specs.Scope.{isOpen, hasOpenScope, isEnded, isBare}
 use Rattle.rules.specs.Opening.{fresh, wakes, rootsFirst, begun}
 use Rattle.rules.specs.Event.{isClosing}
 use Rattle.rules.specs.Signal.{isAbandoning}
@@ -24,7 +24,7 @@ use Rattle.theory.specs.Seams.{Seams}
 use Rattle.theory.proofs.Nesting.{Awake}
 use Rattle.theory.proofs.EnteringNested.{Enterable, fresh-awake, fresh-mode, fresh-state}
 use Rattle.theory.proofs.SoundParts.{Formed, RootsAwake, Sound, sleeping-held, sleeping-few, sleeping-good, sleeping-asleep}
-use Rattle.theory.proofs.Laws.{Laws, ended}
+use Rattle.theory.proofs.Laws.{Laws}
 use Rattle.theory.proofs.ClosingNested.{closing-open}
 use Rattle.theory.proofs.Forming.{enter-formed}
 
@@ -119,7 +119,7 @@ module _ (limit : ℕ) (p : Plan) (ok : Accepted p) where
       clash (is-forward (begun p t .mode) (ap (λ c. c .mode) (begun-fresh t a) ∙ fresh-mode p t))
       (undoing-forward (begun p t .mode) (bare-parts p ok (begun p) t h .0)))
 
-  begun-going : (t : ℕ) → Awake (begun p) t → (ended p (begun p) t || isBare p (begun p) t) ≡ false
+  begun-going : (t : ℕ) → Awake (begun p) t → (isEnded p (begun p) t || isBare p (begun p) t) ≡ false
   begun-going t a =
       rw (begun-open t a, and-false (isForward (begun p t .mode))) (begun-not-bare t a)
 
