@@ -195,7 +195,7 @@ work p l (signal a) = abandoned p (turned l)
 work p l (fire a) = abandoned p (fired p l (a .track))
 
 -- a ledger with nothing left to settle but finish
-pub record Worked (limit : ℕ) (p : Plan) (l : Ledger) : Type 0 where
+pub record Worked (p : Plan) (l : Ledger) : Type 0 where
   pub nested : Nested p l
   pub roots : RootsAwake p l
   pub closing : (s : ℕ) → isClosing p l s ≡ false
@@ -214,7 +214,7 @@ module _ (limit : ℕ) (p : Plan) (ok : Accepted p) (l : Ledger) (s : Sound limi
   fire-sound = sound-retraction.fire-sound laws01 limit p ok l s
 
   -- what an accepted call leaves has nothing left to settle but finish
-  pub worked : (c : Call) → callRefusal limit p l c ≡ 0 → Worked limit p (work p l c)
+  pub worked : (c : Call) → callRefusal limit p l c ≡ 0 → Worked p (work p l c)
   worked (event a) h =
       let m = moved p l (a .event) in
       record {
