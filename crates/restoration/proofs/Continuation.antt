@@ -4,7 +4,7 @@
 use Prim.{tt}
 use mathlib.Core.Path.{_≡_, refl, sym, ap, _∙_, subst}
 use mathlib.Core.Logic.{_⊎_, inl, inr}
-use mathlib.Core.Bool.{true, false, and-false, _&&_}
+use mathlib.Core.Bool.{true, false, _&&_}
 use mathlib.Core.List.{List, [], _∷_, _++_}
 use mathlib.Core.Option.{none, some}
 use Prim.Native.Nat.{ℕ, zero, suc, _*_, _<_, _≤_}
@@ -20,7 +20,7 @@ use Rattle.rules.specs.Ledger.{Configuration, Ledger, isForward, isUndoing, isE
 use Rattle.rules.specs.Scope.{hasOpenScope, isEnded, isOver}
 use Rattle.rules.specs.Finish.{isFinishing}
 use Rattle.rules.specs.Signal.{turned, abandoned, afterSignal}
-use Rattle.rules.specs.Fire.{newest, mayFire, removed, deviatesTo, fired, afterFire}
+use Rattle.rules.specs.Fire.{newest, mayFire, deviatesTo, fired, afterFire}
 use Rattle.rules.specs.Call.{Answer, refusal, done, Call, signal, fire, nothing, after, next, callOutcome, beginOutcome}
 use Rattle.rules.specs.Transcript.{heldTotal, firingsOf}
 use Rattle.rules.specs.Books.{Books}
@@ -30,13 +30,12 @@ use Rattle.rules.proofs.Modes.{awake-undoing, undoing-is}
 use Rattle.rules.proofs.Folds.{some-find, some-not}
 use Rattle.rules.proofs.Acceptance.{Accepted, accepts}
 use Rattle.rules.proofs.Scopes.{root-none}
-use Rattle.rules.proofs.Opening.{enter-to}
 use Rattle.rules.proofs.Finishing.{none-ended, finish-not}
 use Rattle.rules.proofs.Ready.{may-fire}
 use Rattle.theory.specs.Seams as seam
 use Rattle.theory.proofs.Nesting.{Nested}
-use Rattle.theory.proofs.Entries.{Good, deviates, empty-nil}
-use Rattle.theory.proofs.FiringNested.{fired-is, removed-mode, deviates-here, deviates-not, fired-still}
+use Rattle.theory.proofs.Entries.{Good, empty-nil}
+use Rattle.theory.proofs.FiringNested.{removed-mode, deviates-not, fired-still}
 use Rattle.theory.proofs.SoundRetraction.{fired-awake, fired-root}
 use Rattle.theory.proofs.SoundKept.{sound-not-over, kept-sound}
 use Rattle.theory.proofs.Progress.{some-firing}
@@ -45,6 +44,7 @@ use Rattle.restoration.specs.Firings.{firingsIn}
 use Rattle.restoration.specs.Continuation.{withdrawing}
 use Rattle.restoration.proofs.Document01.{next-accepted, laws01}
 use Rattle.restoration.proofs.Theorems01.{Sound, signal-sound, signal-forward, signal-unended, fire-sound}
+use Rattle.restoration.proofs.Endings.{deviated-unended}
 use Rattle.restoration.proofs.SoundWords.{Holds, call-holds}
 use Rattle.restoration.proofs.Restoration.{history-holds, restored}
 use Rattle.restoration.proofs.Allowed.{signal-allowed, fire-allowed, fire-done}
@@ -79,7 +79,8 @@ module _ (limit : ℕ) (p : Plan) (ok : Accepted p) (l : Ledger) (s : Sound limi
           | inl k ↦
               elim (look-option (optional (newest (l t .held) .deviation))) [
                 | inl d ↦ stays u b e (deviates-not p l t d u)
-                | inr d ↦ subst (λ v. isEnded p (abandoned p (fired p l t)) v ≡ false) (sym (eqb-true u t k)) (enters (d .0) (d .1))
+                | inr d ↦
+                    subst (λ v. isEnded p (abandoned p (fired p l t)) v ≡ false) (sym (eqb-true u t k)) (deviated-unended limit p ok l s t may (d .0) (d .1))
               ]
         ])
       where
@@ -96,15 +97,6 @@ module _ (limit : ℕ) (p : Plan) (ok : Accepted p) (l : Ledger) (s : Sound limi
             ap (λ (c : Configuration). c .mode) (fired-root laws01 limit p ok l s t may u e ∙ q) ∙ removed-mode p l t u in
             ap (λ x. isForward x && isFinal p (abandoned p (fired p l t) u .state)) m
             ∙ ap (λ x. x && isFinal p (abandoned p (fired p l t) u .state)) (unforward u)
-
-        enters : (d : ℕ) → optional (newest (l t .held) .deviation) ≡ some d → isEnded p (abandoned p (fired p l t)) t ≡ false
-        enters d q =
-            let (e, o, f) = deviates p t d (l t .held) good q in
-            let st : abandoned p (fired p l t) t .state ≡ d =
-            ap (λ (c : Configuration). c .state)
-            (fired-root laws01 limit p ok l s t may t e ∙ ap (λ m. m t) (fired-is p l t)
-            ∙ enter-to p ok (deviatesTo l t) (removed l t) t d (deviates-here p l t ∙ q)) in
-            ap (λ x. isForward (abandoned p (fired p l t) t .mode) && x) (ap (isFinal p) st ∙ f) ∙ and-false (isForward (abandoned p (fired p l t) t .mode))
 
     fired-so : ((u : ℕ) → isForward (l u .mode) ≡ false) → next limit p l (fire (record { track = t })) ≡ abandoned p (fired p l t)
     unfolding after afterFire

@@ -7,6 +7,7 @@ pub mod SoundWords
 pub mod Restoration
 pub mod Allowed
 pub mod WrongPlan
+pub mod Endings
 pub mod Continuation
 pub mod Bound
 pub mod LiteralRuns
