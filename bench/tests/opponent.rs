@@ -157,7 +157,7 @@ fn texts_of_journals() {
 /// Two roots. Root 0 goes through state 1, which hosts track 2, to its end on
 /// event 3. Root 1 holds code 60 after event 1, which when fired sends it back
 /// to its first state, and ends on event 6.
-fn two_roots() -> plan::Records {
+fn scoped_roots() -> plan::Records {
     let deviating = plan::Transition {
         deviation: 3,
         ..step(3, 1, 60, 3)
@@ -217,7 +217,7 @@ fn is_over(bytes: &[u8], words: &[u16]) {
 /// the link. A branch's last firing does so, too.
 #[test]
 fn links_that_end_half_withdrawn() {
-    let bytes = two_roots().encode();
+    let bytes = scoped_roots().encode();
     let begun = [(Call::Event(1), 2, 0), (Call::Signal, 3, 0)];
     let ended = [(Call::Fire(1), 60, 3), (Call::Event(6), 1, 0)];
     let taken_back = [(Call::Fire(0), 50, NONE)];
@@ -245,7 +245,7 @@ fn links_that_end_half_withdrawn() {
 /// Where every root is taken back nothing has ended.
 #[test]
 fn a_link_withdrawn_as_a_whole_is_not_over() {
-    let bytes = two_roots().encode();
+    let bytes = scoped_roots().encode();
     let words = after(
         &bytes,
         &[
@@ -284,8 +284,8 @@ fn standings(states: &[u16], deviations: &[u16]) -> Vec<Track> {
 /// which 337 are sound. 33 events end the link, 15 of them half withdrawn, and
 /// 21 firings do; no signal does.
 #[test]
-fn every_small_ledger_of_two_roots() {
-    let bytes = two_roots().encode();
+fn every_small_ledger_of_scoped_roots() {
+    let bytes = scoped_roots().encode();
     let plan = plan::read(&bytes).expect("accepted");
     let (mut sound, mut events, mut firings) = (0, 0, 0);
     let mut ledger = Ledger::asleep(&plan);
