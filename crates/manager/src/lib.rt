@@ -35,8 +35,8 @@ pub fn begin(plan: &[u8], ledger: &mut [u16]) -> BeginAnswer
     }
 }
 
-// Moves each forward track without an open scope that has a transition for the event, then closes, replaces and finishes. Answers how many
-// tracks moved and how many scopes closed.
+// Moves each forward track without an open scope that has a transition for the event, then closes, replaces, and finishes where that is
+// due. Answers how many tracks moved and how many scopes closed.
 pub fn event(plan: &[u8], ledger: &mut [u16], event: u16) -> EventAnswer
     ensures { λ r. ⌜ Meets (eventOutcome entryLimit (now (plan .entry)) (now (ledger .entry)) (record { event = event })) (eventTold r) (now (ledger .exit)) ⌝ }
 {
@@ -51,7 +51,8 @@ pub fn event(plan: &[u8], ledger: &mut [u16], event: u16) -> EventAnswer
     }
 }
 
-// Turns every forward track to undoing, and puts to sleep the scopes that then have nothing to take back. Answers how many turned.
+// Turns every forward track to undoing, puts to sleep the scopes that then have nothing to take back, and finishes where that is due.
+// Answers how many turned.
 pub fn signal(plan: &[u8], ledger: &mut [u16]) -> SignalAnswer
     ensures { λ r. ⌜ Meets (signalOutcome entryLimit (now (plan .entry)) (now (ledger .entry)) nothing) (signalTold r) (now (ledger .exit)) ⌝ }
 {
@@ -64,8 +65,8 @@ pub fn signal(plan: &[u8], ledger: &mut [u16]) -> SignalAnswer
     }
 }
 
-// Fires a named track: its newest entry is removed, a deviation is entered, and scopes with nothing left are put to sleep. Answers the code
-// and the deviation.
+// Fires a named track: its newest entry is removed, a deviation is entered, scopes with nothing left are put to sleep, and it finishes where
+// that is due. Answers the code and the deviation.
 pub fn fire(plan: &[u8], ledger: &mut [u16], track: u16) -> FireAnswer
     ensures { λ r. ⌜ Meets (fireOutcome entryLimit (now (plan .entry)) (now (ledger .entry)) (record { track = track })) (fireTold r) (now (ledger .exit)) ⌝ }
 {
