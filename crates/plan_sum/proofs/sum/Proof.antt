@@ -1,27 +1,32 @@
--- The invariant: what is added so far and the bytes left come to the sum. The measure is the bytes left. Assumes nothing.
-use mathlib.Core.Path.{_≡_, _∙_}
-use Prim.Native.Nat.{_-_, _≤_}
-use lib.ListN.{length}
-use Rattle.rules.specs.Leading.{planSum}
-use Rattle.plan_sum.proofs.SumLaws.{sumWith, sum-start, sum-more, sum-end}
+-- The invariant: what is added so far and the numbers ahead in each quarter come to those ahead at first. The measure is what is left of a quarter.
+-- Assumes nothing.
+use mathlib.Core.Path.{_≡_}
+use Prim.Native.Nat.{_-_, _%_, _≤_}
+use native.Mathlib.Omega.{arith}
+use Rattle.plan_sum.proofs.SumLaws.{Adding, adds-none, adds-round, adds-last}
 use borrow.Author.Needs.{needs}
 use Rattle.plan_sum.proofs.sum.Statement.{statement}
 use Rattle.plan_sum.proofs.sum.Tie as tie
 
 abbrev Inv-loop : tie.InvT-loop
-Inv-loop plan sum₀ at₀ sum at = (at ≤ length plan) × (sumWith plan sum at ≡ planSum plan)
+Inv-loop plan quarter sum₀ at₀ sum at = (at ≤ quarter) × (at % 2 ≡ 0) × Adding plan quarter sum at
 
 abbrev μ-loop : tie.MeasureT-loop
-μ-loop plan sum₀ at₀ sum at = length plan - at
+μ-loop plan quarter sum₀ at₀ sum at = quarter - at
 
 loop-holds : tie.Need-loop-holds Inv-loop μ-loop
-loop-holds c = (search needs, sum-start _)
+loop-holds c = (omega arith, omega arith, adds-none _ _)
 
 loop-again : tie.Need-loop-again Inv-loop μ-loop
-loop-again c = (search needs, sum-more _ _ _ _ (c .added .ensures) (c .before .number-at .ensures) (search needs) ∙ c .before .before .before .loop .inv .1)
+loop-again c = (
+  omega arith,
+  omega arith,
+  adds-round _ _ _ _ (c .wrapping-add-u64 .ensures) _ (c .before .round .ensures) (omega arith) (omega arith) (c .before .before .before .loop .inv .2),
+)
 
 returns : tie.Need-returns Inv-loop μ-loop
-returns c = sum-end _ _ _ _ (c .added2 .ensures) (c .before .unpaired .ensures) ∙ c .before .before .before .loop .inv .1
+returns c =
+    let b = c .before .before .before in adds-last _ _ _ _ (c .wrapping-add-u642 .ensures) _ (omega arith) (c .before .last .ensures) (b .loop .inv .2)
 
 pub sum-spec : {M : Type 1} → statement M
 sum-spec =
@@ -29,13 +34,15 @@ sum-spec =
     (tie.spec
     Inv-loop
     μ-loop
-    loop-holds
     (λ c. search needs)
+    loop-holds
     (λ c κs. search needs)
     (λ c κs. search needs)
     (λ c. search needs)
     (λ c. search needs)
     loop-again
+    (λ c. search needs)
     (λ c κs. search needs)
     (λ c κs. search needs)
+    (λ c. search needs)
     returns)
