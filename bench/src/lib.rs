@@ -3,8 +3,10 @@
 //!
 //! - [`fast`]: the second opponent, written for speed.
 //! - [`sides`]: a call by each of the three.
+//! - [`sum`]: the sum of a plan's bytes alone, by each of them.
 
-#![forbid(unsafe_code)]
+#![deny(unsafe_code)]
 
 pub mod fast;
 pub mod sides;
+pub mod sum;

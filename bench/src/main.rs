@@ -1,11 +1,11 @@
 //! Prints tables of times: the proved calls beside the second program's and
-//! the fast one's, whole runs, and how each call grows. The sides make the
-//! same checks on each call; rounds alternate between them, and each figure is
-//! a median.
+//! the fast one's, the sum of a plan's bytes alone, whole runs, and how each
+//! call grows. The sides make the same checks on each call; rounds alternate
+//! between them, and each figure is a median.
 //!
-//! `bench calls | scaling`, `bench runs PROVED SECOND FAST` with three programs
-//! `unwind`, `bench all PROVED SECOND FAST` print tables, and in the last line
-//! whether the machine was disturbed. For a profiler: `bench one PLAN CALL`
+//! `bench calls | sums | scaling`, `bench runs PROVED SECOND FAST` with three
+//! programs `unwind`, `bench all PROVED SECOND FAST` print tables, and in the
+//! last line whether the machine was disturbed. For a profiler: `bench one PLAN CALL`
 //! makes one round of the proved calls alone, `bench write PLAN FOLDER` writes
 //! the plan and its journal.
 
@@ -15,6 +15,7 @@ mod rounds;
 mod runs;
 mod scaling;
 mod shapes;
+mod sums;
 
 use std::io;
 use std::path::Path;
@@ -22,7 +23,7 @@ use std::path::Path;
 use cases::Case;
 use rounds::Rounds;
 
-const USAGE: &str = "usage: bench calls | scaling | runs PROVED SECOND FAST | \
+const USAGE: &str = "usage: bench calls | sums | scaling | runs PROVED SECOND FAST | \
     all PROVED SECOND FAST | one PLAN CALL | write PLAN FOLDER";
 
 fn main() -> io::Result<()> {
@@ -32,12 +33,15 @@ fn main() -> io::Result<()> {
     let mut rounds = Rounds::new();
     match words[..] {
         ["calls"] => calls::print(&mut rounds, &cases),
+        ["sums"] => sums::print(&mut rounds, &cases),
         ["scaling"] => scaling::print(&mut rounds),
         ["runs", proved, second, fast] => {
             runs::print(&mut rounds, &cases, [proved, second, fast])?;
         }
         ["all", proved, second, fast] => {
             calls::print(&mut rounds, &cases);
+            println!();
+            sums::print(&mut rounds, &cases);
             println!();
             runs::print(&mut rounds, &cases, [proved, second, fast])?;
             println!();

@@ -16,15 +16,20 @@ pub const FORWARD: u16 = 1;
 pub const UNDOING: u16 = 2;
 
 /// The leading words of the ledgers of a plan that is accepted, so that its
-/// length fits a word. The sum goes word by word, as many at once as the
-/// machine adds.
+/// length fits a word.
 #[inline(always)]
 pub fn leading(plan: &[u8]) -> [u16; LEADING_WORDS] {
+    [plan.len() as u16, sum(plan)]
+}
+
+/// The sum of an even number of bytes. It goes word by word, as many at once as
+/// the machine adds.
+#[inline(always)]
+pub fn sum(plan: &[u8]) -> u16 {
     let words = plan.chunks_exact(2);
-    let sum = words.fold(0, |sum: u16, pair| {
+    words.fold(0, |sum: u16, pair| {
         sum.wrapping_add(u16::from_le_bytes([pair[0], pair[1]]))
-    });
-    [plan.len() as u16, sum]
+    })
 }
 
 /// Sets of tracks, a bit for each.
