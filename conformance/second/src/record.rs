@@ -34,12 +34,23 @@ pub fn field(bytes: &[u8], n: usize) -> u16 {
     word(bytes, HEADER + 2 * n)
 }
 
-/// The sum modulo 65,536 of the bytes taken as little-endian 16-bit numbers;
-/// a last single byte counts as itself.
+/// At most eight bytes as one little-endian number.
+fn number(bytes: &[u8]) -> u64 {
+    let bytes = bytes.iter().rev();
+    bytes.fold(0, |number, &byte| (number << 8) | u64::from(byte))
+}
+
+/// The sum modulo 65,536 of the bytes taken as little-endian 16-bit numbers.
+/// Each round reads eight bytes as one number and counts its four 16-bit parts.
+/// The last 2, 4 or 6 bytes are counted apart, two by two; a last single byte
+/// counts as itself.
 pub fn sum(bytes: &[u8]) -> u16 {
-    let worth = |(at, &byte): (usize, &u8)| u16::from(byte) << (8 * (at % 2));
-    let bytes = bytes.iter().enumerate();
-    bytes.map(worth).fold(0, u16::wrapping_add)
+    let rounds = bytes.chunks_exact(8);
+    let last = rounds.remainder().chunks(2).map(number);
+    let shifted = |round: u64| [round, round >> 16, round >> 32, round >> 48];
+    let parts = rounds.map(number).flat_map(shifted).chain(last);
+    // Of each part the low 16 bits.
+    parts.fold(0, |sum, part| sum.wrapping_add(part as u16))
 }
 
 /// Appends one record.

@@ -7,6 +7,7 @@ use second::manager::{self, Answer};
 use second::plan::{self, Records, NONE};
 use second::record;
 use second::rules::{self, Moved};
+use testing::generate::rng::Rng;
 
 /// The sample plan with a change to its records.
 fn changed(change: impl FnOnce(&mut Records)) -> Vec<u8> {
@@ -139,6 +140,117 @@ fn the_sum_is_modulo_65536_and_a_single_last_byte_counts_as_itself() {
     assert_eq!(record::sum(&[255, 255, 2, 0]), 1);
     assert_eq!(record::sum(&[1, 2, 3]), 0x0201 + 3);
     assert_eq!(record::sum(&[7]), 7);
+}
+
+/// The sum as the paper says it, two bytes after two.
+fn plain_sum(bytes: &[u8]) -> u16 {
+    let mut sum = 0;
+    for two in bytes.chunks(2) {
+        let (low, high) = (two[0], two.get(1).copied().unwrap_or(0));
+        sum = (sum + u32::from(low) + 256 * u32::from(high)) % 65_536;
+    }
+    sum as u16
+}
+
+/// So many bytes, each from 0 to `highest`.
+fn random_bytes(count: usize, highest: usize) -> Vec<u8> {
+    let mut rng = Rng::for_case(7, 14, count as u64);
+    (0..count).map(|_| rng.below(highest + 1) as u8).collect()
+}
+
+/// The bytes of these words.
+fn bytes(words: &[u16]) -> Vec<u8> {
+    let mut bytes = Vec::new();
+    record::put_words(&mut bytes, words);
+    bytes
+}
+
+#[test]
+fn the_sum_is_the_plain_one_for_every_length_and_start() {
+    for length in 0..=400 {
+        for bytes in [random_bytes(length + 8, 255), vec![255; length + 8]] {
+            for start in 0..8 {
+                let part = &bytes[start..][..length];
+                assert_eq!(record::sum(part), plain_sum(part), "{length} from {start}");
+            }
+        }
+    }
+}
+
+#[test]
+fn each_byte_of_a_round_and_of_each_tail_counts_by_1_or_256() {
+    // No round, one and two, and 0 to 7 bytes after them.
+    for length in 0..24 {
+        let random = random_bytes(length, 254);
+        for plain in [random, vec![0; length], vec![254; length]] {
+            for at in 0..length {
+                let mut bytes = plain.clone();
+                bytes[at] += 1;
+                let weight = if at % 2 == 0 { 1 } else { 256 };
+                let change = record::sum(&bytes).wrapping_sub(record::sum(&plain));
+                assert_eq!(change, weight, "byte {at} of {length}");
+            }
+        }
+    }
+}
+
+#[test]
+fn the_sum_passes_65535_within_a_round() {
+    assert_eq!(record::sum(&bytes(&[65_535, 1, 0, 0])), 0);
+    assert_eq!(record::sum(&bytes(&[0, 40_000, 0, 25_537])), 1);
+    // Three times: 4 times 65,535 is 262,140.
+    assert_eq!(record::sum(&[255; 8]), 65_532);
+}
+
+#[test]
+fn the_sum_passes_65535_between_rounds() {
+    let (first, second) = ([16_383; 4], [2, 0, 0, 3]);
+    assert_eq!(record::sum(&bytes(&first)), 65_532);
+    assert_eq!(record::sum(&bytes(&second)), 5);
+    assert_eq!(record::sum(&bytes(&[first, second].concat())), 1);
+}
+
+#[test]
+fn the_sum_passes_65535_in_the_tail_alone() {
+    let round = bytes(&[65_530, 0, 0, 4]);
+    assert_eq!(record::sum(&round), 65_534);
+    let tails: [(&[u8], u16); 4] = [
+        (&[3], 1),
+        (&[0, 1], 254),
+        (&[1, 0, 9, 0], 8),
+        (&[0, 0, 1, 0, 2, 1], 257),
+    ];
+    for (tail, sum) in tails {
+        assert_eq!(record::sum(&[&round[..], tail].concat()), sum, "{tail:?}");
+    }
+}
+
+/// The sample plan with up to three transitions more, and so plans that rounds
+/// of eight leave 4, 2, 0 and 6 bytes of.
+fn by_tails() -> [Vec<u8>; 4] {
+    let more = |count: u16| (0..count).map(|n| step(0, 15 + n, 0, 0));
+    [0, 1, 2, 3].map(|count| changed(|p| p.transitions.extend(more(count))))
+}
+
+#[test]
+fn begin_writes_the_plain_sum_whatever_rounds_of_eight_leave() {
+    assert_eq!(by_tails().map(|plan| plan.len() % 8), [4, 2, 0, 6]);
+    for plan in by_tails() {
+        let leading = [plan.len() as u16, plain_sum(&plan)];
+        assert_eq!(worked(&plan, &[])[..2], leading);
+    }
+}
+
+#[test]
+fn a_sum_without_the_last_bytes_is_24() {
+    for plan in by_tails() {
+        let words = worked(&plan, &[10, 11]);
+        for kept in [8, 6, 4, 2].map(|cut| &plan[..plan.len() - cut]) {
+            let leading = [words[0], plain_sum(kept)];
+            refused(&plan, &led_by(leading, &words), 24);
+        }
+        assert_eq!(number(manager::ready(&plan, &words)), 0);
+    }
 }
 
 #[test]
