@@ -4,11 +4,14 @@
 //! and what soundness makes of a finish left to do.
 
 use crate::generate::singles::Call::{self, Entries, Event, Fire, Ready, Signal};
-use crate::samples::{sample, sample_records, scoped_links, state, step, track, two_links};
+use crate::samples::{
+    looping, sample, sample_records, scoped_links, state, step, track, two_links,
+};
 use crate::vectors;
 use second::ledger::{track_words_mut, words_needed};
 use second::manager;
 use second::plan::{self, Records, NONE};
+use second::record;
 
 /// Where they stand, from the repository's root.
 pub const FILE: &str = "conformance/cases/calls.txt";
@@ -38,6 +41,7 @@ pub fn all() -> Vec<Stored> {
         alike(),
         near_finish(),
         finish_left(),
+        tails(),
     ];
     parts.into_iter().flatten().collect()
 }
@@ -286,4 +290,41 @@ fn finish_left() -> Vec<Stored> {
         begin,
     ]);
     calls
+}
+
+/// `looping` with so many transitions. The code of the fourth is such that the
+/// plan's last word brings the sum past 65,535 once more.
+fn looping_by(transitions: usize) -> Vec<u8> {
+    let mut plan = looping();
+    plan.transitions.push(step(0, 4, 65_408, 1));
+    plan.transitions.truncate(transitions);
+    plan.encode()
+}
+
+/// Plans that rounds of eight bytes leave 0, 2, 4 and 6 bytes of, and sums that
+/// not all of these are in.
+fn tails() -> Vec<Stored> {
+    let [four, two, none, six] = [1, 2, 3, 4].map(looping_by);
+    let begin = |shows: &str, plan: &[u8]| Stored {
+        shows: format!("a plan of {} bytes begun: {shows}", plan.len()),
+        line: vectors::begin_line(plan, &UNBEGUN[..70]),
+    };
+    let without = |last: usize, plan: &[u8]| {
+        let length = plan.len();
+        let shows = format!("a plan of {length} bytes, the last {last} not in the sum: 24");
+        let sum = record::sum(&plan[..length - last]);
+        stored(&shows, plan, &with(worked(plan, &[]), &[(1, sum)]), Ready)
+    };
+    let own = "a plan of 86 bytes, its own ledger: event";
+    vec![
+        begin("none left after rounds of eight", &none),
+        begin("2 left after rounds of eight", &two),
+        begin("4 left after rounds of eight", &four),
+        begin("6 left, the last 2 bring the sum past 65,535 again", &six),
+        stored(own, &six, &worked(&six, &[]), Event(1)),
+        without(2, &two),
+        without(4, &four),
+        without(2, &six),
+        without(6, &six),
+    ]
 }

@@ -82,9 +82,13 @@ pub enum Happening {
     Alike,
     AlikeSound,
     AlikeUnsound,
+    TailOf0,
+    TailOf2,
+    TailOf4,
+    TailOf6,
 }
 
-const HAPPENINGS: usize = 58;
+const HAPPENINGS: usize = 62;
 
 /// Refusals 1 to 24.
 const REFUSALS: usize = 24;
@@ -319,6 +323,26 @@ const HAPPENING_FLOORS: [(Happening, &str, u64); HAPPENINGS] = [
         Happening::AlikeUnsound,
         "plans alike in both words: 18",
         450,
+    ),
+    (
+        Happening::TailOf0,
+        "words tested, no byte after rounds of eight",
+        20_000,
+    ),
+    (
+        Happening::TailOf2,
+        "words tested, 2 bytes after rounds of eight",
+        20_000,
+    ),
+    (
+        Happening::TailOf4,
+        "words tested, 4 bytes after rounds of eight",
+        40_000,
+    ),
+    (
+        Happening::TailOf6,
+        "words tested, 6 bytes after rounds of eight",
+        20_000,
     ),
 ];
 
@@ -684,6 +708,7 @@ impl Coverage {
             self.few_words(&plan, single.words.len());
             return self.answer(single, None);
         }
+        self.tail(&plan);
         if !ledger::is_of(&plan, &single.words) {
             self.other_plan(&plan, single);
             return self.answer(single, None);
@@ -712,6 +737,18 @@ impl Coverage {
         self.count_if(words < LEADING_WORDS, Happening::FewerThanLeading);
         let next = words + 1 == words_needed(plan);
         self.count_if(next, Happening::OneWordTooFew);
+    }
+
+    /// Counts a call that tests the leading words, by the bytes of the plan that
+    /// rounds of eight leave.
+    fn tail(&mut self, plan: &Plan) {
+        self.count(match plan.length() % 8 {
+            0 => Happening::TailOf0,
+            2 => Happening::TailOf2,
+            4 => Happening::TailOf4,
+            6 => Happening::TailOf6,
+            _ => unreachable!("an accepted plan of odd length"),
+        });
     }
 
     /// Counts a call that is refused as 24.

@@ -91,6 +91,38 @@ fn stored_calls_that_finish_leave_zeros_behind_the_leading_words() {
     }
 }
 
+/// The leading words that the stored calls whose comment starts so are given,
+/// and those that they leave.
+fn leading_words(shows: &str) -> Vec<[String; 2]> {
+    let calls = calls::all().into_iter();
+    let shown = calls.filter(|call| call.shows.starts_with(shows));
+    let leading = |call: calls::Stored| {
+        let fields: Vec<&str> = call.line.split(';').collect();
+        [fields[2], fields[5]].map(|words| words[..8].to_string())
+    };
+    shown.map(leading).collect()
+}
+
+#[test]
+fn stored_calls_on_plans_of_each_tail_have_the_sums_that_they_say() {
+    // Of four plans the length, the sum, and sums without some last bytes.
+    let plans: [(u16, u16, &[u16]); 4] = [
+        (72, 110, &[]),
+        (58, 90, &[86]),
+        (44, 63, &[55]),
+        (86, 3, &[65_535, 65_530]),
+    ];
+    for (length, sum, cut) in plans {
+        let words = |sum: u16| format!("{length:04x}{sum:04x}");
+        let begun = leading_words(&format!("a plan of {length} bytes begun"));
+        assert_eq!(begun, [["a5a5a5a5".to_string(), words(sum)]]);
+        let refused = leading_words(&format!("a plan of {length} bytes, the last"));
+        let expected: Vec<_> = cut.iter().map(|&sum| [words(sum), words(sum)]).collect();
+        assert_eq!(refused, expected);
+    }
+    assert_eq!(answers("a plan of 86 bytes, its own ledger"), ["D1,0"]);
+}
+
 /// The lines that a stored run prints.
 fn lines(name: &str) -> Vec<String> {
     let folder = root().join("conformance/cases").join(name);
@@ -132,7 +164,7 @@ fn stored_calls_are_refused_with_the_number_that_they_name() {
             named += 1;
         }
     }
-    assert_eq!(named, 26);
+    assert_eq!(named, 30);
 }
 
 #[test]
