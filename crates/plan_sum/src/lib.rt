@@ -12,8 +12,8 @@ fn number(low: u8, high: u8) -> u64
     low as u64 + 256 * (high as u64)
 }
 
-// The numbers of a round's eight bytes, added up: one from each quarter of the plan. So the next round's numbers stand right behind these, and the
-// compiler adds many rounds at once.
+// The numbers of a round's eight bytes, added up: one from each quarter of the plan. The next round's numbers stand right behind them, so that the
+// compiler can add many rounds at once.
 fn round(plan: &[u8], quarter: usize, at: usize) -> u64
     requires { ⌜ (at + 2 ≤ quarter) × (4 * quarter ≤ length (now plan)) ⌝ }
     ensures { λ r. ⌜ r ≡ word (now (plan .entry)) at + word (now (plan .entry)) (quarter + at)
@@ -71,6 +71,7 @@ fn last(plan: &[u8], at: usize) -> u64
 pub fn sum(plan: &[u8]) -> u16
     ensures { λ r. ⌜ r ≡ planSum (now (plan .entry)) ⌝ }
 {
+    // bytes of a quarter, of all that fill rounds
     let quarter = plan.len() / 8 * 2;
     let mut sum: u64 = 0;
     let mut at: usize = 0;

@@ -1,5 +1,5 @@
 -- One byte is left, or none. Assumes nothing.
-use mathlib.Core.Path.{sym, _∙_}
+use mathlib.Core.Path.{sym}
 use native.Mathlib.Omega.{arith}
 use Rattle.plan_sum.proofs.SumLaws.{total-last, total-none}
 use borrow.Author.Needs.{needs}
@@ -7,7 +7,9 @@ use Rattle.plan_sum.proofs.unpaired.Statement.{statement}
 use Rattle.plan_sum.proofs.unpaired.Tie as tie
 
 returns : tie.Need-returns
-returns c = (omega (arith, c .number .ensures .0, total-last (c .before .before .before .before .args .plan .now) (c .before .before .before .before .args .at) (omega arith) (omega arith)), c .number .ensures .1)
+returns c =
+    let s = c .before .before .before .before in
+    (omega (arith, total-last (s .args .plan .now) (s .args .at) (omega arith) (omega arith)), c .number .ensures .1)
 
 returns-2 : tie.Need-returns-2
 returns-2 c = (sym (total-none _ _ (c .before .before .pre .0) (c .if1 .left)), omega arith)
