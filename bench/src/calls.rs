@@ -8,7 +8,7 @@ use crate::cases::Case;
 use crate::rounds::Rounds;
 
 /// Rounds of each side.
-const ROUNDS: usize = 201;
+pub const ROUNDS: usize = 201;
 
 /// Ledgers of a round, each called on once.
 const LEDGERS: usize = 32;

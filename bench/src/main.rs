@@ -5,9 +5,9 @@
 //!
 //! `bench calls | sums | scaling`, `bench runs PROVED SECOND FAST` with three
 //! programs `unwind`, `bench all PROVED SECOND FAST` print tables, and in the
-//! last line whether the machine was disturbed. For a profiler: `bench one PLAN CALL`
-//! makes one round of the proved calls alone, `bench write PLAN FOLDER` writes
-//! the plan and its journal.
+//! last line whether the machine was disturbed. For a profiler: `bench one PLAN
+//! CALL` makes one round of the proved calls alone, `bench write PLAN FOLDER`
+//! writes the plan and its journal.
 
 mod calls;
 mod cases;

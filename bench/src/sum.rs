@@ -9,14 +9,26 @@ use crate::fast;
 /// Who forms the sum.
 pub type Side = fn(&[u8]) -> u16;
 
-/// As the proved calls formed it before, two bytes a round.
-pub fn before(bytes: &[u8]) -> u16 {
-    proved::by_two(bytes)
+/// What `libtimed_sums.a` has.
+mod c {
+    extern "C" {
+        pub fn timed_sum_by_eight(plan: *const u8, plan_len: usize) -> u64;
+        pub fn timed_sum_by_two(plan: *const u8, plan_len: usize) -> u64;
+    }
 }
 
 /// As the proved calls form it, eight bytes a round.
+#[allow(unsafe_code)]
 pub fn proved(bytes: &[u8]) -> u16 {
-    proved::by_eight(bytes)
+    // SAFETY: as many bytes are lent as are said, to be read.
+    unsafe { c::timed_sum_by_eight(bytes.as_ptr(), bytes.len()) as u16 }
+}
+
+/// As they formed it before, two bytes a round.
+#[allow(unsafe_code)]
+pub fn before(bytes: &[u8]) -> u16 {
+    // SAFETY: as many bytes are lent as are said, to be read.
+    unsafe { c::timed_sum_by_two(bytes.as_ptr(), bytes.len()) as u16 }
 }
 
 /// By the second program.
@@ -27,25 +39,4 @@ pub fn second(bytes: &[u8]) -> u16 {
 /// By the fast program, of an even number of bytes.
 pub fn fast(bytes: &[u8]) -> u16 {
     fast::ledger::sum(bytes)
-}
-
-/// The functions of `libtimed_sums.a`.
-#[allow(unsafe_code)]
-mod proved {
-    mod c {
-        extern "C" {
-            pub fn timed_sum_by_eight(plan: *const u8, plan_len: usize) -> u64;
-            pub fn timed_sum_by_two(plan: *const u8, plan_len: usize) -> u64;
-        }
-    }
-
-    pub fn by_eight(bytes: &[u8]) -> u16 {
-        // SAFETY: as many bytes are lent as are said, to be read.
-        unsafe { c::timed_sum_by_eight(bytes.as_ptr(), bytes.len()) as u16 }
-    }
-
-    pub fn by_two(bytes: &[u8]) -> u16 {
-        // SAFETY: as many bytes are lent as are said, to be read.
-        unsafe { c::timed_sum_by_two(bytes.as_ptr(), bytes.len()) as u16 }
-    }
 }

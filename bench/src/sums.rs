@@ -6,11 +6,9 @@ use bench::sum::{self, Side};
 use second::journal::MAX_BYTES;
 use testing::generate::rng::Rng;
 
+use crate::calls::ROUNDS;
 use crate::cases::Case;
 use crate::rounds::Rounds;
-
-/// Rounds of each side.
-const ROUNDS: usize = 201;
 
 /// Sums of a round.
 const SUMS: usize = 64;
@@ -28,14 +26,15 @@ fn round(bytes: &[u8], side: Side) -> (f64, u64) {
 }
 
 /// Plan P, the largest plan, and as many bytes as a file may have.
-fn timed(cases: &[Case]) -> Vec<Vec<u8>> {
-    let plans = cases
-        .iter()
-        .filter(|case| ["P", "largest"].contains(&case.name.as_str()));
-    let mut timed: Vec<Vec<u8>> = plans.map(|case| case.plan.clone()).collect();
+///
+/// # Panics
+/// If there is no such plan.
+fn timed(cases: &[Case]) -> [Vec<u8>; 3] {
+    let named = |name| cases.iter().find(|case| case.name == name);
+    let plan = |name| named(name).expect("a plan of this name").plan.clone();
     let mut rng = Rng::new(7);
-    timed.push((0..MAX_BYTES).map(|_| rng.draw() as u8).collect());
-    timed
+    let longest = (0..MAX_BYTES).map(|_| rng.draw() as u8).collect();
+    [plan("P"), plan("largest"), longest]
 }
 
 /// The table of all sizes.
@@ -56,13 +55,11 @@ pub fn print(rounds: &mut Rounds, cases: &[Case]) {
             assert_eq!(total, expected, "the sides give different sums");
             time
         });
-        let to = [before, second, fast].map(|other| proved / other);
+        let [to_before, to_second, to_fast] = [before, second, fast].map(|other| proved / other);
+        let length = bytes.len();
         println!(
-            "| {} | {before:.1} | {proved:.1} | {second:.1} | {fast:.1} | {:.2} | {:.2} | {:.2} |",
-            bytes.len(),
-            to[0],
-            to[1],
-            to[2]
+            "| {length} | {before:.1} | {proved:.1} | {second:.1} | {fast:.1} | {to_before:.2} | \
+            {to_second:.2} | {to_fast:.2} |"
         );
     }
 }

@@ -1,6 +1,6 @@
 -- The numbers from a place on, one, two or three of them taken off; and the sum as the loop makes it, of what is added so far and what is ahead in
 -- the four quarters. Keeping the former modulo 2 ^ 64 changes nothing, since 65,536 divides that. Assumes nothing.
-use mathlib.Core.Path.{_≡_, ap, subst, _∙_}
+use mathlib.Core.Path.{_≡_, ap, subst}
 use mathlib.Core.List.{List}
 use Prim.Native.Nat.{ℕ, suc, _+_, _*_, _%_, _^_, _<_, _≤_}
 use native.Mathlib.Omega.{arith}
@@ -9,10 +9,6 @@ use lib.ListN.{length, getD, drop}
 use lib.Seq.{drop-cons, drop-length}
 use Rattle.rules.specs.Record.{word}
 use Rattle.rules.specs.Leading.{numbersTotal, planSum}
-
--- a number kept modulo 2 ^ 64
-kept : (n : ℕ) → n % 2 ^ 64 % 65536 ≡ n % 65536
-kept n = omega arith
 
 -- what is left of an equation once a part of both sides is taken off
 left-over : (sum a b t u : ℕ) → (sum + a) % 65536 ≡ b % 65536 → a + t ≡ b + u → (sum + u) % 65536 ≡ t % 65536
@@ -92,13 +88,15 @@ module _ (bs : List ℕ) where
     unfolding Adding
     adds-none = omega arith
 
-    module _ (sum n : ℕ) {r : ℕ} (e : r ≡ (sum + n) % 2 ^ 64) where
-      pub adds-round : (at : ℕ) → n ≡ ofRound at → at + 2 ≤ quarter → 4 * quarter ≤ length bs → Adding sum at → Adding r (at + 2)
-      unfolding Adding
-      adds-round at f h k a = omega (arith, e, f, round-more at h k, a)
+    -- a round is added, what comes out kept modulo 2 ^ 64
+    pub adds-round : (sum at : ℕ) {n r : ℕ} → r ≡ (sum + n) % 2 ^ 64 → n ≡ ofRound at → at + 2 ≤ quarter → 4 * quarter ≤ length bs
+        → Adding sum at → Adding r (at + 2)
+    unfolding Adding
+    adds-round sum at e f h k a = omega (arith, e, f, round-more at h k, a)
 
-      pub adds-last : (at : ℕ) → at ≡ quarter → n ≡ total (4 * quarter) → Adding sum at → r % 65536 ≡ planSum bs
-      unfolding Adding planSum
-      adds-last at q f a =
-          let done : (sum + ahead quarter) % 65536 ≡ ahead 0 % 65536 = subst (λ (x : ℕ). (sum + ahead x) % 65536 ≡ ahead 0 % 65536) q a in
-          rw e (kept (sum + n) ∙ rw f (left-over sum _ _ _ _ done rounds-done))
+    -- all rounds are added, and the numbers left make up the sum
+    pub adds-last : (sum at : ℕ) → at ≡ quarter → Adding sum at → (sum + total (4 * quarter)) % 65536 ≡ planSum bs
+    unfolding Adding planSum
+    adds-last sum at q a =
+        let done : (sum + ahead quarter) % 65536 ≡ ahead 0 % 65536 = subst (λ (x : ℕ). (sum + ahead x) % 65536 ≡ ahead 0 % 65536) q a in
+        left-over sum _ _ _ _ done rounds-done

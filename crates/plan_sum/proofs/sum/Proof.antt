@@ -18,15 +18,15 @@ loop-holds : tie.Need-loop-holds Inv-loop μ-loop
 loop-holds c = (omega arith, omega arith, adds-none _ _)
 
 loop-again : tie.Need-loop-again Inv-loop μ-loop
-loop-again c = (
-  omega arith,
-  omega arith,
-  adds-round _ _ _ _ (c .wrapping-add-u64 .ensures) _ (c .before .round .ensures) (omega arith) (omega arith) (c .before .before .before .loop .inv .2),
-)
+loop-again c =
+    let b = c .before .before .before in (
+      omega arith,
+      omega arith,
+      adds-round _ _ _ _ (c .wrapping-add-u64 .ensures) (c .before .round .ensures) (omega arith) (omega arith) (b .loop .inv .2),
+    )
 
 returns : tie.Need-returns Inv-loop μ-loop
-returns c =
-    let b = c .before .before .before in adds-last _ _ _ _ (c .wrapping-add-u642 .ensures) _ (omega arith) (c .before .last .ensures) (b .loop .inv .2)
+returns c = let b = c .before .before .before in omega (arith, adds-last _ _ (b .loop .sum) (b .loop .at) (omega arith) (b .loop .inv .2))
 
 pub sum-spec : {M : Type 1} → statement M
 sum-spec =
