@@ -1,6 +1,8 @@
 -- Document 01, as the requests amend it, as definitions in its order: the plan file, the ledger, what each call does, refusals, the program, property 3.
 pub mod Names
 pub mod Fold
+pub mod Signed
+pub mod Day
 pub mod Record
 pub mod Plan
 pub mod Acceptance
@@ -15,6 +17,8 @@ pub mod Signal
 pub mod Fire
 pub mod Soundness
 pub mod Call
+pub mod Calendar
+pub mod Conversion
 pub mod Answers
 pub mod Text
 pub mod Journal

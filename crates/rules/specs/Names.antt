@@ -1,6 +1,7 @@
 -- What a number or a list of numbers stands for. Each name is the numbers themselves. Assumes nothing.
 use mathlib.Core.List.{List}
 use Prim.Native.Nat.{ℕ}
+use lib.IntN.{ℤ}
 
 -- a plan's or a journal's bytes, and text
 abbrev pub Bytes : Type 0
@@ -39,3 +40,7 @@ EventNumber = ℕ
 -- a retraction code, "0 for none"
 abbrev pub Code : Type 0
 Code = ℕ
+
+-- "Day 0 is 1 January 1900"; days before it are below zero
+abbrev pub Day : Type 0
+Day = ℤ

@@ -56,3 +56,22 @@ pub enum ReadyAnswer {
     Ready(u32),
     Refused(u8),
 }
+
+// A date of the Gregorian calendar, January being month 1.
+pub struct Date {
+    pub year: u16,
+    pub month: u16,
+    pub day: u16,
+}
+
+// The date of a day.
+pub enum DateAnswer {
+    On(Date),
+    Refused(u8),
+}
+
+// The day of a date.
+pub enum DayAnswer {
+    Day(i32),
+    Refused(u8),
+}
