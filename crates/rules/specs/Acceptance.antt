@@ -1,14 +1,16 @@
--- Refusals 8 to 16, judged over the whole plan, and the reading of a plan. Assumes nothing.
+-- Refusals 8 to 16 and 25, judged over the whole plan, and the reading of a plan. Assumes nothing.
 use mathlib.Core.Bool.{Bool, true, not, _&&_, _||_}
 use mathlib.Core.List.{[], _∷_}
 use mathlib.Core.Option.{none, some}
 use Prim.Native.Nat.{ℕ, zero, suc}
 use lib.Dec.{leb, ltb, eqb}
-use Rattle.rules.specs.Names.{Bytes, Refusal, TrackNumber, StateNumber, TransitionNumber}
+use lib.Signed.{ltZ}
+use Rattle.rules.specs.Names.{Bytes, Refusal, TrackNumber, StateNumber, TransitionNumber, WindowNumber}
 use Rattle.rules.specs.declared.Counts.{Counts}
 use Rattle.rules.specs.Fold.{someBelow, firstRefusal}
+use Rattle.rules.specs.Day.{isDay}
 use Rattle.rules.specs.Record.{refused, counted, scan}
-use Rattle.rules.specs.Plan.{Plan, trackCount, stateCount, transitionCount, noState, hostWord, state, transition, owner, replacement, isRoot, isStateOf, isFinal, isHosting, first, mover, height, planOf}
+use Rattle.rules.specs.Plan.{Plan, trackCount, stateCount, transitionCount, windowCount, noState, hostWord, state, transition, window, owner, replacement, isRoot, isStateOf, isFinal, isHosting, first, mover, height, planOf}
 
 -- "A track's height exceeds 8."
 abbrev pub mostHeight : ℕ
@@ -63,7 +65,19 @@ module _ (p : Plan) where
   unfoldable pub tooHigh : TrackNumber → Bool
   tooHigh t = ltb mostHeight (height p t)
 
-  -- the lowest number that applies anywhere in the plan
+  -- 25 "a window names no transition, repeats one, ends before it begins or leaves the day range": an earlier window names it too
+  unfoldable pub repeatsWindow : WindowNumber → Bool
+  repeatsWindow w = someBelow w (λ v. eqb (window p v .transition) (window p w .transition))
+
+  unfoldable pub badWindow : WindowNumber → Bool
+  badWindow w =
+      leb (transitionCount p) (window p w .transition)
+      || repeatsWindow w
+      || ltZ (window p w .last) (window p w .first)
+      || not (isDay (window p w .first))
+      || not (isDay (window p w .last))
+
+  -- the first number that applies anywhere in the plan, 25 coming "after 16"
   unfoldable pub judgePlan : Refusal
   judgePlan =
       firstRefusal
@@ -76,6 +90,7 @@ module _ (p : Plan) where
       ∷ (14, someBelow (transitionCount p) badDeviation)
       ∷ (15, someBelow (transitionCount p) repeatsEvent)
       ∷ (16, someBelow (trackCount p) tooHigh)
+      ∷ (25, someBelow (windowCount p) badWindow)
       ∷ [])
 
 -- a refusal, or the plan's counts: its records stand at places that follow from them
@@ -86,6 +101,6 @@ pub data Reading : Type 0 where
 unfoldable pub judged : Bytes → Counts → Reading
 judged bs c = elim (judgePlan (planOf bs c)) [ zero ↦ accepted c | suc r ↦ turnedBack (suc r) ]
 
--- Refusals 2 to 16.
+-- Refusals 2 to 16, and 25.
 unfoldable pub readPlan : Bytes → Reading
 readPlan bs = elim (scan bs) [ refused r ↦ turnedBack r | counted c ↦ judged bs c ]

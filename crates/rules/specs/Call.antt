@@ -1,20 +1,22 @@
 -- The calls: from the plan's bytes, the ledger's words and the arguments to the answer and the words afterwards. Assumes nothing.
 use mathlib.Core.Path.{_≡_}
-use mathlib.Core.Bool.{Bool, cond, not, _&&_}
+use mathlib.Core.Bool.{Bool, cond, not, _&&_, _||_}
 use mathlib.Core.List.{List, [], _∷_, _++_}
 use Prim.Native.Nat.{ℕ, zero, suc, _+_, _*_}
 use lib.ListN.{length, take, drop}
 use lib.Dec.{ltb, eqb}
-use Rattle.rules.specs.Names.{Bytes, Words, Place, Refusal, TrackNumber, EventNumber}
+use lib.Signed.{ltZ}
+use Rattle.rules.specs.Names.{Bytes, Words, Place, Refusal, TrackNumber, Day}
 use Rattle.rules.specs.Fold.{countBelow, firstRefusal}
+use Rattle.rules.specs.Day.{isDay}
 use Rattle.rules.specs.Plan.{Plan, trackCount, planOf}
 use Rattle.rules.specs.Acceptance.{turnedBack, accepted, readPlan}
 use Rattle.rules.specs.Layout.{entryWidth, entriesPlace, wordCount}
-use Rattle.rules.specs.Leading.{stamped, otherPlan}
+use Rattle.rules.specs.Leading.{lastDay, dated, stamped, otherPlan}
 use Rattle.rules.specs.Ledger.{Ledger, ledgerAt, written}
 use Rattle.rules.specs.Scope.{isOver}
 use Rattle.rules.specs.Opening.{begun}
-use Rattle.rules.specs.Event.{moves, moved, closings, isFull, afterEvent}
+use Rattle.rules.specs.Event.{EventArguments, moves, moved, closings, isFull, afterEvent}
 use Rattle.rules.specs.Signal.{turnings, afterSignal}
 use Rattle.rules.specs.Fire.{mayFire, newest, afterFire, ready}
 use Rattle.rules.specs.Soundness.{isSound}
@@ -29,10 +31,7 @@ pub record Outcome : Type 0 where
   pub answer : Answer
   pub words : Words
 
--- what each call is given beside the plan and the ledger
-pub record EventArguments : Type 0 where
-  pub event : EventNumber
-
+-- what each call is given beside the plan and the ledger; of an event, its arguments
 pub data SignalArguments : Type 0 where
   nothing : SignalArguments
 
@@ -49,22 +48,37 @@ unfoldable pub refusedOr : Words → Outcome → Refusal → Outcome
 refusedOr ws o zero = o
 refusedOr ws o (suc r) = record { answer = refusal (suc r); words = ws }
 
--- under its plan: 2 to 16, and then what the call does with the plan
+-- under its plan: 2 to 16 and 25, and then what the call does with the plan
 unfoldable pub underPlan : Bytes → Words → (Plan → Outcome) → Outcome
 underPlan bs ws f =
     elim (readPlan bs) [ turnedBack r ↦ record { answer = refusal r; words = ws } | accepted c ↦ f (planOf bs c) ]
 
 -- "Answer: tracks moved, scopes closed"; "how many turned"; "code and deviation"
 unfoldable pub figures : Plan → Ledger → Call → List ℕ
-figures p l (event a) = countBelow (trackCount p) (moves p l (a .event)) ∷ closings p (moved p l (a .event)) ∷ []
+figures p l (event a) = countBelow (trackCount p) (moves p l a) ∷ closings p (moved p l a) ∷ []
 figures p l (signal a) = turnings p l ∷ []
 figures p l (fire a) = newest (l (a .track) .held) .code ∷ newest (l (a .track) .held) .deviation ∷ []
 
 -- the ledger after an accepted call
 unfoldable pub after : Plan → Ledger → Call → Ledger
-after p l (event a) = afterEvent p l (a .event)
+after p l (event a) = afterEvent p l a
 after p l (signal a) = afterSignal p l
 after p l (fire a) = afterFire p l (a .track)
+
+-- the last accepted day after an accepted call, and the words with it: an event's own, and signals and firings carry none
+unfoldable pub dayAfter : Day → Call → Day
+dayAfter day (event a) = a .day
+dayAfter day (signal a) = day
+dayAfter day (fire a) = day
+
+unfoldable pub datedBy : Call → Words → Words
+datedBy (event a) ws = dated (a .day) ws
+datedBy (signal a) ws = ws
+datedBy (fire a) ws = ws
+
+-- 26 "the event's day is out of range or before the last"
+unfoldable pub badDay : Day → Day → Bool
+badDay last day = not (isDay day) || ltZ day last
 
 -- `limit` is the most entries that a track holds
 module _ (limit : ℕ) where
@@ -80,20 +94,24 @@ module _ (limit : ℕ) where
   unfoldable pub ledgerRefusal : Bytes → Plan → Words → Refusal
   ledgerRefusal bs p ws = firstRefusal (ledgerRefusals bs p ws)
 
-  -- 19 "The event given is 0." 20 "The ledger is over (event, signal, fire)." 21 as under `isFull`.
-  -- 22 "The track may not be fired, or does not exist."
-  unfoldable pub callRefusals : Plan → Ledger → Call → List (Refusal × Bool)
-  callRefusals p l (event a) = (19, eqb (a .event) 0) ∷ (20, isOver p l) ∷ (21, isFull p limit l (a .event)) ∷ []
-  callRefusals p l (signal a) = (20, isOver p l) ∷ []
-  callRefusals p l (fire a) = (20, isOver p l) ∷ (22, not (mayFire p l (a .track))) ∷ []
+  -- 19 "The event given is 0." 26 "after 19". 20 "The ledger is over (event, signal, fire)." 21 as under `isFull`.
+  -- 22 "The track may not be fired, or does not exist." The day is the last accepted one
+  unfoldable pub callRefusals : Plan → Day → Ledger → Call → List (Refusal × Bool)
+  callRefusals p day l (event a) =
+      (19, eqb (a .event) 0) ∷ (26, badDay day (a .day)) ∷ (20, isOver p l) ∷ (21, isFull p limit l a) ∷ []
+  callRefusals p day l (signal a) = (20, isOver p l) ∷ []
+  callRefusals p day l (fire a) = (20, isOver p l) ∷ (22, not (mayFire p l (a .track))) ∷ []
 
   -- the first of them that applies to the ledger, 0 where the call is accepted
-  unfoldable pub callRefusal : Plan → Ledger → Call → Refusal
-  callRefusal p l c = firstRefusal (callRefusals p l c)
+  unfoldable pub callRefusal : Plan → Day → Ledger → Call → Refusal
+  callRefusal p day l c = firstRefusal (callRefusals p day l c)
 
-  -- the ledger after a call, a refused one too
-  unfoldable pub next : Plan → Ledger → Call → Ledger
-  next p l c = cond (eqb (callRefusal p l c) 0) (after p l c) l
+  -- the ledger and the last accepted day after a call, a refused one too
+  unfoldable pub next : Plan → Day → Ledger → Call → Ledger
+  next p day l c = cond (eqb (callRefusal p day l c) 0) (after p l c) l
+
+  unfoldable pub nextDay : Plan → Day → Ledger → Call → Day
+  nextDay p day l c = cond (eqb (callRefusal p day l c) 0) (dayAfter day c) day
 
   -- event, signal and fire
   unfoldable pub callOutcome : Bytes → Words → Call → Outcome
@@ -102,8 +120,8 @@ module _ (limit : ℕ) where
       (λ p.
       let l : Ledger = ledgerAt limit ws (trackCount p) in
       refusedOr ws
-      (record { answer = done (figures p l c); words = written limit (trackCount p) (after p l c) ws })
-      (firstRefusal (ledgerRefusals bs p ws ++ callRefusals p l c)))
+      (record { answer = done (figures p l c); words = written limit (trackCount p) (after p l c) (datedBy c ws) })
+      (firstRefusal (ledgerRefusals bs p ws ++ callRefusals p (lastDay ws) l c)))
 
   unfoldable pub eventOutcome : Bytes → Words → EventArguments → Outcome
   eventOutcome bs ws a = callOutcome bs ws (event a)

@@ -5,13 +5,18 @@ use mathlib.Core.Option.{Option, none, some}
 use Prim.Native.Nat.{ℕ}
 use lib.ListN.{length}
 use lib.Dec.{leb, eqb}
-use Rattle.rules.specs.Names.{TrackNumber, StateNumber, TransitionNumber, EventNumber, Code}
+use Rattle.rules.specs.Names.{TrackNumber, StateNumber, TransitionNumber, EventNumber, Code, Day}
 use Rattle.rules.specs.Fold.{someBelow, countBelow}
-use Rattle.rules.specs.Plan.{Plan, trackCount, stateCount, noState, transition, replacement, host, everyIn, transitionFor}
+use Rattle.rules.specs.Plan.{Plan, trackCount, stateCount, noState, transition, replacement, host, everyIn, transitionFor, takenOn}
 use Rattle.rules.specs.Ledger.{Entry, Configuration, Ledger, isAwake, isForward, sleeping}
 use Rattle.rules.specs.Opening.{enter}
 use Rattle.rules.specs.Scope.{isOpen, hasOpenScope, isEnded}
 use Rattle.rules.specs.Finish.{finished}
+
+-- what an event is given: "Each event carries a day"
+pub record EventArguments : Type 0 where
+  pub event : EventNumber
+  pub day : Day
 
 -- "A code other than 0 is installed as the newest entry, with its deviation."
 unfoldable pub install : Code → StateNumber → List Entry → List Entry
@@ -41,16 +46,16 @@ module _ (p : Plan) where
   hasCode (some x) = not (eqb (transition p x .code) 0)
 
   module _ (l : Ledger) where
-    -- "each forward track without an open scope takes its state's transition for that event, if it has one"
-    unfoldable pub move : EventNumber → TrackNumber → Option TransitionNumber
-    move event t = cond (isForward (l t .mode) && not (hasOpenScope p l t)) (transitionFor p (l t .state) event) none
+    -- "each forward track without an open scope takes its state's transition for that event, if it has one", on its days
+    unfoldable pub move : EventArguments → TrackNumber → Option TransitionNumber
+    move a t = cond (isForward (l t .mode) && not (hasOpenScope p l t)) (takenOn p (a .day) (transitionFor p (l t .state) (a .event))) none
 
-    unfoldable pub moves : EventNumber → TrackNumber → Bool
-    moves event t = isMove (move event t)
+    unfoldable pub moves : EventArguments → TrackNumber → Bool
+    moves a t = isMove (move a t)
 
     -- "All moves are chosen on the ledger before the call": each mover installs its entry and enters its destination
-    unfoldable pub moved : EventNumber → Ledger
-    moved event = enter p (λ t. destinationOf (move event t)) (λ t. installedBy (move event t) (l t))
+    unfoldable pub moved : EventArguments → Ledger
+    moved a = enter p (λ t. destinationOf (move a t)) (λ t. installedBy (move a t) (l t))
 
     -- "an open forward scope whose tracks are all in final states": closing is due to the scope of s
     unfoldable pub isClosing : StateNumber → Bool
@@ -80,11 +85,11 @@ module _ (p : Plan) where
   isReplaced m t = closesScope m t && not (eqb (replacement p (m t .state)) 0)
 
   -- 21 "A track that the event gives an entry, even one dropped in the same call, holds 32."
-  unfoldable pub isFull : ℕ → Ledger → EventNumber → Bool
-  isFull limit l event =
+  unfoldable pub isFull : ℕ → Ledger → EventArguments → Bool
+  isFull limit l a =
       someBelow (trackCount p)
-      (λ t. (hasCode (move l event t) || isReplaced (moved l event) t) && leb limit (length (l t .held)))
+      (λ t. (hasCode (move l a t) || isReplaced (moved l a) t) && leb limit (length (l t .held)))
 
   -- an event, its settlings done
-  unfoldable pub afterEvent : Ledger → EventNumber → Ledger
-  afterEvent l event = finished p (closed (moved l event))
+  unfoldable pub afterEvent : Ledger → EventArguments → Ledger
+  afterEvent l a = finished p (closed (moved l a))

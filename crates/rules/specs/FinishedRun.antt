@@ -1,16 +1,18 @@
--- The moves of a scope from its opening to its closing (the paper's finished run), in any list of calls. Assumes nothing.
+-- The moves of a scope from its opening to its closing (the paper's finished run), in any list of calls: "Finished runs are those possible on
+-- days that never fall", since an event on a day before the last accepted one is refused. Assumes nothing.
 use mathlib.Core.Path.{_≡_}
 use mathlib.Core.Bool.{Bool, true, false, cond}
 use mathlib.Core.List.{List, [], _∷_, _++_}
 use mathlib.Core.Option.{Option, none, some}
 use Prim.Native.Nat.{ℕ, zero, suc}
-use Rattle.rules.specs.Names.{TrackNumber, StateNumber, TransitionNumber, EventNumber}
+use Rattle.rules.specs.Names.{TrackNumber, StateNumber, TransitionNumber, Day}
+use Rattle.rules.specs.Day.{earliestDay}
 use Rattle.rules.specs.Plan.{Plan, trackCount, isInside}
 use Rattle.rules.specs.Ledger.{Ledger, isForward}
 use Rattle.rules.specs.Opening.{begun}
 use Rattle.rules.specs.Scope.{isOpen}
-use Rattle.rules.specs.Event.{move, moved, isClosing}
-use Rattle.rules.specs.Call.{EventArguments, SignalArguments, FireArguments, Call, event, signal, fire, callRefusal, next}
+use Rattle.rules.specs.Event.{EventArguments, move, moved, isClosing}
+use Rattle.rules.specs.Call.{SignalArguments, FireArguments, Call, event, signal, fire, callRefusal, next, nextDay}
 
 -- the transition taken, as a list
 unfoldable pub taken : Option TransitionNumber → List TransitionNumber
@@ -19,38 +21,38 @@ taken (some x) = x ∷ []
 
 module _ (p : Plan) where
   -- the transitions that an event takes of the first n tracks, in track order, of those that pass the test
-  unfoldable pub movesBelow : ℕ → (TrackNumber → Bool) → Ledger → EventNumber → List TransitionNumber
-  movesBelow zero f l e = []
-  movesBelow (suc n) f l e = movesBelow n f l e ++ cond (f n) (taken (move p l e n)) []
+  unfoldable pub movesBelow : ℕ → (TrackNumber → Bool) → Ledger → EventArguments → List TransitionNumber
+  movesBelow zero f l a = []
+  movesBelow (suc n) f l a = movesBelow n f l a ++ cond (f n) (taken (move p l a n)) []
 
-  unfoldable pub movesOf : (TrackNumber → Bool) → Ledger → EventNumber → List TransitionNumber
-  movesOf f l e = movesBelow (trackCount p) f l e
+  unfoldable pub movesOf : (TrackNumber → Bool) → Ledger → EventArguments → List TransitionNumber
+  movesOf f l a = movesBelow (trackCount p) f l a
 
   module _ (limit : ℕ) where
-    -- the ledgers that lists of calls reach from a begin
-    pub data Reached : Ledger → Type 0 where
-      start : Reached (begun p)
-      then : {l : Ledger} → Reached l → (c : Call) → Reached (next limit p l c)
+    -- the ledgers that lists of calls reach from a begin, each with the last accepted day
+    pub data Reached : Day → Ledger → Type 0 where
+      start : Reached earliestDay (begun p)
+      then : {d : Day} {l : Ledger} → Reached d l → (c : Call) → Reached (nextDay limit p d l c) (next limit p d l c)
 
     -- "from its opening": the scope of s is open on a ledger, and these are the moves inside it since it opened: at a begin or by a call,
     -- an event, a firing with a deviation. "no signal turning any of them meanwhile": one that turns none of them ends no run
-    pub data Running (s : StateNumber) : Ledger → List TransitionNumber → Type 0 where
-      by-begin : isOpen p (begun p) s ≡ true → Running s (begun p) []
-      by-call : {l : Ledger} → Reached l → (c : Call) → isOpen p l s ≡ false → isOpen p (next limit p l c) s ≡ true
-          → Running s (next limit p l c) []
-      over-event : {l : Ledger} {w : List ℕ} → Running s l w → (a : EventArguments) → callRefusal limit p l (event a) ≡ 0
-          → isOpen p (next limit p l (event a)) s ≡ true
-          → Running s (next limit p l (event a)) (w ++ movesOf (isInside p s) l (a .event))
-      over-signal : {l : Ledger} {w : List ℕ} → Running s l w → (a : SignalArguments) → callRefusal limit p l (signal a) ≡ 0
+    pub data Running (s : StateNumber) : Day → Ledger → List TransitionNumber → Type 0 where
+      by-begin : isOpen p (begun p) s ≡ true → Running s earliestDay (begun p) []
+      by-call : {d : Day} {l : Ledger} → Reached d l → (c : Call) → isOpen p l s ≡ false → isOpen p (next limit p d l c) s ≡ true
+          → Running s (nextDay limit p d l c) (next limit p d l c) []
+      over-event : {d : Day} {l : Ledger} {w : List ℕ} → Running s d l w → (a : EventArguments) → callRefusal limit p d l (event a) ≡ 0
+          → isOpen p (next limit p d l (event a)) s ≡ true
+          → Running s (nextDay limit p d l (event a)) (next limit p d l (event a)) (w ++ movesOf (isInside p s) l a)
+      over-signal : {d : Day} {l : Ledger} {w : List ℕ} → Running s d l w → (a : SignalArguments) → callRefusal limit p d l (signal a) ≡ 0
           → ((t : ℕ) → isInside p s t ≡ true → isForward (l t .mode) ≡ false)
-          → isOpen p (next limit p l (signal a)) s ≡ true
-          → Running s (next limit p l (signal a)) w
-      over-fire : {l : Ledger} {w : List ℕ} → Running s l w → (a : FireArguments) → callRefusal limit p l (fire a) ≡ 0
-          → isOpen p (next limit p l (fire a)) s ≡ true
-          → Running s (next limit p l (fire a)) w
+          → isOpen p (next limit p d l (signal a)) s ≡ true
+          → Running s (nextDay limit p d l (signal a)) (next limit p d l (signal a)) w
+      over-fire : {d : Day} {l : Ledger} {w : List ℕ} → Running s d l w → (a : FireArguments) → callRefusal limit p d l (fire a) ≡ 0
+          → isOpen p (next limit p d l (fire a)) s ≡ true
+          → Running s (nextDay limit p d l (fire a)) (next limit p d l (fire a)) w
 
     -- "to its closing": the event that closes the scope moves inside it too
     pub data Finished (s : StateNumber) : List TransitionNumber → Type 0 where
-      closed : {l : Ledger} {w : List ℕ} → Running s l w → (a : EventArguments) → callRefusal limit p l (event a) ≡ 0
-          → isClosing p (moved p l (a .event)) s ≡ true
-          → Finished s (w ++ movesOf (isInside p s) l (a .event))
+      closed : {d : Day} {l : Ledger} {w : List ℕ} → Running s d l w → (a : EventArguments) → callRefusal limit p d l (event a) ≡ 0
+          → isClosing p (moved p l a) s ≡ true
+          → Finished s (w ++ movesOf (isInside p s) l a)

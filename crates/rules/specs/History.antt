@@ -12,7 +12,8 @@ use Rattle.rules.specs.declared.FireAnswer.{FireAnswer}
 use Rattle.rules.specs.Plan.{Plan, trackCount}
 use Rattle.rules.specs.Ledger.{isEmpty}
 use Rattle.rules.specs.Fire.{mayFire}
-use Rattle.rules.specs.Call.{Answer, EventArguments, SignalArguments, FireArguments, Call, event, signal, fire, eventOutcome, signalOutcome, fireOutcome, Meets}
+use Rattle.rules.specs.Event.{EventArguments}
+use Rattle.rules.specs.Call.{Answer, SignalArguments, FireArguments, Call, event, signal, fire, eventOutcome, signalOutcome, fireOutcome, Meets}
 use Rattle.rules.specs.Answers.{eventTold, signalTold, fireTold}
 use Rattle.rules.specs.Books.{Books}
 use Rattle.rules.specs.ReferenceRun.{wordsAfter, answersAfter, booksAfter, ledgerAfter, AllWithdrawn}

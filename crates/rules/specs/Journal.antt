@@ -5,27 +5,27 @@ use mathlib.Core.Option.{none, some}
 use Prim.Native.Nat.{ℕ, _+_, _-_}
 use lib.ListN.{length, getD}
 use lib.Dec.{leb, ltb, eqb}
-use Rattle.rules.specs.Names.{Bytes, Place, Kind}
-use Rattle.rules.specs.Record.{word, sizeAt, kindAt}
+use Rattle.rules.specs.Names.{Bytes, Place, Kind, Day}
+use Rattle.rules.specs.Record.{word, dayAt, sizeAt, kindAt}
 use Rattle.rules.specs.Plan.{Plan, trackCount}
 use Rattle.rules.specs.Ledger.{Ledger}
 use Rattle.rules.specs.Fire.{lowestReady}
 use Rattle.rules.specs.Call.{Call, event, signal, fire, nothing}
 
--- "16 event"; "17 signal"; "18 fire"; "19 fire the lowest ready track"
-abbrev pub eventKind : Kind
-eventKind = 16
-
+-- "17 signal"; "18 fire"; "19 fire the lowest ready track"; "Journals use kind 20, length 10: event, then day; kind 16 is withdrawn"
 abbrev pub signalKind : Kind
 signalKind = 17
 
 abbrev pub fireKind : Kind
 fireKind = 18
 
--- "16 event (length 6, event), 17 signal (length 4), 18 fire (length 6, track), 19 fire the lowest ready track (length 4)";
+abbrev pub eventKind : Kind
+eventKind = 20
+
+-- "17 signal (length 4), 18 fire (length 6, track), 19 fire the lowest ready track (length 4)", 20 event (length 10);
 -- 0 where there is no such kind
 unfoldable pub journalLength : Kind → ℕ
-journalLength kind = cond (ltb kind eventKind) 0 (getD (6 ∷ 4 ∷ 6 ∷ 4 ∷ []) (kind - eventKind) 0)
+journalLength kind = cond (ltb kind signalKind) 0 (getD (4 ∷ 6 ∷ 4 ∷ 10 ∷ []) (kind - signalKind) 0)
 
 -- what stands at a place of the journal
 pub data Item : Type 0 where
@@ -40,15 +40,15 @@ isBroken js at =
     || not (eqb (sizeAt js at) (journalLength (kindAt js at)))
     || ltb (length js) (at + sizeAt js at)
 
-unfoldable pub recordOf : Kind → ℕ → Item
-recordOf kind field =
-    cond (eqb kind eventKind) (called (event (record { event = field })))
+unfoldable pub recordOf : Kind → ℕ → Day → Item
+recordOf kind field day =
+    cond (eqb kind eventKind) (called (event (record { event = field; day = day })))
     (cond (eqb kind signalKind) (called (signal nothing))
     (cond (eqb kind fireKind) (called (fire (record { track = field }))) fireLowest))
 
 unfoldable pub itemAt : Bytes → Place → Item
 itemAt js at =
-    cond (leb (length js) at) ended (cond (isBroken js at) broken (recordOf (kindAt js at) (word js (at + 4))))
+    cond (leb (length js) at) ended (cond (isBroken js at) broken (recordOf (kindAt js at) (word js (at + 4)) (dayAt js (at + 6))))
 
 -- "fire the lowest ready track (.. refused as 20 or 22)": where none is ready, a track that does not exist is refused so
 unfoldable pub fireLowestCall : Plan → Ledger → Call

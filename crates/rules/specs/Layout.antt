@@ -6,15 +6,22 @@ use Rattle.rules.specs.Names.{Place, TrackNumber}
 unfoldable pub entryLimit : ℕ
 entryLimit = 32
 
--- "Each ledger gains two leading words": they stand before the first track's; where each of them stands
+-- "Each ledger gains two leading words", and "the ledger's next two leading words hold the last accepted" day: they stand before the
+-- first track's; where each of them stands
 unfoldable pub leadingWords : ℕ
-leadingWords = 2
+leadingWords = 4
 
 abbrev pub lengthPlace : Place
 lengthPlace = 0
 
 abbrev pub sumPlace : Place
 sumPlace = 1
+
+abbrev pub lowDayPlace : Place
+lowDayPlace = 2
+
+abbrev pub highDayPlace : Place
+highDayPlace = 3
 
 -- "mode, state, count of entries held": where a track's state and count stand, from where its words start
 unfoldable pub headWords : ℕ
@@ -45,6 +52,6 @@ module _ (limit : ℕ) where
   unfoldable pub entriesPlace : TrackNumber → Place
   entriesPlace t = trackPlace t + headWords
 
-  -- "The ledger needs 2 + 67 × tracks words."
+  -- "The ledger needs 2 + 67 × tracks words", and two more for the day
   unfoldable pub wordCount : ℕ → ℕ
   wordCount tracks = trackPlace tracks

@@ -33,6 +33,9 @@ StateNumber = ℕ
 abbrev pub TransitionNumber : Type 0
 TransitionNumber = ℕ
 
+abbrev pub WindowNumber : Type 0
+WindowNumber = ℕ
+
 -- "event (1 to 65535)"
 abbrev pub EventNumber : Type 0
 EventNumber = ℕ

@@ -1,4 +1,4 @@
--- The plan that the records hold: tracks (the report's automata), states and transitions, each numbered from 0 in file order.
+-- The plan that the records hold: tracks (the report's automata), states, transitions and windows, each numbered from 0 in file order.
 -- Assumes nothing.
 use mathlib.Core.Bool.{Bool, true, false, cond, not, _&&_, _||_}
 use mathlib.Core.List.{List}
@@ -6,10 +6,12 @@ use mathlib.Core.Option.{Option, none, some}
 use Prim.Native.Nat.{ℕ, zero, suc, _+_, _*_}
 use lib.ListN.{length, getD}
 use lib.Dec.{ltb, eqb}
-use Rattle.rules.specs.Names.{Bytes, Place, TrackNumber, StateNumber, TransitionNumber, EventNumber, Code}
+use lib.IntN.{pos}
+use lib.Signed.{leZ}
+use Rattle.rules.specs.Names.{Bytes, Place, TrackNumber, StateNumber, TransitionNumber, WindowNumber, EventNumber, Code, Day}
 use Rattle.rules.specs.declared.Counts.{Counts}
 use Rattle.rules.specs.Fold.{someBelow, everyBelow, greatestBelow, firstBelow, tabulate}
-use Rattle.rules.specs.Record.{trackKind, stateKind, transitionKind, word, lengthOf}
+use Rattle.rules.specs.Record.{trackKind, stateKind, transitionKind, windowKind, word, dayAt, lengthOf}
 
 -- 65535 stands for no state: a root has no host, an entry no deviation
 unfoldable pub noState : StateNumber
@@ -30,12 +32,18 @@ pub record Transition : Type 0 where
   pub deviation : StateNumber
   pub destination : StateNumber
 
+pub record Window : Type 0 where
+  pub transition : TransitionNumber
+  pub first : Day
+  pub last : Day
+
 pub record Plan : Type 0 where
   pub hosts : List StateNumber
   pub states : List State
   pub transitions : List Transition
+  pub windows : List Window
 
--- where the record of a track, a state and a transition starts: kinds never fall, so each kind's records follow one another
+-- where the record of a track, a state, a transition and a window starts: kinds never fall, so each kind's records follow one another
 unfoldable pub trackRecord : TrackNumber → Place
 trackRecord t = lengthOf trackKind * t
 
@@ -44,6 +52,9 @@ stateRecord c s = trackRecord (c .tracks) + lengthOf stateKind * s
 
 unfoldable pub transitionRecord : Counts → TransitionNumber → Place
 transitionRecord c x = stateRecord c (c .states) + lengthOf transitionKind * x
+
+unfoldable pub windowRecord : Counts → WindowNumber → Place
+windowRecord c w = transitionRecord c (c .transitions) + lengthOf windowKind * w
 
 -- "track, final (0 or 1), replacement code (0 for none)"
 unfoldable pub stateAt : Bytes → Place → State
@@ -60,6 +71,14 @@ transitionAt bs at =
       destination = word bs (at + 12);
     }
 
+-- "transition number, first day, last day"
+unfoldable pub windowAt : Bytes → Place → Window
+windowAt bs at = record { transition = word bs (at + 4); first = dayAt bs (at + 6); last = dayAt bs (at + 10) }
+
+-- "from first to last inclusive"
+unfoldable pub isWithin : Window → Day → Bool
+isWithin w day = leZ (w .first) day && leZ day (w .last)
+
 -- the plan in bytes that hold so many records of each kind
 unfoldable pub planOf : Bytes → Counts → Plan
 planOf bs c =
@@ -67,6 +86,7 @@ planOf bs c =
       hosts = tabulate (c .tracks) (λ t. word bs (trackRecord t + 4));
       states = tabulate (c .states) (λ s. stateAt bs (stateRecord c s));
       transitions = tabulate (c .transitions) (λ x. transitionAt bs (transitionRecord c x));
+      windows = tabulate (c .windows) (λ w. windowAt bs (windowRecord c w));
     }
 
 module _ (p : Plan) where
@@ -79,6 +99,9 @@ module _ (p : Plan) where
   unfoldable pub transitionCount : ℕ
   transitionCount = length (p .transitions)
 
+  unfoldable pub windowCount : ℕ
+  windowCount = length (p .windows)
+
   -- the fields of a record by its number; beyond the last there is nothing
   unfoldable pub hostWord : TrackNumber → StateNumber
   hostWord t = getD (p .hosts) t noState
@@ -88,6 +111,9 @@ module _ (p : Plan) where
 
   unfoldable pub transition : TransitionNumber → Transition
   transition x = getD (p .transitions) x (record { source = noState; event = 0; code = 0; deviation = noState; destination = noState })
+
+  unfoldable pub window : WindowNumber → Window
+  window w = getD (p .windows) w (record { transition = noState; first = pos 0; last = pos 0 })
 
   -- the state that hosts a track; a root has none
   unfoldable pub host : TrackNumber → Option StateNumber
@@ -139,6 +165,15 @@ module _ (p : Plan) where
   -- the transition of a state for an event
   unfoldable pub transitionFor : StateNumber → EventNumber → Option TransitionNumber
   transitionFor s event = firstBelow transitionCount (λ x. eqb (transition x .source) s && eqb (transition x .event) event)
+
+  -- a window record "restricts a transition to days from first to last inclusive": the transition may be taken on a day
+  unfoldable pub mayTake : Day → TransitionNumber → Bool
+  mayTake day x = everyBelow windowCount (λ w. not (eqb (window w .transition) x) || isWithin (window w) day)
+
+  -- "outside, that track ignores the event": the transition, if there is one and it may be taken on the day
+  unfoldable pub takenOn : Day → Option TransitionNumber → Option TransitionNumber
+  takenOn day none = none
+  takenOn day (some x) = cond (mayTake day x) (some x) none
 
   -- the track that a transition moves
   unfoldable pub mover : TransitionNumber → TrackNumber

@@ -35,7 +35,7 @@ module _ (limit : ℕ) (bs : Bytes) where
     -- "Event: she chooses the moves on her ledger; their transitions change the books, in track order"; "Signal: only her ledger
     -- alters"; "Fire: the code of the entry removed changes the books"
     unfoldable pub bookedCall : Ledger → Call → k .State → k .State
-    bookedCall l (event a) b = act (k .changed) (movesOf p (λ t. true) l (a .event)) b
+    bookedCall l (event a) b = act (k .changed) (movesOf p (λ t. true) l a) b
     bookedCall l (signal a) b = b
     bookedCall l (fire a) b = k .retracted (newest (l (a .track) .held) .code) b
 

@@ -9,7 +9,9 @@ use Rattle.rules.specs.Names.{Words, Place, TrackNumber, StateNumber}
 use Rattle.rules.specs.declared.Mode.{Mode}
 use Rattle.rules.specs.declared.Mode.the-variants.{Asleep, Forward, Undoing}
 use Rattle.rules.specs.Fold.{someBelow, everyBelow}
+use Rattle.rules.specs.Day.{isDay}
 use Rattle.rules.specs.Layout.{headWords, countPlace, entryWidth, trackWidth, trackPlace}
+use Rattle.rules.specs.Leading.{lastDay}
 use Rattle.rules.specs.Plan.{Plan, trackCount, stateCount, noState, host, owner, isRoot, isStateOf, isFinal, everyIn}
 use Rattle.rules.specs.Ledger.{Entry, Ledger, isAwake, isForward, isUndoing, ledgerAt}
 use Rattle.rules.specs.Scope.{isOver}
@@ -106,8 +108,9 @@ module _ (p : Plan) (l : Ledger) where
       rootsAwake && statesOwn && codesReal && deviationsGood && scopesWhole && hostsAwake
       && closingDone && finishDone && abandoningDone
 
--- "A ledger is sound if its words are as just described and it is all asleep ("over"), or: .."
+-- "A ledger is sound if its words are as just described and it is all asleep ("over"), or: ..", and "soundness asks a day in range"
 unfoldable pub isSound : ℕ → Plan → Words → Bool
 isSound limit p ws =
-    areTidy limit ws (trackCount p)
+    isDay (lastDay ws)
+    && areTidy limit ws (trackCount p)
     && (isOver p (ledgerAt limit ws (trackCount p)) || isLive p (ledgerAt limit ws (trackCount p)))

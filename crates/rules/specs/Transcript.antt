@@ -88,7 +88,8 @@ mostBytes = 32768
 unfoldable pub ownWords : Words
 ownWords = replicate (wordCount entryLimit (mostOf trackKind)) 0
 
--- "It begins, then prints `PLAN` ..; a line for each record ..; last `H` .." "A refusal 1 to 16 prints its `R` line alone."
+-- "It begins, then prints `PLAN` ..; a line for each record ..; last `H` .." "A refusal 1 to 16 prints its `R` line alone", and 25
+-- is "printed alone as 16 is".
 unfoldable pub transcript : Bytes → Bytes → Bytes
 transcript bs js =
     elim (ltb mostBytes (length bs) || ltb mostBytes (length js)) [

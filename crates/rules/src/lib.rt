@@ -15,11 +15,12 @@ pub struct Track {
     pub count: u16,
 }
 
-// How many tracks, states and transitions a plan has.
+// How many tracks, states, transitions and windows a plan has.
 pub struct Counts {
     pub tracks: usize,
     pub states: usize,
     pub transitions: usize,
+    pub windows: usize,
 }
 
 // What the plan reader answers: the counts, or the refusal.
