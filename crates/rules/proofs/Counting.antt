@@ -41,7 +41,7 @@ pub record Pairing (n k : ℕ) (f g : ℕ → Bool) (pair : ℕ → ℕ) : Type 
   pub passes : (s : ℕ) → s < n → f s ≡ true → g (pair s) ≡ true
   pub own : (r s : ℕ) → r < n → s < n → f r ≡ true → f s ≡ true → pair r ≡ pair s → r ≡ s
 
-count-le : (n k : ℕ) (f g : ℕ → Bool) (pair : ℕ → ℕ) → Pairing n k f g pair → countBelow n f ≤ countBelow k g
+pub count-le : (n k : ℕ) (f g : ℕ → Bool) (pair : ℕ → ℕ) → Pairing n k f g pair → countBelow n f ≤ countBelow k g
 unfolding countBelow without
 count-le zero k f g pair w = omega arith
 count-le (suc n) k f g pair w =
