@@ -16,6 +16,7 @@ pub mod Soundness
 pub mod TrackWords
 pub mod Stored
 pub mod LeadingLaws
+pub mod SignedLaws
 pub mod LedgerChecks
 pub mod Replaced
 pub mod Passes

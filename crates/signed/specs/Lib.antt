@@ -1,0 +1,2 @@
+-- Division of signed numbers.
+pub mod Floor
