@@ -3,6 +3,7 @@ pub mod Tests
 pub mod Modes
 pub mod Folds
 pub mod Counting
+pub mod Windows
 pub mod Acceptance
 pub mod Forest
 pub mod Heights
