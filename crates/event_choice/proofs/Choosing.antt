@@ -14,7 +14,7 @@ use Rattle.rules.specs.Fold.{someBelow, countBelow}
 use Rattle.rules.specs.Layout.{entryLimit}
 use Rattle.rules.specs.Plan.{Plan, planOf, trackCount, noState, optional, transition, isFinal}
 use Rattle.rules.specs.Ledger.{Configuration, Ledger, isForward, sleeping}
-use Rattle.rules.specs.Event.{isMove, hasCode, move, moves, moved, closed, closings}
+use Rattle.rules.specs.Event.{EventArguments, isMove, hasCode, move, moves, moved, closed, closings}
 use Rattle.rules.proofs.Tests.{look, clash}
 use Rattle.rules.proofs.Folds.{some-not, some-same, count-same}
 use Rattle.rules.proofs.Acceptance.{Accepted, transition-for}
@@ -37,7 +37,7 @@ is-move : (p : Plan) (w : ℕ) → not (eqb w noState) ≡ isMove (optional w)
 unfolding optional isMove
 is-move p w = elim (look (eqb w noState)) [ inl q ↦ rw (q, isMove) | inr q ↦ rw (q, isMove) ]
 
-module _ (bs : List ℕ) (c : Counts) (ws : List ℕ) (g : Going bs c ws) (event : ℕ) {ts : List ℕ}
+module _ (bs : List ℕ) (c : Counts) (ws : List ℕ) (g : Going bs c ws) (event : EventArguments) {ts : List ℕ}
     (took : Numbers ts (c .tracks) (move (planOf bs c) (ledgerOf c ws) event)) where
   abbrev p : Plan
   p = planOf bs c
@@ -55,7 +55,7 @@ module _ (bs : List ℕ) (c : Counts) (ws : List ℕ) (g : Going bs c ws) (event
   in-range =
       record {
         low = λ t b n.
-            let (d, s, e) = transition-for p (l t .state) event (getD ts t 0) (mover-facts p ok l live event t (getD ts t 0) (sym (took .at t b) ∙ word-some n) .taken) in
+            let (d, s, e) = transition-for p (l t .state) (event .event) (getD ts t 0) (mover-facts p ok l live event t (getD ts t 0) (sym (took .at t b) ∙ word-some n) .taken) in
             omega (arith, transition-count bs c);
       }
 
@@ -83,7 +83,7 @@ module _ (bs : List ℕ) (c : Counts) (ws : List ℕ) (g : Going bs c ws) (event
 
   -- no move leads to a final state
   pub chosen-early : {v : Survey} → Surveyed p l ts (c .tracks) v → v .ends ≡ false
-      → Chosen p l (record { event = event; taken = ts; closing = replicate slots false; moved = v .moved; closed = 0; full = v .full })
+      → Chosen p l (record { event = event .event; day = event .day; taken = ts; closing = replicate slots false; moved = v .moved; closed = 0; full = v .full })
   unfolding isLast sleeping isForward
   chosen-early {v} s z =
       record {
@@ -113,7 +113,7 @@ module _ (bs : List ℕ) (c : Counts) (ws : List ℕ) (g : Going bs c ws) (event
   module _ {n : ℕ} (count : n ≡ countBelow (c .tracks) (λ t. not (eqb (getD ts t 0) noState))) where
     pub chosen-all : {ms : List Bool} {v : Verdict} → Figures false ms (c .tracks) (closesNext p l (movesOf ts (c .tracks)))
         → Judged p l (movesOf ts (c .tracks)) (c .tracks) v
-        → Chosen p l (record { event = event; taken = ts; closing = ms; moved = n; closed = v .closed; full = v .full })
+        → Chosen p l (record { event = event .event; day = event .day; taken = ts; closing = ms; moved = n; closed = v .closed; full = v .full })
     chosen-all {ms} {v} f j =
         let q = sym (track-count bs c) in
         let h = subst (λ n. Judged p l (move p l event) n v) q (subst (λ goes. Judged p l goes (c .tracks) v) moves-are j) in

@@ -11,7 +11,7 @@ use Rattle.rules.specs.Fold.{someBelow}
 use Rattle.rules.specs.Plan.{Plan, trackCount, stateCount, transition, isFinal}
 use Rattle.rules.specs.Ledger.{Configuration, Ledger, isAwake}
 use Rattle.rules.specs.Opening.{fresh, wakes}
-use Rattle.rules.specs.Event.{destinationOf, hasCode, move, moved, isClosing, closesScope, closings, isReplaced, isFull}
+use Rattle.rules.specs.Event.{EventArguments, destinationOf, hasCode, move, moved, isClosing, closesScope, closings, isReplaced, isFull}
 use Rattle.rules.proofs.Tests.{look, look-option, clash, refuted}
 use Rattle.rules.proofs.Folds.{some-same}
 use Rattle.rules.proofs.Acceptance.{Accepted}
@@ -20,7 +20,7 @@ use Rattle.rules.proofs.Soundness.{Live}
 use Rattle.event_choice.proofs.Moved.{moved-mover, moved-woken, moved-kept}
 use Rattle.event_choice.proofs.Still.{count-none}
 
-module _ (p : Plan) (ok : Accepted p) (l : Ledger) (live : Live p l) (e : ℕ)
+module _ (p : Plan) (ok : Accepted p) (l : Ledger) (live : Live p l) (e : EventArguments)
     (stays : (t x : ℕ) → move p l e t ≡ some x → isFinal p (transition p x .destination) ≡ false) where
   abbrev m : Ledger
   m = moved p l e

@@ -6,4 +6,5 @@ pub mod Still
 pub mod Ending
 pub mod Undoing
 pub mod OneMove
+pub mod DayMoves
 pub mod Choosing

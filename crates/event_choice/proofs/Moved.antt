@@ -14,12 +14,13 @@ use Rattle.rules.specs.Plan.{Plan, trackCount, stateCount, host, owner, transit
 use Rattle.rules.specs.Ledger.{Configuration, Ledger, isAwake, isForward}
 use Rattle.rules.specs.Scope.{isOpen, hasOpenScope}
 use Rattle.rules.specs.Opening.{fresh, wakes}
-use Rattle.rules.specs.Event.{install, installed, destinationOf, installedBy, hasCode, move, moved, isClosing, closesScope, closings, isReplaced, isFull}
+use Rattle.rules.specs.Event.{EventArguments, install, installed, destinationOf, installedBy, hasCode, move, moved, isClosing, closesScope, closings, isReplaced, isFull}
 use Rattle.rules.proofs.Modes.{forward-awake, forward-is}
 use Rattle.rules.proofs.Tests.{look, look-option, clash, none-some, refuted, and-holds, and-both, implies, implied, strong, same-test}
 use Rattle.rules.proofs.Folds.{every-at, every-of, some-same, count-same}
 use Rattle.rules.proofs.Counting.{count-pairs}
 use Rattle.rules.proofs.Acceptance.{Accepted, transition-for}
+use Rattle.rules.proofs.DayLaws.{taken-on}
 use Rattle.rules.proofs.Scopes.{in-host, host-in, by-host, host-by, every-in-at, every-in-of, open-at, open-find, shut-at, busy-at, busy-find, free-at}
 use Rattle.rules.proofs.Opening.{wakes-root, wakes-entered, wakes-woken, enter-to, enter-woken, enter-kept}
 use Rattle.rules.proofs.Soundness.{Live}
@@ -27,7 +28,7 @@ use Rattle.event_choice.specs.Next.{nextOf, endsBy, codeBy, endsNext, cl
 use Rattle.event_choice.proofs.Visits.{own-low}
 use Rattle.event_choice.proofs.Takers.{is-owner}
 
-module _ (p : Plan) (ok : Accepted p) (l : Ledger) (live : Live p l) (event : ℕ) where
+module _ (p : Plan) (ok : Accepted p) (l : Ledger) (live : Live p l) (event : EventArguments) where
   abbrev to : ℕ → Option ℕ
   to t = destinationOf p (move p l event t)
 
@@ -38,7 +39,7 @@ module _ (p : Plan) (ok : Accepted p) (l : Ledger) (live : Live p l) (event : �
   pub record Moves (t x : ℕ) : Type 0 where
     pub ahead : isForward (l t .mode) ≡ true
     pub free : hasOpenScope p l t ≡ false
-    pub taken : transitionFor p (l t .state) event ≡ some x
+    pub taken : transitionFor p (l t .state) (event .event) ≡ some x
 
   pub mover-facts : (t x : ℕ) → move p l event t ≡ some x → Moves t x
   unfolding move
@@ -46,7 +47,7 @@ module _ (p : Plan) (ok : Accepted p) (l : Ledger) (live : Live p l) (event : �
       elim (look (isForward (l t .mode) && not (hasOpenScope p l t))) [
         | inl g ↦
             let (a, b) = and-holds (isForward (l t .mode)) (not (hasOpenScope p l t)) g in
-            record { ahead = a; free = not-true _ b; taken = rw g at h }
+            record { ahead = a; free = not-true _ b; taken = taken-on p (event .day) _ x (rw g at h) .0 }
         | inr g ↦ let q : none ≡ some x = rw g at h in none-some refl q
       ]
 
@@ -120,7 +121,7 @@ module _ (p : Plan) (ok : Accepted p) (l : Ledger) (live : Live p l) (event : �
       go : (o : Option ℕ) → move p l event t ≡ o → isStateOf p t (m t .state) ≡ true
       go (some x) q =
           let k = mover-facts t x q in
-          let (c, s, e) = transition-for p (l t .state) event x (k .taken) in
+          let (c, s, e) = transition-for p (l t .state) (event .event) x (k .taken) in
           let o : mover p x ≡ t = ap (owner p) s ∙ is-owner p t (l t .state) (live .own t b (forward-awake (l t .mode) (k .ahead))) in
           ap (λ (c : Configuration). isStateOf p t (c .state)) (moved-mover t x q) ∙ subst (λ z. isStateOf p z (transition p x .destination) ≡ true) o (ok .destination-own x c)
       go none q =

@@ -13,7 +13,7 @@ use Rattle.rules.specs.Fold.{countBelow}
 use Rattle.rules.specs.Plan.{Plan, trackCount, stateCount}
 use Rattle.rules.specs.Ledger.{Ledger, isForward, sleeping}
 use Rattle.rules.specs.Scope.{isOpen}
-use Rattle.rules.specs.Event.{destinationOf, installedBy, isMove, move, moves, moved, isClosing, closed, closings, afterEvent}
+use Rattle.rules.specs.Event.{EventArguments, destinationOf, installedBy, isMove, move, moves, moved, isClosing, closed, closings, afterEvent}
 use Rattle.rules.specs.Finish.{finished}
 use Rattle.rules.proofs.Tests.{look, clash, refuted, and-holds}
 use Rattle.rules.proofs.Acceptance.{Accepted}
@@ -69,7 +69,7 @@ none-close p ok l h =
           absurd (omega (arith, ltb-false s (stateCount p) q)))
     ])
 
-module _ (p : Plan) (l : Ledger) (e : ℕ) where
+module _ (p : Plan) (l : Ledger) (e : EventArguments) where
   -- none of the plan's tracks moves, so none does: the others sleep
   pub no-moves : ((t : ℕ) → trackCount p ≤ t → l t ≡ sleeping) → countBelow (trackCount p) (moves p l e) ≡ 0 → (t : ℕ) → move p l e t ≡ none
   unfolding moves

@@ -15,7 +15,6 @@ use Rattle.rules.specs.Fold.{firstBelow}
 use Rattle.rules.specs.Plan.{Plan, planOf, stateCount, noState, owner, transition, mover, isStateOf, transitionFor}
 use Rattle.rules.specs.Ledger.{Ledger, isForward}
 use Rattle.rules.specs.Scope.{hasOpenScope}
-use Rattle.rules.specs.Event.{move}
 use Rattle.rules.proofs.Modes.{forward-awake}
 use Rattle.rules.proofs.Tests.{look, look-option, clash, refuted, and-holds, same-test}
 use Rattle.rules.proofs.Folds.{first-found, first-more-none, first-more-here, first-stays}
@@ -26,7 +25,7 @@ use Rattle.ledger.proofs.ReadTracks.{mode-as, state-as}
 use Rattle.lookup.specs.Figures.{Only, Numbers}
 use Rattle.lookup.proofs.Facts.{plan-facts, live-of-going}
 use Rattle.lookup.proofs.FiguresLaws.{only-none}
-use Rattle.event_choice.specs.Next.{isTaken}
+use Rattle.event_choice.specs.Next.{isTaken, anyDayMove}
 use Rattle.event_choice.proofs.Visits.{mover-low}
 
 pub is-owner : (p : Plan) (t s : ℕ) → isStateOf p t s ≡ true → owner p s ≡ t
@@ -147,6 +146,6 @@ module _ (bs : List ℕ) (c : Counts) (ws : List ℕ) (g : Going bs c ws) (event
           let q : i ≡ n = plan-facts bs c (g .checked .lent .accepts) .deterministic i n (omega (arith, h .0)) (omega arith) (s ∙ sym r) (e ∙ sym d) in
           absurd (omega (arith, h .0))
 
-  pub found-all : {ts : List ℕ} {n : ℕ} → n ≡ c .transitions → Numbers ts (c .tracks) (foundAmong p l event n) → Numbers ts (c .tracks) (move p l event)
-  unfolding foundAmong move transitionFor
+  pub found-all : {ts : List ℕ} {n : ℕ} → n ≡ c .transitions → Numbers ts (c .tracks) (foundAmong p l event n) → Numbers ts (c .tracks) (anyDayMove p l event)
+  unfolding foundAmong anyDayMove transitionFor
   found-all e m = rw (e ∙ sym (transition-count bs c)) at m

@@ -10,7 +10,7 @@ use Rattle.rules.specs.Plan.{Plan, host, owner, firstState}
 use Rattle.rules.specs.Ledger.{Configuration, Ledger, isAwake, isForward, isUndoing, sleeping}
 use Rattle.rules.specs.Scope.{hasOpenScope}
 use Rattle.rules.specs.Opening.{fresh, wakes}
-use Rattle.rules.specs.Event.{destinationOf, move, moved, isClosed, closed}
+use Rattle.rules.specs.Event.{EventArguments, destinationOf, move, moved, isClosed, closed}
 use Rattle.rules.proofs.Modes.{forward-awake, undoing-forward}
 use Rattle.rules.proofs.Tests.{look, look-option, clash, refuted, same-test}
 use Rattle.rules.proofs.Acceptance.{Accepted}
@@ -21,7 +21,7 @@ use Rattle.rules.proofs.Abandoning.{undoing-awake}
 use Rattle.rules.proofs.Soundness.{Live}
 use Rattle.event_choice.proofs.Moved.{mover-facts, woken-asleep, moved-mover, moved-woken, moved-kept}
 
-module _ (p : Plan) (ok : Accepted p) (l : Ledger) (live : Live p l) (event : ℕ) where
+module _ (p : Plan) (ok : Accepted p) (l : Ledger) (live : Live p l) (event : EventArguments) where
   abbrev to : ℕ → Option ℕ
   to t = destinationOf p (move p l event t)
 

@@ -10,7 +10,7 @@ use Rattle.rules.specs.Fold.{someBelow, countBelow}
 use Rattle.rules.specs.Layout.{entryLimit}
 use Rattle.rules.specs.Plan.{Plan, trackCount, noState, optional}
 use Rattle.rules.specs.Ledger.{Ledger}
-use Rattle.rules.specs.Event.{hasCode, move, moves, moved, closesScope, closings, isFull}
+use Rattle.rules.specs.Event.{EventArguments, hasCode, move, moves, moved, closesScope, closings, isFull}
 use Rattle.lookup.specs.Figures.{Figures, Numbers}
 use Rattle.event_choice.specs.declared.Choice.{Choice}
 use Rattle.event_choice.specs.declared.judging.Survey.{Survey}
@@ -28,10 +28,14 @@ pub record Judged (p : Plan) (l : Ledger) (goes : ℕ → Option ℕ) (n : ℕ) 
   pub closings : r .closed ≡ countBelow n (closesNext p l goes)
   pub fills : r .full ≡ someBelow n (fullNext p l goes entryLimit)
 
+-- what the event was given
+abbrev pub argumentsOf : Choice → EventArguments
+argumentsOf r = record { event = r .event; day = r .day }
+
 -- the whole choice
 pub record Chosen (p : Plan) (l : Ledger) (r : Choice) : Type 0 where
-  pub taken : Numbers (r .taken) (trackCount p) (move p l (r .event))
-  pub closing : Figures false (r .closing) (trackCount p) (closesScope p (moved p l (r .event)))
-  pub many-moved : r .moved ≡ countBelow (trackCount p) (moves p l (r .event))
-  pub many-closed : r .closed ≡ closings p (moved p l (r .event))
-  pub full : r .full ≡ isFull p entryLimit l (r .event)
+  pub taken : Numbers (r .taken) (trackCount p) (move p l (argumentsOf r))
+  pub closing : Figures false (r .closing) (trackCount p) (closesScope p (moved p l (argumentsOf r)))
+  pub many-moved : r .moved ≡ countBelow (trackCount p) (moves p l (argumentsOf r))
+  pub many-closed : r .closed ≡ closings p (moved p l (argumentsOf r))
+  pub full : r .full ≡ isFull p entryLimit l (argumentsOf r)

@@ -6,11 +6,11 @@ use mathlib.Core.Option.{Option, none, some}
 use Prim.Native.Nat.{ℕ, _<_}
 use lib.Dec.{eqb, leb, ltb}
 use lib.ListN.{length, getD}
-use Rattle.rules.specs.Names.{TrackNumber, StateNumber, TransitionNumber, EventNumber, Code}
+use Rattle.rules.specs.Names.{TrackNumber, StateNumber, TransitionNumber, EventNumber, Code, Day}
 use Rattle.rules.specs.declared.Counts.{Counts}
 use Rattle.rules.specs.declared.Mode.{Mode}
-use Rattle.rules.specs.Fold.{everyBelow}
-use Rattle.rules.specs.Plan.{Plan, trackCount, noState, optional, transition, replacement, isFinal, isHostedBy}
+use Rattle.rules.specs.Fold.{someBelow, everyBelow}
+use Rattle.rules.specs.Plan.{Plan, trackCount, noState, optional, transition, transitionFor, window, isWithin, replacement, isFinal, isHostedBy}
 use Rattle.rules.specs.Ledger.{Ledger, isAwake, isForward}
 use Rattle.rules.specs.Scope.{hasOpenScope}
 
@@ -26,6 +26,15 @@ pub record InRange (c : Counts) (ts : List ℕ) : Type 0 where
 unfoldable pub isTaken : Plan → Ledger → EventNumber → TransitionNumber → TrackNumber → Bool
 isTaken p l event x t =
     isForward (l t .mode) && not (hasOpenScope p l t) && (eqb (transition p x .source) (l t .state) && eqb (transition p x .event) event)
+
+-- the transition that a track takes for an event on any day, windows left aside
+unfoldable pub anyDayMove : Plan → Ledger → EventNumber → TrackNumber → Option TransitionNumber
+anyDayMove p l event t = cond (isForward (l t .mode) && not (hasOpenScope p l t)) (transitionFor p (l t .state) event) none
+
+-- for each transition that there can be whether one of the windows below n shuts it on a day
+pub record Shut (p : Plan) (day : Day) (n : ℕ) (ms : List Bool) : Type 0 where
+  pub size : length ms ≡ 256
+  pub at : (x : ℕ) → x < 256 → getD ms x false ≡ someBelow n (λ w. eqb (window p w .transition) x && not (isWithin (window p w) day))
 
 -- the state after a move, if there is one
 unfoldable pub nextOf : Plan → StateNumber → Option TransitionNumber → StateNumber

@@ -1,4 +1,4 @@
-// The moves of an event, chosen on the ledger before the call by one pass over the tracks and the index.
+// The moves of an event on any day, chosen on the ledger before the call by one pass over the tracks and the index.
 use ledger::track;
 use lookup::reading;
 use plan::fields::NO_STATE;
@@ -9,10 +9,10 @@ ghost use mathlib.Core.Bool.{false};
 ghost use Prim.Native.Nat.{_<_};
 ghost use Rattle.rules.specs.Plan.{planOf, optional};
 ghost use Rattle.rules.specs.Scope.{hasOpenScope};
-ghost use Rattle.rules.specs.Event.{move};
 ghost use Rattle.ledger.specs.Ladder.{Lent, ledgerOf};
 ghost use Rattle.lookup.specs.Figures.{Figures, Numbers};
 ghost use Rattle.transition_index.specs.Indexed.{Indexed};
+ghost use Rattle.event_choice.specs.Next.{anyDayMove};
 
 // The transition that a track takes, 65535 for none: its state's, if it is forward and has no open scope.
 fn taken_at(
@@ -27,7 +27,7 @@ fn taken_at(
 ) -> u16
     requires { ⌜ Lent (now plan) c (now ledger) × (t < c .tracks) × Indexed (now plan) c (now head) (now next)
         × Figures false (now opens) (c .tracks) (hasOpenScope (planOf (now plan) c) (ledgerOf c (now ledger))) ⌝ }
-    ensures { λ r. ⌜ optional r ≡ move (planOf (now (plan .entry)) c) (ledgerOf c (now (ledger .entry))) event t ⌝ }
+    ensures { λ r. ⌜ optional r ≡ anyDayMove (planOf (now (plan .entry)) c) (ledgerOf c (now (ledger .entry))) event t ⌝ }
 {
     if opens[t] {
         return NO_STATE;
@@ -40,7 +40,7 @@ fn taken_at(
     transition_for(plan, c, head, next, k.state, event)
 }
 
-// The transition that each track takes for an event, 65535 for none, given which have an open scope.
+// The transition that each track takes for an event on any day, 65535 for none, given which have an open scope.
 pub fn taken_from(
     plan: &[u8],
     c: Counts,
@@ -52,7 +52,7 @@ pub fn taken_from(
 ) -> [u16; 32]
     requires { ⌜ Lent (now plan) c (now ledger) × Indexed (now plan) c (now head) (now next)
         × Figures false (now opens) (c .tracks) (hasOpenScope (planOf (now plan) c) (ledgerOf c (now ledger))) ⌝ }
-    ensures { λ r. ⌜ Numbers r (c .tracks) (move (planOf (now (plan .entry)) c) (ledgerOf c (now (ledger .entry))) event) ⌝ }
+    ensures { λ r. ⌜ Numbers r (c .tracks) (anyDayMove (planOf (now (plan .entry)) c) (ledgerOf c (now (ledger .entry))) event) ⌝ }
 {
     let mut taken = [NO_STATE; 32];
     let tracks = c.tracks;

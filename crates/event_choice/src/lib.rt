@@ -1,8 +1,9 @@
-// What an event will do, read off the ledger before a word is written: the moves, the scopes that close, 21 and the figures.
+// What an event will do, read off the ledger before a word is written: the moves, those of its day, the scopes that close, 21 and the figures.
 pub mod closing;
 pub mod indexed;
 pub mod judging;
 pub mod moving;
+pub mod windows;
 
 use rules::Counts;
 ghost use mathlib.Core.Path.{_≡_};
@@ -13,12 +14,13 @@ ghost use Rattle.rules.specs.Event.{move};
 ghost use Rattle.ledger.specs.Ladder.{Going, ledgerOf};
 ghost use Rattle.lookup.specs.Figures.{Figures, Numbers};
 ghost use Rattle.transition_index.specs.Indexed.{Indexed};
-ghost use Rattle.event_choice.specs.Chosen.{Chosen};
+ghost use Rattle.event_choice.specs.Chosen.{argumentsOf, Chosen};
 
 // For each track the transition that it takes, 65535 for none, and whether its open scope closes; how many do either; and whether a track
 // that it gives an entry is full.
 pub struct Choice {
     pub event: u16,
+    pub day: i32,
     pub taken: [u16; 32],
     pub closing: [bool; 32],
     pub moved: u16,
@@ -32,17 +34,19 @@ fn choose_by(
     c: Counts,
     ledger: &[u16],
     event: u16,
+    day: i32,
     opens: &[bool; 32],
     taken: &[u16; 32],
 ) -> Choice
     requires { ⌜ Going (now plan) c (now ledger) × Figures false (now opens) (c .tracks) (hasOpenScope (planOf (now plan) c) (ledgerOf c (now ledger)))
-        × Numbers (now taken) (c .tracks) (move (planOf (now plan) c) (ledgerOf c (now ledger)) event) ⌝ }
-    ensures { λ r. ⌜ Chosen (planOf (now (plan .entry)) c) (ledgerOf c (now (ledger .entry))) r × (r .event ≡ event) ⌝ }
+        × Numbers (now taken) (c .tracks) (move (planOf (now plan) c) (ledgerOf c (now ledger)) (record { event = event; day = day })) ⌝ }
+    ensures { λ r. ⌜ Chosen (planOf (now (plan .entry)) c) (ledgerOf c (now (ledger .entry))) r × (argumentsOf r ≡ record { event = event; day = day }) ⌝ }
 {
     let m = judging::moves(plan, c, ledger, taken);
     if !m.ends {
         return Choice {
             event: event,
+            day: day,
             taken: *taken,
             closing: [false; 32],
             moved: m.moved,
@@ -54,6 +58,7 @@ fn choose_by(
     let v = judging::judge(plan, c, ledger, taken, &closing);
     Choice {
         event: event,
+        day: day,
         taken: *taken,
         closing: closing,
         moved: m.moved,
@@ -63,12 +68,20 @@ fn choose_by(
 }
 
 // What an event does, given which tracks have an open scope.
-pub fn choose(plan: &[u8], c: Counts, ledger: &[u16], event: u16, opens: &[bool; 32]) -> Choice
+pub fn choose(
+    plan: &[u8],
+    c: Counts,
+    ledger: &[u16],
+    event: u16,
+    day: i32,
+    opens: &[bool; 32],
+) -> Choice
     requires { ⌜ Going (now plan) c (now ledger) × Figures false (now opens) (c .tracks) (hasOpenScope (planOf (now plan) c) (ledgerOf c (now ledger))) ⌝ }
-    ensures { λ r. ⌜ Chosen (planOf (now (plan .entry)) c) (ledgerOf c (now (ledger .entry))) r × (r .event ≡ event) ⌝ }
+    ensures { λ r. ⌜ Chosen (planOf (now (plan .entry)) c) (ledgerOf c (now (ledger .entry))) r × (argumentsOf r ≡ record { event = event; day = day }) ⌝ }
 {
-    let taken = moving::taken_by(plan, c, ledger, event, opens);
-    choose_by(plan, c, ledger, event, opens, &taken)
+    let any = moving::taken_by(plan, c, ledger, event, opens);
+    let taken = windows::taken_on(plan, c, day, any);
+    choose_by(plan, c, ledger, event, day, opens, &taken)
 }
 
 // The same by an index of the transitions.
@@ -77,14 +90,16 @@ pub fn choose_indexed(
     c: Counts,
     ledger: &[u16],
     event: u16,
+    day: i32,
     opens: &[bool; 32],
     head: &[u16; 256],
     next: &[u16; 256],
 ) -> Choice
     requires { ⌜ Going (now plan) c (now ledger) × Figures false (now opens) (c .tracks) (hasOpenScope (planOf (now plan) c) (ledgerOf c (now ledger)))
         × Indexed (now plan) c (now head) (now next) ⌝ }
-    ensures { λ r. ⌜ Chosen (planOf (now (plan .entry)) c) (ledgerOf c (now (ledger .entry))) r × (r .event ≡ event) ⌝ }
+    ensures { λ r. ⌜ Chosen (planOf (now (plan .entry)) c) (ledgerOf c (now (ledger .entry))) r × (argumentsOf r ≡ record { event = event; day = day }) ⌝ }
 {
-    let taken = indexed::taken_from(plan, c, ledger, event, opens, head, next);
-    choose_by(plan, c, ledger, event, opens, &taken)
+    let any = indexed::taken_from(plan, c, ledger, event, opens, head, next);
+    let taken = windows::taken_on(plan, c, day, any);
+    choose_by(plan, c, ledger, event, day, opens, &taken)
 }

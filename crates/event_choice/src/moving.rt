@@ -1,4 +1,4 @@
-// The moves of an event, chosen on the ledger before the call by one pass over the transitions.
+// The moves of an event on any day, chosen on the ledger before the call by one pass over the transitions.
 use ledger::track;
 use lookup::reading;
 use plan::fields;
@@ -8,10 +8,9 @@ ghost use mathlib.Core.Bool.{false};
 ghost use Prim.Native.Nat.{_<_};
 ghost use Rattle.rules.specs.Plan.{planOf};
 ghost use Rattle.rules.specs.Scope.{hasOpenScope};
-ghost use Rattle.rules.specs.Event.{move};
 ghost use Rattle.ledger.specs.Ladder.{Going, ledgerOf};
 ghost use Rattle.lookup.specs.Figures.{Figures, Numbers, Only};
-ghost use Rattle.event_choice.specs.Next.{isTaken};
+ghost use Rattle.event_choice.specs.Next.{isTaken, anyDayMove};
 
 // The track that takes a transition for the event, 65535 for none: its own, if it is forward in the source and has no open scope.
 fn taker(plan: &[u8], c: Counts, ledger: &[u16], event: u16, opens: &[bool; 32], x: usize) -> u16
@@ -39,11 +38,11 @@ fn taker(plan: &[u8], c: Counts, ledger: &[u16], event: u16, opens: &[bool; 32],
     u
 }
 
-// The transition that each track takes for an event, 65535 for none, given which have an open scope.
+// The transition that each track takes for an event on any day, 65535 for none, given which have an open scope.
 pub fn taken_by(plan: &[u8], c: Counts, ledger: &[u16], event: u16, opens: &[bool; 32]) -> [u16; 32]
     requires { ⌜ Going (now plan) c (now ledger)
         × Figures false (now opens) (c .tracks) (hasOpenScope (planOf (now plan) c) (ledgerOf c (now ledger))) ⌝ }
-    ensures { λ r. ⌜ Numbers r (c .tracks) (move (planOf (now (plan .entry)) c) (ledgerOf c (now (ledger .entry))) event) ⌝ }
+    ensures { λ r. ⌜ Numbers r (c .tracks) (anyDayMove (planOf (now (plan .entry)) c) (ledgerOf c (now (ledger .entry))) event) ⌝ }
 {
     let mut taken = [NO_STATE; 32];
     let transitions = c.transitions;

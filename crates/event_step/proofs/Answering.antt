@@ -21,7 +21,7 @@ use Rattle.plan.proofs.FieldLaws.{track-count}
 use Rattle.ledger.specs.Ladder.{Checked, Going, ledgerOf}
 use Rattle.lookup.proofs.Facts.{checked-passes, plan-facts, live-of-going, tidy-words, beyond}
 use Rattle.event_choice.specs.declared.Choice.{Choice}
-use Rattle.event_choice.specs.Chosen.{Chosen}
+use Rattle.event_choice.specs.Chosen.{argumentsOf, Chosen}
 use Rattle.event_choice.proofs.Still.{no-moves, after-same, still-closings}
 use Rattle.event_step.specs.Outcome.{goingOutcome}
 
@@ -29,7 +29,8 @@ met : {o : Outcome} {a : Answer} {w : List ℕ} → o ≡ record { answer = a; w
 met e = record { answered = ap (λ (x : Outcome). x .answer) (sym e); left = ap (λ (x : Outcome). x .words) (sym e) }
 
 -- a ledger that is going: the choice for this event
-module _ (bs : List ℕ) (c : Counts) (ws : List ℕ) (g : Going bs c ws) (e : ℕ) {r : Choice} (h : Chosen (planOf bs c) (ledgerOf c ws) r × (r .event ≡ e)) where
+module _ (bs : List ℕ) (c : Counts) (ws : List ℕ) (g : Going bs c ws) (e : EventArguments) {r : Choice}
+    (h : Chosen (planOf bs c) (ledgerOf c ws) r × (argumentsOf r ≡ e)) where
   abbrev p : Plan
   p = planOf bs c
 
@@ -39,7 +40,7 @@ module _ (bs : List ℕ) (c : Counts) (ws : List ℕ) (g : Going bs c ws) (e : �
   outcome : Ledger → Outcome
   outcome x =
       refusedOr ws
-      (record { answer = done (figures p x (event (record { event = e }))); words = written entryLimit (trackCount p) (afterEvent p x e) ws })
+      (record { answer = done (figures p x (event e)); words = written entryLimit (trackCount p) (afterEvent p x e) (dated (e .day) ws) })
       (firstRefusal ((21, isFull p entryLimit x e) ∷ []))
 
   as-read : goingOutcome p ws e ≡ outcome l
@@ -57,65 +58,76 @@ module _ (bs : List ℕ) (c : Counts) (ws : List ℕ) (g : Going bs c ws) (e : �
     count : countBelow (trackCount p) (moves p l e) ≡ r .moved
     count = ap (λ i. countBelow (trackCount p) (moves p l i)) (sym (h .1)) ∙ sym (h .0 .many-moved)
 
-    pub step-met : {v : List ℕ} → v ≡ written entryLimit (c .tracks) (afterEvent p l (r .event)) ws
+    -- the day is written after the tracks, or before them
+    put-last : {u v : List ℕ} → v ≡ dated (r .day) u → u ≡ written entryLimit (c .tracks) (afterEvent p l e) ws
+        → written entryLimit (trackCount p) (afterEvent p l e) (dated (e .day) ws) ≡ v
+    put-last {u} {v} d w =
+        ap (λ n. written entryLimit n (afterEvent p l e) (dated (e .day) ws)) (track-count bs c)
+        ∙ sym (dated-written (e .day) entryLimit (c .tracks) (afterEvent p l e) ws (g .checked .lent .room .words))
+        ∙ ap₂ dated (ap (λ (a : EventArguments). a .day) (sym (h .1))) (sym w) ∙ sym d
+
+    pub step-met : {u v : List ℕ} → u ≡ written entryLimit (c .tracks) (afterEvent p l (argumentsOf r)) ws → v ≡ dated (r .day) u
         → Meets (goingOutcome p ws e) (eventTold (Moved (r .moved) (r .closed))) v
     unfolding refusedOr firstRefusal figures eventTold outcome
-    step-met {v} w =
-        let left : written entryLimit (trackCount p) (afterEvent p l e) ws ≡ v =
-        (λ k. written entryLimit (track-count bs c k) (afterEvent p l (sym (h .1) k)) ws) ∙ sym w in
+    step-met w d =
+        let left = put-last d (w ∙ ap (λ a. written entryLimit (c .tracks) (afterEvent p l a) ws) (h .1)) in
         let j : closings p (moved p l e) ≡ r .closed = ap (λ i. closings p (moved p l i)) (sym (h .1)) ∙ sym (h .0 .many-closed) in
         met (as-read ∙ (rw (full ∙ z) (λ k. record { answer = done (count k ∷ j k ∷ []); words = left k })))
 
-    -- where no track moves nothing changes
-    pub still-met : r .moved ≡ 0 → Meets (goingOutcome p ws e) (eventTold (Moved 0 0)) ws
+    -- where no track moves nothing changes but the day
+    pub still-met : {v : List ℕ} → r .moved ≡ 0 → v ≡ dated (r .day) ws → Meets (goingOutcome p ws e) (eventTold (Moved 0 0)) v
     unfolding refusedOr firstRefusal figures eventTold outcome
-    still-met y =
+    still-met y d =
         let still = no-moves p l e (beyond bs c ws) (count ∙ y) in
         let ok = plan-facts bs c (g .checked .lent .accepts) in
         let live = live-of-going bs c ws g in
         let j = still-closings p l e ok live still in
-        let left : written entryLimit (trackCount p) (afterEvent p l e) ws ≡ ws =
-        (λ k. written entryLimit (track-count bs c k) (after-same p l e ok live still k) ws) ∙ unchanged in
+        let left = put-last d (sym (ap (λ m. written entryLimit (c .tracks) m ws) (after-same p l e ok live still) ∙ unchanged)) in
         met (as-read ∙ (rw (full ∙ z) (λ k. record { answer = done ((count ∙ y) k ∷ j k ∷ []); words = left k })))
       where
         unchanged : written entryLimit (c .tracks) l ws ≡ ws
         unchanged = unfold ledgerOf in written-read entryLimit (c .tracks) ws (tidy-words bs c ws (g .checked) .tidy) (g .checked .lent .room .words)
 
--- over, and 19 and 20
-module _ (bs : List ℕ) (c : Counts) (ws : List ℕ) (h : Checked bs c ws) (e : ℕ) where
+-- over, and 19, 26 and 20
+module _ (bs : List ℕ) (c : Counts) (ws : List ℕ) (h : Checked bs c ws) (e : EventArguments) where
   over-is : isOver (planOf bs c) (ledgerOf c ws) ≡ isOver (planOf bs c) (ledgerAt entryLimit ws (trackCount (planOf bs c)))
   unfolding ledgerOf
   over-is = ap (λ (n : ℕ). isOver (planOf bs c) (ledgerAt entryLimit ws n)) (sym (track-count bs c))
 
-  checked : eventOutcome entryLimit bs ws (record { event = e })
+  checked : eventOutcome entryLimit bs ws e
       ≡ refusedOr ws
       (record {
-        answer = done (figures (planOf bs c) (ledgerAt entryLimit ws (trackCount (planOf bs c))) (event (record { event = e })));
-        words = written entryLimit (trackCount (planOf bs c)) (afterEvent (planOf bs c) (ledgerAt entryLimit ws (trackCount (planOf bs c))) e) ws;
+        answer = done (figures (planOf bs c) (ledgerAt entryLimit ws (trackCount (planOf bs c))) (event e));
+        words = written entryLimit (trackCount (planOf bs c)) (afterEvent (planOf bs c) (ledgerAt entryLimit ws (trackCount (planOf bs c))) e) (dated (e .day) ws);
       })
-      (cond (eqb e 0) 19
+      (cond (eqb (e .event) 0) 19
+      (cond (badDay (lastDay ws) (e .day)) 26
       (cond (isOver (planOf bs c) (ledgerAt entryLimit ws (trackCount (planOf bs c)))) 20
-      (firstRefusal ((21, isFull (planOf bs c) entryLimit (ledgerAt entryLimit ws (trackCount (planOf bs c))) e) ∷ []))))
-  unfolding eventOutcome callOutcome underPlan callRefusals firstRefusal after
+      (firstRefusal ((21, isFull (planOf bs c) entryLimit (ledgerAt entryLimit ws (trackCount (planOf bs c))) e) ∷ [])))))
+  unfolding eventOutcome callOutcome underPlan callRefusals firstRefusal after datedBy
   checked = rw (h .lent .accepts .read, underPlan, passes-first entryLimit bs (planOf bs c) ws (checked-passes bs c ws h))
 
-  pub event-zero : e ≡ 0 → Meets (eventOutcome entryLimit bs ws (record { event = e })) (eventTold (Refused 19)) ws
+  pub event-zero : e .event ≡ 0 → Meets (eventOutcome entryLimit bs ws e) (eventTold (Refused 19)) ws
   unfolding refusedOr eventTold
-  event-zero z = met (checked ∙ (rw (eq-eqb e 0 z)))
+  event-zero z = met (checked ∙ (rw (eq-eqb (e .event) 0 z)))
 
-  module _ (n : e ≡ 0 → ⊥) (r : Bool) (q : r ≡ isOver (planOf bs c) (ledgerOf c ws)) where
-    pub event-over : r ≡ true → Meets (eventOutcome entryLimit bs ws (record { event = e })) (eventTold (Refused 20)) ws
+  pub event-day : (e .event ≡ 0 → ⊥) → {b : Bool} → b ≡ badDay (lastDay ws) (e .day) → b ≡ true → Meets (eventOutcome entryLimit bs ws e) (eventTold (Refused 26)) ws
+  unfolding refusedOr eventTold
+  event-day n d z = met (checked ∙ (rw (ne-eqb (e .event) 0 n, sym d ∙ z)))
+
+  module _ (n : e .event ≡ 0 → ⊥) {b : Bool} (d : b ≡ badDay (lastDay ws) (e .day)) (on : b ≡ false) (r : Bool) (q : r ≡ isOver (planOf bs c) (ledgerOf c ws)) where
+    pub event-over : r ≡ true → Meets (eventOutcome entryLimit bs ws e) (eventTold (Refused 20)) ws
     unfolding refusedOr eventTold
-    event-over z = met (checked ∙ (rw (ne-eqb e 0 n, sym over-is ∙ sym q ∙ z)))
+    event-over z = met (checked ∙ (rw (ne-eqb (e .event) 0 n, sym d ∙ on, sym over-is ∙ sym q ∙ z)))
 
     module _ (z : r ≡ false) where
       pub going-of : Going bs c ws
       going-of = record { checked = h; goes-on = sym q ∙ z }
 
       pub event-going : (a : Answer) (v : List ℕ) → Meets (goingOutcome (planOf bs c) ws e) a v
-          → Meets (eventOutcome entryLimit bs ws (record { event = e })) a v
+          → Meets (eventOutcome entryLimit bs ws e) a v
       unfolding goingOutcome
       event-going a v =
-          let s : eventOutcome entryLimit bs ws (record { event = e }) ≡ goingOutcome (planOf bs c) ws e =
-          checked ∙ (rw (ne-eqb e 0 n, sym over-is ∙ sym q ∙ z)) in
+          let s : eventOutcome entryLimit bs ws e ≡ goingOutcome (planOf bs c) ws e =
+          checked ∙ (rw (ne-eqb (e .event) 0 n, sym d ∙ on, sym over-is ∙ sym q ∙ z)) in
           subst (λ (x : Outcome). Meets x a v) (sym s)

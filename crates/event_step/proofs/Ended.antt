@@ -18,7 +18,7 @@ use Rattle.lookup.proofs.Facts.{plan-facts, live-of-going, tidy-words}
 use Rattle.lookup.proofs.OneTrackLaws.{read-back, orderly-after, then}
 use Rattle.finish.specs.UndoingScopes.{UndoingScopes}
 use Rattle.event_choice.specs.declared.Choice.{Choice}
-use Rattle.event_choice.specs.Chosen.{Chosen}
+use Rattle.event_choice.specs.Chosen.{argumentsOf, Chosen}
 use Rattle.event_choice.proofs.Undoing.{open-as-before}
 use Rattle.event_writing.proofs.EventWritten.{stores-all}
 
@@ -27,7 +27,7 @@ module _ (bs : List ℕ) (c : Counts) (ws : List ℕ) (g : Going bs c ws) (r : C
   p = planOf bs c
 
   abbrev settled : Ledger
-  settled = closed p (moved p (ledgerOf c ws) (r .event))
+  settled = closed p (moved p (ledgerOf c ws) (argumentsOf r))
 
   stores : Storable entryLimit (c .tracks) settled
   stores = stores-all bs c ws g r ch free
@@ -47,10 +47,10 @@ module _ (bs : List ℕ) (c : Counts) (ws : List ℕ) (g : Going bs c ws) (r : C
           size = f .size;
           at = λ t b u.
               f .at t b
-              ∙ sym (open-as-before p (plan-facts bs c (g .checked .lent .accepts)) (ledgerOf c ws) (live-of-going bs c ws g) (r .event) t u);
+              ∙ sym (open-as-before p (plan-facts bs c (g .checked .lent .accepts)) (ledgerOf c ws) (live-of-going bs c ws g) (argumentsOf r) t u);
         })
 
     pub event-ended : {us : List ℕ} → us ≡ written entryLimit (c .tracks) (finished p (ledgerOf c vs)) vs
-        → us ≡ written entryLimit (c .tracks) (afterEvent p (ledgerOf c ws) (r .event)) ws
+        → us ≡ written entryLimit (c .tracks) (afterEvent p (ledgerOf c ws) (argumentsOf r)) ws
     unfolding afterEvent
     event-ended x = then c ws o settled stores d (finished p) x

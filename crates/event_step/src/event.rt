@@ -1,25 +1,41 @@
-// An event: its refusals, judged before a word is written, then its step, finish, and its figures.
+// An event: its refusals, judged before a word is written, then its step, finish, its day, and its figures.
+use calendar::range::is_day;
 use event_choice::Choice;
 use finish::finishing;
+use ledger::leading;
 use lookup::opens;
 use lookup::reading;
 use rules::Counts;
 use rules::EventAnswer;
 ghost use mathlib.Core.Path.{_≡_};
 ghost use mathlib.Core.Bool.{false};
-ghost use Rattle.rules.specs.Layout.{entryLimit};
+ghost use Prim.Native.Nat.{_≤_};
+ghost use lib.ListN.{length};
+ghost use Rattle.rules.specs.Layout.{entryLimit, leadingWords};
+ghost use Rattle.rules.specs.Leading.{lastDay};
 ghost use Rattle.rules.specs.Plan.{planOf, firstState};
 ghost use Rattle.rules.specs.Scope.{hasOpenScope, isOver};
-ghost use Rattle.rules.specs.Call.{Meets, eventOutcome};
+ghost use Rattle.rules.specs.Call.{badDay, Meets, eventOutcome};
 ghost use Rattle.rules.specs.Answers.{eventTold};
 ghost use Rattle.ledger.specs.Ladder.{Checked, Going, ledgerOf};
 ghost use Rattle.lookup.specs.Figures.{Figures};
 ghost use Rattle.transition_index.specs.Indexed.{Indexed};
-ghost use Rattle.event_choice.specs.Chosen.{Chosen};
+ghost use Rattle.event_choice.specs.Chosen.{argumentsOf, Chosen};
 ghost use Rattle.event_step.specs.Outcome.{goingOutcome};
 
-// An event other than 0 on a ledger that is not over, its choice made, given which tracks have an open scope and the first state of each.
-// Where no track moves nothing changes.
+// 26: whether a day is out of range or before the last accepted one.
+fn is_bad_day(ledger: &[u16], day: i32) -> bool
+    requires { ⌜ leadingWords ≤ length (now ledger) ⌝ }
+    ensures { λ r. ⌜ r ≡ badDay (lastDay (now (ledger .entry))) day ⌝ }
+{
+    if !is_day(day) {
+        return true;
+    }
+    day < leading::last_day(ledger)
+}
+
+// An event other than 0 on its day on a ledger that is not over, its choice made, given which tracks have an open scope and the first state of
+// each. Where no track moves nothing changes but the day.
 fn go_on(
     plan: &[u8],
     c: Counts,
@@ -31,18 +47,21 @@ fn go_on(
     requires { ⌜ Going (now plan) c (now ledger) × Chosen (planOf (now plan) c) (ledgerOf c (now ledger)) choice
         × Figures false (now opens) (c .tracks) (hasOpenScope (planOf (now plan) c) (ledgerOf c (now ledger)))
         × Figures 0 (now firsts) (c .tracks) (firstState (planOf (now plan) c)) ⌝ }
-    ensures { λ r. ⌜ Meets (goingOutcome (planOf (now (plan .entry)) c) (now (ledger .entry)) (choice .event)) (eventTold r) (now (ledger .exit)) ⌝ }
+    ensures { λ r. ⌜ Meets (goingOutcome (planOf (now (plan .entry)) c) (now (ledger .entry)) (argumentsOf choice)) (eventTold r) (now (ledger .exit)) ⌝ }
 {
     if choice.full {
         return EventAnswer::Refused(21);
     }
+    let day = choice.day;
     let movers = choice.moved;
     if movers == 0 {
+        leading::put_day(&mut ledger[..], day);
         return EventAnswer::Moved(0, 0);
     }
     let closed = choice.closed;
     event_writing::write(plan, c, &mut ledger[..], choice, firsts);
     finishing::finish(plan, c, &mut ledger[..], opens);
+    leading::put_day(&mut ledger[..], day);
     EventAnswer::Moved(movers, closed)
 }
 
@@ -52,6 +71,7 @@ pub fn event(
     c: Counts,
     ledger: &mut [u16],
     event: u16,
+    day: i32,
     opens: &[bool; 32],
     firsts: &[u16; 32],
 ) -> EventAnswer
@@ -59,15 +79,18 @@ pub fn event(
         × (isOver (planOf (now plan) c) (ledgerOf c (now ledger)) ≡ false
         → Figures false (now opens) (c .tracks) (hasOpenScope (planOf (now plan) c) (ledgerOf c (now ledger))))
         × Figures 0 (now firsts) (c .tracks) (firstState (planOf (now plan) c)) ⌝ }
-    ensures { λ r. ⌜ Meets (eventOutcome entryLimit (now (plan .entry)) (now (ledger .entry)) (record { event = event })) (eventTold r) (now (ledger .exit)) ⌝ }
+    ensures { λ r. ⌜ Meets (eventOutcome entryLimit (now (plan .entry)) (now (ledger .entry)) (record { event = event; day = day })) (eventTold r) (now (ledger .exit)) ⌝ }
 {
     if event == 0 {
         return EventAnswer::Refused(19);
     }
+    if is_bad_day(&ledger[..], day) {
+        return EventAnswer::Refused(26);
+    }
     if reading::is_over(plan, c, &ledger[..]) {
         return EventAnswer::Refused(20);
     }
-    let choice = event_choice::choose(plan, c, &ledger[..], event, opens);
+    let choice = event_choice::choose(plan, c, &ledger[..], event, day, opens);
     go_on(plan, c, &mut ledger[..], choice, opens, firsts)
 }
 
@@ -78,21 +101,26 @@ pub fn event_indexed(
     c: Counts,
     ledger: &mut [u16],
     event: u16,
+    day: i32,
     firsts: &[u16; 32],
     head: &[u16; 256],
     next: &[u16; 256],
 ) -> EventAnswer
     requires { ⌜ Checked (now plan) c (now ledger) × Figures 0 (now firsts) (c .tracks) (firstState (planOf (now plan) c))
         × Indexed (now plan) c (now head) (now next) ⌝ }
-    ensures { λ r. ⌜ Meets (eventOutcome entryLimit (now (plan .entry)) (now (ledger .entry)) (record { event = event })) (eventTold r) (now (ledger .exit)) ⌝ }
+    ensures { λ r. ⌜ Meets (eventOutcome entryLimit (now (plan .entry)) (now (ledger .entry)) (record { event = event; day = day })) (eventTold r) (now (ledger .exit)) ⌝ }
 {
     if event == 0 {
         return EventAnswer::Refused(19);
+    }
+    if is_bad_day(&ledger[..], day) {
+        return EventAnswer::Refused(26);
     }
     if reading::is_over(plan, c, &ledger[..]) {
         return EventAnswer::Refused(20);
     }
     let opens = opens::open_scopes(plan, c, &ledger[..]);
-    let choice = event_choice::choose_indexed(plan, c, &ledger[..], event, &opens, head, next);
+    let choice =
+        event_choice::choose_indexed(plan, c, &ledger[..], event, day, &opens, head, next);
     go_on(plan, c, &mut ledger[..], choice, &opens, firsts)
 }

@@ -15,7 +15,7 @@ use Rattle.rules.specs.Layout.{entryLimit}
 use Rattle.rules.specs.Plan.{Plan, planOf, trackCount, noState, host, replacement}
 use Rattle.rules.specs.Ledger.{Configuration, Ledger, isAwake, isForward, sleeping, written}
 use Rattle.rules.specs.Opening.{fresh, wakes, entered, enter}
-use Rattle.rules.specs.Event.{destinationOf, installedBy, hasCode, move, moved, isClosing, isClosed, closesScope, closed, isReplaced, isFull}
+use Rattle.rules.specs.Event.{EventArguments, destinationOf, installedBy, hasCode, move, moved, isClosing, isClosed, closesScope, closed, isReplaced, isFull}
 use Rattle.rules.proofs.Modes.{forward-awake}
 use Rattle.rules.proofs.Tests.{look, look-option, clash, refuted, and-holds, and-both, or-right}
 use Rattle.rules.proofs.Folds.{some-not}
@@ -33,7 +33,7 @@ use Rattle.opening.specs.Entering.{statesOf, Sleepers}
 use Rattle.opening.proofs.EnteringLaws.{entered-stores}
 use Rattle.event_choice.specs.declared.Choice.{Choice}
 use Rattle.event_choice.specs.Next.{InRange, movesOf}
-use Rattle.event_choice.specs.Chosen.{Chosen}
+use Rattle.event_choice.specs.Chosen.{argumentsOf, Chosen}
 use Rattle.event_choice.proofs.Visits.{own-low}
 use Rattle.event_choice.proofs.Moved.{mover-facts, woken-asleep, moved-kept, moved-own, moved-up, closes-before, closing-still}
 use Rattle.event_choice.proofs.Still.{none-close}
@@ -48,8 +48,8 @@ module _ (bs : List ℕ) (c : Counts) (ws : List ℕ) (g : Going bs c ws) (r : C
   abbrev l : Ledger
   l = ledgerOf c ws
 
-  abbrev e : ℕ
-  e = r .event
+  abbrev e : EventArguments
+  e = argumentsOf r
 
   abbrev m : Ledger
   m = moved p l e

@@ -19,7 +19,7 @@ ghost use Rattle.ledger.specs.Ladder.{Tidy, Accepts, Going, ledgerOf};
 ghost use Rattle.lookup.specs.Figures.{Figures, Numbers};
 ghost use Rattle.lookup.specs.OneTrack.{withConfiguration};
 ghost use Rattle.event_choice.specs.Next.{InRange, movesOf};
-ghost use Rattle.event_choice.specs.Chosen.{Chosen};
+ghost use Rattle.event_choice.specs.Chosen.{argumentsOf, Chosen};
 ghost use Rattle.event_writing.specs.EventParts.{Movers, Closings, isClosedBy, closedBy};
 
 // Installs a code, if it is not 0, as a track's newest entry.
@@ -129,7 +129,7 @@ pub fn write(plan: &[u8], c: Counts, ledger: &mut [u16], choice: Choice, firsts:
         × Figures 0 (now firsts) (c .tracks) (firstState (planOf (now plan) c)) ⌝ }
     ensures { λ _. ⌜ now (ledger .exit)
         ≡ written entryLimit (c .tracks)
-        (closed (planOf (now (plan .entry)) c) (moved (planOf (now (plan .entry)) c) (ledgerOf c (now (ledger .entry))) (choice .event)))
+        (closed (planOf (now (plan .entry)) c) (moved (planOf (now (plan .entry)) c) (ledgerOf c (now (ledger .entry))) (argumentsOf choice)))
         (now (ledger .entry)) ⌝ }
 {
     let taken = choice.taken;

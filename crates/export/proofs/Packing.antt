@@ -17,6 +17,7 @@ use Rattle.rules.specs.Soundness.{areTidy, isSound}
 use Rattle.rules.specs.Call.{Answer, Outcome, Meets, ledgerRefusal, heldPart, entriesPart}
 use Rattle.rules.proofs.Tests.{and-holds}
 use Rattle.rules.proofs.LedgerChecks.{none-passes}
+use Rattle.rules.proofs.Soundness.{sound-words}
 use Rattle.plan.proofs.FieldLaws.{track-count}
 use Rattle.plan_reader.proofs.Reader.{accepted-holds}
 use Rattle.ledger.proofs.ReadTracks.{count-within}
@@ -53,11 +54,11 @@ module _ (bs ws : List ℕ) (t : ℕ) where
       }
 
   held-under : (c : Counts) → readPlan bs ≡ accepted c → (eqb (ledgerRefusal entryLimit bs (planOf bs c) ws) 0 && ltb t (trackCount (planOf bs c))) ≡ true → Held
-  unfolding entriesPart heldPart isSound
+  unfolding entriesPart heldPart
   held-under c a e =
       let (f, l) = and-holds (eqb (ledgerRefusal entryLimit bs (planOf bs c) ws) 0) (ltb t (trackCount (planOf bs c))) e in
       let s = none-passes entryLimit bs (planOf bs c) ws (eqb-true _ 0 f) .sound in
-      let y = and-holds (areTidy entryLimit ws (trackCount (planOf bs c))) _ s .0 in
+      let y = sound-words entryLimit (planOf bs c) ws s .tidy in
       let b = ltb-true t (trackCount (planOf bs c)) l in
       held-at
       (length (ledgerAt entryLimit ws (trackCount (planOf bs c)) t .held))

@@ -5,11 +5,15 @@ use mathlib.Core.List.{List, [], _∷_}
 use Prim.Native.Nat.{ℕ, _+_, _*_}
 use lib.ListN.{length}
 use lib.Dec.{eqb}
-use Rattle.rules.specs.Names.{Words}
+use Rattle.rules.specs.Names.{Words, Day}
 use Rattle.rules.specs.Layout.{entryLimit, entriesPlace}
 use Rattle.rules.specs.declared.Counts.{Counts}
+use Rattle.rules.specs.declared.Date.{Date}
+use Rattle.rules.specs.Signed.{bitsOf}
 use Rattle.rules.specs.Acceptance.{Reading, turnedBack, accepted}
 use Rattle.rules.specs.Call.{Answer, refusal, done, Outcome}
+use Rattle.rules.specs.Conversion.{Converted}
+use Rattle.rules.specs.Conversion as converted
 
 -- what a figure is multiplied by to stand at bit 16, at bit 32 and at bit 48
 unfoldable pub bit16 : ℕ
@@ -42,6 +46,16 @@ packedReady (done (bits ∷ _)) = bits * bit32
 -- Entries': bits 0 to 15 the count of words of a track's part, bits 16 to 47 the index of its first word; 0 for the empty part
 unfoldable pub packedPart : List ℕ → ℕ → ℕ
 packedPart part t = cond (eqb (length part) 0) 0 (length part + entriesPlace entryLimit t * bit16)
+
+-- The date of a day: bits 0 to 15 the refusal, bits 16 to 31 the year, 32 to 47 the month, 48 to 63 the day
+unfoldable pub packedDate : Converted Date → ℕ
+packedDate (converted.refusal n) = n
+packedDate (converted.found d) = d .year * bit16 + d .month * bit32 + d .day * bit48
+
+-- The day of a date: bits 0 to 15 the refusal, bits 32 to 63 the day as a 32-bit number in two's complement
+unfoldable pub packedDay : Converted Day → ℕ
+packedDay (converted.refusal n) = n
+packedDay (converted.found z) = bitsOf z * bit32
 
 -- What a contract promises: the number is the outcome's answer, packed, and every lent word is the outcome's.
 pub record Returns (pack : Answer → ℕ) (o : Outcome) (number : ℕ) (words : Words) : Type 0 where

@@ -1,7 +1,11 @@
-// The calls for C and Rust, under include/retraction.h. Each is a call of `manager`, or the plan reader, its answer packed into one number.
+// The calls for C and Rust, under include/retraction.h. Each is a call of `manager`, the plan reader or a conversion of `calendar`, its answer
+// packed into one number.
 use ledger::layout;
 use rules::BeginAnswer;
 use rules::Counts;
+use rules::Date;
+use rules::DateAnswer;
+use rules::DayAnswer;
 use rules::EventAnswer;
 use rules::FireAnswer;
 use rules::PlanAnswer;
@@ -11,9 +15,10 @@ ghost use mathlib.Core.Path.{_≡_};
 ghost use Prim.Native.Nat.{_+_, _*_, _<_};
 ghost use Rattle.rules.specs.Layout.{entryLimit};
 ghost use Rattle.rules.specs.Acceptance.{readPlan};
+ghost use Rattle.rules.specs.Conversion.{dateOfDay, dayOfDate};
 ghost use Rattle.rules.specs.Call.{nothing, beginOutcome, eventOutcome, signalOutcome, fireOutcome, readyOutcome, entriesPart};
 ghost use Rattle.plan.specs.Holds.{Holds};
-ghost use Rattle.export.specs.Packed.{bit16, bit32, bit48, packedReading, packed, packedReady, packedPart, Returns};
+ghost use Rattle.export.specs.Packed.{bit16, bit32, bit48, packedReading, packed, packedReady, packedPart, packedDate, packedDay, Returns};
 
 // What a figure is multiplied by to stand at bit 16, at bit 32 and at bit 48.
 const BIT16: u64 = 65536;
@@ -41,6 +46,13 @@ fn at_bit32(figure: u32) -> u64
     ensures { λ r. ⌜ r ≡ figure * bit32 ⌝ }
 {
     (figure as u64) * BIT32
+}
+
+// A figure, at bit 48.
+fn at_bit48(figure: u16) -> u64
+    ensures { λ r. ⌜ r ≡ figure * bit48 ⌝ }
+{
+    (figure as u64) * BIT48
 }
 
 // Two figures, at bits 16 and 32.
@@ -81,10 +93,10 @@ pub extern "C" fn retraction_begin(plan: &[u8], ledger: &mut [u16]) -> u64
 }
 
 #[no_mangle]
-pub extern "C" fn retraction_event(plan: &[u8], ledger: &mut [u16], event: u16) -> u64
-    ensures { λ r. ⌜ Returns packed (eventOutcome entryLimit (now (plan .entry)) (now (ledger .entry)) (record { event = event })) r (now (ledger .exit)) ⌝ }
+pub extern "C" fn retraction_event(plan: &[u8], ledger: &mut [u16], event: u16, day: i32) -> u64
+    ensures { λ r. ⌜ Returns packed (eventOutcome entryLimit (now (plan .entry)) (now (ledger .entry)) (record { event = event; day = day })) r (now (ledger .exit)) ⌝ }
 {
-    let answer = manager::event(plan, &mut ledger[..], event);
+    let answer = manager::event(plan, &mut ledger[..], event, day);
     match answer {
         EventAnswer::Refused(n) => at_bit0(n),
         EventAnswer::Moved(moved, closed) => pair(moved, closed),
@@ -135,4 +147,30 @@ pub extern "C" fn retraction_entries(plan: &[u8], ledger: &[u16], track: u16) ->
     }
     let from = layout::entry_place(layout::wide(track), 0);
     (count as u64) + (from as u64) * BIT16
+}
+
+#[no_mangle]
+pub extern "C" fn retraction_date_of_day(day: i32) -> u64
+    ensures { λ r. ⌜ r ≡ packedDate (dateOfDay day) ⌝ }
+{
+    let answer = calendar::date_of_day(day);
+    match answer {
+        DateAnswer::Refused(n) => at_bit0(n),
+        DateAnswer::On(date) => pair(date.year, date.month) + at_bit48(date.day),
+    }
+}
+
+#[no_mangle]
+pub extern "C" fn retraction_day_of_date(year: u16, month: u16, day: u16) -> u64
+    ensures { λ r. ⌜ r ≡ packedDay (dayOfDate (record { year = year; month = month; day = day })) ⌝ }
+{
+    let answer = calendar::day_of_date(Date {
+        year: year,
+        month: month,
+        day: day,
+    });
+    match answer {
+        DayAnswer::Refused(n) => at_bit0(n),
+        DayAnswer::Day(z) => at_bit32(signed::words::bits_of(z)),
+    }
 }

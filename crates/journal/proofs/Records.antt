@@ -7,19 +7,20 @@ use mathlib.Core.List.{List, [], _∷_}
 use Prim.Native.Nat.{ℕ, _+_, _-_, _<_, _≤_}
 use native.Mathlib.Omega.{arith}
 use lib.Dec.{leb, ltb, eqb}
+use lib.IntN.{ℤ}
 use lib.ListN.{length, List·getD-eq-default}
 use borrow.Author.Tests.{le-leb, lt-leb, lt-ltb, le-ltb, eq-eqb, ne-eqb, leb-true, leb-false, ltb-false, eqb-true, eqb-false, not-false}
-use Rattle.rules.specs.Record.{word, sizeAt, kindAt}
+use Rattle.rules.specs.Record.{word, dayAt, sizeAt, kindAt}
 use Rattle.rules.specs.Journal.{Item, ended, broken, journalLength, isBroken, recordOf, itemAt}
 use Rattle.rules.proofs.Tests.{look, or-fails}
 use Rattle.journal.specs.Records.{sizeOf}
 
-pub length-none : (k : ℕ) → (k ≡ 16 → ⊥) → (k ≡ 17 → ⊥) → (k ≡ 18 → ⊥) → (k ≡ 19 → ⊥) → journalLength k ≡ 0
+pub length-none : (k : ℕ) → (k ≡ 17 → ⊥) → (k ≡ 18 → ⊥) → (k ≡ 19 → ⊥) → (k ≡ 20 → ⊥) → journalLength k ≡ 0
 unfolding journalLength
 length-none k a b c d =
-    elim (look (ltb k 16)) [
+    elim (look (ltb k 17)) [
       | inl e ↦ rw e
-      | inr e ↦ let l : 16 ≤ k = ltb-false k 16 e in rw e (List·getD-eq-default (6 ∷ 4 ∷ 6 ∷ 4 ∷ []) 0 {n = k - 16} (omega arith))
+      | inr e ↦ let l : 17 ≤ k = ltb-false k 17 e in rw e (List·getD-eq-default (4 ∷ 6 ∷ 4 ∷ 10 ∷ []) 0 {n = k - 17} (omega arith))
     ]
 
 module _ (js : List ℕ) (at : ℕ) where
@@ -31,7 +32,7 @@ module _ (js : List ℕ) (at : ℕ) where
   unfolding itemAt
   at-broken h e = rw (lt-leb (length js) at h, e)
 
-  at-whole : at < length js → isBroken js at ≡ false → itemAt js at ≡ recordOf (kindAt js at) (word js (at + 4))
+  at-whole : at < length js → isBroken js at ≡ false → itemAt js at ≡ recordOf (kindAt js at) (word js (at + 4)) (dayAt js (at + 6))
   unfolding itemAt
   at-whole h e = rw (lt-leb (length js) at h, e)
 
@@ -58,18 +59,18 @@ module _ (js : List ℕ) (at : ℕ) where
       pub cut : s ≡ n → length js - at < n → itemAt js at ≡ broken
       cut e l = at-broken (omega arith) (sym tests ∙ rw (fits, ne-eqb n 0 known, eq-eqb s n e, lt-ltb (length js) (at + s) (omega arith)))
 
-      pub whole : s ≡ n → n ≤ length js - at → itemAt js at ≡ recordOf k (word js (at + 4))
+      pub whole : s ≡ n → n ≤ length js - at → itemAt js at ≡ recordOf k (word js (at + 4)) (dayAt js (at + 6))
       unfolding kindAt
       whole e l =
           at-whole (omega arith) (sym tests ∙ rw (fits, ne-eqb n 0 known, eq-eqb s n e, le-ltb (length js) (at + s) (omega arith)))
-          ∙ ap (λ (x : ℕ). recordOf x (word js (at + 4))) (sym kind)
+          ∙ ap (λ (x : ℕ). recordOf x (word js (at + 4)) (dayAt js (at + 6))) (sym kind)
 
 -- what stands whole at a place has the size that it tells, and ends within the bytes
-size-of-kind : (k field : ℕ) → (journalLength k ≡ 0 → ⊥) → sizeOf (recordOf k field) ≡ journalLength k
+size-of-kind : (k field : ℕ) (day : ℤ) → (journalLength k ≡ 0 → ⊥) → sizeOf (recordOf k field day) ≡ journalLength k
 unfolding journalLength recordOf
-size-of-kind k field h =
-    elim (look (eqb k 16)) [
-      | inl a ↦ rw (eqb-true k 16 a)
+size-of-kind k field day h =
+    elim (look (eqb k 20)) [
+      | inl a ↦ rw (eqb-true k 20 a)
       | inr a ↦
           elim (look (eqb k 17)) [
             | inl b ↦ rw (eqb-true k 17 b)
@@ -79,7 +80,7 @@ size-of-kind k field h =
                   | inr d ↦
                       elim (look (eqb k 19)) [
                         | inl e ↦ rw (eqb-true k 19 e)
-                        | inr e ↦ absurd (h (length-none k (eqb-false k 16 a) (eqb-false k 17 b) (eqb-false k 18 d) (eqb-false k 19 e)))
+                        | inr e ↦ absurd (h (length-none k (eqb-false k 17 b) (eqb-false k 18 d) (eqb-false k 19 e) (eqb-false k 20 a)))
                       ]
                 ]
           ]
@@ -99,13 +100,13 @@ module _ (js : List ℕ) (at : ℕ) where
   abbrev size : ℕ
   size = sizeAt js at
 
-  unbroken : isBroken js at ≡ false → Stands js at (recordOf kind (word js (at + 4)))
+  unbroken : isBroken js at ≡ false → Stands js at (recordOf kind (word js (at + 4)) (dayAt js (at + 6)))
   unfolding isBroken
   unbroken e =
       let (p, d) = or-fails (ltb (length js) (at + 4) || eqb (journalLength kind) 0 || not (eqb size (journalLength kind))) (ltb (length js) (at + size)) e in
       let (q, c) = or-fails (ltb (length js) (at + 4) || eqb (journalLength kind) 0) (not (eqb size (journalLength kind))) p in
       let (a, b) = or-fails (ltb (length js) (at + 4)) (eqb (journalLength kind) 0) q in
-      let s : sizeOf (recordOf kind (word js (at + 4))) ≡ journalLength kind = size-of-kind kind (word js (at + 4)) (eqb-false (journalLength kind) 0 b) in
+      let s : sizeOf (recordOf kind (word js (at + 4)) (dayAt js (at + 6))) ≡ journalLength kind = size-of-kind kind (word js (at + 4)) (dayAt js (at + 6)) (eqb-false (journalLength kind) 0 b) in
       let t : size ≡ journalLength kind = eqb-true size (journalLength kind) (not-false _ c) in
       let u : at + size ≤ length js = ltb-false (length js) (at + size) d in
       record { size = s ∙ sym t; within = omega arith }

@@ -10,7 +10,7 @@ use Rattle.journal.specs.declared.record.Record.the-variants.{Ended, Bro
 abbrev pub recordTold : Record → Item
 recordTold Ended = ended
 recordTold Broken = broken
-recordTold (Event e) = called (event (record { event = e }))
+recordTold (Event e d) = called (event (record { event = e; day = d }))
 recordTold Signal = called (signal nothing)
 recordTold (Fire t) = called (fire (record { track = t }))
 recordTold FireLowest = fireLowest
@@ -19,7 +19,7 @@ recordTold FireLowest = fireLowest
 abbrev pub sizeOf : Item → ℕ
 sizeOf ended = 0
 sizeOf broken = 0
-sizeOf (called (event a)) = 6
+sizeOf (called (event a)) = 10
 sizeOf (called (signal a)) = 4
 sizeOf (called (fire a)) = 6
 sizeOf fireLowest = 4

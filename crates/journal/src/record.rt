@@ -1,34 +1,37 @@
 // The records of the journal.
+use plan::fields::day_at;
 use plan::fields::word_at;
 ghost use mathlib.Core.Path.{_≡_};
 ghost use Prim.Native.Nat.{_+_, _≤_};
 ghost use lib.ListN.{length};
-ghost use Rattle.rules.specs.Record.{word};
+ghost use Rattle.rules.specs.Record.{word, dayAt};
 ghost use Rattle.rules.specs.Journal.{journalLength, recordOf, itemAt};
 ghost use Rattle.journal.specs.Records.{recordTold, sizeOf};
 
 // The journal's kinds.
-const EVENT: u16 = 16;
-
 const SIGNAL: u16 = 17;
 
 const FIRE: u16 = 18;
 
 const FIRE_LOWEST: u16 = 19;
 
-// The length of a record without a field, which is where a field starts, and of one with a field.
+const EVENT: u16 = 20;
+
+// The length of a record without a field, which is where a field starts; of one with a field, which is where a day starts; of one with both.
 const BARE: usize = 4;
 
 const WITH_FIELD: usize = 6;
 
+const WITH_DAY: usize = 10;
+
 // Where the kind starts.
 const KIND_PLACE: usize = 2;
 
-// What stands at a place of the journal: its end, a broken record, or what is asked for, with its field.
+// What stands at a place of the journal: its end, a broken record, or what is asked for, with its field, and an event with its day.
 pub enum Record {
     Ended,
     Broken,
-    Event(u16),
+    Event(u16, i32),
     Signal,
     Fire(u16),
     FireLowest,
@@ -45,7 +48,7 @@ fn length_of(kind: u16) -> usize
     ensures { λ r. ⌜ r ≡ journalLength kind ⌝ }
 {
     if kind == EVENT {
-        return WITH_FIELD;
+        return WITH_DAY;
     }
     if kind == SIGNAL {
         return BARE;
@@ -62,10 +65,13 @@ fn length_of(kind: u16) -> usize
 // The record at a place where one of a known kind stands whole.
 fn whole_at(journal: &[u8], at: usize, kind: u16) -> Record
     requires { ⌜ at + journalLength kind ≤ length (now journal) ⌝ }
-    ensures { λ r. ⌜ recordTold r ≡ recordOf kind (word (now (journal .entry)) (at + 4)) ⌝ }
+    ensures { λ r. ⌜ recordTold r ≡ recordOf kind (word (now (journal .entry)) (at + 4)) (dayAt (now (journal .entry)) (at + 6)) ⌝ }
 {
     if kind == EVENT {
-        return Record::Event(word_at(journal, at + BARE));
+        return Record::Event(
+            word_at(journal, at + BARE),
+            day_at(journal, at + WITH_FIELD),
+        );
     }
     if kind == SIGNAL {
         return Record::Signal;
@@ -109,7 +115,7 @@ pub fn size_of(found: Record) -> usize
     match found {
         Record::Ended => 0,
         Record::Broken => 0,
-        Record::Event(_) => WITH_FIELD,
+        Record::Event(_, _) => WITH_DAY,
         Record::Signal => BARE,
         Record::Fire(_) => WITH_FIELD,
         Record::FireLowest => BARE,

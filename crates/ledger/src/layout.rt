@@ -9,12 +9,16 @@ ghost use Rattle.rules.specs.Layout.{entryLimit, entryWidth, trackPlace, entrie
 // The most entries that a track holds.
 pub const ENTRY_LIMIT: usize = 32;
 
-// Words before the first track: the length and the sum of the plan, and where they stand.
-pub const LEADING_WORDS: usize = 2;
+// Words before the first track: the length and the sum of the plan and the last accepted day, and where they stand.
+pub const LEADING_WORDS: usize = 4;
 
 pub const LENGTH_WORD: usize = 0;
 
 pub const SUM_WORD: usize = 1;
+
+pub const LOW_DAY_WORD: usize = 2;
+
+pub const HIGH_DAY_WORD: usize = 3;
 
 // Mode, state, count of entries held, and where the last two stand.
 pub const HEAD_WORDS: usize = 3;

@@ -56,18 +56,18 @@ passes-checked bs c ws a h = record { lent = record { accepts = a; room = long-r
 
 -- the ledger's facts
 pub tidy-words : (bs : List ℕ) (c : Counts) (ws : List ℕ) → Checked bs c ws → Tidy ws (c .tracks)
-unfolding isSound
 tidy-words bs c ws k =
-    let n = trackCount (planOf bs c) in
-    let q = and-holds (areTidy entryLimit ws n) (isOver (planOf bs c) (ledgerAt entryLimit ws n) || isLive (planOf bs c) (ledgerAt entryLimit ws n)) (k .sound) .0 in
-    record { room = k .lent .room; tidy = ap (areTidy entryLimit ws) (sym (track-count bs c)) ∙ q }
+    record {
+      room = k .lent .room;
+      tidy = ap (areTidy entryLimit ws) (sym (track-count bs c)) ∙ sound-words entryLimit (planOf bs c) ws (k .sound) .tidy;
+    }
 
 pub live-of-going : (bs : List ℕ) (c : Counts) (ws : List ℕ) → Going bs c ws → Live (planOf bs c) (ledgerOf c ws)
-unfolding isSound ledgerOf
+unfolding ledgerOf
 live-of-going bs c ws g =
     let p = planOf bs c in
     let l : ℕ → Ledger = ledgerAt entryLimit ws in
-    let q = and-holds (areTidy entryLimit ws (trackCount (planOf bs c))) (isOver p (l (trackCount p)) || isLive p (l (trackCount p))) (g .checked .sound) .1 in
+    let q = sound-words entryLimit p ws (g .checked .sound) .rest in
     let r : (isOver p (l (c .tracks)) || isLive p (l (c .tracks))) ≡ true = ap (λ (m : ℕ). isOver p (l m) || isLive p (l m)) (sym (track-count bs c)) ∙ q in
     live-facts p (plan-facts bs c (g .checked .lent .accepts)) (ledgerOf c ws)
     (elim (or-holds (isOver p (l (c .tracks))) (isLive p (l (c .tracks))) r) [ inl o ↦ clash o (g .goes-on) | inr v ↦ v ])

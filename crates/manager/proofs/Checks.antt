@@ -178,10 +178,8 @@ module _ (bs ws : List ℕ) where
 
   -- a sound ledger's words are tidy
   pub tidy-found : (c : Counts) → accepted c ≡ checked bs ws → areTidy entryLimit ws (c .tracks) ≡ true
-  unfolding isSound
   tidy-found c e =
-      let h = checked-facts c e .1 .sound in
-      let q = and-holds (areTidy entryLimit ws (trackCount (planOf bs c))) _ h .0 in
+      let q = sound-words entryLimit (planOf bs c) ws (checked-facts c e .1 .sound) .tidy in
       rw track-count at q
 
   pub span-held : (t from k : ℕ) (c : Counts) → accepted c ≡ checked bs ws → t < c .tracks → from ≡ entriesPlace entryLimit t + entryWidth * 0

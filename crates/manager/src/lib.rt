@@ -35,10 +35,10 @@ pub fn begin(plan: &[u8], ledger: &mut [u16]) -> BeginAnswer
     }
 }
 
-// Moves each forward track without an open scope that has a transition for the event, then closes, replaces, and finishes where that is
-// due. Answers how many tracks moved and how many scopes closed.
-pub fn event(plan: &[u8], ledger: &mut [u16], event: u16) -> EventAnswer
-    ensures { λ r. ⌜ Meets (eventOutcome entryLimit (now (plan .entry)) (now (ledger .entry)) (record { event = event })) (eventTold r) (now (ledger .exit)) ⌝ }
+// Moves each forward track without an open scope that has a transition for the event on that day, then closes, replaces, and finishes where
+// that is due. The day is kept as the last accepted one. Answers how many tracks moved and how many scopes closed.
+pub fn event(plan: &[u8], ledger: &mut [u16], event: u16, day: i32) -> EventAnswer
+    ensures { λ r. ⌜ Meets (eventOutcome entryLimit (now (plan .entry)) (now (ledger .entry)) (record { event = event; day = day })) (eventTold r) (now (ledger .exit)) ⌝ }
 {
     let mut opens = [false; 32];
     let mut firsts: [u16; 32] = [0; 32];
@@ -46,7 +46,7 @@ pub fn event(plan: &[u8], ledger: &mut [u16], event: u16) -> EventAnswer
     match answer {
         PlanAnswer::Refused(n) => EventAnswer::Refused(n),
         PlanAnswer::Accepted(c) => {
-            event_step::event::event(plan, c, &mut ledger[..], event, &opens, &firsts)
+            event_step::event::event(plan, c, &mut ledger[..], event, day, &opens, &firsts)
         }
     }
 }

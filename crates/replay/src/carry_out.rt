@@ -42,12 +42,13 @@ fn carry_out_event(
     output: &mut [u8],
     from: Progress,
     name: u16,
+    day: i32,
     firsts: &[u16; 32],
     head: &[u16; 256],
     next: &[u16; 256],
 ) -> Progress
     requires { ⌜ Prepared (now plan) c (now ledger) (now output) from × Tables (now plan) c (now firsts) (now head) (now next) ⌝ }
-    ensures { λ r. ⌜ CarriedOut (now (plan .entry)) c (event (record { event = name }))
+    ensures { λ r. ⌜ CarriedOut (now (plan .entry)) c (event (record { event = name; day = day }))
         (now (ledger .entry)) (now (output .entry)) from (now (ledger .exit)) (now (output .exit)) r ⌝ }
 {
     let answer = event_step::event::event_indexed(
@@ -55,6 +56,7 @@ fn carry_out_event(
         c,
         &mut ledger[..],
         name,
+        day,
         firsts,
         head,
         next,
@@ -144,13 +146,14 @@ pub fn carry_out(
     match found {
         Record::Ended => from,
         Record::Broken => from,
-        Record::Event(event) => carry_out_event(
+        Record::Event(event, day) => carry_out_event(
             plan,
             c,
             &mut ledger[..],
             &mut output[..],
             from,
             event,
+            day,
             firsts,
             head,
             next,

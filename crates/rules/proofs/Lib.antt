@@ -18,6 +18,7 @@ pub mod TrackWords
 pub mod Stored
 pub mod LeadingLaws
 pub mod SignedLaws
+pub mod DayLaws
 pub mod LedgerChecks
 pub mod Replaced
 pub mod Passes

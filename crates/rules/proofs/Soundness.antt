@@ -1,7 +1,8 @@
--- A live ledger, in facts: each clause of soundness holds at every track and every scope. Assumes nothing.
+-- A live ledger, in facts: each clause of soundness holds at every track and every scope; and a sound ledger's words. Assumes nothing.
 use mathlib.Core.Path.{_≡_, refl, sym, subst}
 use mathlib.Core.Logic.{_⊎_, ⊎-elim}
 use mathlib.Core.Bool.{Bool, true, false, not, _&&_, _||_}
+use mathlib.Core.List.{List}
 use mathlib.Core.Option.{Option, none, some}
 use Prim.Native.Nat.{ℕ, _<_}
 use lib.Dec.{eqb}
@@ -10,12 +11,14 @@ use Rattle.rules.specs.declared.Mode.{Mode}
 use Rattle.rules.specs.declared.Mode.the-variants.{Asleep, Forward, Undoing}
 use Rattle.rules.specs.Fold.{someBelow}
 use Rattle.rules.specs.Plan.{Plan, trackCount, stateCount, host, owner, isRoot, isStateOf, everyIn}
-use Rattle.rules.specs.Ledger.{Ledger, isAwake, isForward, isUndoing}
-use Rattle.rules.specs.Scope.{isOpen}
+use Rattle.rules.specs.Day.{isDay}
+use Rattle.rules.specs.Leading.{lastDay}
+use Rattle.rules.specs.Ledger.{Ledger, isAwake, isForward, isUndoing, ledgerAt}
+use Rattle.rules.specs.Scope.{isOpen, isOver}
 use Rattle.rules.specs.Event.{isClosing}
 use Rattle.rules.specs.Finish.{isFinishing}
 use Rattle.rules.specs.Signal.{isAbandoning}
-use Rattle.rules.specs.Soundness.{everyHeld, sameMode, rootsAwake, statesOwn, codesReal, goodDeviation, deviationsGood, isWhole, scopesWhole, isHostedWell, hostsAwake, closingDone, finishDone, abandoningDone, isLive}
+use Rattle.rules.specs.Soundness.{everyHeld, sameMode, rootsAwake, statesOwn, codesReal, goodDeviation, deviationsGood, isWhole, scopesWhole, isHostedWell, hostsAwake, closingDone, finishDone, abandoningDone, isLive, areTidy, isSound}
 use Rattle.rules.proofs.Tests.{look, clash, refuted, and-holds, and-both, or-holds, or-right, implies, implied}
 use Rattle.rules.proofs.Folds.{every-at, every-of, some-not, some-none}
 use Rattle.rules.proofs.Acceptance.{Accepted}
@@ -123,3 +126,21 @@ module _ (p : Plan) (ok : Accepted p) (l : Ledger) where
           let (x, y) = w .up t h e a in
           and-both (eqb (l (owner p h) .state) h) (sameMode (l (owner p h) .mode) (l t .mode)) (eq-eqb _ _ x)
           (subst (λ m. sameMode m (l t .mode) ≡ true) (sym y) (mode-same (l t .mode)))))
+
+-- A sound ledger's words: a day in range, tidy, and over or live.
+pub record SoundWords (limit : ℕ) (p : Plan) (ws : List ℕ) : Type 0 where
+  pub day : isDay (lastDay ws) ≡ true
+  pub tidy : areTidy limit ws (trackCount p) ≡ true
+  pub rest : (isOver p (ledgerAt limit ws (trackCount p)) || isLive p (ledgerAt limit ws (trackCount p))) ≡ true
+
+module _ (limit : ℕ) (p : Plan) (ws : List ℕ) where
+  pub sound-words : isSound limit p ws ≡ true → SoundWords limit p ws
+  unfolding isSound
+  sound-words h =
+      let (q, r) = and-holds (isDay (lastDay ws) && areTidy limit ws (trackCount p)) _ h in
+      let (d, t) = and-holds (isDay (lastDay ws)) (areTidy limit ws (trackCount p)) q in
+      record { day = d; tidy = t; rest = r }
+
+  pub words-sound : SoundWords limit p ws → isSound limit p ws ≡ true
+  unfolding isSound
+  words-sound s = rw (s .day, s .tidy) (s .rest)

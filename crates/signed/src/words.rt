@@ -14,7 +14,7 @@ pub fn join(low: u16, high: u16) -> i32
 }
 
 // A number's 32 bits.
-fn bits_of(z: i32) -> u32
+pub fn bits_of(z: i32) -> u32
     ensures { λ r. ⌜ r ≡ bitsOf z ⌝ }
 {
     if z < 0 {

@@ -93,10 +93,10 @@ live-asked bs c l e g h =
     rw (e ∙ ap (λ n. everyBelow n (soundTrack (planOf bs c) l)) (sym (track-count bs c)), g, h ∙ ap (λ n. everyBelow n (soundScope (planOf bs c) l)) (sym (state-count bs c)))
     (live-parts (planOf bs c) l)
 
--- the words, then over, then the clauses
+-- the day, the words, then over, then the clauses
 module _ (bs : List ℕ) (c : Counts) (ws : List ℕ) where
   abbrev said : ℕ → Bool
-  said n = areTidy entryLimit ws n && (everyBelow n (λ t. not (isAwake (ledgerAt entryLimit ws n t .mode))) || isLive (planOf bs c) (ledgerAt entryLimit ws n))
+  said n = isDay (lastDay ws) && areTidy entryLimit ws n && (everyBelow n (λ t. not (isAwake (ledgerAt entryLimit ws n t .mode))) || isLive (planOf bs c) (ledgerAt entryLimit ws n))
 
   -- the definition, by the counts
   counted : said (c .tracks) ≡ isSound entryLimit (planOf bs c) ws
@@ -107,15 +107,22 @@ module _ (bs : List ℕ) (c : Counts) (ws : List ℕ) where
   unfolding isOver
   over-asked f k = ap (λ n. everyBelow n (λ t. not (isAwake (ledgerOf c ws t .mode)))) (track-count bs c) ∙ sym f ∙ k
 
-  module _ {q : Bool} (e : q ≡ areTidy entryLimit ws (c .tracks)) where
-    pub untidy : not q ≡ true → false ≡ isSound entryLimit (planOf bs c) ws
-    untidy h = rw (sym e ∙ not-true q h) at counted
+  module _ {z : ℤ} {d : Bool} (day : z ≡ lastDay ws) (dayed : d ≡ isDay z) where
+    day-is : isDay (lastDay ws) ≡ d
+    day-is = ap isDay (sym day) ∙ sym dayed
 
-    module _ (h : not q ≡ false) {r : Bool} (f : r ≡ everyBelow (c .tracks) (λ t. not (isAwake (ledgerOf c ws t .mode)))) where
-      pub sound-over : r ≡ true → true ≡ isSound entryLimit (planOf bs c) ws
-      unfolding ledgerOf
-      sound-over k = rw (sym e ∙ not-false q h, sym f ∙ k) at counted
+    pub no-day : not d ≡ true → false ≡ isSound entryLimit (planOf bs c) ws
+    no-day h = rw (day-is ∙ not-true d h) at counted
 
-      pub sound-live : {x : Bool} → r ≡ false → x ≡ isLive (planOf bs c) (ledgerOf c ws) → x ≡ isSound entryLimit (planOf bs c) ws
-      unfolding ledgerOf
-      sound-live k g = g ∙ (rw (sym e ∙ not-false q h, sym f ∙ k) at counted)
+    module _ (on : not d ≡ false) {q : Bool} (e : q ≡ areTidy entryLimit ws (c .tracks)) where
+      pub untidy : not q ≡ true → false ≡ isSound entryLimit (planOf bs c) ws
+      untidy h = rw (day-is ∙ not-false d on, sym e ∙ not-true q h) at counted
+
+      module _ (h : not q ≡ false) {r : Bool} (f : r ≡ everyBelow (c .tracks) (λ t. not (isAwake (ledgerOf c ws t .mode)))) where
+        pub sound-over : r ≡ true → true ≡ isSound entryLimit (planOf bs c) ws
+        unfolding ledgerOf
+        sound-over k = rw (day-is ∙ not-false d on, sym e ∙ not-false q h, sym f ∙ k) at counted
+
+        pub sound-live : {x : Bool} → r ≡ false → x ≡ isLive (planOf bs c) (ledgerOf c ws) → x ≡ isSound entryLimit (planOf bs c) ws
+        unfolding ledgerOf
+        sound-live k g = g ∙ (rw (day-is ∙ not-false d on, sym e ∙ not-false q h, sym f ∙ k) at counted)

@@ -1,7 +1,9 @@
-// A sound ledger: tidy words, and over or all clauses.
+// A sound ledger: a day in range, tidy words, and over or all clauses.
 use crate::scopes;
 use crate::tracks;
+use calendar::range::is_day;
 use finish::finishing;
+use ledger::leading;
 use ledger::tidy;
 use lookup::opens;
 use lookup::reading;
@@ -34,6 +36,9 @@ pub fn is_sound(plan: &[u8], c: Counts, ledger: &[u16], opens: &mut [bool; 32]) 
     ensures { λ r. ⌜ (r ≡ isSound entryLimit (planOf (now (plan .entry)) c) (now (ledger .entry)))
         × OpensFound (now (plan .entry)) c (now (ledger .entry)) r (now (opens .exit)) ⌝ }
 {
+    if !is_day(leading::last_day(ledger)) {
+        return false;
+    }
     if !tidy::are_tidy(ledger, c.tracks) {
         return false;
     }

@@ -2,16 +2,16 @@
 use Prim.Native.Nat.{_≤_, _-_}
 use native.Mathlib.Omega.{arith}
 use Rattle.rules.specs.Plan.{planOf}
-use Rattle.rules.specs.Event.{move}
 use Rattle.ledger.specs.Ladder.{ledgerOf}
 use Rattle.lookup.specs.Figures.{Numbers}
+use Rattle.event_choice.specs.Next.{anyDayMove}
 use Rattle.lookup.proofs.FiguresLaws.{numbers-empty, numbers-all, number-more}
 use borrow.Author.Needs.{needs}
 use Rattle.event_choice.proofs.indexed.taken_from.Statement.{statement}
 use Rattle.event_choice.proofs.indexed.taken_from.Tie as tie
 
 abbrev Inv-loop : tie.InvT-loop
-Inv-loop plan c ledger event opens head next taken₀ tracks t₀ taken t = (t ≤ tracks) × Numbers taken t (move (planOf plan c) (ledgerOf c ledger) event)
+Inv-loop plan c ledger event opens head next taken₀ tracks t₀ taken t = (t ≤ tracks) × Numbers taken t (anyDayMove (planOf plan c) (ledgerOf c ledger) event)
 
 abbrev μ-loop : tie.MeasureT-loop
 μ-loop plan c ledger event opens head next taken₀ tracks t₀ taken t = tracks - t

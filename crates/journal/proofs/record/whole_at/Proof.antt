@@ -1,4 +1,4 @@
--- By the kind; a record with a field has six bytes. Assumes nothing.
+-- By the kind; a record with a field has six bytes, one with a day ten. Assumes nothing.
 use native.Mathlib.Omega.{arith}
 use borrow.Author.Needs.{needs}
 use mathlib.Core.Path.{_≡_}
@@ -29,7 +29,7 @@ returns-3 c = rw (c .before .if3 .taken, c .word-at2 .ensures)
 
 returns-4 : tie.Need-returns-4
 unfolding recordOf
-returns-4 c = rw (ne-eqb _ 16 (c .before .before .if1 .left), ne-eqb _ 17 (c .before .if2 .left), ne-eqb _ 18 (c .if3 .left))
+returns-4 c = rw (ne-eqb _ 20 (c .before .before .if1 .left), ne-eqb _ 17 (c .before .if2 .left), ne-eqb _ 18 (c .if3 .left))
 
 pub whole-at-spec : {M : Type 1} → statement M
 whole-at-spec =
