@@ -2,10 +2,20 @@
 use mathlib.Core.Path.{_≡_, ap}
 use mathlib.Core.List.{List}
 use Prim.Native.Nat.{ℕ, _+_, _<_}
+use native.Mathlib.Omega.{arith}
 use Rattle.rules.specs.declared.Counts.{Counts}
-use Rattle.rules.specs.Record.{word}
-use Rattle.rules.specs.Plan.{State, Transition, planOf, trackCount, stateCount, transitionCount, hostWord, state, transition, owner, replacement, trackRecord, stateRecord, transitionRecord, stateAt, transitionAt}
+use Rattle.rules.specs.Signed.{joined}
+use Rattle.rules.specs.Record.{word, dayAt}
+use Rattle.rules.specs.Plan.{State, Transition, Window, planOf, trackCount, stateCount, transitionCount, windowCount, hostWord, state, transition, window, owner, replacement, trackRecord, stateRecord, transitionRecord, windowRecord, stateAt, transitionAt, windowAt}
 use Rattle.rules.proofs.Folds.{length-tabulate, getD-tabulate}
+
+-- a day by its two words
+pub day-words : (bs : List ℕ) (start at low high : ℕ) → low ≡ word bs (start + at) → high ≡ word bs (start + (at + 2))
+    → joined low high ≡ dayAt bs (start + at)
+unfolding dayAt
+day-words bs start at low high l h =
+    let e : start + (at + 2) ≡ start + at + 2 = omega arith in
+    rw (l, h) (ap (λ (i : ℕ). joined (word bs (start + at)) (word bs i)) e)
 
 module _ (bs : List ℕ) (c : Counts) where
   pub track-count : trackCount (planOf bs c) ≡ c .tracks
@@ -20,6 +30,10 @@ module _ (bs : List ℕ) (c : Counts) where
   unfolding transitionCount planOf
   transition-count = length-tabulate _ _
 
+  pub window-count : windowCount (planOf bs c) ≡ c .windows
+  unfolding windowCount planOf
+  window-count = length-tabulate _ _
+
   pub host-word : (t : ℕ) → t < c .tracks → hostWord (planOf bs c) t ≡ word bs (trackRecord t + 4)
   unfolding hostWord planOf
   host-word t l = getD-tabulate _ t _ _ l
@@ -31,6 +45,10 @@ module _ (bs : List ℕ) (c : Counts) where
   pub transition-of : (x : ℕ) → x < c .transitions → transition (planOf bs c) x ≡ transitionAt bs (transitionRecord c x)
   unfolding transition planOf
   transition-of x l = getD-tabulate _ x _ _ l
+
+  pub window-of : (w : ℕ) → w < c .windows → window (planOf bs c) w ≡ windowAt bs (windowRecord c w)
+  unfolding window planOf
+  window-of w l = getD-tabulate _ w _ _ l
 
   -- the fields of a state
   pub owner-at : (s : ℕ) → s < c .states → owner (planOf bs c) s ≡ word bs (stateRecord c s + 4)
@@ -65,3 +83,16 @@ module _ (bs : List ℕ) (c : Counts) where
   pub destination-at : (x : ℕ) → x < c .transitions → transition (planOf bs c) x .destination ≡ word bs (transitionRecord c x + 12)
   unfolding transitionAt
   destination-at x l = ap (λ (r : Transition). r .destination) (transition-of x l)
+
+  -- the fields of a window
+  pub named-at : (w : ℕ) → w < c .windows → window (planOf bs c) w .transition ≡ word bs (windowRecord c w + 4)
+  unfolding windowAt
+  named-at w l = ap (λ (r : Window). r .transition) (window-of w l)
+
+  pub first-day-at : (w : ℕ) → w < c .windows → window (planOf bs c) w .first ≡ dayAt bs (windowRecord c w + 6)
+  unfolding windowAt
+  first-day-at w l = ap (λ (r : Window). r .first) (window-of w l)
+
+  pub last-day-at : (w : ℕ) → w < c .windows → window (planOf bs c) w .last ≡ dayAt bs (windowRecord c w + 10)
+  unfolding windowAt
+  last-day-at w l = ap (λ (r : Window). r .last) (window-of w l)

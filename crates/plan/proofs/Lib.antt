@@ -1,5 +1,6 @@
 -- Laws of a plan's fields and of the passes over its records.
 pub mod FieldLaws
+pub mod WindowLaws
 pub mod ChainLaws
 pub mod Searches
 pub mod Members
