@@ -1,0 +1,2 @@
+-- What the steps from days to a date find.
+pub mod Parts
