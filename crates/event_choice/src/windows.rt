@@ -20,7 +20,7 @@ fn shut_on(plan: &[u8], c: Counts, day: i32) -> [bool; 256]
     let mut w: usize = 0;
     while w < windows {
         if !windows::is_within(plan, c, w, day) {
-            let x = windows::transition_of(plan, c, w) as usize;
+            let x = windows::window_transition(plan, c, w) as usize;
             shut[x] = true;
         }
         w += 1;

@@ -1,5 +1,5 @@
 // An event: its refusals, judged before a word is written, then its step, finish, its day, and its figures.
-use calendar::range::is_day;
+use calendar::dates::is_day;
 use event_choice::Choice;
 use finish::finishing;
 use ledger::leading;

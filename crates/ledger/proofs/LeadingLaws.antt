@@ -6,9 +6,13 @@ use Prim.Native.Nat.{ℕ, _≤_}
 use native.Mathlib.Omega.{arith}
 use lib.ListN.{length, getD, set}
 use lib.Dec.{eqb}
+use lib.IntN.{ℤ}
 use borrow.Author.Tests.{eq-eqb, ne-eqb}
-use Rattle.rules.specs.Layout.{leadingWords, lengthPlace, sumPlace}
-use Rattle.rules.specs.Leading.{planSum, stamped, otherPlan}
+use Rattle.rules.specs.Layout.{leadingWords, lengthPlace, sumPlace, lowDayPlace, highDayPlace}
+use Rattle.rules.specs.Signed.{lowWord, highWord}
+use Rattle.rules.specs.Day.{earliestDay}
+use Rattle.rules.specs.Leading.{planSum, dated, stamped, otherPlan}
+use Rattle.rules.proofs.LeadingLaws.{dated-steps}
 
 -- two words compared
 pub either-other : (bs ws : List ℕ) (n m : ℕ) → n ≡ getD ws lengthPlace 0 → m ≡ planSum bs
@@ -16,9 +20,17 @@ pub either-other : (bs ws : List ℕ) (n m : ℕ) → n ≡ getD ws lengthPlace 
 unfolding otherPlan
 either-other bs ws n m e f = rw (e, f)
 
--- two words set
-pub stamp-steps : (bs ws : List ℕ) (n m : ℕ) → leadingWords ≤ length ws → n ≡ length bs → m ≡ planSum bs → set (set ws lengthPlace n) sumPlace m ≡ stamped bs ws
-unfolding leadingWords stamped
+-- two words set, and then the day
+pub stamp-steps : (bs ws : List ℕ) (n m : ℕ) → leadingWords ≤ length ws → n ≡ length bs → m ≡ planSum bs
+    → dated earliestDay (set (set ws lengthPlace n) sumPlace m) ≡ stamped bs ws
+unfolding leadingWords stamped dated
 stamp-steps bs [] n m h e f = absurd (omega arith)
 stamp-steps bs (w ∷ []) n m h e f = absurd (omega arith)
-stamp-steps bs (w ∷ v ∷ vs) n m h e f = rw (e, f)
+stamp-steps bs (w ∷ v ∷ []) n m h e f = absurd (omega arith)
+stamp-steps bs (w ∷ v ∷ u ∷ []) n m h e f = absurd (omega arith)
+stamp-steps bs (w ∷ v ∷ u ∷ t ∷ vs) n m h e f = rw (e, f)
+
+-- the day's two words set
+pub day-steps : (ws : List ℕ) (day : ℤ) (n m : ℕ) → leadingWords ≤ length ws → n ≡ lowWord day → m ≡ highWord day
+    → set (set ws lowDayPlace n) highDayPlace m ≡ dated day ws
+day-steps ws day n m h e f = rw (e, f) (dated-steps day ws h)

@@ -16,12 +16,12 @@ use Rattle.rules.specs.Layout.{entryLimit, wordCount}
 use Rattle.rules.specs.Ledger.{Ledger, isAwake, isUndoing, isEmpty, sleeping, ledgerAt}
 use Rattle.rules.specs.Scope.{isOver, hasOpenScope}
 use Rattle.rules.specs.Fire.{mayFire}
-use Rattle.rules.specs.Soundness.{areTidy, isLive, isSound}
+use Rattle.rules.specs.Soundness.{areTidy, isLive}
 use Rattle.rules.specs.Call.{tooShort}
 use Rattle.rules.proofs.Tests.{look, look-option, clash, and-holds, or-holds, same-test}
 use Rattle.rules.proofs.Folds.{every-at}
 use Rattle.rules.proofs.Acceptance.{Accepted, accepts}
-use Rattle.rules.proofs.Soundness.{Live, live-facts}
+use Rattle.rules.proofs.Soundness.{Live, live-facts, sound-words}
 use Rattle.rules.proofs.LedgerChecks.{Passes}
 use Rattle.rules.proofs.Stored.{Storable, read-at, read-beyond, storable-read}
 use Rattle.plan.proofs.FieldLaws.{track-count, state-count}

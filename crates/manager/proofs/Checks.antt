@@ -25,6 +25,7 @@ use Rattle.plan.proofs.FieldLaws.{track-count}
 use Rattle.ledger.specs.Ladder.{Accepts, Lent, Checked, ledgerOf}
 use Rattle.plan_reader.proofs.Reader.{accepted-holds}
 use Rattle.rules.proofs.Tests.{look, and-holds, passed, if-refused}
+use Rattle.rules.proofs.Soundness.{sound-words}
 use Rattle.rules.proofs.LedgerChecks.{Passes, unless-none, checked-first, passes-none, none-passes, short-refused, other-refused, unsound-refused}
 use Rattle.lookup.specs.Figures.{Figures}
 use Rattle.lookup.proofs.Facts.{long-room, passes-checked}

@@ -18,8 +18,8 @@ use Rattle.rules.proofs.Opening.{wakes-same, roots-to}
 use Rattle.rules.proofs.Scopes.{root-none}
 use Rattle.rules.proofs.LeadingLaws.{length-stamped}
 use Rattle.rules.proofs.Stored.{Storable, written-same, written-twice, length-written, tidy-written, read-written}
-use Rattle.plan.specs.Holds.{Holds}
-use Rattle.plan.proofs.FieldLaws.{track-count, state-count}
+use Rattle.rules.proofs.Windows.{few-windows}
+use Rattle.plan.proofs.FieldLaws.{track-count, state-count, transition-count, window-count}
 use Rattle.ledger.specs.Ladder.{Room, Tidy, Accepts, ledgerOf}
 use Rattle.ledger.proofs.Words.{leading-room}
 use Rattle.lookup.specs.Figures.{Numbers}
@@ -48,8 +48,11 @@ module _ (bs : List ℕ) (c : Counts) (a : Accepts bs c) (t : ℕ) (b : t < c .t
 pub stamped-room : (bs ws : List ℕ) {vs : List ℕ} {tracks : ℕ} → Room ws tracks → vs ≡ stamped bs ws → Room vs tracks
 stamped-room bs ws r e = record { few = r .few; words = omega (arith, r .words, ap length e, length-stamped bs ws (leading-room r)) }
 
-pub length-word : {bs : List ℕ} {c : Counts} → Holds bs c → length bs < 65536
-length-word h = omega (arith, h .whole, h .tracks, h .states, h .transitions)
+pub length-word : {bs : List ℕ} {c : Counts} → Accepts bs c → length bs < 65536
+length-word {bs} {c} a =
+    let h = a .holds in
+    let w = few-windows (planOf bs c) (plan-facts bs c a .windows) in
+    omega (arith, h .whole, h .tracks, h .states, h .transitions, w, window-count bs c, transition-count bs c)
 
 -- a ledger all asleep can be stored, and is read back
 abbrev asleep : Ledger

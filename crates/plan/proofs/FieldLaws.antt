@@ -1,5 +1,5 @@
 -- The fields of the plan that bytes hold: a record's fields by its number are the words at its place. Assumes nothing.
-use mathlib.Core.Path.{_≡_, ap}
+use mathlib.Core.Path.{_≡_, sym, ap, _∙_}
 use mathlib.Core.List.{List}
 use Prim.Native.Nat.{ℕ, _+_, _<_}
 use native.Mathlib.Omega.{arith}
@@ -10,12 +10,9 @@ use Rattle.rules.specs.Plan.{State, Transition, Window, planOf, trackCount, sta
 use Rattle.rules.proofs.Folds.{length-tabulate, getD-tabulate}
 
 -- a day by its two words
-pub day-words : (bs : List ℕ) (start at low high : ℕ) → low ≡ word bs (start + at) → high ≡ word bs (start + (at + 2))
-    → joined low high ≡ dayAt bs (start + at)
+pub day-words : (bs : List ℕ) (at low high : ℕ) → low ≡ word bs at → high ≡ word bs (at + 2) → joined low high ≡ dayAt bs at
 unfolding dayAt
-day-words bs start at low high l h =
-    let e : start + (at + 2) ≡ start + at + 2 = omega arith in
-    rw (l, h) (ap (λ (i : ℕ). joined (word bs (start + at)) (word bs i)) e)
+day-words bs at low high l h = rw (l, h)
 
 module _ (bs : List ℕ) (c : Counts) where
   pub track-count : trackCount (planOf bs c) ≡ c .tracks
@@ -84,15 +81,19 @@ module _ (bs : List ℕ) (c : Counts) where
   unfolding transitionAt
   destination-at x l = ap (λ (r : Transition). r .destination) (transition-of x l)
 
-  -- the fields of a window
-  pub named-at : (w : ℕ) → w < c .windows → window (planOf bs c) w .transition ≡ word bs (windowRecord c w + 4)
-  unfolding windowAt
-  named-at w l = ap (λ (r : Window). r .transition) (window-of w l)
+  -- the fields of a window whose record starts at a place
+  module _ (w : ℕ) (l : w < c .windows) {at : ℕ} (e : at ≡ windowRecord c w) where
+    there : windowAt bs at ≡ window (planOf bs c) w
+    there = ap (windowAt bs) e ∙ sym (window-of w l)
 
-  pub first-day-at : (w : ℕ) → w < c .windows → window (planOf bs c) w .first ≡ dayAt bs (windowRecord c w + 6)
-  unfolding windowAt
-  first-day-at w l = ap (λ (r : Window). r .first) (window-of w l)
+    pub named-at : word bs (at + 4) ≡ window (planOf bs c) w .transition
+    unfolding windowAt
+    named-at = ap (λ (r : Window). r .transition) there
 
-  pub last-day-at : (w : ℕ) → w < c .windows → window (planOf bs c) w .last ≡ dayAt bs (windowRecord c w + 10)
-  unfolding windowAt
-  last-day-at w l = ap (λ (r : Window). r .last) (window-of w l)
+    pub first-day-at : dayAt bs (at + 6) ≡ window (planOf bs c) w .first
+    unfolding windowAt
+    first-day-at = ap (λ (r : Window). r .first) there
+
+    pub last-day-at : dayAt bs (at + 10) ≡ window (planOf bs c) w .last
+    unfolding windowAt
+    last-day-at = ap (λ (r : Window). r .last) there

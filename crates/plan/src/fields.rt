@@ -1,9 +1,10 @@
 // The fields of a plan's records, each by its number at the place that follows from the counts. Nothing is copied out.
 use rules::Counts;
+use signed::words::join;
 ghost use mathlib.Core.Path.{_≡_};
 ghost use Prim.Native.Nat.{_+_, _*_, _<_};
 ghost use lib.ListN.{length};
-ghost use Rattle.rules.specs.Record.{word};
+ghost use Rattle.rules.specs.Record.{word, dayAt};
 ghost use Rattle.rules.specs.Plan.{planOf, hostWord, owner, replacement, state, transition, stateRecord, transitionRecord, isRoot, isFinal, isStateOf};
 ghost use Rattle.plan.specs.Holds.{Holds};
 
@@ -50,6 +51,14 @@ pub fn word_at(bytes: &[u8], at: usize) -> u16
     ensures { λ r. ⌜ r ≡ word (now (bytes .entry)) at ⌝ }
 {
     wide(bytes[at]) + 256 * wide(bytes[at + 1])
+}
+
+// The signed 32-bit number at a place, its low word first.
+pub fn day_at(bytes: &[u8], at: usize) -> i32
+    requires { ⌜ at + 3 < length (now bytes) ⌝ }
+    ensures { λ r. ⌜ r ≡ dayAt (now (bytes .entry)) at ⌝ }
+{
+    join(word_at(bytes, at), word_at(bytes, at + 2))
 }
 
 // A track's host: a state number, or 65535 for a root.

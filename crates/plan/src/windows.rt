@@ -3,12 +3,12 @@ use crate::fields::STATE_LENGTH;
 use crate::fields::TRACK_LENGTH;
 use crate::fields::TRANSITION_LENGTH;
 use crate::fields::WINDOW_LENGTH;
+use crate::fields::day_at;
 use crate::fields::word_at;
 use rules::Counts;
-use signed::words::join;
 ghost use mathlib.Core.Path.{_≡_};
-ghost use Prim.Native.Nat.{_+_, _<_};
-ghost use Rattle.rules.specs.Record.{word, dayAt};
+ghost use Prim.Native.Nat.{_+_, _<_, _≤_};
+ghost use lib.ListN.{length};
 ghost use Rattle.rules.specs.Plan.{planOf, window, windowRecord, isWithin};
 ghost use Rattle.plan.specs.Holds.{Holds};
 
@@ -19,25 +19,15 @@ const WINDOW_FIRST: usize = 6;
 
 const WINDOW_LAST: usize = 10;
 
-// The word of a window's record that starts `at` bytes into it.
-fn window_word(plan: &[u8], c: Counts, w: usize, at: usize) -> u16
-    requires { ⌜ Holds (now plan) c × (w < c .windows) × (at < 14) ⌝ }
-    ensures { λ r. ⌜ r ≡ word (now (plan .entry)) (windowRecord c w + at) ⌝ }
+// Where a window's record starts.
+fn window_place(plan: &[u8], c: Counts, w: usize) -> usize
+    requires { ⌜ Holds (now plan) c × (w < c .windows) ⌝ }
+    ensures { λ r. ⌜ (r ≡ windowRecord c w) × (r + 14 ≤ length (now (plan .entry))) ⌝ }
 {
     let windows_from = TRACK_LENGTH * c.tracks
         + STATE_LENGTH * c.states
         + TRANSITION_LENGTH * c.transitions;
-    word_at(plan, windows_from + WINDOW_LENGTH * w + at)
-}
-
-// The day that starts there: two words, the low one first.
-fn window_day(plan: &[u8], c: Counts, w: usize, at: usize) -> i32
-    requires { ⌜ Holds (now plan) c × (w < c .windows) × (at < 12) ⌝ }
-    ensures { λ r. ⌜ r ≡ dayAt (now (plan .entry)) (windowRecord c w + at) ⌝ }
-{
-    let low = window_word(plan, c, w, at);
-    let high = window_word(plan, c, w, at + 2);
-    join(low, high)
+    windows_from + WINDOW_LENGTH * w
 }
 
 // The transition that a window restricts.
@@ -45,7 +35,7 @@ pub fn window_transition(plan: &[u8], c: Counts, w: usize) -> u16
     requires { ⌜ Holds (now plan) c × (w < c .windows) ⌝ }
     ensures { λ r. ⌜ r ≡ window (planOf (now (plan .entry)) c) w .transition ⌝ }
 {
-    window_word(plan, c, w, WINDOW_TRANSITION)
+    word_at(plan, window_place(plan, c, w) + WINDOW_TRANSITION)
 }
 
 // A window's first day.
@@ -53,7 +43,7 @@ pub fn first_day(plan: &[u8], c: Counts, w: usize) -> i32
     requires { ⌜ Holds (now plan) c × (w < c .windows) ⌝ }
     ensures { λ r. ⌜ r ≡ window (planOf (now (plan .entry)) c) w .first ⌝ }
 {
-    window_day(plan, c, w, WINDOW_FIRST)
+    day_at(plan, window_place(plan, c, w) + WINDOW_FIRST)
 }
 
 // A window's last day, which it has too.
@@ -61,7 +51,7 @@ pub fn last_day(plan: &[u8], c: Counts, w: usize) -> i32
     requires { ⌜ Holds (now plan) c × (w < c .windows) ⌝ }
     ensures { λ r. ⌜ r ≡ window (planOf (now (plan .entry)) c) w .last ⌝ }
 {
-    window_day(plan, c, w, WINDOW_LAST)
+    day_at(plan, window_place(plan, c, w) + WINDOW_LAST)
 }
 
 // Whether a day is one of a window's.

@@ -6,15 +6,27 @@ use Prim.Native.Nat.{ℕ, suc, _+_, _-_, _<_, _≤_}
 use native.Mathlib.Omega.{arith}
 use lib.Dec.{T, ltb}
 use lib.IntN.{ℤ, pos, negsuc, natAbs, subℕ, _+ℤ_}
-use lib.Signed.{mag, nonNeg}
+use lib.Signed.{mag, leZ, ltZ, nonNeg}
 use borrow.Author.Tests.{ltb-true, ltb-false, lt-ltb, le-ltb}
 use mir.Syntax.{w32}
 use mir.Val.{SFits, Fits, toZ, ofZ}
+use mir.ValLaws.{toZ-ofZ}
 use Rattle.rules.proofs.Tests.{look}
 
 -- what the machine reads back from a number's bits
 abbrev pub rd : ℤ → ℤ
 rd z = toZ w32 (ofZ w32 z)
+
+-- a number that fits is read back unchanged, so that two are compared as they are
+pub read-back : (z : ℤ) → mag z < 2147483648 → rd z ≡ z
+read-back z h = toZ-ofZ w32 z (record { sfits = h })
+
+module _ (x y : ℤ) (h : mag x < 2147483648) (k : mag y < 2147483648) where
+  pub read-le : leZ (rd x) (rd y) ≡ leZ x y
+  read-le = rw (read-back x h, read-back y k)
+
+  pub read-lt : ltZ (rd x) (rd y) ≡ ltZ x y
+  read-lt = rw (read-back x h, read-back y k)
 
 pub sub-ge : (a b : ℕ) → b ≤ a → subℕ a b ≡ pos (a - b)
 sub-ge a b h = rw (le-ltb a b h)

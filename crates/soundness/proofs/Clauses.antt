@@ -5,10 +5,13 @@ use mathlib.Core.Bool.{Bool, true, false, not, _&&_, _||_, and-false, and-assoc}
 use mathlib.Core.List.{List, [], _∷_}
 use Prim.Native.Nat.{ℕ, zero, suc}
 use lib.Dec.{eqb}
+use lib.IntN.{ℤ}
 use borrow.Author.Tests.{not-true, not-false}
 use Rattle.rules.specs.declared.Counts.{Counts}
 use Rattle.rules.specs.Fold.{someBelow, everyBelow}
 use Rattle.rules.specs.Layout.{entryLimit}
+use Rattle.rules.specs.Day.{isDay}
+use Rattle.rules.specs.Leading.{lastDay}
 use Rattle.rules.specs.Plan.{Plan, planOf, trackCount, stateCount, isRoot, isStateOf}
 use Rattle.rules.specs.Ledger.{Entry, Ledger, isAwake, ledgerAt}
 use Rattle.rules.specs.Scope.{isOver}

@@ -1,7 +1,7 @@
 // A sound ledger: a day in range, tidy words, and over or all clauses.
 use crate::scopes;
 use crate::tracks;
-use calendar::range::is_day;
+use calendar::dates::is_day;
 use finish::finishing;
 use ledger::leading;
 use ledger::tidy;

@@ -12,7 +12,7 @@ use Rattle.opening.proofs.begin.begin_all.Statement.{statement}
 use Rattle.opening.proofs.begin.begin_all.Tie as tie
 
 stamp-requires : tie.Need-stamp-requires
-stamp-requires c κs = let a = c .before .before .before .pre .0 in (length-word (a .accepts .holds), leading-room (a .room))
+stamp-requires c κs = let a = c .before .before .before .pre .0 in (length-word (a .accepts), leading-room (a .room))
 
 enter-all-requires : tie.Need-enter-all-requires
 enter-all-requires c κs =
