@@ -16,10 +16,10 @@ use Rattle.rules.specs.Names.{Day}
 use Rattle.rules.specs.Day.{isDay}
 use Rattle.rules.specs.declared.Date.{Date}
 use Rattle.rules.specs.Calendar.{isDate, inMonths, inYears, daysTo}
-use Rattle.rules.specs.Conversion.{epoch, daysSince, dayNumber}
+use Rattle.rules.specs.Conversion.{daysSince, dayNumber}
 use Rattle.rules.proofs.Tests.{clash, and-holds}
 use Rattle.signed.specs.Floor.{times, rest}
-use Rattle.signed.proofs.Integers.{rd, sub-ge, sub-lt, sum-fits, fits-pos, cast-pos}
+use Rattle.signed.proofs.Integers.{rd, sub-ge, sub-lt, minus-fits, fits-pos, cast-pos}
 use Rattle.signed.proofs.FloorLaws.{lift, times-fits, rest-lt}
 use Rattle.calendar.specs.Parts.{EraIs}
 use Rattle.calendar.proofs.DateLaws.{real-of, days-small}
@@ -73,7 +73,7 @@ abbrev from2001 : Day → ℤ
 from2001 z = z -ℤ pos 36890
 
 pub from2001-fits : (z : Day) → Ranged z → SFits w32 (from2001 z)
-from2001-fits z r = sum-fits z (negsuc 36889) 182620 (r .small) (omega arith)
+from2001-fits z r = minus-fits z (pos 36890) 182620 36890 (r .small) (omega arith) (omega arith)
 
 two-eras-up : (z : Day) → Ranged z → from2001 z +ℤ pos (2 * 146097) ≡ pos (daysSince z + 145731)
 two-eras-up z r =
@@ -126,21 +126,23 @@ module _ (z : Day) (t u : ℤ) (f : SFits w32 z) (e : isDay z ≡ true)
   pub era-is : EraIs (daysSince z) (natAbs (rd (rd t +ℤ pos 2))) (natAbs (rd u))
   era-is = rw (era-number, era-days) (record { few = omega (arith, r .below); whole = omega arith; short = omega arith })
 
--- the needs of `day_of`, at the days a of the years and b of the months before the date
-module _ (D : Date) (a b : ℕ) (e : isDate D ≡ true) (ea : a ≡ inYears (D .year - 1600)) (eb : b ≡ inMonths (D .year) (D .month - 1)) where
-  counted : a + b + (D .day - 1) ≡ daysTo D
-  unfolding daysTo
-  counted = rw (ea, eb)
+-- the needs of `days_to`, at the days a of the years and b of the months before the date
+pub counted : (D : Date) (a b : ℕ) → isDate D ≡ true → a ≡ inYears (D .year - 1600) → b ≡ inMonths (D .year) (D .month - 1)
+    → (a + b + (D .day - 1) ≡ daysTo D) × (a + b + (D .day - 1) < 292194)
+unfolding daysTo
+counted D a b e ea eb =
+    let p = real-of D e in
+    let c : a + b + (D .day - 1) ≡ daysTo D = rw (ea, eb) in
+    (c, omega (arith, c, days-small D (p .0) (p .1)))
 
-  pub sum-small : a + b + (D .day - 1) < 292194
-  sum-small = let p = real-of D e in omega (arith, counted, days-small D (p .0) (p .1))
+-- the needs of `day_of`, at the days n from 1 January 1600
+module _ (n : ℕ) (h : n < 292194) where
+  as-pos : toZ w32 n ≡ pos n
+  as-pos = toZ-pos w32 n (omega arith)
 
-  as-pos : toZ w32 (a + b + (D .day - 1)) ≡ pos (daysTo D)
-  as-pos = toZ-pos w32 _ (omega (arith, sum-small)) ∙ ap pos counted
+  pub number-fits : SFits w32 (toZ w32 n -ℤ pos 109573)
+  number-fits = rw as-pos (minus-fits (pos n) (pos 109573) 292194 109573 (omega arith) (omega arith) (omega arith))
 
-  pub number-fits : SFits w32 (toZ w32 (a + b + (D .day - 1)) -ℤ pos 109573)
-  number-fits = rw as-pos (sum-fits (pos (daysTo D)) (negsuc 109572) 292194 (omega (arith, sum-small, counted)) (omega arith))
-
-  pub number-is : rd (toZ w32 (a + b + (D .day - 1)) -ℤ pos 109573) ≡ dayNumber D
+  pub number-is : (D : Date) → n ≡ daysTo D → rd (toZ w32 n -ℤ pos 109573) ≡ dayNumber D
   unfolding dayNumber
-  number-is = toZ-ofZ w32 _ number-fits ∙ ap (λ (x : ℤ). x -ℤ pos 109573) as-pos
+  number-is D e = toZ-ofZ w32 _ number-fits ∙ ap (λ (x : ℤ). x -ℤ pos 109573) (as-pos ∙ ap pos e)

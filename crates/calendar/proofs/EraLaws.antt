@@ -5,7 +5,7 @@ use mathlib.Core.Logic.{_⊎_, inl, inr}
 use Prim.Native.Nat.{ℕ, suc, _+_, _-_, _*_, _/_, _%_, _<_, _≤_, min}
 use native.Mathlib.Decide.{decLt}
 use native.Mathlib.Omega.{arith}
-use Rattle.rules.specs.Calendar.{date, monthLength, inMonths, inYears, daysTo, dateAfter}
+use Rattle.rules.specs.Calendar.{date, inMonths, inYears, daysTo, dateAfter}
 use Rattle.calendar.specs.Parts.{EraIs, YearIs, MonthIs, eraDays}
 use Rattle.calendar.proofs.YearLaws.{closed, hundreds-fewer, years-closed, years-more}
 use Rattle.calendar.proofs.DateLaws.{date-after}

@@ -5,7 +5,7 @@ use Prim.Native.Nat.{ℕ}
 use lib.IntN.{pos, negsuc}
 use Rattle.rules.specs.Day.{isDay}
 use Rattle.rules.specs.Calendar.{date, isLeap, february, monthLength, isDate, inMonths, inYears, daysTo}
-use Rattle.rules.specs.Conversion.{refusal, found, epoch, dayNumber, dateOfDay, dayOfDate}
+use Rattle.rules.specs.Conversion.{refusal, found, dayNumber, dateOfDay, dayOfDate}
 use Rattle.calendar.proofs.Theorems.{there-and-back}
 
 -- every definition that an example computes by

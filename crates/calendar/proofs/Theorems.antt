@@ -1,6 +1,6 @@
 -- What the two conversions are to each other, by the definitions alone: each undoes the other, each refuses exactly what lies outside, a day later is
 -- the next date. The days since 1 January 1600 are what a day and its date have in common. Assumes nothing.
-use mathlib.Core.Path.{_≡_, refl, sym, ap, _∙_}
+use mathlib.Core.Path.{_≡_, sym, ap, _∙_}
 use mathlib.Core.Logic.{_↔_, inl, inr}
 use mathlib.Core.Bool.{true, false}
 use Prim.Native.Nat.{ℕ, suc, _+_}

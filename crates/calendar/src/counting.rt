@@ -3,8 +3,8 @@ use crate::dates;
 use rules::Date;
 ghost use mathlib.Core.Path.{_≡_};
 ghost use mathlib.Core.Bool.{true};
-ghost use Prim.Native.Nat.{_-_, _≤_};
-ghost use Rattle.rules.specs.Calendar.{isDate, inMonths, inYears};
+ghost use Prim.Native.Nat.{_-_, _≤_, _<_};
+ghost use Rattle.rules.specs.Calendar.{isDate, inMonths, inYears, daysTo};
 ghost use Rattle.rules.specs.Conversion.{dayNumber};
 
 // The days from 1 January 1600 to day 0.
@@ -32,13 +32,20 @@ fn before_month(year: u16, month: u16) -> u32
     days
 }
 
+// The days from 1 January 1600.
+fn days_to(date: Date) -> u32
+    requires { ⌜ isDate date ≡ true ⌝ }
+    ensures { λ r. ⌜ (r ≡ daysTo date) × (r < 292194) ⌝ }
+{
+    let year = date.year;
+    let month = date.month;
+    before_year(year) + before_month(year, month) + (date.day as u32 - 1)
+}
+
 // The number of a date's day.
 pub fn day_of(date: Date) -> i32
     requires { ⌜ isDate date ≡ true ⌝ }
     ensures { λ r. ⌜ r ≡ dayNumber date ⌝ }
 {
-    let year = date.year;
-    let month = date.month;
-    let days = before_year(year) + before_month(year, month) + (date.day as u32 - 1);
-    days as i32 - EPOCH
+    days_to(date) as i32 - EPOCH
 }

@@ -1,11 +1,11 @@
--- Sums and differences of integers: a difference of two natural numbers by their order, and how far from zero a sum is at most, which tells
+-- Sums and differences of integers: a difference of two natural numbers by their order, and how far from zero another is at most, which tells
 -- whether it fits 32 bits. Assumes nothing.
 use mathlib.Core.Path.{_≡_, sym, ap, _∙_}
 use mathlib.Core.Logic.{inl, inr}
-use Prim.Native.Nat.{ℕ, suc, _+_, _-_, _<_, _≤_}
+use Prim.Native.Nat.{ℕ, zero, suc, _+_, _-_, _<_, _≤_}
 use native.Mathlib.Omega.{arith}
 use lib.Dec.{T, ltb}
-use lib.IntN.{ℤ, pos, negsuc, natAbs, subℕ, _+ℤ_}
+use lib.IntN.{ℤ, pos, negsuc, negℤ, natAbs, subℕ, _+ℤ_, _-ℤ_}
 use lib.Signed.{mag, leZ, ltZ, nonNeg}
 use borrow.Author.Tests.{ltb-true, ltb-false, lt-ltb, le-ltb}
 use mir.Syntax.{w32}
@@ -53,9 +53,14 @@ mag-sum (pos a) (negsuc b) = omega (arith, mag-sub a (suc b))
 mag-sum (negsuc a) (pos b) = omega (arith, mag-sub b (suc a))
 mag-sum (negsuc a) (negsuc b) = omega arith
 
--- a sum of two numbers that are near enough to zero fits
-pub sum-fits : (x y : ℤ) (m : ℕ) → mag x ≤ m → m + mag y < 2147483647 → SFits w32 (x +ℤ y)
-sum-fits x y m h k = record { sfits = omega (arith, mag-sum x y) }
+mag-neg : (y : ℤ) → mag (negℤ y) ≤ suc (mag y)
+mag-neg (pos zero) = omega arith
+mag-neg (pos (suc n)) = omega arith
+mag-neg (negsuc n) = omega arith
+
+-- the difference of two numbers that are near enough to zero fits
+pub minus-fits : (x y : ℤ) (m n : ℕ) → mag x ≤ m → mag y ≤ n → m + n < 2147483646 → SFits w32 (x -ℤ y)
+minus-fits x y m n h k l = record { sfits = omega (arith, mag-sum x (negℤ y), mag-neg y) }
 
 pub fits-pos : (n : ℕ) → n < 2147483648 → SFits w32 (pos n)
 fits-pos n h = record { sfits = omega arith }

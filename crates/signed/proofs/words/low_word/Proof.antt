@@ -1,5 +1,5 @@
 -- The low half of the bits. Assumes nothing.
-use mathlib.Core.Path.{_≡_, ap, _∙_}
+use mathlib.Core.Path.{ap, _∙_}
 use Prim.Native.Nat.{ℕ, _%_}
 use mir.Syntax.{w32}
 use mir.ValLaws.{toZ-ofZ}
