@@ -37,7 +37,7 @@ march-of-1900 = refl
 pub march-of-1900-back : dateOfDay (pos 59) ≡ found (date 1900 3 1)
 march-of-1900-back = there-and-back _ _ march-of-1900
 
--- 2000 is one
+-- day 36583: 2000 is one
 pub leap-day-of-2000 : dayOfDate (date 2000 2 29) ≡ found (pos 36583)
 unfolding computing
 leap-day-of-2000 = refl
@@ -53,7 +53,7 @@ earliest = refl
 pub earliest-back : dateOfDay (negsuc 109572) ≡ found (date 1600 1 1)
 earliest-back = there-and-back _ _ earliest
 
--- the latest
+-- the latest, 182620
 pub latest : dayOfDate (date 2399 12 31) ≡ found (pos 182620)
 unfolding computing
 latest = refl

@@ -1,15 +1,15 @@
 // The Gregorian calendar from 1600 to 2399: the date of a day, and the day of a date. Neither call has a `requires`: any other day or date is turned
 // back as 26.
+pub mod counting;
+pub mod dates;
+pub mod naming;
+
 use rules::Date;
 use rules::DateAnswer;
 use rules::DayAnswer;
 ghost use mathlib.Core.Path.{_≡_};
 ghost use Rattle.rules.specs.Conversion.{dateOfDay, dayOfDate};
 ghost use Rattle.rules.specs.Answers.{dateTold, dayTold};
-
-pub mod counting;
-pub mod dates;
-pub mod naming;
 
 // No such day, or no such date.
 const OUTSIDE: u8 = 26;

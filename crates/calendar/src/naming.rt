@@ -17,6 +17,15 @@ const ERA_DAYS: i32 = 146097;
 // The year in which era 0 begins.
 const ERA_0: u32 = 1201;
 
+const ERA_YEARS: u32 = 400;
+
+// The days of a hundred years, of four and of one that are not the last of theirs.
+const HUNDRED_YEARS: u32 = 36524;
+
+const FOUR_YEARS: u32 = 1461;
+
+const YEAR: u32 = 365;
+
 // An era, a year of it or a month, by number, and the days into it.
 struct Place {
     unit: u32,
@@ -43,19 +52,20 @@ fn least(a: u32, b: u32) -> u32
     if a < b { a } else { b }
 }
 
-// The hundred years, the four years in them and the year in these: a last one is as long as the others or a day longer.
+// The hundred years, the four years in them and the year in these. The last hundred years of an era are a day longer, and so is the last of most four
+// years: that day lies in the fourth of them, number 3.
 fn year_of(days: u32) -> Place
     requires { ⌜ days < 146097 ⌝ }
     ensures { λ r. ⌜ YearIs days (r .unit) (r .days) ⌝ }
 {
-    let a = least(days / 36524, 3);
-    let r = days - 36524 * a;
-    let b = r / 1461;
-    let s = r % 1461;
-    let c = least(s / 365, 3);
+    let hundreds = least(days / HUNDRED_YEARS, 3);
+    let left = days - HUNDRED_YEARS * hundreds;
+    let fours = left / FOUR_YEARS;
+    let rest = left % FOUR_YEARS;
+    let ones = least(rest / YEAR, 3);
     Place {
-        unit: 100 * a + 4 * b + c,
-        days: s - 365 * c,
+        unit: 100 * hundreds + 4 * fours + ones,
+        days: rest - YEAR * ones,
     }
 }
 
@@ -87,13 +97,13 @@ pub fn date_of(day: i32) -> Date
     requires { ⌜ isDay day ≡ true ⌝ }
     ensures { λ r. ⌜ r ≡ dateAfter (daysSince day) ⌝ }
 {
-    let e = era_of(day);
-    let y = year_of(e.days);
-    let year = (ERA_0 + 400 * e.unit + y.unit) as u16;
-    let m = month_of(year, y.days);
+    let era = era_of(day);
+    let in_era = year_of(era.days);
+    let year = (ERA_0 + ERA_YEARS * era.unit + in_era.unit) as u16;
+    let month = month_of(year, in_era.days);
     Date {
         year,
-        month: m.unit as u16,
-        day: (m.days + 1) as u16,
+        month: month.unit as u16,
+        day: (month.days + 1) as u16,
     }
 }
