@@ -6,3 +6,4 @@ pub mod Reader
 pub mod RecordTable
 pub mod RunLaws
 pub mod Scanning
+pub mod WindowTests

@@ -8,7 +8,7 @@ use lib.Dec.{eqb, ltb, leb}
 use borrow.Author.Tests.{lt-ltb, le-ltb, le-leb, lt-leb, eq-eqb, ne-eqb}
 use Rattle.rules.specs.declared.Counts.{Counts}
 use Rattle.rules.specs.Fold.{firstRefusal}
-use Rattle.rules.specs.Record.{sizeAt, kindAt, lengthOf, mostOf, countOf, endKind, judgeRecord}
+use Rattle.rules.specs.Record.{sizeAt, kindAt, lengthOf, rankOf, mostOf, countOf, endKind, judgeRecord}
 
 module _ (n at : ℕ) (unfit : Bool) (kind len size most count : ℕ) where
   unfoldable pub table : ℕ
@@ -57,16 +57,17 @@ module _ (n at : ℕ) (unfit : Bool) (kind len size most count : ℕ) where
 
 -- the table of a record, by the numbers read so far
 pub in-words : (bs : List ℕ) (at last : ℕ) (c : Counts) (unfit : Bool) (kind len size most count : ℕ)
-    → kind ≡ kindAt bs at → len ≡ lengthOf kind → unfit ≡ (eqb (lengthOf kind) 0 || ltb kind last) → size ≡ sizeAt bs at
+    → kind ≡ kindAt bs at → len ≡ lengthOf kind → unfit ≡ (eqb (lengthOf kind) 0 || ltb (rankOf kind) (rankOf last)) → size ≡ sizeAt bs at
     → most ≡ mostOf kind → count ≡ countOf c kind
     → judgeRecord bs at last c ≡ table (length bs) at unfit kind len size most count
 unfolding judgeRecord table
 in-words bs at last c unfit kind len size most count ek el eu es em ec = rw (eu, el, em, ec, es, ek)
 
--- "the kind is not 1 to 4, or falls"
+-- there is no such kind, or it falls
 module _ (kind last len : ℕ) (e : len ≡ lengthOf kind) where
-  pub unfit-none : len ≡ 0 → true ≡ (eqb (lengthOf kind) 0 || ltb kind last)
+  pub unfit-none : len ≡ 0 → true ≡ (eqb (lengthOf kind) 0 || ltb (rankOf kind) (rankOf last))
   unfit-none z = rw (eq-eqb (lengthOf kind) 0 (sym e ∙ z))
 
-  pub unfit-falls : (len ≡ 0 → ⊥) → ltb kind last ≡ (eqb (lengthOf kind) 0 || ltb kind last)
-  unfit-falls h = rw (ne-eqb (lengthOf kind) 0 (λ z. h (e ∙ z)))
+  pub unfit-falls : (new old : ℕ) → new ≡ rankOf kind → old ≡ rankOf last → (len ≡ 0 → ⊥)
+      → ltb new old ≡ (eqb (lengthOf kind) 0 || ltb (rankOf kind) (rankOf last))
+  unfit-falls new old n o h = rw (ne-eqb (lengthOf kind) 0 (λ z. h (e ∙ z)), n, o)

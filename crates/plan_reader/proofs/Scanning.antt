@@ -10,7 +10,7 @@ use lib.Dec.{eqb, ltb, leb}
 use borrow.Author.Tests.{eqb-true, eqb-false, ltb-false, leb-false, lt-ltb, eq-eqb, ne-eqb, not-false}
 use Rattle.rules.specs.declared.Counts.{Counts}
 use Rattle.rules.specs.Fold.{firstRefusal}
-use Rattle.rules.specs.Record.{sizeAt, kindAt, lengthOf, mostOf, countOf, oneMore, noCounts, endKind, judgeRecord, Scan, refused, counted, scanFrom, scan}
+use Rattle.rules.specs.Record.{sizeAt, kindAt, lengthOf, rankOf, mostOf, countOf, oneMore, noCounts, endKind, judgeRecord, Scan, refused, counted, scanFrom, scan}
 use Rattle.rules.proofs.Tests.{or-fails, passed}
 use Rattle.plan.specs.Holds.{Holds}
 use Rattle.plan_reader.specs.Scanned.{Stands}
@@ -31,7 +31,7 @@ module _ (bs : List ℕ) where
   sane at last c h =
       let k = kindAt bs at in
       let a2 = passed (ltb (length bs) (at + 4)) 1 _ h in
-      let a3 = passed (eqb (lengthOf k) 0 || ltb k last) 2 _ (a2 .1) in
+      let a3 = passed (eqb (lengthOf k) 0 || ltb (rankOf k) (rankOf last)) 2 _ (a2 .1) in
       let a4 = passed (not (eqb (sizeAt bs at) (lengthOf k))) 3 _ (a3 .1) in
       let a5 = passed (ltb (length bs) (at + sizeAt bs at)) 4 _ (a4 .1) in
       let a6 = passed (leb (mostOf k) (countOf c k)) 5 _ (a5 .1) in
@@ -40,7 +40,7 @@ module _ (bs : List ℕ) where
       let f : at + sizeAt bs at ≤ length bs = ltb-false (length bs) (at + sizeAt bs at) (a5 .0) in
       record {
         head = ltb-false (length bs) (at + 4) (a2 .0);
-        real = eqb-false (lengthOf k) 0 (or-fails (eqb (lengthOf k) 0) (ltb k last) (a3 .0) .0);
+        real = eqb-false (lengthOf k) 0 (or-fails (eqb (lengthOf k) 0) (ltb (rankOf k) (rankOf last)) (a3 .0) .0);
         size = e;
         fits = rw e at f;
         most = leb-false (mostOf k) (countOf c k) (a6 .0);
@@ -60,6 +60,7 @@ module _ (bs : List ℕ) where
       (λ n f m. record { tracks = omega arith; states = omega arith; transitions = omega arith; place = omega arith; within = f })
       (λ n f m. record { tracks = omega arith; states = omega arith; transitions = omega arith; place = omega arith; within = f })
       (λ n f m. absurd (n refl))
+      (λ n f m. record { tracks = omega arith; states = omega arith; transitions = omega arith; place = omega arith; within = f })
       k r
 
   module _ (at last : ℕ) (c : Counts) where
@@ -70,7 +71,7 @@ module _ (bs : List ℕ) where
     -- a record has 4 bytes or more
     pub longer : judgeRecord bs at last c ≡ 0 → 4 ≤ lengthOf (kindAt bs at)
     unfolding lengthOf
-    longer h = by-kind (λ k. 4 ≤ lengthOf k) (omega arith) (omega arith) (omega arith) (omega arith) (kindAt bs at) (sane at last c h .real)
+    longer h = by-kind (λ k. 4 ≤ lengthOf k) (omega arith) (omega arith) (omega arith) (omega arith) (omega arith) (kindAt bs at) (sane at last c h .real)
 
     short : length bs < at + 4 → judgeRecord bs at last c ≡ 2
     unfolding judgeRecord firstRefusal

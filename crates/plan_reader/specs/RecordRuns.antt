@@ -4,7 +4,7 @@ use Prim.Native.Nat.{ℕ, _+_, _*_, _<_, _≤_}
 use lib.ListN.{length}
 use Rattle.rules.specs.Names.{Bytes, Place, Kind}
 use Rattle.rules.specs.declared.Counts.{Counts}
-use Rattle.rules.specs.Record.{sizeAt, kindAt, lengthOf, trackKind, stateKind, transitionKind, endKind}
+use Rattle.rules.specs.Record.{sizeAt, kindAt, lengthOf, trackKind, stateKind, transitionKind, windowKind, endKind}
 
 -- a record of a kind stands whole at a place
 pub record Whole (bs : Bytes) (kind : Kind) (at : Place) : Type 0 where
@@ -16,17 +16,18 @@ pub record Whole (bs : Bytes) (kind : Kind) (at : Place) : Type 0 where
 unfoldable pub Run : Bytes → Kind → Place → ℕ → Type 0
 Run bs kind at n = (i : ℕ) → i < n → Whole bs kind (at + lengthOf kind * i)
 
--- so many tracks, then states, then transitions at the front, within the limits
+-- so many tracks, then states, then transitions, then windows at the front, within the limits
 pub record InRuns (bs : Bytes) (c : Counts) : Type 0 where
   pub tracks : c .tracks ≤ 32
   pub states : c .states ≤ 128
   pub transitions : c .transitions ≤ 256
-  pub within : 6 * c .tracks + 10 * c .states + 14 * c .transitions ≤ length bs
+  pub within : 6 * c .tracks + 10 * c .states + 14 * c .transitions + 14 * c .windows ≤ length bs
   pub track-run : Run bs trackKind 0 (c .tracks)
   pub state-run : Run bs stateKind (6 * c .tracks) (c .states)
   pub transition-run : Run bs transitionKind (6 * c .tracks + 10 * c .states) (c .transitions)
+  pub window-run : Run bs windowKind (6 * c .tracks + 10 * c .states + 14 * c .transitions) (c .windows)
 
 -- an end record after them, and nothing else
 pub record EndsAfter (bs : Bytes) (c : Counts) : Type 0 where
-  pub end : Whole bs endKind (6 * c .tracks + 10 * c .states + 14 * c .transitions)
-  pub last : length bs ≡ 6 * c .tracks + 10 * c .states + 14 * c .transitions + 4
+  pub end : Whole bs endKind (6 * c .tracks + 10 * c .states + 14 * c .transitions + 14 * c .windows)
+  pub last : length bs ≡ 6 * c .tracks + 10 * c .states + 14 * c .transitions + 14 * c .windows + 4

@@ -17,5 +17,5 @@ pub record Stands (bs : Bytes) (at : Place) (c : Counts) : Type 0 where
   pub tracks : c .tracks ≤ 32
   pub states : c .states ≤ 128
   pub transitions : c .transitions ≤ 256
-  pub place : at ≡ 6 * c .tracks + 10 * c .states + 14 * c .transitions
+  pub place : at ≡ 6 * c .tracks + 10 * c .states + 14 * c .transitions + 14 * c .windows
   pub within : at ≤ length bs

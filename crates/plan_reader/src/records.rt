@@ -4,6 +4,7 @@ use crate::runs::runs;
 use plan::fields::STATE_LENGTH;
 use plan::fields::TRACK_LENGTH;
 use plan::fields::TRANSITION_LENGTH;
+use plan::fields::WINDOW_LENGTH;
 use plan::fields::word_at;
 use rules::Counts;
 ghost use mathlib.Core.Path.{_≡_};
@@ -12,10 +13,13 @@ ghost use mathlib.Core.List.{[], _∷_};
 ghost use Prim.Native.Nat.{_+_, _<_, _≤_};
 ghost use lib.ListN.{length, getD};
 ghost use lib.Dec.{eqb, ltb};
-ghost use Rattle.rules.specs.Record.{sizeAt, kindAt, lengthOf, mostOf, countOf, oneMore, judgeRecord, scan};
+ghost use Rattle.rules.specs.Record.{sizeAt, kindAt, lengthOf, rankOf, mostOf, countOf, oneMore, judgeRecord, scan};
 ghost use Rattle.plan_reader.specs.Scanned.{scanTold};
 
+// The kinds: 1 track, 2 state, 3 transition, 5 window. The end stays last of all, though its kind is 4.
 const END_KIND: u16 = 4;
+
+const WINDOW_KIND: u16 = 5;
 
 const END_LENGTH: usize = 4;
 
@@ -32,9 +36,16 @@ pub enum Scanned {
     Refused(u8),
 }
 
-// The one of four numbers that stands for a kind, 0 where there is no such kind.
-fn of_kind(track: usize, state: usize, transition: usize, end: usize, kind: u16) -> usize
-    ensures { λ r. ⌜ r ≡ getD (0 ∷ track ∷ state ∷ transition ∷ end ∷ []) kind 0 ⌝ }
+// The one of five numbers that stands for a kind, 0 where there is no such kind.
+fn of_kind(
+    track: usize,
+    state: usize,
+    transition: usize,
+    end: usize,
+    window: usize,
+    kind: u16,
+) -> usize
+    ensures { λ r. ⌜ r ≡ getD (0 ∷ track ∷ state ∷ transition ∷ end ∷ window ∷ []) kind 0 ⌝ }
 {
     if kind == 1 {
         return track;
@@ -48,6 +59,9 @@ fn of_kind(track: usize, state: usize, transition: usize, end: usize, kind: u16)
     if kind == END_KIND {
         return end;
     }
+    if kind == WINDOW_KIND {
+        return window;
+    }
     0
 }
 
@@ -60,22 +74,30 @@ fn length_of(kind: u16) -> usize
         STATE_LENGTH,
         TRANSITION_LENGTH,
         END_LENGTH,
+        WINDOW_LENGTH,
         kind,
     )
 }
 
-// The most records of a kind that a plan may have.
+// Where a kind stands in the order of kinds.
+fn rank_of(kind: u16) -> usize
+    ensures { λ r. ⌜ r ≡ rankOf kind ⌝ }
+{
+    of_kind(1, 2, 3, 5, 4, kind)
+}
+
+// The number of records of a kind that 6 does not let a plan exceed. Of windows and ends it counts none.
 fn most_of(kind: u16) -> usize
     ensures { λ r. ⌜ r ≡ mostOf kind ⌝ }
 {
-    of_kind(32, 128, 256, 1, kind)
+    of_kind(32, 128, 256, 1, 1, kind)
 }
 
-// How many records of a kind were counted.
+// How many records of a kind 6 has counted.
 fn count_of(c: Counts, kind: u16) -> usize
     ensures { λ r. ⌜ r ≡ countOf c kind ⌝ }
 {
-    of_kind(c.tracks, c.states, c.transitions, 0, kind)
+    of_kind(c.tracks, c.states, c.transitions, 0, 0, kind)
 }
 
 fn one_where(test: bool) -> usize
@@ -86,24 +108,25 @@ fn one_where(test: bool) -> usize
 
 // With one more record of a kind.
 fn one_more(c: Counts, kind: u16) -> Counts
-    requires { ⌜ (c .tracks ≤ 32) × (c .states ≤ 128) × (c .transitions ≤ 256) ⌝ }
+    requires { ⌜ (c .tracks ≤ 32) × (c .states ≤ 128) × (c .transitions ≤ 256) × (c .windows < 18446744073709551615) ⌝ }
     ensures { λ r. ⌜ r ≡ oneMore c kind ⌝ }
 {
     Counts {
         tracks: c.tracks + one_where(kind == 1),
         states: c.states + one_where(kind == 2),
         transitions: c.transitions + one_where(kind == 3),
+        windows: c.windows + one_where(kind == WINDOW_KIND),
     }
 }
 
-// "the kind is not 1 to 4, or falls"
+// There is no such kind, or it falls.
 fn is_unfit(kind: u16, last: u16) -> bool
-    ensures { λ r. ⌜ r ≡ (eqb (lengthOf kind) 0 || ltb kind last) ⌝ }
+    ensures { λ r. ⌜ r ≡ (eqb (lengthOf kind) 0 || ltb (rankOf kind) (rankOf last)) ⌝ }
 {
     if length_of(kind) == 0 {
         return true;
     }
-    kind < last
+    rank_of(kind) < rank_of(last)
 }
 
 // The first refusal 2 to 7 of the record at a cursor, 0 where it has none.
@@ -152,6 +175,7 @@ fn scan_each(plan: &[u8]) -> Scanned
             tracks: 0,
             states: 0,
             transitions: 0,
+            windows: 0,
         },
     };
     loop {

@@ -1,7 +1,8 @@
-// Runs of like records: the tracks, the states and the transitions at the front of a plan's bytes.
+// Runs of like records: the tracks, the states, the transitions and the windows at the front of a plan's bytes.
 use plan::fields::STATE_LENGTH;
 use plan::fields::TRACK_LENGTH;
 use plan::fields::TRANSITION_LENGTH;
+use plan::fields::WINDOW_LENGTH;
 use plan::fields::word_at;
 use rules::Counts;
 ghost use mathlib.Core.Path.{_≡_};
@@ -48,7 +49,7 @@ fn run_from(plan: &[u8], at: usize, size: usize, kind: u16, most: usize) -> usiz
     n
 }
 
-// How many tracks, then states, then transitions stand at the front, within the limits.
+// How many tracks, then states, then transitions stand at the front, within the limits, and then windows, which have none.
 pub fn runs(plan: &[u8]) -> Counts
     ensures { λ r. ⌜ InRuns (now (plan .entry)) r ⌝ }
 {
@@ -57,10 +58,13 @@ pub fn runs(plan: &[u8]) -> Counts
     let states = run_from(plan, states_from, STATE_LENGTH, 2, 128);
     let transitions_from = states_from + STATE_LENGTH * states;
     let transitions = run_from(plan, transitions_from, TRANSITION_LENGTH, 3, 256);
+    let windows_from = transitions_from + TRANSITION_LENGTH * transitions;
+    let windows = run_from(plan, windows_from, WINDOW_LENGTH, 5, plan.len());
     Counts {
         tracks: tracks,
         states: states,
         transitions: transitions,
+        windows: windows,
     }
 }
 
@@ -69,7 +73,10 @@ pub fn ends_after(plan: &[u8], c: Counts) -> bool
     requires { ⌜ InRuns (now plan) c ⌝ }
     ensures { λ r. ⌜ (r ≡ true → EndsAfter (now (plan .entry)) c) ⌝ }
 {
-    let at = TRACK_LENGTH * c.tracks + STATE_LENGTH * c.states + TRANSITION_LENGTH * c.transitions;
+    let windows_from = TRACK_LENGTH * c.tracks
+        + STATE_LENGTH * c.states
+        + TRANSITION_LENGTH * c.transitions;
+    let at = windows_from + WINDOW_LENGTH * c.windows;
     if plan.len() - at != 4 {
         return false;
     }

@@ -42,12 +42,36 @@ returns-4 c =
 
 returns-5 : tie.Need-returns-5
 returns-5 c =
-    sym (then-transitions _ _ _ _ (c .before .before .before .before .before .before .before .before .before .pre) ∙ rw (
-      sym (c .before .before .before .before .before .before .before .some-bad-transition .ensures) ∙ c .before .before .before .before .before .before .if1 .left,
-      sym (c .before .before .before .before .before .some-bad-deviation .ensures) ∙ c .before .before .before .before .if2 .left,
-      sym (c .before .before .before .some-repeated-event .ensures) ∙ c .before .before .if3 .left,
-      sym (c .before .some-too-high .ensures) ∙ c .if4 .left,
+    sym (then-transitions _ _ _ _ (c .before .before .before .before .before .before .before .before .before .before .before .pre) ∙ rw (
+      sym (c .before .before .before .before .before .before .before .before .before .some-bad-transition .ensures) ∙ c .before .before .before .before .before .before .before .before .if1 .left,
+      sym (c .before .before .before .before .before .before .before .some-bad-deviation .ensures) ∙ c .before .before .before .before .before .before .if2 .left,
+      sym (c .before .before .before .before .before .some-repeated-event .ensures) ∙ c .before .before .before .before .if3 .left,
+      sym (c .before .before .before .some-too-high .ensures) ∙ c .before .before .if4 .left,
+      sym (c .before .some-bad-window .ensures) ∙ c .if5 .taken,
+    ))
+
+returns-6 : tie.Need-returns-6
+returns-6 c =
+    sym (then-transitions _ _ _ _ (c .before .before .before .before .before .before .before .before .before .before .before .pre) ∙ rw (
+      sym (c .before .before .before .before .before .before .before .before .before .some-bad-transition .ensures) ∙ c .before .before .before .before .before .before .before .before .if1 .left,
+      sym (c .before .before .before .before .before .before .before .some-bad-deviation .ensures) ∙ c .before .before .before .before .before .before .if2 .left,
+      sym (c .before .before .before .before .before .some-repeated-event .ensures) ∙ c .before .before .before .before .if3 .left,
+      sym (c .before .before .before .some-too-high .ensures) ∙ c .before .before .if4 .left,
+      sym (c .before .some-bad-window .ensures) ∙ c .if5 .left,
     ))
 
 pub judge-transitions-spec : {M : Type 1} → statement M
-judge-transitions-spec = tie.close (tie.spec (λ c κs. search needs) returns some-bad-deviation-requires returns-2 some-repeated-event-requires returns-3 (λ c κs. search needs) returns-4 returns-5)
+judge-transitions-spec =
+    tie.close
+    (tie.spec
+    (λ c κs. search needs)
+    returns
+    some-bad-deviation-requires
+    returns-2
+    some-repeated-event-requires
+    returns-3
+    (λ c κs. search needs)
+    returns-4
+    (λ c κs. search needs)
+    returns-5
+    returns-6)

@@ -6,12 +6,15 @@ use Rattle.plan_reader.proofs.records.one_more.Tie as tie
 
 returns : tie.Need-returns
 unfolding oneMore
-returns c = rw (c .before .before .before .before .before .one-where .ensures .0, c .before .before .before .one-where2 .ensures .0, c .before .one-where3 .ensures .0)
+returns c =
+    rw (c .before .before .before .before .before .before .before .one-where .ensures .0, c .before .before .before .before .before .one-where2 .ensures .0, c .before .before .before .one-where3 .ensures .0, c .before .one-where4 .ensures .0)
 
 pub one-more-spec : {M : Type 1} → statement M
 one-more-spec =
     tie.close
     (tie.spec
+    (λ c κs. search needs)
+    (λ c. search needs)
     (λ c κs. search needs)
     (λ c. search needs)
     (λ c κs. search needs)

@@ -16,6 +16,10 @@ transitions : tie.Need-run-from-requires-3
 unfolding lengthOf
 transitions c κs = search needs
 
+windows : tie.Need-run-from-requires-4
+unfolding lengthOf
+windows c κs = search needs
+
 pub runs-spec : {M : Type 1} → statement M
 runs-spec =
-    tie.close (tie.spec tracks (λ c. search needs) states (λ c. search needs) (λ c. search needs) transitions (λ c. search needs))
+    tie.close (tie.spec tracks (λ c. search needs) states (λ c. search needs) (λ c. search needs) transitions (λ c. search needs) (λ c. search needs) windows (λ c. search needs))
