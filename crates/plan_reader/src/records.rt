@@ -86,14 +86,14 @@ fn rank_of(kind: u16) -> usize
     of_kind(1, 2, 3, 5, 4, kind)
 }
 
-// The number of records of a kind that 6 does not let a plan exceed. Of windows and ends it counts none.
+// The most records of a kind that 6 lets a plan have. Windows and ends are not counted for it.
 fn most_of(kind: u16) -> usize
     ensures { λ r. ⌜ r ≡ mostOf kind ⌝ }
 {
     of_kind(32, 128, 256, 1, 1, kind)
 }
 
-// How many records of a kind 6 has counted.
+// How many records of a kind were counted for 6.
 fn count_of(c: Counts, kind: u16) -> usize
     ensures { λ r. ⌜ r ≡ countOf c kind ⌝ }
 {

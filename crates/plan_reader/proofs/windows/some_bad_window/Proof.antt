@@ -26,6 +26,9 @@ returns c =
     let i = c .before .before .before .before .loop in
     sym (some-at _ _ (i .w) (search needs) (no-transition _ _ _ (c .before .before .window-transition .ensures) (rw transition-count (search needs))))
 
+array-read-if2 : tie.Need-array-read-if2 Inv-loop μ-loop
+array-read-if2 c = search needs
+
 returns-2 : tie.Need-returns-2 Inv-loop μ-loop
 returns-2 c =
     let i = c .before .before .before .before .before .loop in
@@ -67,7 +70,7 @@ some-bad-window-spec =
     (λ c κs. search needs)
     (λ c. search needs)
     returns
-    (λ c. search needs)
+    array-read-if2
     returns-2
     (λ c κs. search needs)
     (λ c κs. search needs)
