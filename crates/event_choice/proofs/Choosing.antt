@@ -7,6 +7,7 @@ use mathlib.Core.Option.{none, some}
 use Prim.Native.Nat.{ℕ}
 use native.Mathlib.Omega.{arith}
 use lib.Dec.{eqb, leb, ltb}
+use lib.IntN.{ℤ}
 use lib.ListN.{length, getD, replicate}
 use borrow.Author.Tests.{ltb-true, ltb-false}
 use Rattle.rules.specs.declared.Counts.{Counts}
@@ -36,6 +37,9 @@ use Rattle.event_choice.proofs.Ending.{none-closes, no-closings, full-m
 is-move : (p : Plan) (w : ℕ) → not (eqb w noState) ≡ isMove (optional w)
 unfolding optional isMove
 is-move p w = elim (look (eqb w noState)) [ inl q ↦ rw (q, isMove) | inr q ↦ rw (q, isMove) ]
+
+pub same-arguments : (e : ℕ) {d z : ℤ} → d ≡ z → _≡_ {A = EventArguments} (record { event = e; day = d }) (record { event = e; day = z })
+same-arguments e q = ap (λ d. record { event = e; day = d }) q
 
 module _ (bs : List ℕ) (c : Counts) (ws : List ℕ) (g : Going bs c ws) (event : EventArguments) {ts : List ℕ}
     (took : Numbers ts (c .tracks) (move (planOf bs c) (ledgerOf c ws) event)) where
@@ -81,12 +85,20 @@ module _ (bs : List ℕ) (c : Counts) (ws : List ℕ) (g : Going bs c ws) (event
       e ∙ ap (λ k. countBelow k (λ t. not (eqb (getD ts t 0) noState))) (sym (track-count bs c))
       ∙ count-same (trackCount p) _ _ (λ t b. is-move p (getD ts t 0) ∙ ap (isMove) (taken-all .at t b))
 
+  -- the day, as the choice keeps it
+  dayed : {d : ℤ} → d ≡ event .day → {ms : List Bool} {n k : ℕ} {f : Bool}
+      → Chosen p l (record { event = event .event; day = event .day; taken = ts; closing = ms; moved = n; closed = k; full = f })
+      → Chosen p l (record { event = event .event; day = d; taken = ts; closing = ms; moved = n; closed = k; full = f })
+  dayed e {ms} {n} {k} {f} h =
+      subst (λ d. Chosen p l (record { event = event .event; day = d; taken = ts; closing = ms; moved = n; closed = k; full = f })) (sym e) h
+
   -- no move leads to a final state
-  pub chosen-early : {v : Survey} → Surveyed p l ts (c .tracks) v → v .ends ≡ false
-      → Chosen p l (record { event = event .event; day = event .day; taken = ts; closing = replicate slots false; moved = v .moved; closed = 0; full = v .full })
+  pub chosen-early : {d : ℤ} → d ≡ event .day → {v : Survey} → Surveyed p l ts (c .tracks) v → v .ends ≡ false
+      → Chosen p l (record { event = event .event; day = d; taken = ts; closing = replicate slots false; moved = v .moved; closed = 0; full = v .full })
   unfolding isLast sleeping isForward
-  chosen-early {v} s z =
-      record {
+  chosen-early on {v} s z =
+      dayed on
+      (record {
         taken = taken-all;
         closing = figure-each false _ false (trackCount p) (few-tracks bs c (g .checked .lent .accepts)) (λ t b. sym (none-closes p ok l live event stays t));
         many-moved = count-all (s .many);
@@ -95,7 +107,7 @@ module _ (bs : List ℕ) (c : Counts) (ws : List ℕ) (g : Going bs c ws) (event
             s .fills ∙ ap (λ k. someBelow k (λ t. hasCode p (optional (getD ts t 0)) && leb entryLimit (length (l t .held)))) (sym (track-count bs c))
             ∙ some-same (trackCount p) _ _ (λ t b. ap (λ o. hasCode p o && leb entryLimit (length (l t .held))) (taken-all .at t b))
             ∙ sym (full-moves p ok l live event stays entryLimit);
-      }
+      })
     where
       stays : (t x : ℕ) → move p l event t ≡ some x → isFinal p (transition p x .destination) ≡ false
       stays t x q =
@@ -111,17 +123,18 @@ module _ (bs : List ℕ) (c : Counts) (ws : List ℕ) (g : Going bs c ws) (event
 
   -- some move may
   module _ {n : ℕ} (count : n ≡ countBelow (c .tracks) (λ t. not (eqb (getD ts t 0) noState))) where
-    pub chosen-all : {ms : List Bool} {v : Verdict} → Figures false ms (c .tracks) (closesNext p l (movesOf ts (c .tracks)))
+    pub chosen-all : {d : ℤ} → d ≡ event .day → {ms : List Bool} {v : Verdict} → Figures false ms (c .tracks) (closesNext p l (movesOf ts (c .tracks)))
         → Judged p l (movesOf ts (c .tracks)) (c .tracks) v
-        → Chosen p l (record { event = event .event; day = event .day; taken = ts; closing = ms; moved = n; closed = v .closed; full = v .full })
-    chosen-all {ms} {v} f j =
+        → Chosen p l (record { event = event .event; day = d; taken = ts; closing = ms; moved = n; closed = v .closed; full = v .full })
+    chosen-all on {ms} {v} f j =
         let q = sym (track-count bs c) in
         let h = subst (λ n. Judged p l (move p l event) n v) q (subst (λ goes. Judged p l goes (c .tracks) v) moves-are j) in
         let k = subst (λ n. Figures false ms n (closesNext p l (move p l event))) q (subst (λ goes. Figures false ms (c .tracks) (closesNext p l goes)) moves-are f) in
-        record {
+        dayed on
+        (record {
           taken = taken-all;
           closing = record { size = k .size; at = λ t b. k .at t b ∙ sym (closes-before p ok l live event t b) };
           many-moved = count-all count;
           many-closed = h .closings ∙ sym (closings-before p ok l live event);
           full = h .fills ∙ sym (full-before p ok l live event entryLimit);
-        }
+        })

@@ -1,6 +1,6 @@
 -- The moves of a day: what is taken on any day is taken on this one unless a window shuts it, and the marks say which are shut.
 -- Assumes nothing.
-use mathlib.Core.Path.{_≡_, refl, sym, ap, _∙_}
+use mathlib.Core.Path.{_≡_, refl, sym, ap, _∙_, subst}
 use mathlib.Core.Logic.{inl, inr}
 use mathlib.Core.Bool.{Bool, true, false, not, _&&_, _||_, and-false, or-false}
 use mathlib.Core.List.{List}
@@ -21,8 +21,11 @@ use Rattle.rules.specs.Event.{EventArguments, move}
 use Rattle.rules.proofs.Tests.{look, or-right, none-some}
 use Rattle.rules.proofs.Folds.{some-more}
 use Rattle.rules.proofs.Acceptance.{transition-for}
-use Rattle.plan.proofs.FieldLaws.{transition-count}
+use Rattle.plan.specs.Passes.{slots}
+use Rattle.plan.proofs.FieldLaws.{transition-count, window-count}
+use Rattle.ledger.specs.Ladder.{Accepts}
 use Rattle.lookup.specs.Figures.{Numbers}
+use Rattle.lookup.proofs.Facts.{plan-facts}
 use Rattle.event_choice.specs.Next.{InRange, Shut, anyDayMove, movesOf}
 use Rattle.event_choice.proofs.Visits.{word-none, word-some, moves-at}
 
@@ -129,3 +132,30 @@ pub day-moves : (p : Plan) (l : Ledger) (a : EventArguments) (n : ℕ) {any take
     → Numbers taken n (λ t. takenOn p (a .day) (movesOf any n t)) → Numbers taken n (move p l a)
 day-moves p l a n {any} v w =
     record { size = w .size; at = λ t b. w .at t b ∙ ap (takenOn p (a .day)) (moves-at any n t b ∙ v .at t b) ∙ sym (move-on p l a t) }
+
+-- a window names a transition of the plan, of which there are at most 256
+pub named-low : (bs : List ℕ) (c : Counts) → Accepts bs c → {w x : ℕ} → w < c .windows → x ≡ window (planOf bs c) w .transition → x < 256
+named-low bs c a {w} b e =
+    omega (arith, e, plan-facts bs c a .windows .named w (omega (arith, window-count bs c)), transition-count bs c, a .holds .transitions)
+
+-- all windows met, on the day as it was given
+pub shut-all : {p : Plan} {d z : Day} {k n : ℕ} {ms : List Bool} → k ≡ n → d ≡ z → Shut p d k ms → Shut p z n ms
+shut-all {p} {d} {z} {k} {n} {ms} e f m = subst (λ i. Shut p z i ms) e (subst (λ x. Shut p x k ms) f m)
+
+pub numbers-on : (p : Plan) {d z : Day} {n : ℕ} {ms : List ℕ} (f : ℕ → Option ℕ) → d ≡ z
+    → Numbers ms n (λ t. takenOn p d (f t)) → Numbers ms n (λ t. takenOn p z (f t))
+numbers-on p {n = n} {ms} f e m = subst (λ x. Numbers ms n (λ t. takenOn p x (f t))) e m
+
+-- without windows all is left
+pub all-left : (bs : List ℕ) (c : Counts) (day : Day) (any : List ℕ) → c .windows ≡ 0 → length any ≡ slots
+    → Numbers any (c .tracks) (λ t. takenOn (planOf bs c) day (movesOf any (c .tracks) t))
+all-left bs c day any e s =
+    record {
+      size = s;
+      at = λ t b. sym (ap (takenOn (planOf bs c) day) (moves-at any (c .tracks) t b) ∙ on-any (planOf bs c) day (window-count bs c ∙ e) (optional (getD any t 0)));
+    }
+
+-- one track more
+pub left-at : (p : Plan) (day : Day) (any : List ℕ) (n t r : ℕ) → t < n → optional r ≡ takenOn p day (optional (getD any t 0))
+    → optional r ≡ takenOn p day (movesOf any n t)
+left-at p day any n t r b e = e ∙ ap (takenOn p day) (sym (moves-at any n t b))
