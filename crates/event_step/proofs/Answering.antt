@@ -1,22 +1,29 @@
--- From the choice to the call's outcome: 21 or the step where the ledger is going, and before that 19 and 20. Assumes nothing.
-use mathlib.Core.Path.{_≡_, sym, ap, _∙_, subst}
-use mathlib.Core.Bool.{Bool, true, false, cond}
+-- From the choice to the call's outcome: 21 or the step where the ledger is going, and before that 19, 26 and 20. Assumes nothing.
+use mathlib.Core.Path.{_≡_, sym, ap, ap₂, _∙_, subst}
+use mathlib.Core.Bool.{Bool, true, false, cond, not}
 use mathlib.Core.List.{List, [], _∷_}
-use Prim.Native.Nat.{ℕ}
+use Prim.Native.Nat.{ℕ, _<_}
 use lib.Dec.{eqb}
-use borrow.Author.Tests.{eq-eqb, ne-eqb}
+use lib.Signed.{mag, ltZ}
+use borrow.Author.Tests.{eq-eqb, ne-eqb, not-true, not-false}
+use Rattle.rules.specs.Names.{Day}
+use Rattle.rules.specs.Day.{isDay}
 use Rattle.rules.specs.declared.Counts.{Counts}
 use Rattle.rules.specs.declared.EventAnswer.the-variants.{Moved, Refused}
 use Rattle.rules.specs.Fold.{countBelow, firstRefusal}
 use Rattle.rules.specs.Layout.{entryLimit}
 use Rattle.rules.specs.Plan.{Plan, planOf, trackCount}
+use Rattle.rules.specs.Leading.{lastDay, dated}
 use Rattle.rules.specs.Ledger.{Ledger, ledgerAt, written}
 use Rattle.rules.specs.Scope.{isOver}
-use Rattle.rules.specs.Event.{moves, moved, closings, isFull, afterEvent}
-use Rattle.rules.specs.Call.{Answer, done, Outcome, event, Meets, refusedOr, underPlan, callRefusals, figures, after, callOutcome, eventOutcome}
+use Rattle.rules.specs.Event.{EventArguments, moves, moved, closings, isFull, afterEvent}
+use Rattle.rules.specs.Call.{Answer, done, Outcome, event, Meets, refusedOr, underPlan, callRefusals, figures, after, datedBy, badDay, callOutcome, eventOutcome}
 use Rattle.rules.specs.Answers.{eventTold}
 use Rattle.rules.proofs.LedgerChecks.{passes-first}
 use Rattle.rules.proofs.Stored.{written-read}
+use Rattle.rules.proofs.LeadingLaws.{dated-written}
+use Rattle.rules.proofs.DayLaws.{good-day}
+use Rattle.signed.proofs.Integers.{rd, read-back, read-lt}
 use Rattle.plan.proofs.FieldLaws.{track-count}
 use Rattle.ledger.specs.Ladder.{Checked, Going, ledgerOf}
 use Rattle.lookup.proofs.Facts.{checked-passes, plan-facts, live-of-going, tidy-words, beyond}
@@ -27,6 +34,27 @@ use Rattle.event_step.specs.Outcome.{goingOutcome}
 
 met : {o : Outcome} {a : Answer} {w : List ℕ} → o ≡ record { answer = a; words = w } → Meets o a w
 met e = record { answered = ap (λ (x : Outcome). x .answer) (sym e); left = ap (λ (x : Outcome). x .words) (sym e) }
+
+-- 26, as the code asks it
+module _ (last day : Day) (h : mag day < 2147483648) {b : Bool} (e : b ≡ isDay (rd day)) where
+  pub no-day : not b ≡ true → true ≡ badDay last day
+  unfolding badDay
+  no-day n = rw (← read-back day h, ← e, not-true b n)
+
+  pub day-order : not b ≡ false → {z : Day} → mag z < 2147483648 → z ≡ last → ltZ (rd day) (rd z) ≡ badDay last day
+  unfolding badDay
+  day-order n {z} k f = read-lt day z h k ∙ (let q : isDay day ≡ true = ap isDay (sym (read-back day h)) ∙ sym e ∙ not-false b n in rw (q, f))
+
+-- a day as it was given, where the machine reads it back
+pub asked-of : (last : Day) {x y : Day} → x ≡ y → {b : Bool} → b ≡ badDay last x → b ≡ badDay last y
+asked-of last e q = q ∙ ap (badDay last) e
+
+pub dated-with : (u : List ℕ) {x y : Day} → x ≡ y → {v : List ℕ} → v ≡ dated x u → v ≡ dated y u
+dated-with u e q = q ∙ ap (λ z. dated z u) e
+
+-- the choice is of a day that 26 lets pass
+pub choice-day : (last : Day) (r : Choice) {a : EventArguments} {b : Bool} → argumentsOf r ≡ a → b ≡ badDay last (a .day) → b ≡ false → isDay (r .day) ≡ true
+choice-day last r {a} e d z = ap (λ (x : EventArguments). isDay (x .day)) e ∙ good-day last (a .day) (sym d ∙ z) .0
 
 -- a ledger that is going: the choice for this event
 module _ (bs : List ℕ) (c : Counts) (ws : List ℕ) (g : Going bs c ws) (e : EventArguments) {r : Choice}
@@ -88,6 +116,10 @@ module _ (bs : List ℕ) (c : Counts) (ws : List ℕ) (g : Going bs c ws) (e : E
         unchanged : written entryLimit (c .tracks) l ws ≡ ws
         unchanged = unfold ledgerOf in written-read entryLimit (c .tracks) ws (tidy-words bs c ws (g .checked) .tidy) (g .checked .lent .room .words)
 
+-- a ledger that is not over goes on
+pub going-of : {bs : List ℕ} {c : Counts} {ws : List ℕ} → Checked bs c ws → {r : Bool} → r ≡ isOver (planOf bs c) (ledgerOf c ws) → r ≡ false → Going bs c ws
+going-of h q z = record { checked = h; goes-on = sym q ∙ z }
+
 -- over, and 19, 26 and 20
 module _ (bs : List ℕ) (c : Counts) (ws : List ℕ) (h : Checked bs c ws) (e : EventArguments) where
   over-is : isOver (planOf bs c) (ledgerOf c ws) ≡ isOver (planOf bs c) (ledgerAt entryLimit ws (trackCount (planOf bs c)))
@@ -121,13 +153,10 @@ module _ (bs : List ℕ) (c : Counts) (ws : List ℕ) (h : Checked bs c ws) (e :
     event-over z = met (checked ∙ (rw (ne-eqb (e .event) 0 n, sym d ∙ on, sym over-is ∙ sym q ∙ z)))
 
     module _ (z : r ≡ false) where
-      pub going-of : Going bs c ws
-      going-of = record { checked = h; goes-on = sym q ∙ z }
-
-      pub event-going : (a : Answer) (v : List ℕ) → Meets (goingOutcome (planOf bs c) ws e) a v
+      pub event-going : (x : EventArguments) (a : Answer) (v : List ℕ) → x ≡ e → Meets (goingOutcome (planOf bs c) ws x) a v
           → Meets (eventOutcome entryLimit bs ws e) a v
       unfolding goingOutcome
-      event-going a v =
+      event-going x a v f =
           let s : eventOutcome entryLimit bs ws e ≡ goingOutcome (planOf bs c) ws e =
           checked ∙ (rw (ne-eqb (e .event) 0 n, sym d ∙ on, sym over-is ∙ sym q ∙ z)) in
-          subst (λ (x : Outcome). Meets x a v) (sym s)
+          subst (λ (y : Outcome). Meets y a v) (ap (goingOutcome (planOf bs c) ws) f ∙ sym s)

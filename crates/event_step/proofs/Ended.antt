@@ -1,18 +1,23 @@
 -- After the moves and the closings, finish: the words written are the ledger's, and which undoing tracks have an open scope is as before the call.
 -- Assumes nothing.
-use mathlib.Core.Path.{_≡_, sym, _∙_, subst}
+use mathlib.Core.Path.{_≡_, sym, ap, _∙_, subst}
+use mathlib.Core.Logic.{inl, inr}
 use mathlib.Core.Bool.{Bool, false}
 use mathlib.Core.List.{List}
-use Prim.Native.Nat.{ℕ}
+use Prim.Native.Nat.{ℕ, _≤_}
+use native.Mathlib.Omega.{arith}
+use lib.ListN.{length}
 use Rattle.rules.specs.declared.Counts.{Counts}
-use Rattle.rules.specs.Layout.{entryLimit}
+use Rattle.rules.specs.Layout.{entryLimit, leadingWords}
 use Rattle.rules.specs.Plan.{Plan, planOf}
-use Rattle.rules.specs.Ledger.{Ledger, written}
+use Rattle.rules.specs.Ledger.{Ledger, sleeping, written}
 use Rattle.rules.specs.Scope.{hasOpenScope}
-use Rattle.rules.specs.Finish.{finished}
+use Rattle.rules.specs.Finish.{isFinishing, finished}
 use Rattle.rules.specs.Event.{moved, closed, afterEvent}
-use Rattle.rules.proofs.Stored.{Storable}
+use Rattle.rules.proofs.Tests.{look}
+use Rattle.rules.proofs.Stored.{Storable, length-written}
 use Rattle.ledger.specs.Ladder.{Tidy, Going, ledgerOf}
+use Rattle.ledger.proofs.Words.{leading-room}
 use Rattle.lookup.specs.Figures.{Figures}
 use Rattle.lookup.proofs.Facts.{plan-facts, live-of-going, tidy-words}
 use Rattle.lookup.proofs.OneTrackLaws.{read-back, orderly-after, then}
@@ -54,3 +59,11 @@ module _ (bs : List ℕ) (c : Counts) (ws : List ℕ) (g : Going bs c ws) (r : C
         → us ≡ written entryLimit (c .tracks) (afterEvent p (ledgerOf c ws) (argumentsOf r)) ws
     unfolding afterEvent
     event-ended x = then c ws o settled stores d (finished p) x
+
+  -- the words stay as many
+  fits : (t : ℕ) → length (afterEvent p (ledgerOf c ws) (argumentsOf r) t .held) ≤ entryLimit
+  unfolding afterEvent finished sleeping
+  fits t = elim (look (isFinishing p settled)) [ inl q ↦ rw q (omega arith) | inr q ↦ rw q (stores .fits t) ]
+
+  pub ended-room : {us : List ℕ} → us ≡ written entryLimit (c .tracks) (afterEvent p (ledgerOf c ws) (argumentsOf r)) ws → leadingWords ≤ length us
+  ended-room e = omega (arith, ap length e, length-written entryLimit (c .tracks) (afterEvent p (ledgerOf c ws) (argumentsOf r)) ws fits (o .room .words), leading-room (o .room))

@@ -8,10 +8,11 @@ use lookup::reading;
 use rules::Counts;
 use rules::EventAnswer;
 ghost use mathlib.Core.Path.{_≡_};
-ghost use mathlib.Core.Bool.{false};
+ghost use mathlib.Core.Bool.{true, false};
 ghost use Prim.Native.Nat.{_≤_};
 ghost use lib.ListN.{length};
 ghost use Rattle.rules.specs.Layout.{entryLimit, leadingWords};
+ghost use Rattle.rules.specs.Day.{isDay};
 ghost use Rattle.rules.specs.Leading.{lastDay};
 ghost use Rattle.rules.specs.Plan.{planOf, firstState};
 ghost use Rattle.rules.specs.Scope.{hasOpenScope, isOver};
@@ -46,7 +47,7 @@ fn go_on(
 ) -> EventAnswer
     requires { ⌜ Going (now plan) c (now ledger) × Chosen (planOf (now plan) c) (ledgerOf c (now ledger)) choice
         × Figures false (now opens) (c .tracks) (hasOpenScope (planOf (now plan) c) (ledgerOf c (now ledger)))
-        × Figures 0 (now firsts) (c .tracks) (firstState (planOf (now plan) c)) ⌝ }
+        × Figures 0 (now firsts) (c .tracks) (firstState (planOf (now plan) c)) × (isDay (choice .day) ≡ true) ⌝ }
     ensures { λ r. ⌜ Meets (goingOutcome (planOf (now (plan .entry)) c) (now (ledger .entry)) (argumentsOf choice)) (eventTold r) (now (ledger .exit)) ⌝ }
 {
     if choice.full {
