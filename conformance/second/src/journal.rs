@@ -11,16 +11,17 @@ use crate::rules::{self, Moved};
 /// The most bytes a plan file or a journal may have.
 pub const MAX_BYTES: usize = 32_768;
 
-/// Record kinds of a journal.
-pub const EVENT: u16 = 16;
+/// Record kinds of a journal. Kind 16, an event without a day, is withdrawn.
 pub const SIGNAL: u16 = 17;
 pub const FIRE: u16 = 18;
 pub const FIRE_LOWEST: u16 = 19;
+pub const EVENT: u16 = 20;
 
 /// A journal record.
 #[derive(Clone, Copy, Debug, PartialEq, Eq)]
 pub enum Record {
-    Event(u16),
+    /// An event and its day.
+    Event(u16, i32),
     Signal,
     Fire(u16),
     FireLowest,
@@ -30,7 +31,10 @@ impl Record {
     /// Appends the record to a journal.
     pub fn encode(self, out: &mut Vec<u8>) {
         match self {
-            Record::Event(event) => record::put(out, EVENT, &[event]),
+            Record::Event(event, day) => {
+                let [low, high] = record::words_of(day);
+                record::put(out, EVENT, &[event, low, high])
+            }
             Record::Signal => record::put(out, SIGNAL, &[]),
             Record::Fire(track) => record::put(out, FIRE, &[track]),
             Record::FireLowest => record::put(out, FIRE_LOWEST, &[]),
@@ -44,7 +48,7 @@ impl Record {
         let whole = header.length == length && usize::from(length) <= bytes.len();
         demand(whole, Refusal::BrokenRecord)?;
         let record = match header.kind {
-            EVENT => Record::Event(record::field(bytes, 0)),
+            EVENT => Record::Event(record::field(bytes, 0), record::signed(bytes, 1)),
             SIGNAL => Record::Signal,
             FIRE => Record::Fire(record::field(bytes, 0)),
             _ => Record::FireLowest,
@@ -54,9 +58,10 @@ impl Record {
 }
 
 /// The length of each kind of journal record; `None` for an unknown kind.
-fn kind_length(kind: u16) -> Option<u16> {
+pub fn kind_length(kind: u16) -> Option<u16> {
     match kind {
-        EVENT | FIRE => Some(6),
+        EVENT => Some(10),
+        FIRE => Some(6),
         SIGNAL | FIRE_LOWEST => Some(4),
         _ => None,
     }
@@ -102,7 +107,9 @@ pub enum Outcome {
 pub fn perform(plan: &Plan, ledger: &mut Ledger, record: Record) -> Outcome {
     let fired = |track, done: Result<Entry, Refusal>| done.map(|e| Outcome::Fire(track, e));
     let done = match record {
-        Record::Event(event) => rules::event(plan, ledger, event).map(|m| Outcome::Event(event, m)),
+        Record::Event(event, day) => {
+            rules::event(plan, ledger, event, day).map(|m| Outcome::Event(event, m))
+        }
         Record::Signal => rules::signal(plan, ledger).map(Outcome::Signal),
         Record::Fire(track) => fired(track, rules::fire(plan, ledger, track)),
         Record::FireLowest => {
@@ -129,7 +136,7 @@ pub fn unwind(plan: &[u8], journal: &[u8]) -> Vec<u8> {
     text
 }
 
-/// 1 to 16: both files short enough, and an accepted plan.
+/// 1 to 16 and 25: both files short enough, and an accepted plan.
 pub fn open(plan: &[u8], journal: &[u8]) -> Result<Plan, Refusal> {
     let fits = plan.len() <= MAX_BYTES && journal.len() <= MAX_BYTES;
     demand(fits, Refusal::TooLong)?;

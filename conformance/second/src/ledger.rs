@@ -1,10 +1,15 @@
-//! The ledger: two leading words, by which it is known to be the plan's, then
-//! 67 words for each track; and what makes it sound.
+//! The ledger: two leading words, by which it is known to be the plan's, two
+//! more for the last accepted day, then 67 words for each track; and what makes
+//! it sound.
 
+use crate::days::Term;
 use crate::plan::{members, Plan, NONE};
+use crate::record;
 
-/// Words before those of the tracks: the plan's length and its sum.
-pub const LEADING_WORDS: usize = 2;
+/// Words by which a ledger is known: the plan's length and its sum.
+pub const PLAN_WORDS: usize = 2;
+/// Words before those of the tracks: the plan's and the day's.
+pub const LEADING_WORDS: usize = 4;
 /// Words for each track: mode, state, count, and 32 pairs.
 pub const TRACK_WORDS: usize = 67;
 /// Entries that a track can hold.
@@ -132,15 +137,18 @@ impl Track {
 /// A sound ledger, decoded.
 #[derive(Clone, Debug, PartialEq, Eq)]
 pub struct Ledger {
-    leading: [u16; LEADING_WORDS],
+    plan: [u16; PLAN_WORDS],
+    /// The last accepted day; before the first one, the range's first.
+    pub day: i32,
     pub tracks: Vec<Track>,
 }
 
 impl Ledger {
-    /// The plan's leading words, and every track asleep.
+    /// The plan's own, with no accepted day and every track asleep.
     pub fn asleep(plan: &Plan) -> Ledger {
         Ledger {
-            leading: leading(plan),
+            plan: plan_words(plan),
+            day: Term::RANGE.first,
             tracks: vec![Track::ASLEEP; plan.track_count()],
         }
     }
@@ -149,14 +157,16 @@ impl Ledger {
     pub fn decode(plan: &Plan, words: &[u16]) -> Ledger {
         let own = |track| Track::decode(track_words(words, track));
         Ledger {
-            leading: leading(plan),
+            plan: plan_words(plan),
+            day: day_of(words),
             tracks: (0..plan.track_count()).map(own).collect(),
         }
     }
 
     /// Writes the words; those beyond stay as they are.
     pub fn encode(&self, words: &mut [u16]) {
-        words[..LEADING_WORDS].copy_from_slice(&self.leading);
+        words[..PLAN_WORDS].copy_from_slice(&self.plan);
+        words[PLAN_WORDS..LEADING_WORDS].copy_from_slice(&record::words_of(self.day));
         for (number, track) in self.tracks.iter().enumerate() {
             track.encode(track_words_mut(words, number));
         }
@@ -192,14 +202,19 @@ impl Ledger {
     }
 }
 
-/// The leading words of a plan's ledgers.
-pub fn leading(plan: &Plan) -> [u16; LEADING_WORDS] {
+/// The words by which a plan's ledgers are known.
+pub fn plan_words(plan: &Plan) -> [u16; PLAN_WORDS] {
     [plan.length(), plan.sum()]
 }
 
-/// Whether both leading words are the plan's.
+/// Whether both are the plan's.
 pub fn is_of(plan: &Plan, words: &[u16]) -> bool {
-    words[..LEADING_WORDS] == leading(plan)
+    words[..PLAN_WORDS] == plan_words(plan)
+}
+
+/// The last accepted day, as a ledger's words have it.
+pub fn day_of(words: &[u16]) -> i32 {
+    record::of_words([words[PLAN_WORDS], words[PLAN_WORDS + 1]])
 }
 
 /// Where a track's words start.
@@ -232,11 +247,12 @@ pub fn finishes(
     plan.roots().all(|t| has_ended(t) || is_spent(t)) && plan.roots().any(has_ended)
 }
 
-/// The clauses that make a ledger sound. All are about the tracks' words. The
-/// first four say that these are as described; the others bind only a ledger
-/// that is not all asleep.
+/// The clauses that make a ledger sound. The first one is about the day, all
+/// others about the tracks' words. The first five say that the words are as
+/// described; the others bind only a ledger that is not all asleep.
 #[derive(Clone, Copy, Debug, PartialEq, Eq)]
 pub enum Clause {
+    DayInRange,
     ModesKnown,
     CountsInRange,
     UnusedPairsZero,
@@ -257,7 +273,8 @@ pub enum Clause {
 }
 
 impl Clause {
-    pub const DESCRIBED: [Clause; 4] = [
+    pub const DESCRIBED: [Clause; 5] = [
+        Clause::DayInRange,
         Clause::ModesKnown,
         Clause::CountsInRange,
         Clause::UnusedPairsZero,
@@ -280,7 +297,7 @@ impl Clause {
         Clause::NoAbandoningLeft,
     ];
 
-    pub const COUNT: usize = 17;
+    pub const COUNT: usize = 18;
 
     /// All clauses, in the order of the enum.
     pub fn all() -> impl Iterator<Item = Clause> {
@@ -290,6 +307,7 @@ impl Clause {
     /// Whether the clause holds of the words.
     fn holds(self, view: &View) -> bool {
         match self {
+            Clause::DayInRange => view.day_in_range(),
             Clause::ModesKnown => view.modes_known(),
             Clause::CountsInRange => view.counts_in_range(),
             Clause::UnusedPairsZero => view.unused_pairs_zero(),
@@ -400,6 +418,11 @@ impl<'a> View<'a> {
 
     fn all_asleep(&self) -> bool {
         self.awake().next().is_none()
+    }
+
+    /// The last accepted day is of the range.
+    fn day_in_range(&self) -> bool {
+        Term::RANGE.contains(day_of(self.words))
     }
 
     /// Mode is 0 asleep, 1 forward or 2 undoing.

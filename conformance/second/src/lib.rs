@@ -1,13 +1,16 @@
 //! Retraction manager for register plans: a second implementation, written
 //! from the paper alone, for word-for-word comparison with the first.
 //!
-//! - [`plan`]: the plan reader, refusals 2 to 16.
+//! - [`days`]: days and dates, refusal 26 of the conversions.
+//! - [`plan`]: the plan reader, refusals 2 to 16 and 25.
 //! - [`ledger`]: leading words and tracks, and what makes a ledger sound.
 //! - [`rules`]: what the calls do, on an accepted plan and a sound ledger.
-//! - [`manager`]: the six calls, on plan bytes and lent words.
+//! - [`manager`]: the six calls, on plan bytes and lent words, and the two
+//!   conversions.
 //! - [`journal`]: the program `unwind` as a function of bytes.
 //! - [`record`], [`refusal`]: a record's first four bytes, and the numbers.
 
+pub mod days;
 pub mod journal;
 pub mod ledger;
 pub mod manager;

@@ -1,6 +1,8 @@
-//! The six calls, on plan bytes and lent words. Every call checks 2 to 17, 24
-//! and 18 first, begin 2 to 17. Refused calls change no word.
+//! The six calls, on plan bytes and lent words. Every call checks 2 to 16, 25,
+//! 17, 24 and 18 first, begin 2 to 16, 25 and 17. Refused calls change no word.
+//! And the two conversions, which are given neither plan nor ledger.
 
+use crate::days::{self, Date};
 use crate::ledger::{self, Entry, Ledger, PAIRS};
 use crate::plan::{self, Plan};
 use crate::refusal::{demand, Refusal};
@@ -28,9 +30,9 @@ pub fn begin(plan: &[u8], words: &mut [u16]) -> Answer<()> {
     begun.into()
 }
 
-/// Event: tracks moved, scopes closed.
-pub fn event(plan: &[u8], words: &mut [u16], event: u16) -> Answer<Moved> {
-    call(plan, words, |p, l| rules::event(p, l, event))
+/// Event on a day: tracks moved, scopes closed.
+pub fn event(plan: &[u8], words: &mut [u16], event: u16, day: i32) -> Answer<Moved> {
+    call(plan, words, |p, l| rules::event(p, l, event, day))
 }
 
 /// Signal: tracks turned.
@@ -63,6 +65,16 @@ pub fn entries<'a>(plan: &[u8], words: &'a [u16], track: u16) -> &'a [u16] {
     }
 }
 
+/// The date of a day.
+pub fn date_of_day(day: i32) -> Answer<Date> {
+    days::date_of_day(day).into()
+}
+
+/// The day of a date.
+pub fn day_of_date(date: Date) -> Answer<i32> {
+    days::day_of_date(date).into()
+}
+
 /// A call that may write: decodes, acts, and writes only if not refused.
 fn call<Figures>(
     plan: &[u8],
@@ -77,7 +89,7 @@ fn call<Figures>(
     done.into()
 }
 
-/// 2 to 17: an accepted plan, and enough words for it.
+/// 2 to 16, 25 and 17: an accepted plan, and enough words for it.
 fn accepted(plan: &[u8], words: &[u16]) -> Result<Plan, Refusal> {
     let plan = plan::read(plan)?;
     demand(
@@ -87,7 +99,7 @@ fn accepted(plan: &[u8], words: &[u16]) -> Result<Plan, Refusal> {
     Ok(plan)
 }
 
-/// 2 to 17, 24 and 18: an accepted plan, and its own and sound ledger.
+/// 2 to 16, 25, 17, 24 and 18: an accepted plan, and its own and sound ledger.
 fn sound(plan: &[u8], words: &[u16]) -> Result<(Plan, Ledger), Refusal> {
     let plan = accepted(plan, words)?;
     demand(ledger::is_of(&plan, words), Refusal::OtherPlan)?;

@@ -1,8 +1,10 @@
-//! Plan reader: bytes to an accepted plan, or the first refusal of 2 to 16.
+//! Plan reader: bytes to an accepted plan, or the first refusal of 2 to 16
+//! and 25.
 //!
-//! Numbers 2 to 7 are judged record by record, 8 to 16 number by number over
-//! the whole plan.
+//! Numbers 2 to 7 are judged record by record, 8 to 16 and then 25 number by
+//! number over the whole plan.
 
+use crate::days::Term;
 use crate::record::{self, Header};
 use crate::refusal::{demand, Refusal};
 
@@ -18,6 +20,11 @@ pub const TRACK: u16 = 1;
 pub const STATE: u16 = 2;
 pub const TRANSITION: u16 = 3;
 pub const END: u16 = 4;
+pub const WINDOW: u16 = 5;
+
+/// The kinds in the order of their records: windows stand between transitions
+/// and the end.
+pub const KINDS: [u16; 5] = [TRACK, STATE, TRANSITION, WINDOW, END];
 
 /// A track record.
 #[derive(Clone, Copy, Debug, PartialEq, Eq)]
@@ -48,12 +55,21 @@ pub struct Transition {
     pub destination: u16,
 }
 
+/// A window record.
+#[derive(Clone, Copy, Debug, PartialEq, Eq)]
+pub struct Window {
+    pub transition: u16,
+    /// The days on which the transition may be taken.
+    pub term: Term,
+}
+
 /// The records of a plan in file order, before they are judged as a whole.
 #[derive(Clone, Debug, Default, PartialEq, Eq)]
 pub struct Records {
     pub tracks: Vec<Track>,
     pub states: Vec<State>,
     pub transitions: Vec<Transition>,
+    pub windows: Vec<Window>,
 }
 
 impl Records {
@@ -69,6 +85,11 @@ impl Records {
         for x in &self.transitions {
             let fields = [x.source, x.event, x.code, x.deviation, x.destination];
             record::put(&mut out, TRANSITION, &fields);
+        }
+        for w in &self.windows {
+            let [first, last] = [w.term.first, w.term.last].map(record::words_of);
+            let fields = [w.transition, first[0], first[1], last[0], last[1]];
+            record::put(&mut out, WINDOW, &fields);
         }
         record::put(&mut out, END, &[]);
         out
@@ -91,6 +112,11 @@ impl Records {
                 deviation: field(3),
                 destination: field(4),
             }),
+            // Windows have no limit.
+            WINDOW => {
+                self.windows.push(window(bytes));
+                Ok(())
+            }
             _ => Ok(()),
         }
     }
@@ -114,7 +140,18 @@ impl Records {
     }
 }
 
-/// Reads a plan: the accepted plan, or the first refusal of 2 to 16.
+/// The whole window record at the front of `bytes`.
+fn window(bytes: &[u8]) -> Window {
+    Window {
+        transition: record::field(bytes, 0),
+        term: Term {
+            first: record::signed(bytes, 1),
+            last: record::signed(bytes, 3),
+        },
+    }
+}
+
+/// Reads a plan: the accepted plan, or the first refusal of 2 to 16 and 25.
 pub fn read(bytes: &[u8]) -> Result<Plan, Refusal> {
     Plan::accept(read_records(bytes)?, bytes)
 }
@@ -138,21 +175,18 @@ pub fn read_records(bytes: &[u8]) -> Result<Records, Refusal> {
 
 /// The record's length; 3 and 4 judged. `before` is the kind before it.
 fn record_length(header: Header, before: u16) -> Result<usize, Refusal> {
-    let length = kind_length(header.kind).ok_or(Refusal::Kind)?;
-    demand(header.kind >= before, Refusal::Kind)?;
-    demand(header.length == length, Refusal::Length)?;
-    Ok(usize::from(length))
+    let place = place(header.kind).ok_or(Refusal::Kind)?;
+    demand(Some(place) >= self::place(before), Refusal::Kind)?;
+    demand(header.length == LENGTHS[place], Refusal::Length)?;
+    Ok(usize::from(LENGTHS[place]))
 }
 
-/// The length of each kind of record; `None` for a kind not 1 to 4.
-fn kind_length(kind: u16) -> Option<u16> {
-    match kind {
-        TRACK => Some(6),
-        STATE => Some(10),
-        TRANSITION => Some(14),
-        END => Some(4),
-        _ => None,
-    }
+/// The length of each kind of record, in the order of `KINDS`.
+const LENGTHS: [u16; 5] = [6, 10, 14, 14, 4];
+
+/// The place of a kind in the order of records; `None` for an unknown kind.
+fn place(kind: u16) -> Option<usize> {
+    KINDS.iter().position(|&known| known == kind)
 }
 
 /// A way out of a state, sorted by source and event.
@@ -174,11 +208,13 @@ pub struct Plan {
     /// Each state's scope: bit n set if it hosts track n.
     scopes: Vec<u32>,
     exits: Vec<Exit>,
+    /// The days on which each transition may be taken.
+    terms: Vec<Term>,
 }
 
 impl Plan {
-    /// Judges the records of these bytes as a whole: refusals 8 to 16, number
-    /// by number.
+    /// Judges the records of these bytes as a whole: refusals 8 to 16 and 25,
+    /// number by number.
     fn accept(records: Records, bytes: &[u8]) -> Result<Plan, Refusal> {
         demand(!records.tracks.is_empty(), Refusal::NoTrack)?;
         demand(states_fit(&records), Refusal::State)?;
@@ -190,6 +226,7 @@ impl Plan {
         demand(plan.deviations_fit(), Refusal::Deviation)?;
         demand(plan.exits_differ(), Refusal::Twins)?;
         demand(plan.heights_fit(), Refusal::Height)?;
+        demand(windows_fit(&plan.records), Refusal::Window)?;
         Ok(plan)
     }
 
@@ -200,6 +237,7 @@ impl Plan {
             first: first_states(&records),
             scopes: scopes(&records),
             exits: exits(&records),
+            terms: terms(&records),
             records,
         }
     }
@@ -270,7 +308,7 @@ impl Plan {
         heights
     }
 
-    /// The plan's length in bytes; an accepted plan has at most 5,060.
+    /// The plan's length in bytes; an accepted plan has at most 8,644.
     pub fn length(&self) -> u16 {
         self.length
     }
@@ -370,22 +408,28 @@ impl Plan {
         (0..self.track_count()).filter(|&t| self.is_root(t))
     }
 
-    /// The state's transition for that event, if it has one.
-    pub fn transition(&self, state: u16, event: u16) -> Option<&Transition> {
+    /// The state's transition for that event, if it has one, with the days on
+    /// which it may be taken.
+    pub fn transition(&self, state: u16, event: u16) -> Option<(&Transition, Term)> {
         let key = (state, event);
-        self.exits
-            .binary_search_by_key(&key, |e| (e.source, e.event))
-            .ok()
-            .map(|at| &self.transitions()[usize::from(self.exits[at].transition)])
+        let at = self
+            .exits
+            .binary_search_by_key(&key, |e| (e.source, e.event));
+        at.ok().map(|at| self.transition_of(&self.exits[at]))
     }
 
-    /// The transitions out of a state, by event.
-    pub fn transitions_from(&self, state: u16) -> impl Iterator<Item = &Transition> {
+    /// The transitions out of a state, by event, each with its days.
+    pub fn transitions_from(&self, state: u16) -> impl Iterator<Item = (&Transition, Term)> {
         let from = self.exits.partition_point(|e| e.source < state);
         self.exits[from..]
             .iter()
             .take_while(move |e| e.source == state)
-            .map(|e| &self.transitions()[usize::from(e.transition)])
+            .map(|e| self.transition_of(e))
+    }
+
+    fn transition_of(&self, exit: &Exit) -> (&Transition, Term) {
+        let number = usize::from(exit.transition);
+        (&self.transitions()[number], self.terms[number])
     }
 }
 
@@ -451,4 +495,29 @@ fn exits(records: &Records) -> Vec<Exit> {
     let mut exits: Vec<Exit> = records.transitions.iter().enumerate().map(exit).collect();
     exits.sort_unstable();
     exits
+}
+
+/// 25: every window names a transition that no other one names, and its days
+/// fit.
+fn windows_fit(records: &Records) -> bool {
+    let mut named = vec![false; records.transitions.len()];
+    records.windows.iter().all(|w| {
+        let first_to_name = match named.get_mut(usize::from(w.transition)) {
+            Some(named) => !std::mem::replace(named, true),
+            None => false,
+        };
+        first_to_name && w.term.fits()
+    })
+}
+
+/// The days of each transition: its window's, or the whole range. A window that
+/// names no transition is passed over; 25 is for it.
+fn terms(records: &Records) -> Vec<Term> {
+    let mut terms = vec![Term::RANGE; records.transitions.len()];
+    for window in &records.windows {
+        if let Some(term) = terms.get_mut(usize::from(window.transition)) {
+            *term = window.term;
+        }
+    }
+    terms
 }

@@ -34,6 +34,21 @@ pub fn field(bytes: &[u8], n: usize) -> u16 {
     word(bytes, HEADER + 2 * n)
 }
 
+/// The signed 32-bit number in fields `n` and `n + 1`, low word first.
+pub fn signed(bytes: &[u8], n: usize) -> i32 {
+    of_words([field(bytes, n), field(bytes, n + 1)])
+}
+
+/// A signed 32-bit number as two words, low word first.
+pub fn words_of(number: i32) -> [u16; 2] {
+    [number as u16, (number >> 16) as u16]
+}
+
+/// The signed 32-bit number of two words, low word first.
+pub fn of_words([low, high]: [u16; 2]) -> i32 {
+    (u32::from(high) << 16 | u32::from(low)) as i32
+}
+
 /// At most eight bytes as one little-endian number.
 fn number(bytes: &[u8]) -> u64 {
     let bytes = bytes.iter().rev();

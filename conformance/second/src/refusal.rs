@@ -1,5 +1,5 @@
 //! The numbers under "Turned back, in checking order". 24 is checked between
-//! 17 and 18.
+//! 17 and 18, 25 after 16, 26 after 19.
 
 /// A refusal; its discriminant is the paper's number.
 #[derive(Clone, Copy, Debug, PartialEq, Eq, PartialOrd, Ord, Hash)]
@@ -9,7 +9,7 @@ pub enum Refusal {
     TooLong = 1,
     /// Fewer than 4 bytes remain where a record must start.
     NoRecord = 2,
-    /// The kind is not 1 to 4, or falls.
+    /// The kind is not 1 to 5, or falls in the order of records.
     Kind = 3,
     /// The length is not its kind's.
     Length = 4,
@@ -53,6 +53,12 @@ pub enum Refusal {
     BrokenRecord = 23,
     /// Either of the ledger's leading words is not the plan's.
     OtherPlan = 24,
+    /// A window names no transition, repeats one, ends before it begins or
+    /// leaves the day range.
+    Window = 25,
+    /// A day is out of range, an event's is before the last, or a date is none
+    /// of the range.
+    Day = 26,
 }
 
 impl Refusal {

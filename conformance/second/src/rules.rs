@@ -2,6 +2,7 @@
 //! ledger. A refused call changes nothing. Finish follows every event, signal
 //! and firing, as their last settling.
 
+use crate::days::Term;
 use crate::ledger::{self, Entry, Ledger, Mode, Track};
 use crate::plan::{members, Plan, Transition, NONE};
 use crate::refusal::{demand, Refusal};
@@ -13,7 +14,8 @@ pub struct Moved {
     pub closed: u16,
 }
 
-/// Begin: roots forward in their first states, others asleep.
+/// Begin: roots forward in their first states, others asleep, and the range's
+/// first day as the last accepted one.
 pub fn begin(plan: &Plan) -> Ledger {
     let mut ledger = Ledger::asleep(plan);
     for root in plan.roots() {
@@ -36,12 +38,16 @@ fn open_scope(plan: &Plan, ledger: &mut Ledger, state: u16) {
     }
 }
 
-/// Event: the chosen moves, then closing, then finish.
-pub fn event(plan: &Plan, ledger: &mut Ledger, event: u16) -> Result<Moved, Refusal> {
+/// Event: the chosen moves, then closing, then finish. Its day is the last
+/// accepted one from now on, even where none moves.
+pub fn event(plan: &Plan, ledger: &mut Ledger, event: u16, day: i32) -> Result<Moved, Refusal> {
     demand(event != 0, Refusal::EventZero)?;
+    let follows = Term::RANGE.contains(day) && day >= ledger.day;
+    demand(follows, Refusal::Day)?;
     demand(!ledger.is_over(), Refusal::Over)?;
-    let moves = chosen_moves(plan, ledger, event);
+    let moves = chosen_moves(plan, ledger, event, day);
     let mut after = ledger.clone();
+    after.day = day;
     for &(track, transition) in &moves {
         take(plan, &mut after, track, transition)?;
     }
@@ -54,15 +60,17 @@ pub fn event(plan: &Plan, ledger: &mut Ledger, event: u16) -> Result<Moved, Refu
     })
 }
 
-/// The moves an event makes, each track with its transition.
+/// The moves an event makes on a day, each track with its transition.
 pub fn chosen_moves<'p>(
     plan: &'p Plan,
     ledger: &Ledger,
     event: u16,
+    day: i32,
 ) -> Vec<(usize, &'p Transition)> {
     let chosen = |t: usize| {
-        let transition = plan.transition(ledger.tracks[t].state, event)?;
-        may_move(plan, ledger, t).then_some((t, transition))
+        let (transition, term) = plan.transition(ledger.tracks[t].state, event)?;
+        let moves = may_move(plan, ledger, t) && term.contains(day);
+        moves.then_some((t, transition))
     };
     (0..plan.track_count()).filter_map(chosen).collect()
 }

@@ -5,7 +5,7 @@
 mod common;
 
 use common::*;
-use second::journal::Record::{Event, Fire, FireLowest, Signal};
+use second::journal::Record::{Fire, FireLowest, Signal};
 use second::ledger::{self, track_words, track_words_mut, Clause, Entry};
 use second::manager::{self, Answer};
 use second::plan::{self, Records, NONE};
@@ -29,7 +29,7 @@ impl Desk {
 
     /// An event that moves and closes so many.
     fn event(&mut self, event: u16, moved: u16, closed: u16) {
-        let answer = manager::event(&self.plan, &mut self.words, event);
+        let answer = manager::event(&self.plan, &mut self.words, event, 0);
         assert_eq!(answer, Answer::Done(Moved { moved, closed }));
     }
 
@@ -59,7 +59,7 @@ impl Desk {
     fn refused(&mut self, refusal: Refusal) {
         let before = self.words.clone();
         let number = refusal.number();
-        let event = manager::event(&self.plan, &mut self.words, 1);
+        let event = manager::event(&self.plan, &mut self.words, 1, 0);
         assert_eq!(event, Answer::Refused(refusal), "event: {number}");
         let signal = manager::signal(&self.plan, &mut self.words);
         assert_eq!(signal, Answer::Refused(refusal), "signal: {number}");
@@ -75,7 +75,7 @@ impl Desk {
         let plan = plan::read(&self.plan).expect("accepted");
         let needed = ledger::words_needed(&plan);
         assert_eq!(self.words[..2], [plan.length(), plan.sum()]);
-        assert!(self.words[2..needed].iter().all(|&w| w == 0));
+        assert!(self.words[4..needed].iter().all(|&w| w == 0));
         assert_eq!(self.words[needed..], [0xABCD; 3]);
         self.ready(0);
         self.refused(Refusal::Over);
@@ -313,7 +313,7 @@ fn an_entry_that_finish_would_drop_still_needs_room() {
     }
     assert_eq!([desk.track(0), desk.track(1)], [[1, 0, 32], [2, 2, 0]]);
     let before = desk.words.clone();
-    let answer = manager::event(&desk.plan, &mut desk.words, 2);
+    let answer = manager::event(&desk.plan, &mut desk.words, 2, 0);
     assert_eq!(answer, Answer::Refused(Refusal::Full));
     assert_eq!(desk.words, before);
     desk.event(3, 1, 0);
@@ -361,6 +361,7 @@ fn three_roots() -> Records {
         tracks: hosts.map(track).to_vec(),
         states: roots.chain(hosted).collect(),
         transitions: vec![],
+        windows: vec![],
     }
 }
 
@@ -390,7 +391,7 @@ fn soundness_asks_that_finish_is_not_left_to_do() {
         let standings = [code / 36, code / 6 % 6, code % 6].map(|n| STANDINGS[n]);
         let mut words = vec![0; ledger::words_needed(&plan)];
         manager::begin(&bytes, &mut words);
-        words[2..].fill(0);
+        words[4..].fill(0);
         for (root, &standing) in standings.iter().enumerate() {
             stand(&mut words, root, standing);
         }
@@ -435,7 +436,7 @@ fn a_firing_of_the_last_entry_ends_it_whichever_root_it_is() {
     for root in 0..3u16 {
         let mut desk = Desk::begun(&three_roots());
         let needed = desk.words.len() - 3;
-        desk.words[2..needed].fill(0);
+        desk.words[4..needed].fill(0);
         for other in 0..3 {
             stand(&mut desk.words, other, Standing::EndedHolding);
         }
@@ -449,15 +450,15 @@ fn a_firing_of_the_last_entry_ends_it_whichever_root_it_is() {
 #[test]
 fn the_journal_goes_on_with_20_after_a_firing_that_ends_it() {
     let records = [
-        Event(1),
+        event(1),
         Signal,
         Fire(0),
-        Event(1),
-        Event(2),
+        event(1),
+        event(2),
         FireLowest,
         FireLowest,
         Signal,
-        Event(1),
+        event(1),
         Fire(0),
     ];
     let lines = run(&two_links().encode(), &records);
@@ -482,7 +483,7 @@ fn the_journal_goes_on_with_20_after_a_firing_that_ends_it() {
 
 #[test]
 fn a_journal_that_takes_all_back_goes_on_with_22() {
-    let records = [Event(1), Signal, Fire(1), Fire(0), Signal, FireLowest];
+    let records = [event(1), Signal, Fire(1), Fire(0), Signal, FireLowest];
     let lines = run(&two_links().encode(), &records);
     assert_eq!(
         lines[2..],

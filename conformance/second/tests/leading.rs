@@ -36,10 +36,10 @@ fn alike() -> Vec<u8> {
 
 /// The words that a begin and then events leave, each event moving a track.
 fn worked(plan: &[u8], events: &[u16]) -> Vec<u16> {
-    let mut words = vec![0xABCD; 204];
+    let mut words = vec![0xABCD; 206];
     assert_eq!(manager::begin(plan, &mut words), Answer::Done(()));
     for &event in events {
-        let answer = manager::event(plan, &mut words, event);
+        let answer = manager::event(plan, &mut words, event, 0);
         assert!(matches!(answer, Answer::Done(m) if m.moved == 1));
     }
     words
@@ -63,7 +63,7 @@ fn number<Figures>(answer: Answer<Figures>) -> u8 {
 fn refused(plan: &[u8], words: &[u16], refusal: u8) {
     let mut lent = words.to_vec();
     for event in [0, 10, 13] {
-        assert_eq!(number(manager::event(plan, &mut lent, event)), refusal);
+        assert_eq!(number(manager::event(plan, &mut lent, event, 0)), refusal);
     }
     assert_eq!(number(manager::signal(plan, &mut lent)), refusal);
     for track in [0, 1, 99] {
@@ -85,13 +85,13 @@ fn the_sample_has_length_172_and_sum_609() {
 #[test]
 fn begin_writes_both_words_over_any_others() {
     for lent in [0, 609, 0xABCD, 65535] {
-        let mut words = vec![lent; 204];
+        let mut words = vec![lent; 206];
         assert_eq!(manager::begin(&sample(), &mut words), Answer::Done(()));
-        assert_eq!(words[..5], [172, 609, 1, 0, 0]);
-        assert_eq!(words[203], lent);
+        assert_eq!(words[..7], [172, 609, 21_499, 65_534, 1, 0, 0]);
+        assert_eq!(words[205], lent);
     }
     let plan = plan::read(&sample()).expect("accepted");
-    assert_eq!(rules::begin(&plan).words(), worked(&sample(), &[])[..203]);
+    assert_eq!(rules::begin(&plan).words(), worked(&sample(), &[])[..205]);
 }
 
 #[test]
@@ -287,7 +287,7 @@ fn entries_of_a_neighbours_ledger_are_the_empty_part() {
 
 #[test]
 fn zeros_are_24_and_over_with_the_words() {
-    let zeros = [0; 203];
+    let zeros = [0; 205];
     refused(&sample(), &zeros, 24);
     let mut over = led_by([172, 609], &zeros);
     assert_eq!(number(manager::signal(&sample(), &mut over)), 20);
@@ -298,7 +298,7 @@ fn zeros_are_24_and_over_with_the_words() {
 fn an_over_ledger_keeps_the_words_and_is_24_under_another_plan() {
     let over = worked(&sample(), &[10, 11, 12, 14, 13]);
     assert_eq!(over[..2], [172, 609]);
-    assert_eq!(over[2..203], [0; 201]);
+    assert_eq!(over[4..205], [0; 201]);
     assert_eq!(number(manager::signal(&sample(), &mut over.clone())), 20);
     refused(&neighbour(), &over, 24);
     refused(&longer(), &over, 24);
@@ -307,7 +307,7 @@ fn an_over_ledger_keeps_the_words_and_is_24_under_another_plan() {
 #[test]
 fn unsound_and_of_another_plan_is_24_and_not_18() {
     let mut words = worked(&sample(), &[10]);
-    words[2] = 3;
+    words[4] = 3;
     refused(&neighbour(), &words, 24);
     refused(&sample(), &words, 18);
 }
@@ -315,8 +315,8 @@ fn unsound_and_of_another_plan_is_24_and_not_18() {
 #[test]
 fn too_few_words_are_17_and_not_24() {
     let own = worked(&sample(), &[10]);
-    for words in [own, worked(&longer(), &[10]), vec![0; 204]] {
-        for kept in [0, 1, 2, 3, 66, 67, 68, 69, 201, 202] {
+    for words in [own, worked(&longer(), &[10]), vec![0; 206]] {
+        for kept in [0, 1, 2, 3, 4, 5, 66, 67, 70, 71, 201, 203, 204] {
             refused(&sample(), &words[..kept], 17);
             let mut lent = words[..kept].to_vec();
             assert_eq!(number(manager::begin(&sample(), &mut lent)), 17);
@@ -335,7 +335,7 @@ fn plans_alike_in_both_words_pass_for_each_other() {
     assert_ne!(sample(), alike());
     let mut words = worked(&sample(), &[10]);
     assert_eq!(words[..2], worked(&alike(), &[])[..2]);
-    let moved = manager::event(&alike(), &mut words, 11);
+    let moved = manager::event(&alike(), &mut words, 11, 0);
     let one = Moved {
         moved: 1,
         closed: 0,

@@ -12,10 +12,10 @@ use testing::generate::plans;
 /// The sample plan's ledger after events 10, 11 and 12.
 fn working() -> Vec<u16> {
     let plan = sample();
-    let mut words = vec![0; 203];
+    let mut words = vec![0; 205];
     manager::begin(&plan, &mut words);
     for event in [10, 11, 12] {
-        manager::event(&plan, &mut words, event);
+        manager::event(&plan, &mut words, event, 0);
     }
     words
 }
@@ -36,10 +36,10 @@ fn violated(changes: &[(usize, u16)]) -> Vec<Clause> {
 #[test]
 fn the_working_ledger_is_laid_out_as_described() {
     let words = working();
-    assert_eq!(words[..2], [172, 609]);
-    assert_eq!(words[2..7], [1, 1, 1, 50, NONE]);
-    assert_eq!(words[69..74], [1, 4, 1, 51, NONE]);
-    assert_eq!(words[136..141], [1, 6, 1, 52, NONE]);
+    assert_eq!(words[..4], [172, 609, 0, 0]);
+    assert_eq!(words[4..9], [1, 1, 1, 50, NONE]);
+    assert_eq!(words[71..76], [1, 4, 1, 51, NONE]);
+    assert_eq!(words[138..143], [1, 6, 1, 52, NONE]);
     assert_eq!(violated(&[]), []);
 }
 
@@ -54,25 +54,25 @@ fn words_not_as_described() {
 #[test]
 fn a_count_above_32_is_unsound_though_all_pairs_are_good() {
     let mut words = working();
-    for pair in words[5..69].chunks_exact_mut(2) {
+    for pair in words[7..71].chunks_exact_mut(2) {
         pair.copy_from_slice(&[7, NONE]);
     }
     let plan = plan::read(&sample()).expect("accepted");
-    words[4] = 32;
+    words[6] = 32;
     assert!(ledger::is_sound(&plan, &words));
-    words[4] = 33;
+    words[6] = 33;
     assert_eq!(ledger::violated(&plan, &words), [Clause::CountsInRange]);
 }
 
 #[test]
 fn an_asleep_track_is_all_zeros() {
     let plan = plan::read(&sample()).expect("accepted");
-    let mut words = vec![0; 203];
+    let mut words = vec![0; 205];
     assert!(ledger::is_sound(&plan, &words));
-    words[202] = 1;
+    words[204] = 1;
     assert_eq!(ledger::violated(&plan, &words), [Clause::AsleepTracksZero]);
-    words[202] = 0;
-    words[3] = 1;
+    words[204] = 0;
+    words[5] = 1;
     assert_eq!(ledger::violated(&plan, &words), [Clause::AsleepTracksZero]);
 }
 
@@ -102,10 +102,10 @@ fn scopes_and_hosts() {
 #[test]
 fn a_host_in_the_middle_must_be_awake() {
     let plan = plan::read(&plans::chain(3).encode()).expect("accepted");
-    let mut words = vec![0; 203];
+    let mut words = vec![0; 205];
     manager::begin(&plans::chain(3).encode(), &mut words);
     assert!(ledger::is_sound(&plan, &words));
-    words[69..136].fill(0);
+    words[71..138].fill(0);
     assert_eq!(ledger::violated(&plan, &words), [Clause::HostsAwake]);
 }
 
@@ -115,27 +115,27 @@ fn every_root_is_awake() {
     records.tracks.push(track(NONE));
     records.states.push(state(1, 0, 0));
     let plan = plan::read(&records.encode()).expect("accepted");
-    let mut words = vec![0; 136];
-    words[2..4].copy_from_slice(&[1, 0]);
+    let mut words = vec![0; 138];
+    words[4..6].copy_from_slice(&[1, 0]);
     assert_eq!(ledger::violated(&plan, &words), [Clause::RootsAwake]);
-    words[69..71].copy_from_slice(&[2, 2]);
+    words[71..73].copy_from_slice(&[2, 2]);
     assert_eq!(ledger::violated(&plan, &words), []);
 }
 
 #[test]
 fn no_settling_is_left() {
     assert_eq!(violated(&[(135, 7)]), [Clause::NoClosingLeft]);
-    let mut finished = vec![0; 203];
-    finished[2..4].copy_from_slice(&[1, 2]);
+    let mut finished = vec![0; 205];
+    finished[4..6].copy_from_slice(&[1, 2]);
     let plan = plan::read(&sample()).expect("accepted");
     assert_eq!(ledger::violated(&plan, &finished), [Clause::NoFinishLeft]);
-    let mut spent = vec![0; 203];
+    let mut spent = vec![0; 205];
     for (track, state) in [(0, 1), (1, 4), (2, 6)] {
         track_words_mut(&mut spent, track)[..2].copy_from_slice(&[2, state]);
     }
     assert_eq!(ledger::violated(&plan, &spent), [Clause::NoAbandoningLeft]);
     // One root undoing in its final state is no settling left.
-    finished[2] = 2;
+    finished[4] = 2;
     assert_eq!(ledger::violated(&plan, &finished), []);
 }
 
@@ -143,11 +143,11 @@ fn no_settling_is_left() {
 fn a_damaged_ledger_is_refused_and_not_touched() {
     let plan = sample();
     let mut words = working();
-    words[137] = 7;
+    words[139] = 7;
     let before = words.clone();
     let unsound = Refusal::Unsound;
     assert_eq!(
-        manager::event(&plan, &mut words, 11),
+        manager::event(&plan, &mut words, 11, 0),
         Answer::Refused(unsound)
     );
     assert_eq!(manager::signal(&plan, &mut words), Answer::Refused(unsound));
@@ -166,6 +166,6 @@ fn entries_are_the_callers_own_words() {
     let words = working();
     let part = manager::entries(&plan, &words, 1);
     assert_eq!(part, [51, NONE]);
-    assert_eq!(part.as_ptr(), words[72..].as_ptr());
+    assert_eq!(part.as_ptr(), words[74..].as_ptr());
     assert!(manager::entries(&plan, &words, 3).is_empty());
 }

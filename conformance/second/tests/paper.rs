@@ -3,7 +3,7 @@
 mod common;
 
 use common::*;
-use second::journal::Record::{Event, Fire, FireLowest, Signal};
+use second::journal::Record::{Fire, FireLowest, Signal};
 use second::ledger::{track_words, Entry};
 use second::manager::{self, Answer};
 use second::plan::{self, NONE};
@@ -14,9 +14,9 @@ use testing::generate::plans;
 /// Words that begin has written for a plan, with three words beyond.
 fn begun(plan: &[u8]) -> Vec<u16> {
     let tracks = plan::read(plan).expect("accepted").track_count();
-    let mut words = vec![0xABCD; 2 + 67 * tracks + 3];
+    let mut words = vec![0xABCD; 4 + 67 * tracks + 3];
     assert_eq!(manager::begin(plan, &mut words), Answer::Done(()));
-    assert_eq!(words[2 + 67 * tracks..], [0xABCD; 3]);
+    assert_eq!(words[4 + 67 * tracks..], [0xABCD; 3]);
     words
 }
 
@@ -34,16 +34,16 @@ fn fired(code: u16) -> Answer<Entry> {
 /// Sends events to the sample plan.
 fn send(words: &mut [u16], events: &[u16]) -> Vec<Answer<Moved>> {
     let plan = sample();
-    let send = |&event| manager::event(&plan, words, event);
+    let send = |&event| manager::event(&plan, words, event, 0);
     events.iter().map(send).collect()
 }
 
 #[test]
 fn sample_plan_prints_its_ten_lines() {
     let records = [
-        Event(10),
-        Event(11),
-        Event(12),
+        event(10),
+        event(11),
+        event(12),
         Signal,
         FireLowest,
         FireLowest,
@@ -88,16 +88,18 @@ fn event_13_first_moves_none() {
     let mut words = begun(&sample());
     let before = words.clone();
     assert_eq!(send(&mut words, &[13]), [moved(0, 0)]);
-    assert_eq!(words, before);
+    // The day alone is written.
+    assert_eq!(words[..4], [172, 609, 0, 0]);
+    assert_eq!(words[4..], before[4..]);
 }
 
 #[test]
 fn event_13_after_10_moves_none_with_the_scope_open() {
     let mut words = begun(&sample());
     assert_eq!(send(&mut words, &[10, 13]), [moved(1, 0), moved(0, 0)]);
-    assert_eq!(words[2..7], [1, 1, 1, 50, NONE]);
-    assert_eq!(words[69..72], [1, 3, 0]);
-    assert_eq!(words[136..139], [1, 5, 0]);
+    assert_eq!(words[4..9], [1, 1, 1, 50, NONE]);
+    assert_eq!(words[71..74], [1, 3, 0]);
+    assert_eq!(words[138..141], [1, 5, 0]);
 }
 
 #[test]
@@ -109,8 +111,8 @@ fn last_event_closes_and_replaces() {
         [moved(1, 0), moved(1, 0), moved(1, 0), moved(1, 1)]
     );
     assert_eq!(manager::entries(&sample(), &words, 0), [50, NONE, 90, NONE]);
-    assert_eq!(words[2..5], [1, 1, 2]);
-    assert_eq!(words[69..203], [0; 134]);
+    assert_eq!(words[4..7], [1, 1, 2]);
+    assert_eq!(words[71..205], [0; 134]);
 }
 
 #[test]
@@ -122,7 +124,7 @@ fn signal_then_fires_90_and_50() {
     assert_eq!(manager::ready(&plan, &words), Answer::Done(1));
     assert_eq!(manager::fire(&plan, &mut words, 0), fired(90));
     assert_eq!(manager::fire(&plan, &mut words, 0), fired(50));
-    assert_eq!(words[2..5], [2, 1, 0]);
+    assert_eq!(words[4..7], [2, 1, 0]);
     assert_eq!(manager::ready(&plan, &words), Answer::Done(0));
 }
 
@@ -132,8 +134,8 @@ fn event_13_instead_of_the_signal_is_over() {
     let mut words = begun(&plan);
     send(&mut words, &[10, 11, 12, 14]);
     assert_eq!(send(&mut words, &[13]), [moved(1, 0)]);
-    assert_eq!(words[..2], [172, 609]);
-    assert_eq!(words[2..203], [0; 201]);
+    assert_eq!(words[..4], [172, 609, 0, 0]);
+    assert_eq!(words[4..205], [0; 201]);
     assert_eq!(
         manager::signal(&plan, &mut words),
         Answer::Refused(Refusal::Over)
@@ -147,7 +149,7 @@ fn signal_after_begin_turns_1_and_is_not_over() {
     let mut words = begun(&plan);
     assert_eq!(manager::signal(&plan, &mut words), Answer::Done(1));
     assert_eq!(manager::ready(&plan, &words), Answer::Done(0));
-    assert_eq!(words[2..5], [2, 0, 0]);
+    assert_eq!(words[4..7], [2, 0, 0]);
     assert_eq!(manager::signal(&plan, &mut words), Answer::Done(0));
 }
 
@@ -157,7 +159,7 @@ fn signal_after_10_turns_3_and_abandons() {
     let mut words = begun(&plan);
     send(&mut words, &[10]);
     assert_eq!(manager::signal(&plan, &mut words), Answer::Done(3));
-    assert_eq!(words[69..203], [0; 134]);
+    assert_eq!(words[71..205], [0; 134]);
     assert_eq!(manager::ready(&plan, &words), Answer::Done(1));
 }
 
@@ -177,7 +179,7 @@ fn firing_track_0_while_1_holds_an_entry_is_22() {
 
 #[test]
 fn entry_32_installs_and_entry_33_is_21() {
-    let mut lines = run(&looping().encode(), &[Event(1); 33]);
+    let mut lines = run(&looping().encode(), &[event(1); 33]);
     assert_eq!(lines.pop().as_deref(), Some("H 32 0"));
     assert_eq!(lines.pop().as_deref(), Some("R 21"));
     assert_eq!(lines.remove(0), "PLAN 1 2 3");
@@ -208,14 +210,14 @@ fn host_does_not_move_on_the_event_that_closed_its_scope() {
     let mut plan = sample_records();
     // The host leaves on the event that closes its scope, but not at once.
     plan.transitions[1].event = 14;
-    let records = [Event(10), Event(11), Event(12), Event(14), Event(14)];
+    let records = [event(10), event(11), event(12), event(14), event(14)];
     let lines = run(&plan.encode(), &records);
     assert_eq!(lines[3..], ["E 12 1 0", "E 14 1 1", "E 14 1 0", "H 0 0"]);
 }
 
 #[test]
 fn host_is_not_fired_while_a_branch_holds_entries() {
-    let records = [Event(10), Event(12), Signal, Fire(0), Fire(2), Fire(0)];
+    let records = [event(10), event(12), Signal, Fire(0), Fire(2), Fire(0)];
     let lines = run(&sample(), &records);
     assert_eq!(lines[3..], ["S 3", "R 22", "F 2 52 -", "F 0 50 -", "H 0 2"]);
 }
@@ -224,7 +226,7 @@ fn host_is_not_fired_while_a_branch_holds_entries() {
 fn replacement_0_is_not_installed() {
     let mut plan = sample_records();
     plan.states[1].replacement = 0;
-    let records = [Event(10), Event(11), Event(12), Event(14)];
+    let records = [event(10), event(11), event(12), event(14)];
     let lines = run(&plan.encode(), &records);
     assert_eq!(lines[4..], ["E 14 1 1", "H 1 0"]);
 }
@@ -232,10 +234,10 @@ fn replacement_0_is_not_installed() {
 #[test]
 fn inner_entries_are_dropped_beside_the_replacement() {
     let records = [
-        Event(10),
-        Event(11),
-        Event(12),
-        Event(14),
+        event(10),
+        event(11),
+        event(12),
+        event(14),
         Signal,
         FireLowest,
     ];

@@ -66,7 +66,7 @@ fn too_few_bytes_for_a_record_is_2() {
 #[test]
 fn unknown_or_falling_kind_is_3() {
     assert_eq!(of_bytes(&[4, 0, 0, 0]), 3);
-    assert_eq!(of_bytes(&[4, 0, 5, 0]), 3);
+    assert_eq!(of_bytes(&[4, 0, 6, 0]), 3);
     assert_eq!(of_bytes(&[4, 0, 4, 1]), 3);
     let mut plan = sample();
     // The second track becomes a state of the wrong length, the third falls.
@@ -201,26 +201,29 @@ fn plan_numbers_go_number_by_number() {
 #[test]
 fn too_few_words_are_17() {
     let plan = sample();
-    let mut words = vec![5; 202];
+    let mut words = vec![5; 204];
     let few = Refusal::FewWords;
     assert_eq!(manager::begin(&plan, &mut words), Answer::Refused(few));
-    assert_eq!(manager::event(&plan, &mut words, 0), Answer::Refused(few));
+    assert_eq!(
+        manager::event(&plan, &mut words, 0, 0),
+        Answer::Refused(few)
+    );
     assert_eq!(manager::signal(&plan, &mut words), Answer::Refused(few));
     assert_eq!(manager::fire(&plan, &mut words, 0), Answer::Refused(few));
     assert_eq!(manager::ready(&plan, &words), Answer::Refused(few));
     assert!(manager::entries(&plan, &words, 0).is_empty());
-    assert_eq!(words, [5; 202]);
+    assert_eq!(words, [5; 204]);
 }
 
 #[test]
 fn an_unsound_ledger_is_18_and_begin_takes_it() {
     let plan = sample();
-    let mut words = vec![5; 203];
+    let mut words = vec![5; 205];
     words[..2].copy_from_slice(&[172, 609]);
     let before = words.clone();
     let unsound = Refusal::Unsound;
     assert_eq!(
-        manager::event(&plan, &mut words, 0),
+        manager::event(&plan, &mut words, 0, 0),
         Answer::Refused(unsound)
     );
     assert_eq!(manager::signal(&plan, &mut words), Answer::Refused(unsound));
@@ -232,16 +235,16 @@ fn an_unsound_ledger_is_18_and_begin_takes_it() {
     assert!(manager::entries(&plan, &words, 0).is_empty());
     assert_eq!(words, before);
     assert_eq!(manager::begin(&plan, &mut words), Answer::Done(()));
-    assert_eq!(words[..3], [172, 609, 1]);
-    assert_eq!(words[3..], [0; 200]);
+    assert_eq!(words[..5], [172, 609, 21_499, 65_534, 1]);
+    assert_eq!(words[5..], [0; 200]);
 }
 
 #[test]
 fn event_0_is_19_before_20() {
     let plan = sample();
-    let mut over = vec![0; 203];
+    let mut over = vec![0; 205];
     over[..2].copy_from_slice(&[172, 609]);
-    let event = |words: &mut [u16], e| manager::event(&sample(), words, e);
+    let event = |words: &mut [u16], e| manager::event(&sample(), words, e, 0);
     assert_eq!(event(&mut over, 0), Answer::Refused(Refusal::EventZero));
     assert_eq!(event(&mut over, 1), Answer::Refused(Refusal::Over));
     assert_eq!(
@@ -255,7 +258,7 @@ fn event_0_is_19_before_20() {
 #[test]
 fn a_firing_that_may_not_be_is_22() {
     let plan = sample();
-    let mut words = vec![0; 203];
+    let mut words = vec![0; 205];
     manager::begin(&plan, &mut words);
     for track in [0, 1, 2, 3, 32, 65535] {
         assert_eq!(
@@ -271,7 +274,10 @@ fn each_call_gives_the_plans_refusal() {
     let mut words = [7; 4];
     let none = Refusal::NoTrack;
     assert_eq!(manager::begin(&plan, &mut words), Answer::Refused(none));
-    assert_eq!(manager::event(&plan, &mut words, 0), Answer::Refused(none));
+    assert_eq!(
+        manager::event(&plan, &mut words, 0, 0),
+        Answer::Refused(none)
+    );
     assert_eq!(manager::signal(&plan, &mut words), Answer::Refused(none));
     assert_eq!(manager::fire(&plan, &mut words, 0), Answer::Refused(none));
     assert_eq!(manager::ready(&plan, &words), Answer::Refused(none));
@@ -281,21 +287,27 @@ fn each_call_gives_the_plans_refusal() {
 
 #[test]
 fn a_broken_journal_record_is_23_and_ends_the_reading() {
-    let broken: [&[u8]; 11] = [
-        &[6],
-        &[6, 0],
-        &[6, 0, 16],
+    let broken: [&[u8]; 16] = [
+        &[10],
+        &[10, 0],
+        &[10, 0, 20],
         &[4, 0, 4, 0],
-        &[4, 0, 20, 0],
+        &[4, 0, 5, 0],
+        &[4, 0, 21, 0],
         &[4, 0, 17, 1],
-        &[4, 0, 16, 0, 1, 0],
+        // An event without a day, as it was before.
+        &[6, 0, 16, 0, 10, 0],
+        &[10, 0, 16, 0, 10, 0, 0, 0, 0, 0],
+        &[6, 0, 20, 0, 10, 0],
+        &[12, 0, 20, 0, 10, 0, 0, 0, 0, 0, 0, 0],
         &[6, 0, 17, 0, 1, 0],
         &[6, 0, 19, 0, 1, 0],
-        &[6, 0, 16, 0],
+        &[10, 0, 20, 0],
+        &[10, 0, 20, 0, 10, 0, 0, 0, 0],
         &[6, 0, 18, 0, 0],
     ];
     for record in broken {
-        let mut journal = journal(&[Record::Event(10)]);
+        let mut journal = journal(&[event(10)]);
         journal.extend_from_slice(record);
         let lines = unwind(&sample(), &journal);
         assert_eq!(lines, ["PLAN 3 8 5", "E 10 1 0", "R 23", "H 1 0"]);
@@ -312,10 +324,7 @@ fn records_after_a_broken_one_are_not_read() {
 
 #[test]
 fn refusals_in_a_journal_do_not_end_it() {
-    let lines = run(
-        &sample(),
-        &[Record::Event(0), Record::Fire(3), Record::Event(10)],
-    );
+    let lines = run(&sample(), &[event(0), Record::Fire(3), event(10)]);
     assert_eq!(lines, ["PLAN 3 8 5", "R 19", "R 22", "E 10 1 0", "H 1 0"]);
 }
 

@@ -3,7 +3,7 @@
 mod common;
 
 use common::*;
-use second::journal::Record::{Event, Fire, FireLowest, Signal};
+use second::journal::Record::{Fire, FireLowest, Signal};
 use second::plan::{Records, NONE};
 use testing::generate::plans;
 
@@ -27,6 +27,7 @@ fn deviating() -> Records {
             step(1, 3, 60, 1),
             step(1, 4, 0, 2),
         ],
+        windows: vec![],
     };
     plan.transitions[0].deviation = 1;
     plan
@@ -34,7 +35,7 @@ fn deviating() -> Records {
 
 #[test]
 fn a_deviation_enters_a_hosting_state_and_opens_its_scope() {
-    let records = [Event(1), Signal, Fire(0), Event(2), Signal, FireLowest];
+    let records = [event(1), Signal, Fire(0), event(2), Signal, FireLowest];
     let lines = run(&deviating().encode(), &records);
     assert_eq!(
         lines,
@@ -53,7 +54,7 @@ fn a_deviation_enters_a_hosting_state_and_opens_its_scope() {
 
 #[test]
 fn a_self_loop_of_a_hosting_state_reopens_its_scope() {
-    let records = [Event(1), Event(2), Event(3), Event(3), Event(2), Event(4)];
+    let records = [event(1), event(2), event(3), event(3), event(2), event(4)];
     let lines = run(&deviating().encode(), &records);
     assert_eq!(
         lines,
@@ -80,11 +81,11 @@ fn an_ended_root_waits_for_the_entry_of_another() {
     plan.transitions
         .extend([step(2, 1, 9, 2), step(2, 4, 0, 3)]);
     let records = [
-        Event(1),
+        event(1),
         Signal,
         Fire(0),
-        Event(3),
-        Event(4),
+        event(3),
+        event(4),
         Signal,
         Signal,
     ];
@@ -97,8 +98,8 @@ fn an_ended_root_waits_for_the_entry_of_another() {
 
 #[test]
 fn an_entry_dropped_by_finish_still_needs_room() {
-    let mut records = vec![Event(1); 32];
-    records.extend([Event(2), Event(3), Event(3)]);
+    let mut records = vec![event(1); 32];
+    records.extend([event(2), event(3), event(3)]);
     let lines = run(&looping().encode(), &records);
     assert_eq!(lines[33..], ["R 21", "E 3 1 0", "R 20", "H 0 0"]);
 }
@@ -107,9 +108,9 @@ fn an_entry_dropped_by_finish_still_needs_room() {
 fn an_entry_dropped_by_closing_still_needs_room() {
     let mut plan = deviating();
     plan.transitions.push(step(3, 5, 52, 3));
-    let mut records = vec![Event(1)];
-    records.extend([Event(5); 32]);
-    records.push(Event(2));
+    let mut records = vec![event(1)];
+    records.extend([event(5); 32]);
+    records.push(event(2));
     let lines = run(&plan.encode(), &records);
     assert_eq!(lines[34..], ["R 21", "H 33 0"]);
 }
@@ -119,8 +120,8 @@ fn a_replacement_needs_room() {
     let mut plan = deviating();
     plan.transitions.push(step(0, 5, 70, 0));
     plan.transitions[1].code = 0;
-    let mut records = vec![Event(5); 31];
-    records.extend([Event(1), Event(2), Signal, FireLowest]);
+    let mut records = vec![event(5); 31];
+    records.extend([event(1), event(2), Signal, FireLowest]);
     let lines = run(&plan.encode(), &records);
     assert_eq!(
         lines[32..],
@@ -133,8 +134,8 @@ fn closing_needs_no_room_where_the_replacement_is_0() {
     let mut plan = deviating();
     plan.states[1].replacement = 0;
     plan.transitions.push(step(0, 5, 70, 0));
-    let mut records = vec![Event(5); 31];
-    records.extend([Event(1), Event(2)]);
+    let mut records = vec![event(5); 31];
+    records.extend([event(1), event(2)]);
     let lines = run(&plan.encode(), &records);
     assert_eq!(lines[32..], ["E 1 1 0", "E 2 1 1", "H 32 0"]);
 }
@@ -146,7 +147,7 @@ fn abandoning_climbs_after_a_firing() {
     let mut plan = plans::chain(4);
     plan.tracks.push(track(plan.tracks[3].host));
     plan.states.push(state(4, 0, 0));
-    let records = [Event(4), Signal, FireLowest, Signal, FireLowest];
+    let records = [event(4), Signal, FireLowest, Signal, FireLowest];
     let lines = run(&plan.encode(), &records);
     assert_eq!(
         lines,
@@ -167,7 +168,7 @@ fn nested_scopes_close_one_event_after_another() {
     let mut plan = plans::chain(3);
     plan.states[0].replacement = 80;
     plan.states[2].replacement = 81;
-    let records = [Event(3), Event(2), Event(1), Event(1)];
+    let records = [event(3), event(2), event(1), event(1)];
     let lines = run(&plan.encode(), &records);
     assert_eq!(
         lines,
@@ -190,13 +191,13 @@ fn one_event_closes_two_scopes() {
     plan.states
         .extend(second.states.iter().map(|s| state(s.track + 2, s.last, 0)));
     plan.transitions.push(step(6, 2, 5, 7));
-    let lines = run(&plan.encode(), &[Event(2)]);
+    let lines = run(&plan.encode(), &[event(2)]);
     assert_eq!(lines, ["PLAN 4 8 3", "E 2 2 2", "H 0 0"]);
 }
 
 #[test]
 fn journal_kinds_may_fall() {
-    let lines = run(&sample(), &[FireLowest, Fire(9), Signal, Event(10)]);
+    let lines = run(&sample(), &[FireLowest, Fire(9), Signal, event(10)]);
     assert_eq!(
         lines,
         ["PLAN 3 8 5", "R 22", "R 22", "S 1", "E 10 0 0", "H 0 0"]
