@@ -1,13 +1,17 @@
 //! The stored calls: each a plan, lent words and a call, and by this program
 //! its answer and the words afterwards. They show what no run of `unwind` can
 //! show, since it begins its own ledger and keeps it sound: the leading words,
-//! and what soundness makes of a finish left to do.
+//! and what soundness makes of a finish left to do or of a day out of range;
+//! and conversions.
 
-use crate::generate::singles::Call::{self, Entries, Event, Fire, Ready, Signal};
+use crate::generate::singles::Call::{
+    self, DateOfDay, DayOfDate, Entries, Event, Fire, Ready, Signal,
+};
 use crate::samples::{
-    looping, sample, sample_records, scoped_links, state, step, track, two_links,
+    looping, sample, sample_records, scoped_links, state, step, track, two_links, window,
 };
 use crate::vectors;
+use second::days::{Date, Term};
 use second::ledger::{track_words_mut, words_needed};
 use second::manager;
 use second::plan::{self, Records, NONE};
@@ -42,8 +46,17 @@ pub fn all() -> Vec<Stored> {
         near_finish(),
         finish_left(),
         tails(),
+        windows(),
+        days(),
+        days_of_ledgers(),
+        conversions(),
     ];
     parts.into_iter().flatten().collect()
+}
+
+/// An event on day 0.
+fn event(event: u16) -> Call {
+    Event(event, 0)
 }
 
 fn stored(shows: &str, plan: &[u8], words: &[u16], call: Call) -> Stored {
@@ -71,14 +84,14 @@ fn longer() -> Vec<u8> {
 }
 
 /// Words that were never begun, one more than P needs.
-const UNBEGUN: [u16; 204] = [0xA5A5; 204];
+const UNBEGUN: [u16; 206] = [0xA5A5; 206];
 
 /// The words that a begin and then events leave.
 fn begun(plan: &[u8], events: &[u16]) -> Vec<u16> {
     let mut words = UNBEGUN.to_vec();
     manager::begin(plan, &mut words);
     for &event in events {
-        manager::event(plan, &mut words, event);
+        manager::event(plan, &mut words, event, 0);
     }
     words
 }
@@ -107,14 +120,14 @@ fn begins() -> Vec<Stored> {
     vec![
         begin("P begun: its length 172 and its sum 609 lead", &UNBEGUN),
         begin("a begin takes a neighbour's ledger", &neighbours),
-        begin("a begin with one word too few: 17", &UNBEGUN[..202]),
+        begin("a begin with one word too few: 17", &UNBEGUN[..204]),
     ]
 }
 
 /// The five calls that test the leading words, under a plan.
 fn by_each_call(shows: &str, plan: &[u8], words: &[u16]) -> Vec<Stored> {
     let calls = [
-        ("event", Event(10)),
+        ("event", event(10)),
         ("signal", Signal),
         ("fire", Fire(1)),
         ("ready", Ready),
@@ -147,8 +160,8 @@ fn wrong_words() -> Vec<Stored> {
         misled("the sum alone is wrong: 24", &[(1, 610)]),
         misled("the sum's bytes are exchanged: 24", &[(1, 0x6102)]),
         misled("length and sum are exchanged: 24", &[(0, 609), (1, 172)]),
-        stored("zeros: 24", &plan, &[0; 203], Signal),
-        stored("zeros, event 0: 24", &plan, &[0; 203], Event(0)),
+        stored("zeros: 24", &plan, &[0; 205], Signal),
+        stored("zeros, event 0: 24", &plan, &[0; 205], event(0)),
     ]
 }
 
@@ -159,18 +172,18 @@ fn over() -> Vec<Stored> {
     let other = |shows: &str, call| stored(shows, &other_code(), &words, call);
     let last = "the event that ends P leaves the leading words";
     vec![
-        stored(last, &sample(), &before, Event(13)),
+        stored(last, &sample(), &before, event(13)),
         own("an over ledger under its plan: 20", Signal),
         own("an over ledger under its plan, ready", Ready),
         other("an over ledger under another plan: 24", Signal),
-        other("an over ledger under another plan, event 0: 24", Event(0)),
+        other("an over ledger under another plan, event 0: 24", event(0)),
         other("an over ledger under another plan, a firing: 24", Fire(0)),
         other("an over ledger under another plan, ready: 24", Ready),
     ]
 }
 
 fn unsound() -> Vec<Stored> {
-    let words = with(withdrawn(), &[(2, 3)]);
+    let words = with(withdrawn(), &[(4, 3)]);
     let other = |shows: &str, call| stored(shows, &other_code(), &words, call);
     vec![
         stored("a mode of 3: 18", &sample(), &words, Signal),
@@ -183,12 +196,14 @@ fn few_words() -> Vec<Stored> {
     let words = withdrawn();
     let few = |shows: &str, plan: &[u8], kept: usize| stored(shows, plan, &words[..kept], Signal);
     vec![
-        few("one word too few: 17", &sample(), 202),
+        few("one word too few: 17", &sample(), 204),
+        few("as many as without a day: 17", &sample(), 203),
         few("as many as the tracks have: 17", &sample(), 201),
-        few("the leading words alone: 17", &sample(), 2),
+        few("the leading words alone: 17", &sample(), 4),
+        few("the plan's words alone: 17", &sample(), 2),
         few("one word: 17", &sample(), 1),
         few("no word: 17", &sample(), 0),
-        few("one word too few, of another plan: 17", &other_code(), 202),
+        few("one word too few, of another plan: 17", &other_code(), 204),
     ]
 }
 
@@ -200,6 +215,7 @@ fn two_roots(tracks: [u16; 4]) -> Vec<u8> {
         tracks: vec![track(NONE); 2],
         states,
         transitions: vec![step(0, 1, 7, 0)],
+        windows: Vec::new(),
     };
     plan.encode()
 }
@@ -211,15 +227,15 @@ fn alike() -> Vec<Stored> {
     });
     let opened = begun(&sample(), &[10]);
     let (roots, moved) = (two_roots([0, 0, 1, 1]), two_roots([0, 1, 0, 1]));
-    let mut words = vec![0; 136];
+    let mut words = vec![0; 138];
     manager::begin(&roots, &mut words);
     let sound = "P's ledger under a plan alike in both words, two codes exchanged";
     let unsound = "plans alike in both words, two states exchanged";
     vec![
-        stored(&format!("{sound}: moves"), &exchanged, &opened, Event(11)),
+        stored(&format!("{sound}: moves"), &exchanged, &opened, event(11)),
         stored(&format!("{sound}: ready"), &exchanged, &withdrawn(), Ready),
-        stored(&format!("{unsound}: own ledger"), &roots, &words, Event(1)),
-        stored(&format!("{unsound}: 18"), &moved, &words, Event(1)),
+        stored(&format!("{unsound}: own ledger"), &roots, &words, event(1)),
+        stored(&format!("{unsound}: 18"), &moved, &words, event(1)),
     ]
 }
 
@@ -236,7 +252,7 @@ fn worked(plan: &[u8], calls: &[Call]) -> Vec<u16> {
 
 /// Root 0 has ended, holding nothing, and root 1 is undoing and holds 60.
 fn entry_left(plan: &[u8]) -> Vec<u16> {
-    worked(plan, &[Event(1), Signal, Fire(0), Event(3)])
+    worked(plan, &[event(1), Signal, Fire(0), event(3)])
 }
 
 /// The words with the start of a track's words changed.
@@ -249,8 +265,8 @@ fn with_track(mut words: Vec<u16>, track: usize, own: &[u16]) -> Vec<u16> {
 fn near_finish() -> Vec<Stored> {
     let (plan, scoped) = (two_links().encode(), scoped_links(0).encode());
     let entry = entry_left(&plan);
-    let spent = worked(&plan, &[Event(1), Signal, Fire(0), Fire(1)]);
-    let inner = [Event(1), Event(5), Event(6), Signal, Fire(0), Event(3)];
+    let spent = worked(&plan, &[event(1), Signal, Fire(0), Fire(1)]);
+    let inner = [event(1), event(5), event(6), Signal, Fire(0), event(3)];
     let scope = worked(&scoped, &inner);
     let both = worked(&plan, &[Signal]);
     let on = |shows: &str, words: &[u16], call| stored(shows, &plan, words, call);
@@ -258,7 +274,7 @@ fn near_finish() -> Vec<Stored> {
     vec![
         on("one root ended, one with an entry: ready", &entry, Ready),
         on("one root ended, its last entry fired", &entry, Fire(1)),
-        on("one root taken back, the other ends", &spent, Event(3)),
+        on("one root taken back, the other ends", &spent, event(3)),
         inside("one root ended, one with a scope: ready", Ready),
         inside("one root ended, the last scope abandoned", Fire(3)),
         on("both roots taken back: ready", &both, Ready),
@@ -307,7 +323,7 @@ fn tails() -> Vec<Stored> {
     let [four, two, none, six] = [1, 2, 3, 4].map(looping_by);
     let begin = |shows: &str, plan: &[u8]| Stored {
         shows: format!("a plan of {} bytes begun: {shows}", plan.len()),
-        line: vectors::begin_line(plan, &UNBEGUN[..70]),
+        line: vectors::begin_line(plan, &UNBEGUN[..72]),
     };
     let without = |last: usize, plan: &[u8]| {
         let length = plan.len();
@@ -321,10 +337,186 @@ fn tails() -> Vec<Stored> {
         begin("2 left after rounds of eight", &two),
         begin("4 left after rounds of eight", &four),
         begin("6 left, the last 2 bring the sum past 65,535 again", &six),
-        stored(own, &six, &worked(&six, &[]), Event(1)),
+        stored(own, &six, &worked(&six, &[]), event(1)),
         without(2, &two),
         without(4, &four),
         without(2, &six),
         without(6, &six),
     ]
+}
+
+/// P with a window of two days for its first transition.
+fn windowed() -> Vec<u8> {
+    changed(|p| p.windows.push(window(0, 5, 6)))
+}
+
+fn windows() -> Vec<Stored> {
+    let plan = windowed();
+    let words = begun(&plan, &[]);
+    let on = |shows: &str, day| stored(shows, &plan, &words, Event(10, day));
+    let begin = Stored {
+        shows: "P with a window begun: length 186".to_string(),
+        line: vectors::begin_line(&plan, &UNBEGUN),
+    };
+    let repeated = changed(|p| p.windows = vec![window(0, 5, 6); 2]);
+    let refused = "P with a window twice and no word: 25";
+    vec![
+        begin,
+        on("the day before a window moves none, and is kept", 4),
+        on("the first day of a window moves", 5),
+        on("the last day of a window moves", 6),
+        on("the day after a window moves none, and is kept", 7),
+        stored(refused, &repeated, &[], Event(0, i32::MIN)),
+    ]
+}
+
+/// Words with this last accepted day.
+fn on_day(words: Vec<u16>, day: i32) -> Vec<u16> {
+    let [low, high] = record::words_of(day);
+    with(words, &[(2, low), (3, high)])
+}
+
+fn days() -> Vec<Stored> {
+    let Term { first, last } = Term::RANGE;
+    let plan = sample();
+    let begun = begun(&plan, &[]);
+    let week = on_day(begun.clone(), 7);
+    let over = worked(&plan, &[10, 11, 12, 14, 13].map(event));
+    let late = on_day(over.clone(), last);
+    let on = |shows: &str, words: &[u16], call| stored(shows, &plan, words, call);
+    vec![
+        on(
+            "the range's first day after a begin",
+            &begun,
+            Event(10, first),
+        ),
+        on(
+            "the range's last day after a begin",
+            &begun,
+            Event(10, last),
+        ),
+        on("the day before the range: 26", &begun, Event(10, first - 1)),
+        on("the day after the range: 26", &begun, Event(10, last + 1)),
+        on("the least number: 26", &begun, Event(10, i32::MIN)),
+        on("the greatest number: 26", &begun, Event(10, i32::MAX)),
+        on("an equal day", &week, Event(10, 7)),
+        on("a falling day: 26", &week, Event(10, 6)),
+        on("a falling day below 0: 26", &week, Event(10, -7)),
+        on("event 0 on a falling day: 19", &week, Event(0, 6)),
+        on("a signal keeps the day", &week, Signal),
+        on("an over ledger, a falling day: 26", &over, Event(10, -1)),
+        on("an over ledger, an equal day: 20", &over, Event(10, 0)),
+        on("an over ledger of the last day: 20", &late, Event(10, last)),
+        on(
+            "an over ledger of the last day, the day before: 26",
+            &late,
+            Event(10, last - 1),
+        ),
+        on("event 0 on a falling day, over: 19", &over, Event(0, -1)),
+    ]
+}
+
+/// Ledgers whose day is at an end of the range, or out of it.
+fn days_of_ledgers() -> Vec<Stored> {
+    let Term { first, last } = Term::RANGE;
+    let plan = sample();
+    let over = || worked(&plan, &[10, 11, 12, 14, 13].map(event));
+    let on = |shows: &str, words: Vec<u16>, call| stored(shows, &plan, &words, call);
+    let begin = Stored {
+        shows: "a begin takes a ledger whose day is out of range".to_string(),
+        line: vectors::begin_line(&plan, &on_day(withdrawn(), last + 1)),
+    };
+    let mut calls = by_each_call(
+        "a ledger of the day after the range, 18",
+        &plan,
+        &on_day(withdrawn(), last + 1),
+    );
+    calls.extend([
+        on(
+            "a ledger of the range's first day: ready",
+            on_day(withdrawn(), first),
+            Ready,
+        ),
+        on(
+            "a ledger of the range's last day: ready",
+            on_day(withdrawn(), last),
+            Ready,
+        ),
+        on(
+            "a ledger of the day before the range: 18",
+            on_day(withdrawn(), first - 1),
+            Ready,
+        ),
+        on(
+            "a ledger of the least number: 18",
+            on_day(withdrawn(), i32::MIN),
+            Ready,
+        ),
+        on(
+            "a ledger of the greatest number: 18",
+            on_day(withdrawn(), i32::MAX),
+            Ready,
+        ),
+        on(
+            "an over ledger of the first day: ready",
+            on_day(over(), first),
+            Ready,
+        ),
+        on(
+            "an over ledger of the day before the range: 18",
+            on_day(over(), first - 1),
+            Ready,
+        ),
+        on(
+            "an over ledger of the day after the range: 18",
+            on_day(over(), last + 1),
+            Signal,
+        ),
+        on(
+            "an over ledger of no day, event 0: 18",
+            on_day(over(), i32::MAX),
+            event(0),
+        ),
+        begin,
+    ]);
+    calls
+}
+
+/// The paper's days and dates, and those that are turned back.
+fn conversions() -> Vec<Stored> {
+    let Term { first, last } = Term::RANGE;
+    let good = [first, first + 59, first + 365, -1, 0, 58, 59, 36_584, last];
+    let out = [first - 1, last + 1, i32::MIN, i32::MAX];
+    let dates = [
+        (1600, 1, 1),
+        (1600, 2, 29),
+        (1899, 12, 31),
+        (1900, 1, 1),
+        (1900, 3, 1),
+        (2000, 2, 29),
+        (2399, 12, 31),
+    ];
+    let none = [
+        (1900, 2, 29),
+        (2000, 2, 30),
+        (2001, 4, 31),
+        (1599, 12, 31),
+        (2400, 1, 1),
+        (2000, 0, 1),
+        (2000, 13, 1),
+        (2000, 1, 0),
+        (2000, 1, 32),
+        (65_535, 65_535, 65_535),
+    ];
+    let convert = |shows: String, call| stored(&shows, &[], &[], call);
+    let day = |refused: &str, day: i32| convert(format!("day {day}{refused}"), DateOfDay(day));
+    let date = |refused: &str, (year, month, day): (u16, u16, u16)| {
+        let shows = format!("date {year}-{month}-{day}{refused}");
+        convert(shows, DayOfDate(Date { year, month, day }))
+    };
+    let mut calls: Vec<Stored> = good.map(|d| day("", d)).into_iter().collect();
+    calls.extend(out.map(|d| day(": 26", d)));
+    calls.extend(dates.map(|d| date("", d)));
+    calls.extend(none.map(|d| date(": 26", d)));
+    calls
 }

@@ -3,12 +3,15 @@
 
 use crate::generate::plans;
 use crate::samples::{
-    brothers, journal, looping, looping_link, sample, sample_records, scoped_links, state, step,
-    three_links, track, two_links,
+    brothers, event, journal, looping, looping_link, sample, sample_records, scoped_links, state,
+    step, three_links, track, two_links, window,
 };
+use second::days::Term;
 use second::journal::Record::{self, Event, Fire, FireLowest, Signal};
 use second::journal::MAX_BYTES;
-use second::plan::{Records, State, Transition, MAX_STATES, MAX_TRACKS, MAX_TRANSITIONS, NONE};
+use second::plan::{
+    Records, State, Transition, Window, MAX_STATES, MAX_TRACKS, MAX_TRANSITIONS, NONE,
+};
 
 /// One stored run.
 pub struct Case {
@@ -33,6 +36,11 @@ pub fn all() -> Vec<Case> {
         unread_plans(),
         unfit_plans(),
         unfit_transitions(),
+        windows(),
+        unread_windows(),
+        unfit_windows(),
+        many_windows(),
+        days(),
         journals(),
         sizes(),
     ];
@@ -69,15 +77,15 @@ fn refused(name: &str, change: impl FnOnce(&mut Records)) -> Case {
 }
 
 /// The event as often as that, and then the others.
-fn often(times: usize, event: u16, then: &[Record]) -> Vec<Record> {
-    let mut records = vec![Event(event); times];
+fn often(times: usize, repeated: u16, then: &[Record]) -> Vec<Record> {
+    let mut records = vec![event(repeated); times];
     records.extend_from_slice(then);
     records
 }
 
 /// The two brothers and the two sisters.
 fn samples() -> Vec<Case> {
-    let mut halfway = [1, 31, 32, 30, 41, 2].map(Event).to_vec();
+    let mut halfway = [1, 31, 32, 30, 41, 2].map(event).to_vec();
     halfway.extend([Signal, Fire(0)]);
     halfway.extend([FireLowest; 5]);
     vec![Case {
@@ -89,15 +97,15 @@ fn samples() -> Vec<Case> {
 
 /// The sample, and "Runs and edges".
 fn runs() -> Vec<Case> {
-    let closing = [10, 11, 12, 14].map(Event);
+    let closing = [10, 11, 12, 14].map(event);
     let then = |records: &[Record]| [&closing, records].concat();
     let withdrawn = [Signal, FireLowest, FireLowest, FireLowest, FireLowest];
-    let fired = [Event(10), Event(11), Signal, Fire(0), Fire(1), Fire(0)];
+    let fired = [event(10), event(11), Signal, Fire(0), Fire(1), Fire(0)];
     let over = [
-        Event(13),
+        event(13),
         Signal,
-        Event(10),
-        Event(0),
+        event(10),
+        event(0),
         Fire(0),
         Fire(99),
         FireLowest,
@@ -105,8 +113,8 @@ fn runs() -> Vec<Case> {
     let entries = often(33, 1, &[]);
     vec![
         under_sample("sample", &[&closing[..3], &withdrawn].concat()),
-        under_sample("event_13_first", &[Event(13)]),
-        under_sample("event_13_scope_open", &[Event(10), Event(13)]),
+        under_sample("event_13_first", &[event(13)]),
+        under_sample("event_13_scope_open", &[event(10), event(13)]),
         under_sample(
             "replaced_then_fired",
             &then(&[Signal, FireLowest, FireLowest]),
@@ -115,7 +123,7 @@ fn runs() -> Vec<Case> {
         under_sample("signal_first", &[Signal, FireLowest, Signal]),
         under_sample(
             "signal_after_10",
-            &[Event(10), Signal, FireLowest, FireLowest],
+            &[event(10), Signal, FireLowest, FireLowest],
         ),
         under_sample("host_waits_for_branch", &fired),
         case("entry_33", &looping(), &entries),
@@ -126,7 +134,7 @@ fn runs() -> Vec<Case> {
 
 /// "Mistakes that tempt", where the runs above do not show them.
 fn mistakes() -> Vec<Case> {
-    let twice = [10, 11, 12, 14, 14].map(Event);
+    let twice = [10, 11, 12, 14, 14].map(event);
     let mut fired = twice[..4].to_vec();
     fired.extend([Signal, FireLowest, FireLowest]);
     vec![
@@ -138,7 +146,7 @@ fn mistakes() -> Vec<Case> {
         changed(
             "branch_stays_on_opening_event",
             |p| p.transitions[2].event = 10,
-            &[Event(10), Event(10)],
+            &[event(10), event(10)],
         ),
         changed("replacement_0", |p| p.states[1].replacement = 0, &fired),
     ]
@@ -161,6 +169,7 @@ fn looping_branch() -> Records {
             step(2, 2, 8, 3),
             step(2, 3, 0, 3),
         ],
+        windows: Vec::new(),
     }
 }
 
@@ -178,13 +187,14 @@ fn looping_host(replacement: u16) -> Records {
             step(1, 5, 0, 2),
             step(3, 3, 9, 4),
         ],
+        windows: Vec::new(),
     }
 }
 
 /// Entries beyond the 32nd that would be dropped at once or come from a
 /// closing; and what a full track may still do.
 fn full() -> Vec<Case> {
-    let closing = often(32, 1, &[Event(2), Event(3)]);
+    let closing = often(32, 1, &[event(2), event(3)]);
     vec![
         case("full_root_would_finish", &looping(), &closing),
         case("full_branch_would_close", &looping_branch(), &closing),
@@ -207,6 +217,7 @@ fn two_roots() -> Records {
             state(1, 1, 0),
         ],
         transitions: vec![first, step(1, 2, 0, 2), step(3, 1, 60, 4)],
+        windows: Vec::new(),
     }
 }
 
@@ -219,20 +230,21 @@ fn nested() -> Records {
         tracks: [NONE, 1, 3, 1].map(track).to_vec(),
         states,
         transitions: vec![step(0, 10, 50, 1)],
+        windows: Vec::new(),
     }
 }
 
 /// Abandoning that climbs, mixed modes and deviations.
 fn scopes() -> Vec<Case> {
-    let climbs = [Event(10), Signal, FireLowest, FireLowest];
-    let mut mixed = vec![Event(1), Signal, Fire(0), Event(1), Event(2)];
+    let climbs = [event(10), Signal, FireLowest, FireLowest];
+    let mut mixed = vec![event(1), Signal, Fire(0), event(1), event(2)];
     mixed.extend([Fire(1), FireLowest, Signal, FireLowest, FireLowest]);
     let reopened = [
-        Event(10),
+        event(10),
         Signal,
         Fire(0),
         FireLowest,
-        Event(11),
+        event(11),
         Signal,
         FireLowest,
         FireLowest,
@@ -257,35 +269,35 @@ fn links(change: impl FnOnce(&mut Records)) -> Records {
 
 /// Event 1, the signal and the deviation of root 0, and then the others.
 fn deviated(then: &[Record]) -> Vec<Record> {
-    [&[Event(1), Signal, Fire(0)], then].concat()
+    [&[event(1), Signal, Fire(0)], then].concat()
 }
 
 /// The same under `scoped_links`, with an entry in its inner scope.
 fn scope_left(then: &[Record]) -> Vec<Record> {
-    let before = [Event(1), Event(5), Event(6), Signal, Fire(0)];
+    let before = [event(1), event(5), event(6), Signal, Fire(0)];
     [&before, then].concat()
 }
 
 /// Ledgers that become over with one root taken back, and what is refused then.
 fn endings() -> Vec<Case> {
-    let over = [Signal, Event(1), Fire(0), FireLowest];
+    let over = [Signal, event(1), Fire(0), FireLowest];
     let then = |records: &[Record]| deviated(&[records, &over].concat());
-    let ended = [Event(1), Event(2)];
+    let ended = [event(1), event(2)];
     let fired = [&ended[..], &[FireLowest]].concat();
     let scope = [&fired[..], &over].concat();
     let host = [&ended[..], &[Fire(3), Fire(3), Fire(1)], &over].concat();
-    let closing = [Fire(1), Event(5), Event(7), Event(8), Event(4)];
+    let closing = [Fire(1), event(5), event(7), event(8), event(4)];
     let mut closes = scoped_links(60);
     closes.transitions[0].deviation = NONE;
     closes.transitions[3].deviation = 4;
-    let mut full = vec![Event(9), Signal, Fire(0)];
-    full.extend(often(32, 1, &[Event(2), Event(3)]));
+    let mut full = vec![event(9), Signal, Fire(0)];
+    full.extend(often(32, 1, &[event(2), event(3)]));
     full.extend(over);
     vec![
         case(
             "half_withdrawn_by_event",
             &two_links(),
-            &then(&[Fire(1), Event(1), Event(2)]),
+            &then(&[Fire(1), event(1), event(2)]),
         ),
         case("half_withdrawn_by_firing", &two_links(), &then(&fired)),
         case(
@@ -301,7 +313,7 @@ fn endings() -> Vec<Case> {
         case(
             "half_withdrawn_three_roots",
             &three_links(),
-            &then(&[Fire(1), Event(3)]),
+            &then(&[Fire(1), event(3)]),
         ),
         case("half_withdrawn_after_closing", &closes, &then(&closing)),
         case("half_withdrawn_full_root", &looping_link(), &full),
@@ -310,15 +322,15 @@ fn endings() -> Vec<Case> {
 
 /// Ledgers that are not over, each for one reason.
 fn missed_endings() -> Vec<Case> {
-    let idle = [FireLowest, Event(1), Signal];
-    let withdrawn = [&[Event(1), Signal, Fire(1), Fire(0), Fire(0)], &idle[..]];
+    let idle = [FireLowest, event(1), Signal];
+    let withdrawn = [&[event(1), Signal, Fire(1), Fire(0), Fire(0)], &idle[..]];
     // A firing that is 22, an event that moves none, a signal that turns the
     // root that has ended, and the other root's entry.
     let left = |ready: u16| {
-        let after = [Event(3), Fire(0), Event(1), Signal, Fire(ready)];
+        let after = [event(3), Fire(0), event(1), Signal, Fire(ready)];
         [&after[..], &idle].concat()
     };
-    let deviation = [Event(3), Fire(1), Event(1), Event(4), Signal];
+    let deviation = [event(3), Fire(1), event(1), event(4), Signal];
     vec![
         case(
             "all_withdrawn_not_over",
@@ -346,21 +358,23 @@ fn limits() -> Vec<Case> {
         tracks: vec![track(NONE)],
         states,
         transitions,
+        windows: Vec::new(),
     };
     let roots = Records {
         tracks: vec![track(NONE); MAX_TRACKS],
         states: (0..MAX_TRACKS as u16).map(|t| state(t, 0, 0)).collect(),
         transitions: Vec::new(),
+        windows: Vec::new(),
     };
     let last = MAX_STATES as u16 - 1;
     let far = root(vec![state(0, 0, 0); MAX_STATES], vec![step(0, 1, 7, last)]);
     let events = 1..=MAX_TRANSITIONS as u16;
     let steps = events.clone().map(|e| step(0, e, e, 0)).collect();
     let wide = root(vec![state(0, 0, 0)], steps);
-    let widest = [events.end(), &(events.end() + 1)].map(|&e| Event(e));
+    let widest = [events.end(), &(events.end() + 1)].map(|&e| event(e));
     vec![
         case("tracks_32", &roots, &[Signal, FireLowest]),
-        case("states_128", &far, &[Event(1), Signal, FireLowest]),
+        case("states_128", &far, &[event(1), Signal, FireLowest]),
         case("transitions_256", &wide, &widest),
     ]
 }
@@ -436,27 +450,181 @@ fn unfit_transitions() -> Vec<Case> {
     ]
 }
 
+/// P with windows.
+fn windowed(windows: &[Window]) -> Records {
+    Records {
+        windows: windows.to_vec(),
+        ..sample_records()
+    }
+}
+
+/// Days on which a step is taken, and days on which it is not.
+fn windows() -> Vec<Case> {
+    let Term { first, last } = Term::RANGE;
+    let plan = windowed(&[window(0, 5, 7)]);
+    let opens = [Event(10, 4), Event(10, 5), Event(11, 9)];
+    let passed = [Event(10, 8), Event(10, 8), Signal];
+    let one_day = windowed(&[window(0, -1, -1)]);
+    let before_and_on = [Event(10, -2), Event(10, -1), Event(10, 0)];
+    let ends = windowed(&[window(0, first, first), window(2, last, last)]);
+    let both_ends = [Event(10, first), Event(11, last - 1), Event(11, last)];
+    let mut roots = two_links();
+    roots.windows = vec![window(3, 100, 200)];
+    let closing = windowed(&[window(4, 3, 3), window(1, 3, 3)]);
+    let closed = [
+        Event(10, 1),
+        Event(11, 1),
+        Event(12, 2),
+        Event(14, 2),
+        Event(14, 3),
+        Event(13, 4),
+        Signal,
+        FireLowest,
+    ];
+    vec![
+        case("window_opens", &plan, &opens),
+        case("window_last_day", &plan, &[Event(10, 7), Event(11, 7)]),
+        case("window_passed", &plan, &passed),
+        case("window_of_one_day", &one_day, &before_and_on),
+        case("windows_at_the_range_ends", &ends, &both_ends),
+        case(
+            "window_of_one_track",
+            &roots,
+            &[Event(1, 99), Event(1, 100)],
+        ),
+        case("window_keeps_scope_open", &closing, &closed),
+    ]
+}
+
+/// The order of window records, and broken ones: 3, 4, 5 and 7.
+fn unread_windows() -> Vec<Case> {
+    let sample = sample();
+    let (body, end) = sample.split_at(sample.len() - 4);
+    let record = [14, 0, 5, 0, 0, 0, 0, 0, 0, 0, 9, 0, 0, 0];
+    let transition = &body[body.len() - 14..];
+    let before = &body[..body.len() - 14];
+    let plan = |name: &str, parts: &[&[u8]]| bytes(name, &parts.concat(), &journal(&[Signal]));
+    vec![
+        plan(
+            "r3_window_before_transition",
+            &[before, &record, transition, end],
+        ),
+        plan("r3_state_after_window", &[body, &record, &[10, 0, 2, 0]]),
+        plan("r3_kind_6", &[body, &record, &[4, 0, 6, 0]]),
+        plan("r4_window_of_12_bytes", &[body, &[12, 0], &record[2..]]),
+        plan("r5_cut_window", &[body, &record[..13]]),
+        plan("r7_window_after_end", &[body, &record, end, &record]),
+        plan("r2_no_end_after_window", &[body, &record]),
+    ]
+}
+
+/// Windows that are turned back, 25, and what is named before it.
+fn unfit_windows() -> Vec<Case> {
+    let Term { first, last } = Term::RANGE;
+    let plan = |name: &str, windows: &[Window]| case(name, &windowed(windows), &[Signal]);
+    let mut tall = plans::chain(9);
+    tall.windows = vec![window(9, 1, 0)];
+    let mut twins = windowed(&[window(9, 1, 0)]);
+    twins.transitions.push(step(0, 10, 0, 0));
+    let (plain, again) = (window(1, 0, 9), window(1, 10, 19));
+    vec![
+        plan("r25_no_transition", &[window(5, 0, 0)]),
+        plan("r25_transition_65535", &[window(NONE, 0, 0)]),
+        plan("r25_repeats", &[plain, window(2, 0, 9), again]),
+        plan("r25_ends_before_it_begins", &[window(0, 1, 0)]),
+        plan("r25_begins_before_the_range", &[window(0, first - 1, 0)]),
+        plan("r25_ends_after_the_range", &[window(0, 0, last + 1)]),
+        plan("r25_greatest_numbers", &[window(0, i32::MIN, i32::MAX)]),
+        case("r16_before_25", &tall, &[Signal]),
+        case("r15_before_25", &twins, &[Signal]),
+    ]
+}
+
+/// As many windows as transitions, more of them, and more in a plan with
+/// another fault.
+fn many_windows() -> Vec<Case> {
+    let events = 1..=MAX_TRANSITIONS as u16;
+    let each = (0..MAX_TRANSITIONS as u16).rev();
+    let full = Records {
+        tracks: vec![track(NONE)],
+        states: vec![state(0, 0, 0)],
+        transitions: events.map(|e| step(0, e, e, 0)).collect(),
+        windows: each.map(|n| window(n, i32::from(n), 300)).collect(),
+    };
+    let mut crowded = full.clone();
+    crowded.windows.resize(300, window(0, 0, 0));
+    let mut unfit = crowded.clone();
+    unfit.states[0].last = 1;
+    let steps = [
+        Event(256, 254),
+        Event(256, 255),
+        Event(1, 300),
+        Event(2, 301),
+    ];
+    vec![
+        case("windows_256", &full, &steps),
+        case("r25_windows_300", &crowded, &steps),
+        case("r11_windows_300", &unfit, &steps),
+    ]
+}
+
+/// The days of events: equal, falling, out of range, and which is kept.
+fn days() -> Vec<Case> {
+    let Term { first, last } = Term::RANGE;
+    let equal = [Event(10, -7), Event(11, -7), Event(12, -7)];
+    let falling = [Event(10, 5), Event(11, 4), Event(11, first), Event(11, 5)];
+    let outside = [
+        Event(10, first - 1),
+        Event(10, last + 1),
+        Event(10, i32::MIN),
+        Event(10, i32::MAX),
+        Event(10, first),
+        Event(11, last),
+    ];
+    let kept = [
+        Event(99, 40),
+        Event(10, 39),
+        Signal,
+        Event(10, 40),
+        Event(10, 39),
+    ];
+    let refused = [Event(0, 9), Event(10, 8)];
+    let ended = [10, 11, 12, 14, 13].map(|e| Event(e, 3));
+    let over = [Event(10, 2), Event(10, last + 1), Event(10, 3), Event(0, 2)];
+    let negative = [Event(10, -65_536), Event(11, -1), Event(12, 65_536)];
+    vec![
+        under_sample("day_equal", &equal),
+        under_sample("day_kept_by_an_event_that_moves_none", &kept),
+        under_sample("day_of_a_refused_event_not_kept", &refused),
+        under_sample("days_from_below_0", &negative),
+        under_sample("r26_falling_goes_on", &falling),
+        under_sample("r26_out_of_range_goes_on", &outside),
+        under_sample("r26_before_20", &[&ended[..], &over].concat()),
+    ]
+}
+
 /// Journals: refusals that do not end the reading, and 23 in each form.
 fn journals() -> Vec<Case> {
     let broken = |name: &str, record: &[u8]| {
-        let file = [&journal(&[Event(10)])[..], record].concat();
+        let file = [&journal(&[event(10)])[..], record].concat();
         bytes(name, &sample(), &file)
     };
     vec![
         under_sample("empty_journal", &[]),
-        under_sample("kinds_may_fall", &[Signal, Event(10), FireLowest, Signal]),
+        under_sample("kinds_may_fall", &[Signal, event(10), FireLowest, Signal]),
         under_sample(
             "r19_and_r22_go_on",
-            &[Event(0), Fire(3), Fire(0), Event(10)],
+            &[event(0), Fire(3), Fire(0), event(10)],
         ),
-        broken("r23_one_byte", &[6]),
-        broken("r23_two_bytes", &[6, 0]),
-        broken("r23_three_bytes", &[6, 0, 16]),
-        broken("r23_unknown_kind", &[4, 0, 20, 0, 4, 0, 17, 0]),
+        broken("r23_one_byte", &[10]),
+        broken("r23_two_bytes", &[10, 0]),
+        broken("r23_three_bytes", &[10, 0, 20]),
+        broken("r23_unknown_kind", &[4, 0, 21, 0, 4, 0, 17, 0]),
+        broken("r23_kind_16", &[6, 0, 16, 0, 10, 0, 4, 0, 17, 0]),
         broken("r23_plan_kind", &[4, 0, 4, 0, 4, 0, 17, 0]),
-        broken("r23_short_event", &[4, 0, 16, 0, 10, 0]),
+        broken("r23_short_event", &[6, 0, 20, 0, 10, 0]),
         broken("r23_long_signal", &[6, 0, 17, 0, 1, 0]),
-        broken("r23_cut_event", &[6, 0, 16, 0]),
+        broken("r23_cut_event", &[10, 0, 20, 0, 10, 0, 0, 0, 0]),
         broken("r23_cut_fire", &[6, 0, 18, 0, 0]),
         bytes("refused_plan_broken_journal", &[4, 0, 4, 0], &[1]),
     ]

@@ -1,5 +1,8 @@
 //! Counts what happened over a generated batch, and holds it to floors.
 
+mod days;
+
+use crate::faults;
 use crate::generate::journals::{self, Case};
 use crate::generate::rng::Rng;
 use crate::generate::singles::{self, Call, Single};
@@ -86,18 +89,61 @@ pub enum Happening {
     TailOf2,
     TailOf4,
     TailOf6,
+    WindowsAccepted,
+    ManyWindowsAccepted,
+    FallAfterWindow,
+    WindowAfterEnd,
+    WindowNoTransition,
+    WindowRepeated,
+    WindowReversed,
+    WindowBeforeRange,
+    WindowAfterRange,
+    WindowOtherFirst,
+    WindowsCrowded,
+    WindowsCrowdedOther,
+    WindowOpen,
+    WindowFirstDay,
+    WindowLastDay,
+    WindowOfOneDay,
+    WindowOnRangeFirst,
+    WindowOnRangeLast,
+    WindowNotYet,
+    WindowPassed,
+    WindowDayBefore,
+    WindowDayAfter,
+    WindowShutOthersMove,
+    WindowShutNoneMoves,
+    DayEqual,
+    DayLater,
+    DayKeptMovingNone,
+    DayFirst,
+    DayLast,
+    DayCrossesZero,
+    DayFalls,
+    DayFallsByOne,
+    DayBeforeRange,
+    DayAfterRange,
+    DayExtreme,
+    DayRefusedOver,
+    EventZeroBeforeDay,
+    GoesOnAfterDay,
+    WithdrawnKind,
+    LedgerOfFirstDay,
+    LedgerOfLastDay,
+    DayUnsoundAwake,
+    DayUnsoundOver,
 }
 
-const HAPPENINGS: usize = 62;
+const HAPPENINGS: usize = 105;
 
-/// Refusals 1 to 24.
-const REFUSALS: usize = 24;
+/// Refusals 1 to 26.
+const REFUSALS: usize = 26;
 
 /// Floors of the refusals for the default batch. What entries refuses is not
 /// among their counts, since it gives no number.
 const REFUSAL_FLOORS: [u64; REFUSALS] = [
     15, 300, 400, 400, 300, 200, 400, 200, 250, 200, 200, 200, 200, 200, 200, 200, 5_000, 40_000,
-    3_000, 15_000, 6_000, 12_000, 1_800, 10_000,
+    3_000, 15_000, 6_000, 12_000, 1_800, 10_000, 200, 3_000,
 ];
 
 /// Names and floors of the happenings, in the order of the enum.
@@ -273,7 +319,7 @@ const HAPPENING_FLOORS: [(Happening, &str, u64); HAPPENINGS] = [
     ),
     (
         Happening::FewerThanLeading,
-        "17 with fewer than 2 words",
+        "17 with fewer than 4 words",
         700,
     ),
     (Happening::OneWordTooFew, "17 with one word too few", 2_200),
@@ -343,6 +389,181 @@ const HAPPENING_FLOORS: [(Happening, &str, u64); HAPPENINGS] = [
         Happening::TailOf6,
         "words tested, 6 bytes after rounds of eight",
         20_000,
+    ),
+    (
+        Happening::WindowsAccepted,
+        "plan with windows accepted",
+        1000,
+    ),
+    (
+        Happening::ManyWindowsAccepted,
+        "plan of 100 windows or more accepted",
+        100,
+    ),
+    (
+        Happening::FallAfterWindow,
+        "3: a kind that falls after a window",
+        10,
+    ),
+    (Happening::WindowAfterEnd, "7: a window after the end", 10),
+    (
+        Happening::WindowNoTransition,
+        "25: a window names no transition",
+        10,
+    ),
+    (
+        Happening::WindowRepeated,
+        "25: a window repeats a transition",
+        10,
+    ),
+    (
+        Happening::WindowReversed,
+        "25: a window ends before it begins",
+        10,
+    ),
+    (
+        Happening::WindowBeforeRange,
+        "25: a window begins before the range",
+        10,
+    ),
+    (
+        Happening::WindowAfterRange,
+        "25: a window ends after the range",
+        10,
+    ),
+    (
+        Happening::WindowOtherFirst,
+        "8 to 16 before a window's fault",
+        10,
+    ),
+    (
+        Happening::WindowsCrowded,
+        "25: more windows than transitions",
+        10,
+    ),
+    (
+        Happening::WindowsCrowdedOther,
+        "8 to 16: more windows than transitions",
+        10,
+    ),
+    (
+        Happening::WindowOpen,
+        "event that takes a step with a window",
+        1000,
+    ),
+    (
+        Happening::WindowFirstDay,
+        "step taken on its window's first day",
+        1000,
+    ),
+    (
+        Happening::WindowLastDay,
+        "step taken on its window's last day",
+        1000,
+    ),
+    (
+        Happening::WindowOfOneDay,
+        "step taken in a window of one day",
+        1000,
+    ),
+    (
+        Happening::WindowOnRangeFirst,
+        "step with a window on the range's first day",
+        100,
+    ),
+    (
+        Happening::WindowOnRangeLast,
+        "step with a window on the range's last day",
+        100,
+    ),
+    (
+        Happening::WindowNotYet,
+        "step ignored before its window",
+        1000,
+    ),
+    (
+        Happening::WindowPassed,
+        "step ignored after its window",
+        1000,
+    ),
+    (
+        Happening::WindowDayBefore,
+        "step ignored the day before its window",
+        100,
+    ),
+    (
+        Happening::WindowDayAfter,
+        "step ignored the day after its window",
+        100,
+    ),
+    (
+        Happening::WindowShutOthersMove,
+        "step ignored, other tracks move",
+        100,
+    ),
+    (
+        Happening::WindowShutNoneMoves,
+        "step ignored, none moves",
+        1000,
+    ),
+    (Happening::DayEqual, "event on the last accepted day", 1000),
+    (Happening::DayLater, "event on a later day", 1000),
+    (
+        Happening::DayKeptMovingNone,
+        "later day kept, none moves",
+        1000,
+    ),
+    (Happening::DayFirst, "event on the range's first day", 1000),
+    (Happening::DayLast, "event on the range's last day", 1000),
+    (
+        Happening::DayCrossesZero,
+        "event from a day below 0 to 0 or above",
+        100,
+    ),
+    (Happening::DayFalls, "26: a falling day", 1000),
+    (Happening::DayFallsByOne, "26: a day that falls by one", 100),
+    (
+        Happening::DayBeforeRange,
+        "26: a day before the range",
+        1000,
+    ),
+    (Happening::DayAfterRange, "26: a day after the range", 1000),
+    (
+        Happening::DayExtreme,
+        "26: the least or the greatest number",
+        100,
+    ),
+    (Happening::DayRefusedOver, "26 on an over ledger", 100),
+    (
+        Happening::EventZeroBeforeDay,
+        "19 on a day that would be 26",
+        100,
+    ),
+    (
+        Happening::GoesOnAfterDay,
+        "journal that moves on after 26",
+        100,
+    ),
+    (Happening::WithdrawnKind, "23 by kind 16", 100),
+    (
+        Happening::LedgerOfFirstDay,
+        "ledger of the range's first day, sound",
+        1000,
+    ),
+    (
+        Happening::LedgerOfLastDay,
+        "ledger of the range's last day, sound",
+        1000,
+    ),
+    (
+        Happening::DayUnsoundAwake,
+        "18: the day out of range, not over",
+        100,
+    ),
+    (
+        Happening::DayUnsoundOver,
+        "18: the day out of range, over",
+        100,
     ),
 ];
 
@@ -495,7 +716,10 @@ impl Coverage {
     pub fn journal(&mut self, case: &Case) {
         match journal::open(&case.plan, &case.journal) {
             Ok(plan) => self.history(&plan, &case.journal),
-            Err(refusal) => self.refused(refusal),
+            Err(refusal) => {
+                self.plan_refused(&case.plan, refusal);
+                self.refused(refusal);
+            }
         }
     }
 
@@ -505,6 +729,7 @@ impl Coverage {
         let mut past = Past::new(plan, &ledger);
         let mut nested = false;
         let mut reopened = false;
+        let (mut day_refused, mut goes_on) = (false, false);
         for record in Records::new(journal).take(COUNTED) {
             match record {
                 Ok(record) => {
@@ -519,11 +744,19 @@ impl Coverage {
                     let closing = matches!(outcome, Outcome::Event(..));
                     nested |= closing && change.closes_around(&mut past);
                     reopened |= change.reopens(&mut past);
+                    day_refused |= outcome == Outcome::Refused(Refusal::Day);
+                    let moves = matches!(outcome, Outcome::Event(_, m) if m.moved > 0);
+                    goes_on |= day_refused && moves;
                     self.half_withdrawn(&change, outcome);
                 }
-                Err(refusal) => self.refused(refusal),
+                Err(refusal) => {
+                    let withdrawn = faults::broken_kind(journal) == Some(16);
+                    self.count_if(withdrawn, Happening::WithdrawnKind);
+                    self.refused(refusal)
+                }
             }
         }
+        self.count_if(goes_on, Happening::GoesOnAfterDay);
         self.count_if(nested, Happening::NestedClosings);
         self.count_if(reopened, Happening::ScopeReopens);
     }
@@ -540,6 +773,7 @@ impl Coverage {
     }
 
     fn accepted(&mut self, plan: &Plan) {
+        self.windows_accepted(plan);
         let height = plan.heights().into_iter().max();
         self.count_if(height == Some(8), Happening::Height8Accepted);
         let sizes = (
@@ -552,11 +786,16 @@ impl Coverage {
 
     fn outcome(&mut self, change: &Change, record: Record, outcome: Outcome) {
         match (outcome, record) {
-            (Outcome::Event(_, m), _) => self.event(change, m.moved),
+            (Outcome::Event(_, m), Record::Event(event, day)) => {
+                self.event_day(change, event, day, m.moved);
+                self.event(change, m.moved)
+            }
+            (Outcome::Event(..), _) => unreachable!("an event by another record"),
             (Outcome::Signal(_), _) => self.signal(change),
             (Outcome::Fire(_, entry), _) => self.firing(change, entry.deviation),
-            (Outcome::Refused(refusal), Record::Event(event)) => {
-                self.event_refused(change.plan, change.before, event, refusal)
+            (Outcome::Refused(refusal), Record::Event(event, day)) => {
+                self.event_refused(change.plan, change.before, (event, day), refusal);
+                self.refused(refusal)
             }
             (Outcome::Refused(refusal), _) => self.refused(refusal),
         }
@@ -659,23 +898,30 @@ impl Coverage {
         self.count_if(climb > 1, Happening::AbandoningByFiringClimbsTwo);
     }
 
-    fn event_refused(&mut self, plan: &Plan, before: &Ledger, event: u16, refusal: Refusal) {
-        self.refused(refusal);
+    /// Counts why an event on a sound ledger is refused, but not its number.
+    fn event_refused(
+        &mut self,
+        plan: &Plan,
+        before: &Ledger,
+        (event, day): (u16, i32),
+        refusal: Refusal,
+    ) {
+        self.event_day_refused(before, day, refusal);
         if refusal == Refusal::Full {
-            self.full(plan, before, event);
+            self.full(plan, before, event, day);
         }
     }
 
     /// Finds why 21 applied, from what the event does once full tracks have
     /// given up their newest entry.
-    fn full(&mut self, plan: &Plan, before: &Ledger, event: u16) {
+    fn full(&mut self, plan: &Plan, before: &Ledger, event: u16, day: i32) {
         let mut eased = before.clone();
         for track in eased.tracks.iter_mut().filter(|t| t.is_full()) {
             track.remove();
         }
-        let moves = rules::chosen_moves(plan, &eased, event);
+        let moves = rules::chosen_moves(plan, &eased, event, day);
         let mut after = eased.clone();
-        if rules::event(plan, &mut after, event).is_err() {
+        if rules::event(plan, &mut after, event, day).is_err() {
             return;
         }
         let full = |t: usize| before.tracks[t].is_full();
@@ -701,7 +947,10 @@ impl Coverage {
     pub fn single(&mut self, single: &Single) {
         let plan = match plan::read(&single.plan) {
             Ok(plan) => plan,
-            Err(_) => return self.answer(single, None),
+            Err(refusal) => {
+                self.plan_refused(&single.plan, refusal);
+                return self.answer(single, None);
+            }
         };
         self.accepted(&plan);
         if single.words.len() < words_needed(&plan) {
@@ -715,6 +964,7 @@ impl Coverage {
         }
         let violated = ledger::violated(&plan, &single.words);
         self.alike(single, violated.is_empty());
+        self.ledger_day(&plan, single, &violated);
         if let [clause] = violated[..] {
             self.clauses[clause as usize] += 1;
             self.finish_left(&plan, single, clause);
@@ -769,14 +1019,14 @@ impl Coverage {
     /// Counts a call on a ledger that was begun under a neighbour's plan.
     fn neighbours(&mut self, words: &[u16], call: Call) {
         let by = match call {
-            Call::Event(_) => Happening::NeighboursByEvent,
+            Call::Event(..) => Happening::NeighboursByEvent,
             Call::Signal => Happening::NeighboursBySignal,
             Call::Fire(_) => Happening::NeighboursByFire,
             Call::Ready => Happening::NeighboursByReady,
             Call::Entries(track) if track_words(words, usize::from(track))[2] > 0 => {
                 Happening::NeighboursByEntries
             }
-            Call::Entries(_) => return,
+            Call::Entries(_) | Call::DateOfDay(_) | Call::DayOfDate(_) => return,
         };
         self.count(by);
         self.count(Happening::Neighbours);
@@ -798,9 +1048,9 @@ impl Coverage {
     fn answer(&mut self, single: &Single, plan: Option<&Plan>) {
         let (bytes, mut words) = (&single.plan[..], single.words.clone());
         match single.call {
-            Call::Event(event) => {
-                let answer = manager::event(bytes, &mut words, event);
-                self.event_answer(single, plan, &words, event, answer);
+            Call::Event(event, day) => {
+                let answer = manager::event(bytes, &mut words, event, day);
+                self.event_answer(single, plan, &words, (event, day), answer);
             }
             Call::Signal => {
                 let answer = manager::signal(bytes, &mut words);
@@ -818,7 +1068,7 @@ impl Coverage {
                 let answer = manager::ready(bytes, &words);
                 self.figures(single, plan, &words, answer, |_, _, _| {});
             }
-            Call::Entries(_) => {}
+            Call::Entries(_) | Call::DateOfDay(_) | Call::DayOfDate(_) => {}
         }
     }
 
@@ -827,13 +1077,15 @@ impl Coverage {
         single: &Single,
         plan: Option<&Plan>,
         words: &[u16],
-        event: u16,
+        (event, day): (u16, i32),
         answer: Answer<rules::Moved>,
     ) {
-        if let (Answer::Refused(Refusal::Full), Some(plan)) = (answer, plan) {
-            self.full(plan, &Ledger::decode(plan, &single.words), event);
+        if let (Answer::Refused(refusal), Some(plan)) = (answer, plan) {
+            let before = Ledger::decode(plan, &single.words);
+            self.event_refused(plan, &before, (event, day), refusal);
         }
         self.figures(single, plan, words, answer, |c, change, m| {
+            c.event_day(change, event, day, m.moved);
             c.event(change, m.moved)
         });
     }

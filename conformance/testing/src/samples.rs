@@ -1,7 +1,8 @@
 //! Plans and journals of the paper, and the builders for others.
 
+use second::days::Term;
 use second::journal::Record;
-use second::plan::{Records, State, Track, Transition, NONE};
+use second::plan::{Records, State, Track, Transition, Window, NONE};
 
 pub fn track(host: u16) -> Track {
     Track { host }
@@ -26,6 +27,19 @@ pub fn step(source: u16, event: u16, code: u16, destination: u16) -> Transition 
     }
 }
 
+/// The transition may be taken from the first day to the last alone.
+pub fn window(transition: u16, first: i32, last: i32) -> Window {
+    Window {
+        transition,
+        term: Term { first, last },
+    }
+}
+
+/// An event on day 0, as the paper's runs are read.
+pub fn event(event: u16) -> Record {
+    Record::Event(event, 0)
+}
+
 /// The records of the sample plan P.
 pub fn sample_records() -> Records {
     Records {
@@ -47,6 +61,7 @@ pub fn sample_records() -> Records {
             step(5, 12, 52, 6),
             step(6, 14, 54, 7),
         ],
+        windows: vec![],
     }
 }
 
@@ -62,6 +77,7 @@ pub fn looping() -> Records {
         tracks: vec![track(NONE)],
         states: vec![state(0, 0, 0), state(0, 1, 0)],
         transitions: vec![step(0, 1, 7, 0), step(0, 2, 8, 1), step(0, 3, 0, 1)],
+        windows: vec![],
     }
 }
 
@@ -90,6 +106,7 @@ pub fn two_links() -> Records {
             step(3, 1, 60, 4),
             step(4, 4, 0, 5),
         ],
+        windows: vec![],
     }
 }
 
@@ -173,5 +190,6 @@ pub fn brothers() -> Records {
             step(11, 41, 141, 12),
             step(13, 42, 142, 14),
         ],
+        windows: vec![],
     }
 }

@@ -10,6 +10,7 @@ use crate::generate::plans;
 use crate::generate::rng::Rng;
 use crate::generate::singles::{self, Call};
 use crate::samples;
+use second::days::Date;
 use second::journal::{self, Record};
 use second::ledger::Entry;
 use second::manager::{self, Answer};
@@ -61,6 +62,11 @@ pub fn plan_line(rng: &mut Rng, limit: usize) -> String {
 pub fn single_line(rng: &mut Rng, limit: usize) -> String {
     let single = singles::single(rng, limit);
     call_line(&single.plan, &single.words, single.call)
+}
+
+/// The line of a conversion, which is given no plan and no words.
+pub fn conversion_line(rng: &mut Rng) -> String {
+    call_line(&[], &[], singles::conversion(rng))
 }
 
 /// `L;plan;words;call;answer;words after`: a call on lent words.
@@ -117,7 +123,7 @@ fn named_calls(plan: &Plan, records: &[Record]) -> Vec<Call> {
     for &record in records {
         let lowest = second::rules::ready(plan, &ledger).trailing_zeros();
         calls.push(match record {
-            Record::Event(event) => Call::Event(event),
+            Record::Event(event, day) => Call::Event(event, day),
             Record::Signal => Call::Signal,
             Record::Fire(track) => Call::Fire(track),
             Record::FireLowest => Call::Fire(lowest as u16),
@@ -130,21 +136,33 @@ fn named_calls(plan: &Plan, records: &[Record]) -> Vec<Call> {
 /// Makes a call; its answer as text.
 pub fn answer(plan: &[u8], words: &mut [u16], call: Call) -> String {
     match call {
-        Call::Event(event) => moved_text(manager::event(plan, words, event)),
+        Call::Event(event, day) => moved_text(manager::event(plan, words, event, day)),
         Call::Signal => number_text(manager::signal(plan, words)),
         Call::Fire(track) => fired_text(manager::fire(plan, words, track)),
         Call::Ready => number_text(manager::ready(plan, words)),
         Call::Entries(track) => word_hex(manager::entries(plan, words, track)),
+        Call::DateOfDay(day) => date_text(manager::date_of_day(day)),
+        Call::DayOfDate(date) => number_text(manager::day_of_date(date)),
     }
 }
 
-fn call_text(call: Call) -> String {
+/// A call's letter and what it is given.
+pub fn call_text(call: Call) -> String {
     match call {
-        Call::Event(event) => format!("E{event}"),
+        Call::Event(event, day) => format!("E{event}@{day}"),
         Call::Signal => "S".to_string(),
         Call::Fire(track) => format!("F{track}"),
         Call::Ready => "Y".to_string(),
         Call::Entries(track) => format!("N{track}"),
+        Call::DateOfDay(day) => format!("D{day}"),
+        Call::DayOfDate(Date { year, month, day }) => format!("G{year}-{month}-{day}"),
+    }
+}
+
+fn date_text(answer: Answer<Date>) -> String {
+    match answer {
+        Answer::Done(Date { year, month, day }) => format!("D{year},{month},{day}"),
+        Answer::Refused(refusal) => format!("R{}", refusal.number()),
     }
 }
 
@@ -171,7 +189,8 @@ fn number_text<Number: std::fmt::Display>(answer: Answer<Number>) -> String {
 
 fn accepted_text(plan: &Plan) -> String {
     let (tracks, states) = (plan.track_count(), plan.state_count());
-    format!("A{tracks},{states},{}", plan.transition_count())
+    let (transitions, windows) = (plan.transition_count(), plan.records().windows.len());
+    format!("A{tracks},{states},{transitions},{windows}")
 }
 
 fn byte_hex(bytes: &[u8]) -> String {

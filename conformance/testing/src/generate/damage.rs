@@ -1,24 +1,26 @@
-//! Damaged plans: each refusal 2 to 16 as the first that applies, several
-//! faults at once, and random bytes.
+//! Damaged plans: each refusal 2 to 16 and 25 as the first that applies,
+//! several faults at once, and random bytes.
 
+use super::days;
 use super::plans;
 use super::rng::Rng;
 use second::plan::{
-    self, Records, State, Track, Transition, MAX_HEIGHT, MAX_STATES, MAX_TRACKS, MAX_TRANSITIONS,
-    NONE,
+    self, Records, State, Track, Transition, Window, KINDS, MAX_HEIGHT, MAX_STATES, MAX_TRACKS,
+    MAX_TRANSITIONS, NONE,
 };
 use second::record;
 
-/// The lowest and highest refusal of a plan.
-pub const FIRST: u8 = 2;
-pub const LAST: u8 = 16;
+/// The refusals of a plan.
+pub const NUMBERS: [u8; 16] = [2, 3, 4, 5, 6, 7, 8, 9, 10, 11, 12, 13, 14, 15, 16, 25];
+/// The one for a track's height.
+const HEIGHT: u8 = 16;
 
 /// A good plan, a damaged one, or bytes gone astray.
 pub fn any_plan(rng: &mut Rng, limit: usize) -> Vec<u8> {
     match rng.below(100) {
         0..=14 => plans::bytes(rng, limit),
         15..=64 => {
-            let number = rng.between(usize::from(FIRST), usize::from(LAST)) as u8;
+            let number = any_number(rng);
             refused_as(rng, limit, number)
         }
         65..=79 => several_faults(rng, limit),
@@ -27,10 +29,18 @@ pub fn any_plan(rng: &mut Rng, limit: usize) -> Vec<u8> {
     }
 }
 
+/// Some refusal of a plan, 25 more often, since it has the most forms.
+fn any_number(rng: &mut Rng) -> u8 {
+    if rng.chance(10) {
+        return 25;
+    }
+    rng.pick(&NUMBERS).unwrap_or(25)
+}
+
 /// A plan whose first refusal is `number`. A limit below 9 tracks leaves no
 /// height to exceed; such a plan is damaged in another way.
 pub fn refused_as(rng: &mut Rng, limit: usize, number: u8) -> Vec<u8> {
-    let room = number != LAST || limit > MAX_HEIGHT as usize;
+    let room = number != HEIGHT || limit > MAX_HEIGHT as usize;
     for _ in 0..if room { 64 } else { 0 } {
         let mut plan = plans::records(rng, limit);
         spoil_records(rng, &mut plan, limit, number);
@@ -46,9 +56,7 @@ pub fn refused_as(rng: &mut Rng, limit: usize, number: u8) -> Vec<u8> {
 /// Two to four faults in one plan.
 pub fn several_faults(rng: &mut Rng, limit: usize) -> Vec<u8> {
     let mut plan = plans::records(rng, limit);
-    let faults: Vec<u8> = (0..rng.between(2, 4))
-        .map(|_| rng.between(usize::from(FIRST), usize::from(LAST)) as u8)
-        .collect();
+    let faults: Vec<u8> = (0..rng.between(2, 4)).map(|_| any_number(rng)).collect();
     for &number in &faults {
         spoil_records(rng, &mut plan, limit, number);
     }
@@ -93,7 +101,7 @@ fn extend(rng: &mut Rng, bytes: &mut Vec<u8>) {
     }
 }
 
-/// Faults that show in the records: 6 and 8 to 16.
+/// Faults that show in the records: 6, 8 to 16 and 25.
 fn spoil_records(rng: &mut Rng, plan: &mut Records, limit: usize, number: u8) {
     match number {
         6 => overfill(rng, plan, limit),
@@ -106,6 +114,7 @@ fn spoil_records(rng: &mut Rng, plan: &mut Records, limit: usize, number: u8) {
         14 => spoil_deviation(rng, plan),
         15 => add_twin(rng, plan),
         16 => grow_high(rng, plan, limit),
+        25 => spoil_windows(rng, plan),
         _ => {}
     }
 }
@@ -267,6 +276,58 @@ fn grow_high(rng: &mut Rng, plan: &mut Records, limit: usize) {
     };
 }
 
+/// 25: a window names no transition, repeats one, ends before it begins or
+/// leaves the day range; or there are more windows than transitions.
+fn spoil_windows(rng: &mut Rng, plan: &mut Records) {
+    let transitions = plan.transitions.len();
+    if rng.chance(20) {
+        return crowd(rng, plan);
+    }
+    let named = rng.below(transitions.max(1)) as u16;
+    if plan.windows.is_empty() {
+        plan.windows.push(good_window(rng, named));
+    }
+    let at = rng.below(plan.windows.len());
+    match rng.below(5) {
+        0 => plan.windows[at].transition = beyond(rng, transitions),
+        1 => {
+            let again = plan.windows[at].transition;
+            let window = good_window(rng, again);
+            let place = rng.below(plan.windows.len() + 1);
+            plan.windows.insert(place, window);
+        }
+        2 => reverse(rng, &mut plan.windows[at]),
+        3 => plan.windows[at].term.first = days::outside(rng),
+        _ => plan.windows[at].term.last = days::outside(rng),
+    }
+}
+
+fn good_window(rng: &mut Rng, transition: u16) -> Window {
+    let near = days::any_day(rng);
+    let term = days::term(rng, near);
+    Window { transition, term }
+}
+
+/// The window ends before it begins, often a day before.
+fn reverse(rng: &mut Rng, window: &mut Window) {
+    let term = &mut window.term;
+    std::mem::swap(&mut term.first, &mut term.last);
+    if term.first == term.last || rng.chance(50) {
+        term.last = term.first - 1;
+    }
+}
+
+/// More windows than there are transitions, now and then by hundreds.
+fn crowd(rng: &mut Rng, plan: &mut Records) {
+    let transitions = plan.transitions.len();
+    let more = rng.pick(&[1, 2, 20, 300]).unwrap_or(1);
+    while plan.windows.len() < transitions + more {
+        let named = rng.below(transitions.max(1)) as u16;
+        let window = good_window(rng, named);
+        plan.windows.push(window);
+    }
+}
+
 /// Faults that show in the bytes: 2 to 5 and 7.
 fn spoil_bytes(rng: &mut Rng, bytes: &mut Vec<u8>, number: u8) {
     match number {
@@ -274,8 +335,17 @@ fn spoil_bytes(rng: &mut Rng, bytes: &mut Vec<u8>, number: u8) {
         3 => spoil_kind(rng, bytes),
         4 => spoil_length(rng, bytes),
         5 => cut_inside(rng, bytes),
-        7 => extend(rng, bytes),
+        7 => follow(rng, bytes),
         _ => {}
+    }
+}
+
+/// 7: any bytes behind the end, or a window.
+fn follow(rng: &mut Rng, bytes: &mut Vec<u8>) {
+    if rng.chance(30) {
+        record::put(bytes, plan::WINDOW, &[0; 5]);
+    } else {
+        extend(rng, bytes);
     }
 }
 
@@ -297,13 +367,21 @@ fn cut_between(rng: &mut Rng, bytes: &mut Vec<u8>) {
     bytes.truncate(start + rng.below(4));
 }
 
-/// 3: a kind not 1 to 4, or one that falls.
+/// 3: a kind not 1 to 5, one that falls, or a window before a transition.
 fn spoil_kind(rng: &mut Rng, bytes: &mut [u8]) {
-    if let Some(start) = rng.pick(&starts(bytes)) {
-        let kind = match rng.below(4) {
-            0 => 0,
-            1 => 5,
-            2 => rng.between(1, 4) as u16,
+    let starts = starts(bytes);
+    let way = rng.below(5);
+    let transition = |&start: &usize| u16::from(bytes[start + 2]) == plan::TRANSITION;
+    let chosen: Vec<usize> = match way {
+        0 => starts.iter().copied().filter(transition).collect(),
+        _ => starts,
+    };
+    if let Some(start) = rng.pick(&chosen) {
+        let kind = match way {
+            0 => plan::WINDOW,
+            1 => 0,
+            2 => 6,
+            3 => rng.pick(&KINDS).unwrap_or(0),
             _ => rng.word(),
         };
         bytes[start + 2..start + 4].copy_from_slice(&kind.to_le_bytes());

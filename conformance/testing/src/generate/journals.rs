@@ -1,9 +1,11 @@
 //! Histories and journals, steered by the rules so that they move, close,
-//! signal, abandon, fire and deviate.
+//! signal, abandon, fire and deviate, on days in and about the windows.
 
 use super::damage;
+use super::days;
 use super::plans;
 use super::rng::Rng;
+use second::days::Term;
 use second::journal::{self, Record, MAX_BYTES};
 use second::ledger::{Ledger, Mode};
 use second::plan::{self, members, Plan};
@@ -65,7 +67,7 @@ fn stretch(rng: &mut Rng, case: &mut Case) {
 /// Appends whole records up to the greatest length.
 fn pad(rng: &mut Rng, journal: &mut Vec<u8>) {
     if journal.len() % 4 == 2 {
-        Record::Event(1).encode(journal);
+        Record::Fire(0).encode(journal);
     }
     while journal.len() + record::HEADER <= MAX_BYTES {
         let signal = rng.chance(10);
@@ -94,7 +96,8 @@ pub fn journal(rng: &mut Rng, plan: &Plan) -> Vec<u8> {
 fn stray_journal(rng: &mut Rng) -> Vec<u8> {
     let mut bytes = Vec::new();
     for _ in 0..rng.below(4) {
-        Record::Event(rng.between(1, 5) as u16).encode(&mut bytes);
+        let event = rng.between(1, 5) as u16;
+        Record::Event(event, days::any_day(rng)).encode(&mut bytes);
     }
     bytes
 }
@@ -109,35 +112,34 @@ fn break_off(rng: &mut Rng, bytes: &mut Vec<u8>) {
     }
 }
 
+/// A kind that no record has, often that of an event without a day.
 fn unknown_kind(rng: &mut Rng, bytes: &mut Vec<u8>) {
-    let kinds = [0, 1, 2, 3, 4, 5, 15, 20, 4096, 65535];
+    let kinds = [0, 1, 2, 3, 4, 5, 15, 16, 16, 16, 21, 4096, 65535];
     let kind = rng.pick(&kinds).unwrap_or(0);
-    record::put(bytes, kind, &[1][..rng.below(2)]);
+    record::put(bytes, kind, &[1, 0, 0][..rng.below(4)]);
     Record::Signal.encode(bytes);
 }
 
 fn wrong_length(rng: &mut Rng, bytes: &mut Vec<u8>) {
-    let kind = rng.between(16, 19) as u16;
-    let named = kind == journal::EVENT || kind == journal::FIRE;
-    let right = if named { 6 } else { 4 };
-    let lengths: Vec<u16> = [0, 2, 4, 5, 6, 8, 65535]
+    let kind = rng.between(17, 20) as u16;
+    let right = journal::kind_length(kind);
+    let lengths: Vec<u16> = [0, 2, 4, 5, 6, 8, 10, 12, 65535]
         .into_iter()
-        .filter(|&l| l != right)
+        .filter(|&l| Some(l) != right)
         .collect();
     let length = rng.pick(&lengths).unwrap_or(0);
-    record::put_words(bytes, &[length, kind, 1, 0]);
+    record::put_words(bytes, &[length, kind, 1, 0, 0, 0]);
 }
 
 fn cut_short(rng: &mut Rng, bytes: &mut Vec<u8>) {
-    let kind = if rng.chance(50) {
-        journal::EVENT
-    } else {
-        journal::FIRE
-    };
-    record::put_words(bytes, &[6, kind]);
+    let mut whole = Vec::new();
     if rng.chance(50) {
-        bytes.push(1);
+        Record::Event(1, 0).encode(&mut whole);
+    } else {
+        Record::Fire(0).encode(&mut whole);
     }
+    let kept = rng.between(record::HEADER, whole.len() - 1);
+    bytes.extend_from_slice(&whole[..kept]);
 }
 
 /// A steered history from begin, and the ledger it leaves.
@@ -179,7 +181,7 @@ pub fn half_withdrawn(rng: &mut Rng, limit: usize) -> (Vec<u8>, Vec<Record>) {
         let plan = plan::read(&bytes).expect("a good plan is accepted");
         let temper = parting(rng);
         let records = steered(rng, &temper, &plan, SHORT).0;
-        let wanted = |last| matches!(last, Record::Event(_)) == by_event;
+        let wanted = |last| matches!(last, Record::Event(..)) == by_event;
         tries -= 1;
         if tries == 0 || parted_end(&plan, &records).map_or(false, wanted) {
             return (bytes, records);
@@ -259,7 +261,7 @@ fn next_record(
     before: Option<&Record>,
 ) -> Record {
     if rng.chance(temper.useless) {
-        return useless(rng, plan);
+        return useless(rng, plan, ledger);
     }
     let events = moving_events(plan, ledger, |_| true);
     let ready: Vec<usize> = members(rules::ready(plan, ledger)).collect();
@@ -276,8 +278,8 @@ fn next_record(
         return Record::Signal;
     }
     match before {
-        Some(&Record::Event(e)) if events.contains(&e) && rng.chance(temper.repeat) => {
-            Record::Event(e)
+        Some(&Record::Event(e, _)) if events.contains(&e) && rng.chance(temper.repeat) => {
+            Record::Event(e, event_day(rng, plan, ledger, e))
         }
         _ => moving_event(rng, temper, plan, ledger, &events),
     }
@@ -311,20 +313,91 @@ fn moving_event(
     let hasty = moving_events(plan, ledger, |s| plan.is_final(s));
     let hasty = rng.pick(&hasty).filter(|_| rng.chance(temper.haste));
     match hasty.or_else(|| rng.pick(events)) {
-        Some(event) => Record::Event(event),
+        Some(event) => Record::Event(event, event_day(rng, plan, ledger, event)),
         None if rng.chance(50) => Record::Signal,
-        None => useless(rng, plan),
+        None => useless(rng, plan, ledger),
     }
 }
 
-/// The events that move a track into a destination of the wanted sort.
+/// A day for an event, now and then one that is refused; else mostly one of a
+/// window that the event waits for, or just beside it.
+pub fn event_day(rng: &mut Rng, plan: &Plan, ledger: &Ledger, event: u16) -> i32 {
+    if rng.chance(3) {
+        return refused_day(rng, ledger);
+    }
+    let windows: Vec<Term> = (0..plan.track_count())
+        .filter(|&t| rules::may_move(plan, ledger, t))
+        .filter_map(|t| plan.transition(ledger.tracks[t].state, event))
+        .map(|(_, term)| term)
+        .filter(|&term| term != Term::RANGE && term.last >= ledger.day)
+        .collect();
+    match rng.pick(&windows) {
+        Some(term) => window_day(rng, ledger.day, term),
+        None => later_day(rng, plan, ledger.day),
+    }
+}
+
+/// A day of a window that has not passed by the last day, or one beside it.
+fn window_day(rng: &mut Rng, last: i32, term: Term) -> i32 {
+    let first = term.first.max(last);
+    match rng.below(100) {
+        0..=54 => first,
+        55..=69 => days::between(rng, first, term.last),
+        70..=81 => term.last,
+        82..=89 => days::clamped(term.last + 1),
+        90..=96 => (term.first - 1).max(last),
+        _ => last,
+    }
+}
+
+/// The same day or a later one; after a begin, mostly a day near a window.
+fn later_day(rng: &mut Rng, plan: &Plan, last: i32) -> i32 {
+    if last == Term::RANGE.first && rng.chance(70) {
+        return day_near_windows(rng, plan);
+    }
+    let later = match rng.below(100) {
+        0..=64 => last,
+        65..=89 => last + rng.between(1, 3) as i32,
+        90..=98 => last + rng.below(40) as i32,
+        _ => days::between(rng, last, Term::RANGE.last),
+    };
+    days::clamped(later)
+}
+
+/// The first or the last day of some window, a day beside it, or any day.
+pub fn day_near_windows(rng: &mut Rng, plan: &Plan) -> i32 {
+    let window = rng.pick(&plan.records().windows);
+    match window.filter(|_| rng.chance(80)) {
+        Some(window) => {
+            let edge = rng.pick(&[window.term.first, window.term.last]);
+            days::clamped(edge.unwrap_or(0) - 2 + rng.below(4) as i32)
+        }
+        None => days::any_day(rng),
+    }
+}
+
+/// A day before the last one, mostly by little, or out of range.
+pub fn refused_day(rng: &mut Rng, ledger: &Ledger) -> i32 {
+    if ledger.day == Term::RANGE.first || rng.chance(40) {
+        return days::outside(rng);
+    }
+    let before = ledger.day - 1;
+    if rng.chance(50) {
+        before
+    } else {
+        days::between(rng, Term::RANGE.first, before)
+    }
+}
+
+/// The events that move a track into a destination of the wanted sort, on some
+/// day that is not before the last.
 pub fn moving_events(plan: &Plan, ledger: &Ledger, wanted: impl Fn(u16) -> bool) -> Vec<u16> {
     let wanted = &wanted;
     let mut events: Vec<u16> = (0..plan.track_count())
         .filter(|&t| rules::may_move(plan, ledger, t))
         .flat_map(|t| plan.transitions_from(ledger.tracks[t].state))
-        .filter(|x| wanted(x.destination))
-        .map(|x| x.event)
+        .filter(|(x, term)| wanted(x.destination) && term.last >= ledger.day)
+        .map(|(x, _)| x.event)
         .collect();
     events.sort_unstable();
     events.dedup();
@@ -332,12 +405,17 @@ pub fn moving_events(plan: &Plan, ledger: &Ledger, wanted: impl Fn(u16) -> bool)
 }
 
 /// A record that need not do anything: any event of the plan, event 0, an
-/// unknown event, any track, a missing track, a signal, a firing.
-pub fn useless(rng: &mut Rng, plan: &Plan) -> Record {
+/// unknown event, on any day, any track, a missing track, a signal, a firing.
+fn useless(rng: &mut Rng, plan: &Plan, ledger: &Ledger) -> Record {
+    let day = if rng.chance(75) {
+        later_day(rng, plan, ledger.day)
+    } else {
+        refused_day(rng, ledger)
+    };
     match rng.below(12) {
-        0 => Record::Event(0),
-        1 => Record::Event(rng.word()),
-        2..=4 => Record::Event(any_event(rng, plan)),
+        0 => Record::Event(0, day),
+        1 => Record::Event(rng.word(), day),
+        2..=4 => Record::Event(any_event(rng, plan), day),
         5..=7 => Record::Fire(rng.below(plan.track_count()) as u16),
         8 => Record::Fire(missing_track(rng, plan)),
         9 => Record::Signal,

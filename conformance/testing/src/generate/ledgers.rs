@@ -1,20 +1,22 @@
 //! Sound ledgers, reached by histories or crafted, damaged ones, and ones
 //! whose leading words are not the plan's.
 
+use super::days;
 use super::journals;
 use super::rng::Rng;
 use second::journal;
 use second::ledger::{
     self, track_words, track_words_mut, words_needed, Clause, Entry, Ledger, Mode, Track, CAPACITY,
-    LEADING_WORDS, PAIRS, TRACK_WORDS,
+    LEADING_WORDS, PAIRS, PLAN_WORDS, TRACK_WORDS,
 };
 use second::plan::{members, Plan, NONE};
+use second::record;
 use second::rules;
 
 /// A sound ledger.
 pub fn sound(rng: &mut Rng, plan: &Plan) -> Ledger {
     match rng.below(100) {
-        0..=2 => Ledger::asleep(plan),
+        0..=2 => asleep(rng, plan),
         3..=5 => rules::begin(plan),
         6..=45 => journals::history(rng, plan).1,
         _ => crafted(rng, plan),
@@ -25,9 +27,16 @@ pub fn sound(rng: &mut Rng, plan: &Plan) -> Ledger {
 pub fn begun(rng: &mut Rng, plan: &Plan) -> Ledger {
     match rng.below(100) {
         0..=14 => rules::begin(plan),
-        15..=24 => Ledger::asleep(plan),
+        15..=24 => asleep(rng, plan),
         _ => worked(rng, plan),
     }
+}
+
+/// All asleep, on a day that is mostly near a window.
+fn asleep(rng: &mut Rng, plan: &Plan) -> Ledger {
+    let mut ledger = Ledger::asleep(plan);
+    ledger.day = journals::day_near_windows(rng, plan);
+    ledger
 }
 
 /// What some of the records of a history leave.
@@ -43,7 +52,7 @@ fn worked(rng: &mut Rng, plan: &Plan) -> Ledger {
 
 /// A sound ledger put together by hand, mostly one no history reaches.
 pub fn crafted(rng: &mut Rng, plan: &Plan) -> Ledger {
-    let mut ledger = Ledger::asleep(plan);
+    let mut ledger = asleep(rng, plan);
     let mode = any_mode(rng);
     for root in plan.roots() {
         let mode = if rng.chance(75) { mode } else { any_mode(rng) };
@@ -81,7 +90,7 @@ pub fn near_finish(rng: &mut Rng, plan: &Plan) -> Ledger {
 
 /// Every root ended or spent, and no scope open: mostly finish is left to do.
 fn half_withdrawn(rng: &mut Rng, plan: &Plan) -> Ledger {
-    let mut ledger = Ledger::asleep(plan);
+    let mut ledger = asleep(rng, plan);
     let percent = rng.pick(&[30, 60, 90]).unwrap_or(0);
     for root in plan.roots() {
         let last = final_state(rng, plan, root).filter(|_| rng.chance(percent));
@@ -107,7 +116,7 @@ fn spent(rng: &mut Rng, plan: &Plan, track: usize) -> Track {
 fn before_end(rng: &mut Rng, plan: &Plan, ledger: &mut Ledger, track: usize) {
     let ends = |s: &u16| {
         let mut exits = plan.transitions_from(*s);
-        exits.any(|x| plan.is_final(x.destination))
+        exits.any(|(x, _)| plan.is_final(x.destination))
     };
     let before: Vec<u16> = plan.states_of(track).filter(ends).collect();
     let state = rng.pick(&before);
@@ -278,7 +287,9 @@ pub fn garbage(rng: &mut Rng, plan: &Plan) -> Vec<u16> {
 /// A sound ledger damaged so that exactly one clause is violated, if the
 /// plan and the ledger allow it.
 pub fn violate(rng: &mut Rng, plan: &Plan, clause: Clause) -> Option<Vec<u16>> {
-    let sound = if rng.chance(25) {
+    let sound = if clause == Clause::DayInRange && rng.chance(40) {
+        asleep(rng, plan)
+    } else if rng.chance(25) {
         journals::history(rng, plan).1
     } else {
         crafted(rng, plan)
@@ -291,15 +302,24 @@ pub fn violate(rng: &mut Rng, plan: &Plan, clause: Clause) -> Option<Vec<u16>> {
 /// Random words changed, so that most often the ledger is not sound.
 pub fn flip(rng: &mut Rng, plan: &Plan, words: &mut [u16]) {
     for _ in 0..rng.between(1, 3) {
-        let own = track_words_mut(words, rng.below(plan.track_count()));
-        let at = word_in_track(rng, own);
-        own[at] = match rng.below(5) {
-            0 => own[at] ^ (1 << rng.below(16)),
-            1 => own[at].wrapping_add(1),
-            2 => own[at].wrapping_sub(1),
-            3 => rng.below(4) as u16,
-            _ => rng.word(),
-        };
+        if rng.chance(12) {
+            let at = rng.between(PLAN_WORDS, LEADING_WORDS - 1);
+            words[at] = flipped(rng, words[at]);
+        } else {
+            let own = track_words_mut(words, rng.below(plan.track_count()));
+            let at = word_in_track(rng, own);
+            own[at] = flipped(rng, own[at]);
+        }
+    }
+}
+
+fn flipped(rng: &mut Rng, word: u16) -> u16 {
+    match rng.below(5) {
+        0 => word ^ (1 << rng.below(16)),
+        1 => word.wrapping_add(1),
+        2 => word.wrapping_sub(1),
+        3 => rng.below(4) as u16,
+        _ => rng.word(),
     }
 }
 
@@ -308,7 +328,7 @@ pub fn mislead(rng: &mut Rng, words: &mut [u16]) {
     match rng.below(100) {
         0..=34 => words[0] = other_word(rng, words[0]),
         35..=69 => words[1] = other_word(rng, words[1]),
-        70..=79 => words[..LEADING_WORDS].reverse(),
+        70..=79 => words[..PLAN_WORDS].reverse(),
         80..=89 => {
             words[0] = other_word(rng, words[0]);
             words[1] = other_word(rng, words[1]);
@@ -349,6 +369,10 @@ fn damage(rng: &mut Rng, plan: &Plan, words: &mut [u16], clause: Clause) {
     let track = any_track(rng, plan, words, clause);
     let own = track_words_mut(words, track);
     match clause {
+        Clause::DayInRange => {
+            let day = record::words_of(days::outside(rng));
+            words[PLAN_WORDS..LEADING_WORDS].copy_from_slice(&day);
+        }
         Clause::ModesKnown => own[0] = rng.word().max(3),
         Clause::CountsInRange => overcount(rng, own),
         Clause::UnusedPairsZero => soil_unused(rng, own),

@@ -1,6 +1,7 @@
 //! Seeded generation of plans, journals, ledgers and calls, good and damaged.
 
 pub mod damage;
+pub mod days;
 pub mod journals;
 pub mod ledgers;
 pub mod neighbours;

@@ -1,10 +1,11 @@
 //! Plans beside a plan, with as many tracks: neighbours, whose ledgers have
 //! other leading words, and plans alike, whose ledgers have the same.
 
+use super::days;
 use super::plans;
 use super::rng::Rng;
 use second::ledger;
-use second::plan::{self, Plan, Records, State};
+use second::plan::{self, Plan, Records, State, Window};
 use second::record;
 
 /// Tries at an accepted plan that is made from another.
@@ -31,15 +32,16 @@ fn stranger(rng: &mut Rng, plan: &Plan) -> Plan {
 
 fn accepted_neighbour(plan: &Plan, records: Records) -> Option<Plan> {
     let other = plan::read(&records.encode()).ok()?;
-    (ledger::leading(&other) != ledger::leading(plan)).then_some(other)
+    (ledger::plan_words(&other) != ledger::plan_words(plan)).then_some(other)
 }
 
 /// The records with one of them changed, added or left out.
 fn varied(rng: &mut Rng, records: &Records) -> Records {
     let mut records = records.clone();
-    match rng.below(4) {
+    match rng.below(5) {
         0 => vary_state(rng, &mut records),
         1 => leave_out(rng, &mut records),
+        2 => vary_window(rng, &mut records),
         _ => vary_transition(rng, &mut records),
     }
     records
@@ -57,6 +59,24 @@ fn vary_state(rng: &mut Rng, records: &mut Records) {
             last: rng.below(2) as u16,
             replacement: 0,
         });
+    }
+}
+
+/// A window with other days, or one window fewer; where there is none, a
+/// window for the first transition.
+fn vary_window(rng: &mut Rng, records: &mut Records) {
+    let near = days::any_day(rng);
+    let term = days::term(rng, near);
+    if records.windows.is_empty() {
+        let transition = 0;
+        records.windows.push(Window { transition, term });
+        return;
+    }
+    let at = rng.below(records.windows.len());
+    if rng.chance(70) {
+        records.windows[at].term = term;
+    } else {
+        records.windows.remove(at);
     }
 }
 
@@ -91,7 +111,7 @@ fn vary_transition(rng: &mut Rng, records: &mut Records) {
 pub fn alike(rng: &mut Rng, plan: &Plan) -> Option<Plan> {
     let bytes = plan.records().encode();
     let kinds = kinds(plan);
-    let kind = rng.pick(&[0, 1, 1, 2, 2])?;
+    let kind = rng.pick(&[0, 1, 1, 2, 2, 3])?;
     (0..TRIES).find_map(|_| {
         let fields = two_fields(rng, &kinds, kind)?;
         let other = rearranged(rng, &bytes, fields);
@@ -123,21 +143,23 @@ const HEADER_WORDS: usize = record::HEADER / 2;
 /// many there are.
 type Kind = (usize, usize, usize);
 
-/// Tracks, states and transitions.
-fn kinds(plan: &Plan) -> [Kind; 3] {
-    let [track, state, transition] = [1, 3, 5].map(|fields| HEADER_WORDS + fields);
+/// Tracks, states, transitions and windows.
+fn kinds(plan: &Plan) -> [Kind; 4] {
+    let [track, state, transition, window] = [1, 3, 5, 5].map(|fields| HEADER_WORDS + fields);
     let states = track * plan.track_count();
     let transitions = states + state * plan.state_count();
+    let windows = transitions + transition * plan.transition_count();
     [
         (0, track, plan.track_count()),
         (states, state, plan.state_count()),
         (transitions, transition, plan.transition_count()),
+        (windows, window, plan.records().windows.len()),
     ]
 }
 
 /// The places, in words, of two fields of a kind of record: mostly the same
 /// field of two records.
-fn two_fields(rng: &mut Rng, kinds: &[Kind; 3], kind: usize) -> Option<(usize, usize)> {
+fn two_fields(rng: &mut Rng, kinds: &[Kind; 4], kind: usize) -> Option<(usize, usize)> {
     let (start, words, count) = kinds[kind];
     if count == 0 {
         return None;

@@ -1,9 +1,11 @@
 //! Accepted plans: nested and parallel scopes, several roots, replacements,
-//! deviations, self loops, hosting first states, scopes that reopen.
+//! deviations, self loops, hosting first states, scopes that reopen, windows.
 
+use super::days;
 use super::rng::Rng;
 use second::plan::{
-    Records, State, Track, Transition, MAX_HEIGHT, MAX_STATES, MAX_TRACKS, MAX_TRANSITIONS, NONE,
+    Records, State, Track, Transition, Window, MAX_HEIGHT, MAX_STATES, MAX_TRACKS, MAX_TRANSITIONS,
+    NONE,
 };
 
 /// What a plan is to look like.
@@ -27,6 +29,8 @@ struct Taste {
     codeless: usize,
     /// Percent of the roots' transitions with a code that deviate.
     deviating: usize,
+    /// Percent of transitions with a window.
+    windows: usize,
 }
 
 /// The records of an accepted plan of at most `limit` tracks.
@@ -96,7 +100,24 @@ fn sketch(rng: &mut Rng, taste: &Taste) -> Records {
     if rng.chance(30) {
         rng.shuffle(&mut plan.transitions);
     }
+    plan.windows = windows(rng, taste, plan.transitions.len());
     plan
+}
+
+/// Windows near one day, mostly in the order of their transitions.
+fn windows(rng: &mut Rng, taste: &Taste, transitions: usize) -> Vec<Window> {
+    let near = days::any_day(rng);
+    let mut windows = Vec::new();
+    for transition in 0..transitions as u16 {
+        if rng.chance(taste.windows) {
+            let term = days::term(rng, near);
+            windows.push(Window { transition, term });
+        }
+    }
+    if rng.chance(30) {
+        rng.shuffle(&mut windows);
+    }
+    windows
 }
 
 /// The bytes of an accepted plan of at most `limit` tracks.
@@ -124,6 +145,7 @@ pub fn chain(tracks: usize) -> Records {
         tracks: (0..tracks).map(|t| Track { host: host(t) }).collect(),
         states: (0..2 * tracks).map(state).collect(),
         transitions: (0..tracks).map(step).collect(),
+        windows: Vec::new(),
     }
 }
 
@@ -151,6 +173,7 @@ fn taste_of(rng: &mut Rng, tracks: usize) -> Taste {
         last: rng.between(5, 40),
         codeless: if rng.chance(30) { 40 } else { 12 },
         deviating: 25,
+        windows: rng.pick(&[0, 0, 0, 8, 25, 60, 100]).unwrap_or(0),
     }
 }
 

@@ -1,25 +1,39 @@
 //! Single calls on sound ledgers, some of them near their finish, on damaged
-//! ones, and on those of other plans.
+//! ones, and on those of other plans; and conversions.
 
 use super::damage;
+use super::days;
 use super::journals;
 use super::ledgers;
 use super::neighbours;
 use super::plans;
 use super::rng::Rng;
+use second::days::Date;
 use second::journal::{self, Record};
-use second::ledger::{self, Clause, Ledger, LEADING_WORDS};
+use second::ledger::{self, Clause, Ledger, LEADING_WORDS, PLAN_WORDS};
 use second::plan::{self, members, Plan};
 use second::rules;
 
-/// A call on lent words.
+/// A call on lent words, or a conversion, which is given none.
 #[derive(Clone, Copy, Debug, PartialEq, Eq)]
 pub enum Call {
-    Event(u16),
+    /// An event and its day.
+    Event(u16, i32),
     Signal,
     Fire(u16),
     Ready,
     Entries(u16),
+    DateOfDay(i32),
+    DayOfDate(Date),
+}
+
+/// Either conversion, of a day or date that need not be of the range.
+pub fn conversion(rng: &mut Rng) -> Call {
+    if rng.chance(50) {
+        Call::DateOfDay(days::day_to_convert(rng))
+    } else {
+        Call::DayOfDate(days::date_to_convert(rng))
+    }
 }
 
 /// A single call with what it is given.
@@ -95,16 +109,17 @@ fn on_near_finish(rng: &mut Rng, limit: usize) -> Single {
 /// A call that leaves the ledger over, if there is one.
 fn finishing_call(rng: &mut Rng, plan: &Plan, ledger: &Ledger) -> Option<Call> {
     let events = journals::moving_events(plan, ledger, |s| plan.is_final(s));
-    let events = events.into_iter().map(Record::Event);
     let ready = members(rules::ready(plan, ledger)).map(|t| Record::Fire(t as u16));
+    let on_day = |event| Record::Event(event, journals::event_day(rng, plan, ledger, event));
+    let records: Vec<Record> = events.into_iter().map(on_day).chain(ready).collect();
     let finishes = |&record: &Record| {
         let mut after = ledger.clone();
         journal::perform(plan, &mut after, record);
         after.is_over()
     };
-    let finishing: Vec<Record> = events.chain(ready).filter(finishes).collect();
+    let finishing: Vec<Record> = records.into_iter().filter(finishes).collect();
     match rng.pick(&finishing)? {
-        Record::Event(event) => Some(Call::Event(event)),
+        Record::Event(event, day) => Some(Call::Event(event, day)),
         Record::Fire(track) => Some(Call::Fire(track)),
         _ => None,
     }
@@ -147,8 +162,8 @@ fn on_flipped(rng: &mut Rng, limit: usize) -> Single {
     }
 }
 
-/// One word too few, no room for the leading words, not even these, or any
-/// number fewer.
+/// One word too few, no room for the leading words or for the day, not even
+/// these, or any number fewer.
 fn on_few_words(rng: &mut Rng, limit: usize) -> Single {
     let (bytes, plan) = good_plan(rng, limit);
     let ledger = ledgers::sound(rng, &plan);
@@ -156,7 +171,8 @@ fn on_few_words(rng: &mut Rng, limit: usize) -> Single {
     let needed = words.len();
     words.truncate(match rng.below(100) {
         0..=44 => needed - 1,
-        45..=54 => needed - LEADING_WORDS,
+        45..=49 => needed - LEADING_WORDS,
+        50..=54 => needed - PLAN_WORDS,
         55..=69 => rng.below(LEADING_WORDS),
         _ => rng.below(needed),
     });
@@ -270,7 +286,13 @@ fn steered_event(rng: &mut Rng, plan: &Plan, ledger: &Ledger) -> Call {
     let events = journals::moving_events(plan, ledger, |_| true);
     let hasty = rng.pick(&hasty).filter(|_| rng.chance(50));
     let event = hasty.or_else(|| rng.pick(&events));
-    Call::Event(event.unwrap_or_else(|| journals::any_event(rng, plan)))
+    let event = event.unwrap_or_else(|| journals::any_event(rng, plan));
+    let day = if rng.chance(6) {
+        journals::refused_day(rng, ledger)
+    } else {
+        journals::event_day(rng, plan, ledger, event)
+    };
+    Call::Event(event, day)
 }
 
 /// A firing that is allowed, if there is one.
@@ -293,9 +315,14 @@ fn any_call(rng: &mut Rng, plan: &Plan) -> Call {
     } else {
         journals::missing_track(rng, plan)
     };
+    let day = if rng.chance(80) {
+        journals::day_near_windows(rng, plan)
+    } else {
+        days::outside(rng)
+    };
     match rng.below(6) {
-        0 if rng.chance(30) => Call::Event(0),
-        0 | 1 => Call::Event(journals::any_event(rng, plan)),
+        0 if rng.chance(30) => Call::Event(0, day),
+        0 | 1 => Call::Event(journals::any_event(rng, plan), day),
         2 => Call::Signal,
         3 => Call::Fire(track),
         4 => Call::Ready,
