@@ -11,14 +11,16 @@
 
 #include "retraction.h"
 
-enum { BEGIN, EVENT, SIGNAL, FIRE, READY, ENTRIES, READ };
+enum { BEGIN, EVENT, SIGNAL, FIRE, READY, ENTRIES, READ, DATE_OF_DAY, DAY_OF_DATE };
 
 /* Guard words on each side. */
 enum { GUARDS = 64, GUARD_BYTES = 2 * GUARDS };
 
+/* The argument is an event or a track, or of a date the year and, 16 bits up, the month; its day is the date's then. */
 struct request {
     uint32_t call;
     uint32_t argument;
+    int32_t day;
     uint32_t plan_len;
     uint32_t ledger_len;
 };
@@ -75,12 +77,14 @@ static uint64_t answer(struct request r, const uint8_t *plan, uint16_t *ledger)
 {
     switch (r.call) {
     case BEGIN: return retraction_begin(plan, r.plan_len, ledger, r.ledger_len);
-    case EVENT: return retraction_event(plan, r.plan_len, ledger, r.ledger_len, (uint16_t)r.argument);
+    case EVENT: return retraction_event(plan, r.plan_len, ledger, r.ledger_len, (uint16_t)r.argument, r.day);
     case SIGNAL: return retraction_signal(plan, r.plan_len, ledger, r.ledger_len);
     case FIRE: return retraction_fire(plan, r.plan_len, ledger, r.ledger_len, (uint16_t)r.argument);
     case READY: return retraction_ready(plan, r.plan_len, ledger, r.ledger_len);
     case ENTRIES: return retraction_entries(plan, r.plan_len, ledger, r.ledger_len, (uint16_t)r.argument);
     case READ: return retraction_read(plan, r.plan_len);
+    case DATE_OF_DAY: return retraction_date_of_day(r.day);
+    case DAY_OF_DATE: return retraction_day_of_date((uint16_t)r.argument, (uint16_t)(r.argument >> 16), (uint16_t)r.day);
     default: exit(1);
     }
 }

@@ -1,59 +1,55 @@
 //! A case: a call with what it is given, or a journal with its plan, as a
 //! line of text from which it can be run again.
 
+use second::days::Date;
 use testing::generate::journals::Case as Journal;
 use testing::generate::singles::{self, Single};
+use testing::vectors;
 
-/// A call on lent words.
+/// A call: a read, a begin, or another one.
 #[derive(Clone, Copy, Debug, PartialEq, Eq)]
 pub enum Call {
     Read,
     Begin,
-    Event(u16),
-    Signal,
-    Fire(u16),
-    Ready,
-    Entries(u16),
-}
-
-impl From<singles::Call> for Call {
-    fn from(call: singles::Call) -> Call {
-        match call {
-            singles::Call::Event(event) => Call::Event(event),
-            singles::Call::Signal => Call::Signal,
-            singles::Call::Fire(track) => Call::Fire(track),
-            singles::Call::Ready => Call::Ready,
-            singles::Call::Entries(track) => Call::Entries(track),
-        }
-    }
+    Other(singles::Call),
 }
 
 impl Call {
-    /// The call's letter and its argument.
+    /// The call's letter and its arguments.
     pub fn text(self) -> String {
         match self {
             Call::Read => "P".to_string(),
             Call::Begin => "B".to_string(),
-            Call::Event(event) => format!("E{event}"),
-            Call::Signal => "S".to_string(),
-            Call::Fire(track) => format!("F{track}"),
-            Call::Ready => "Y".to_string(),
-            Call::Entries(track) => format!("N{track}"),
+            Call::Other(call) => vectors::call_text(call),
         }
     }
 
     fn parse(text: &str) -> Option<Call> {
         let (letter, argument) = (text.get(..1)?, text.get(1..)?);
-        Some(match letter {
-            "P" => Call::Read,
-            "B" => Call::Begin,
-            "E" => Call::Event(argument.parse().ok()?),
-            "S" => Call::Signal,
-            "F" => Call::Fire(argument.parse().ok()?),
-            "Y" => Call::Ready,
-            "N" => Call::Entries(argument.parse().ok()?),
+        Some(Call::Other(match letter {
+            "P" => return Some(Call::Read),
+            "B" => return Some(Call::Begin),
+            "E" => {
+                let (event, day) = argument.split_once('@')?;
+                singles::Call::Event(event.parse().ok()?, day.parse().ok()?)
+            }
+            "S" => singles::Call::Signal,
+            "F" => singles::Call::Fire(argument.parse().ok()?),
+            "Y" => singles::Call::Ready,
+            "N" => singles::Call::Entries(argument.parse().ok()?),
+            "D" => singles::Call::DateOfDay(argument.parse().ok()?),
+            "G" => singles::Call::DayOfDate(date(argument)?),
             _ => return None,
-        })
+        }))
+    }
+}
+
+/// Year, month and day, between hyphens.
+fn date(text: &str) -> Option<Date> {
+    let fields: Result<Vec<u16>, _> = text.split('-').map(str::parse).collect();
+    match fields.ok()?[..] {
+        [year, month, day] => Some(Date { year, month, day }),
+        _ => None,
     }
 }
 
@@ -70,7 +66,18 @@ impl From<Single> for Given {
         Given {
             plan: single.plan,
             words: single.words,
-            call: single.call.into(),
+            call: Call::Other(single.call),
+        }
+    }
+}
+
+impl Given {
+    /// A conversion, which is given no plan and no words.
+    pub fn conversion(call: singles::Call) -> Given {
+        Given {
+            plan: Vec::new(),
+            words: Vec::new(),
+            call: Call::Other(call),
         }
     }
 }
@@ -130,12 +137,37 @@ mod tests {
 
     #[test]
     fn a_call_is_read_back_from_its_line() {
-        let call = Call::Fire(7);
-        let (plan, words) = (vec![4, 0, 255], vec![1, 65535, 0]);
-        let given = Given { plan, words, call };
-        let line = call_line(&given);
-        assert_eq!(line, "L;0400ff;0001ffff0000;F7");
-        assert!(matches!(parse(&line), Some(Again::Call(same)) if same == given));
+        let calls = [
+            (singles::Call::Fire(7), "F7"),
+            (singles::Call::Event(7, -3), "E7@-3"),
+            (singles::Call::Event(7, i32::MAX), "E7@2147483647"),
+        ];
+        for (call, text) in calls {
+            let (plan, words) = (vec![4, 0, 255], vec![1, 65535, 0]);
+            let call = Call::Other(call);
+            let given = Given { plan, words, call };
+            let line = call_line(&given);
+            assert_eq!(line, format!("L;0400ff;0001ffff0000;{text}"));
+            assert!(matches!(parse(&line), Some(Again::Call(same)) if same == given));
+        }
+    }
+
+    #[test]
+    fn a_conversion_is_read_back_from_its_line() {
+        let date = Date {
+            year: 1900,
+            month: 2,
+            day: 29,
+        };
+        let calls = [
+            (singles::Call::DateOfDay(i32::MIN), "L;;;D-2147483648"),
+            (singles::Call::DayOfDate(date), "L;;;G1900-2-29"),
+        ];
+        for (call, text) in calls {
+            let given = Given::conversion(call);
+            assert_eq!(call_line(&given), text);
+            assert!(matches!(parse(text), Some(Again::Call(same)) if same == given));
+        }
     }
 
     #[test]

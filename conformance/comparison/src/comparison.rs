@@ -13,6 +13,7 @@ use testing::generate::rng::Rng;
 use testing::generate::singles;
 
 use crate::case::{self, Call, Given};
+use crate::conversions;
 use crate::expected::{self, Done};
 use crate::guarded::{self, Answers, Requests};
 use crate::journals::Runner;
@@ -79,36 +80,26 @@ impl Comparison {
 
     /// So many single calls, and begins among them.
     pub fn singles(&mut self, seed: u64, count: u64) -> io::Result<Verdict> {
-        let (mut child, mut requests, mut answers) = guarded::start(&self.calls)?;
-        let (to, from) = sync_channel(AHEAD);
         let coverage = &mut self.coverage;
-        let verdict = thread::scope(|scope| {
-            let asking = scope.spawn(move || ask(&mut requests, &to, coverage, (seed, count)));
-            let verdict = from.iter().find_map(|(given, expected)| {
-                let verdict = compare(&mut answers, &given, &expected);
-                (!matches!(verdict, Verdict::Agree)).then_some(verdict)
-            });
-            drop((from, answers));
-            let asked = asking.join().expect("asking does not panic");
-            verdict.map_or(asked.map(|()| Verdict::Agree), Ok)
+        let calls = (0..count).flat_map(|index| {
+            let single = singles::single(&mut Rng::for_case(seed, 2, index), MAX_TRACKS);
+            coverage.single(&single);
+            with_begin(index, Given::from(single))
         });
-        let status = child.wait()?;
-        match verdict? {
-            Verdict::Agree if !status.success() => {
-                Err(io::Error::new(io::ErrorKind::Other, status.to_string()))
-            }
-            verdict => Ok(verdict),
-        }
+        compare_all(&self.calls, calls)
+    }
+
+    /// The conversions of a seed, and how many were asked for.
+    pub fn conversions(&self, seed: u64) -> io::Result<(Verdict, usize)> {
+        let mut count = 0;
+        let calls = conversions::all(seed).inspect(|_| count += 1);
+        let verdict = compare_all(&self.calls, calls)?;
+        Ok((verdict, count))
     }
 
     /// One single call.
     pub fn single(&self, given: &Given) -> io::Result<Verdict> {
-        let (mut child, mut requests, mut answers) = guarded::start(&self.calls)?;
-        requests.send(given)?;
-        let verdict = compare(&mut answers, given, &expected::answer(given));
-        drop(requests);
-        child.wait()?;
-        Ok(verdict)
+        compare_all(&self.calls, [given.clone()].into_iter())
     }
 
     /// Prints what happened; whether every row reaches its floor, which is
@@ -128,31 +119,55 @@ impl Comparison {
     }
 }
 
+/// The call, every eighth one after a begin and a read on the same input.
+fn with_begin(index: u64, given: Given) -> Vec<Given> {
+    let more: &[Call] = match index % BEGINS {
+        0 => &[Call::Begin, Call::Read],
+        _ => &[],
+    };
+    let made = |&call: &Call| Given {
+        call,
+        ..given.clone()
+    };
+    let mut calls: Vec<Given> = more.iter().map(made).collect();
+    calls.push(given);
+    calls
+}
+
+/// The calls, by the program and by the second program, up to a difference.
+fn compare_all(program: &Path, calls: impl Iterator<Item = Given> + Send) -> io::Result<Verdict> {
+    let (mut child, mut requests, mut answers) = guarded::start(program)?;
+    let (to, from) = sync_channel(AHEAD);
+    let verdict = thread::scope(|scope| {
+        let asking = scope.spawn(move || ask(&mut requests, &to, calls));
+        let verdict = from.iter().find_map(|(given, expected)| {
+            let verdict = compare(&mut answers, &given, &expected);
+            (!matches!(verdict, Verdict::Agree)).then_some(verdict)
+        });
+        drop((from, answers));
+        let asked = asking.join().expect("asking does not panic");
+        verdict.map_or(asked.map(|()| Verdict::Agree), Ok)
+    });
+    let status = child.wait()?;
+    match verdict? {
+        Verdict::Agree if !status.success() => {
+            Err(io::Error::new(io::ErrorKind::Other, status.to_string()))
+        }
+        verdict => Ok(verdict),
+    }
+}
+
 /// Asks for the calls, and has the second program answer them as well.
 fn ask(
     requests: &mut Requests,
     to: &SyncSender<(Given, Done)>,
-    coverage: &mut Coverage,
-    (seed, count): (u64, u64),
+    calls: impl Iterator<Item = Given>,
 ) -> io::Result<()> {
-    for index in 0..count {
-        let single = singles::single(&mut Rng::for_case(seed, 2, index), MAX_TRACKS);
-        coverage.single(&single);
-        let given = Given::from(single);
-        let more: &[Call] = match index % BEGINS {
-            0 => &[Call::Begin, Call::Read],
-            _ => &[],
-        };
-        let made = |&call: &Call| Given {
-            call,
-            ..given.clone()
-        };
-        for given in more.iter().map(made).chain([given.clone()]) {
-            requests.send(&given)?;
-            let expected = expected::answer(&given);
-            if to.send((given, expected)).is_err() {
-                return Ok(());
-            }
+    for given in calls {
+        requests.send(&given)?;
+        let expected = expected::answer(&given);
+        if to.send((given, expected)).is_err() {
+            return Ok(());
         }
     }
     Ok(())

@@ -3,6 +3,7 @@
 use second::ledger::{self, PAIRS};
 use second::manager::{self, Answer};
 use second::plan;
+use testing::generate::singles;
 
 use crate::case::{Call, Given};
 
@@ -28,17 +29,29 @@ pub fn answer(given: &Given) -> Done {
     let answer = match given.call {
         Call::Read => read(plan),
         Call::Begin => number(manager::begin(plan, &mut words), |()| 0),
-        Call::Event(event) => number(manager::event(plan, &mut words, event), |m| {
-            pair(m.moved, m.closed)
-        }),
-        Call::Signal => number(manager::signal(plan, &mut words), |turned| pair(turned, 0)),
-        Call::Fire(track) => number(manager::fire(plan, &mut words, track), |entry| {
-            pair(entry.code, entry.deviation)
-        }),
-        Call::Ready => number(manager::ready(plan, &words), |bits| u64::from(bits) << 32),
-        Call::Entries(track) => part(manager::entries(plan, &words, track), track),
+        Call::Other(call) => other(plan, &mut words, call),
     };
     Done { answer, words }
+}
+
+fn other(plan: &[u8], words: &mut [u16], call: singles::Call) -> u64 {
+    match call {
+        singles::Call::Event(event, day) => number(manager::event(plan, words, event, day), |m| {
+            pair(m.moved, m.closed)
+        }),
+        singles::Call::Signal => number(manager::signal(plan, words), |turned| pair(turned, 0)),
+        singles::Call::Fire(track) => number(manager::fire(plan, words, track), |entry| {
+            pair(entry.code, entry.deviation)
+        }),
+        singles::Call::Ready => number(manager::ready(plan, words), |bits| u64::from(bits) << 32),
+        singles::Call::Entries(track) => part(manager::entries(plan, words, track), track),
+        singles::Call::DateOfDay(day) => number(manager::date_of_day(day), |date| {
+            pair(date.year, date.month) | u64::from(date.day) << 48
+        }),
+        singles::Call::DayOfDate(date) => number(manager::day_of_date(date), |day| {
+            u64::from(day as u32) << 32
+        }),
+    }
 }
 
 /// Bits 0 to 15 a refusal; else tracks, states and transitions.
@@ -77,28 +90,30 @@ fn part(words: &[u16], track: u16) -> u64 {
 #[cfg(test)]
 mod tests {
     use super::*;
+    use second::days::Date;
     use testing::samples::{sample, sample_records};
 
     /// The sample plan's ledger after events 10 and 11.
     fn worked() -> Vec<u16> {
-        let mut words = vec![0; 203];
+        let mut words = vec![0; 205];
         manager::begin(&sample(), &mut words);
         for event in [10, 11] {
-            manager::event(&sample(), &mut words, event);
+            manager::event(&sample(), &mut words, event, 0);
         }
         words
     }
 
-    fn answered(plan: Vec<u8>, call: Call) -> Done {
+    fn answered(plan: Vec<u8>, call: singles::Call) -> Done {
         let words = worked();
+        let call = Call::Other(call);
         answer(&Given { plan, words, call })
     }
 
     #[test]
     fn the_part_of_a_track_is_counted_from_the_leading_words() {
-        let done = answered(sample(), Call::Entries(1));
-        assert_eq!(done.answer, 2 | (2 + 67 + 3) << 16);
-        assert_eq!(done.words[72..74], [51, 65535]);
+        let done = answered(sample(), singles::Call::Entries(1));
+        assert_eq!(done.answer, 2 | (4 + 67 + 3) << 16);
+        assert_eq!(done.words[74..76], [51, 65535]);
     }
 
     #[test]
@@ -106,12 +121,24 @@ mod tests {
         let mut other = sample_records();
         other.transitions[0].code = 60;
         for (call, answer) in [
-            (Call::Ready, 24),
-            (Call::Fire(1), 24),
-            (Call::Entries(1), 0),
+            (singles::Call::Ready, 24),
+            (singles::Call::Fire(1), 24),
+            (singles::Call::Entries(1), 0),
         ] {
             let done = answered(other.encode(), call);
             assert_eq!((done.answer, done.words), (answer, worked()));
         }
+    }
+
+    #[test]
+    fn conversions_are_a_refusal_or_their_figures() {
+        let converted = |call| answer(&Given::conversion(call)).answer;
+        let last = singles::Call::DateOfDay(-1);
+        assert_eq!(converted(last), 1899 << 16 | 12 << 32 | 31 << 48);
+        assert_eq!(converted(singles::Call::DateOfDay(182_621)), 26);
+        let date = |year, month, day| singles::Call::DayOfDate(Date { year, month, day });
+        assert_eq!(converted(date(1899, 12, 31)), 0xFFFF_FFFF << 32);
+        assert_eq!(converted(date(1900, 3, 1)), 59 << 32);
+        assert_eq!(converted(date(1900, 2, 29)), 26);
     }
 }

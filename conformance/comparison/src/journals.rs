@@ -108,8 +108,8 @@ fn counts(plan: &[u8]) -> String {
 
 fn record_line(plan: &[u8], words: &mut [u16], record: Record) -> Result<String, Refusal> {
     Ok(match record {
-        Record::Event(event) => {
-            let Moved { moved, closed } = raw::event(plan, words, event)?;
+        Record::Event(event, day) => {
+            let Moved { moved, closed } = raw::event(plan, words, event, day)?;
             format!("E {event} {moved} {closed}")
         }
         Record::Signal => format!("S {}", raw::signal(plan, words)?),

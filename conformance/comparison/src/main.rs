@@ -1,8 +1,8 @@
 //! The proved calls, the program `unwind` and the second program on the same
 //! random input, until a difference, or until as many cases as asked for agree.
 //!
-//! `comparison PROGRAMS run SEED JOURNALS CALLS` compares so many and holds
-//! what happened to the floors of coverage. `comparison PROGRAMS on SEED` goes
+//! `comparison PROGRAMS run SEED JOURNALS CALLS` compares so many, and all
+//! conversions, and holds what happened to the floors of coverage. `comparison PROGRAMS on SEED` goes
 //! on with seed after seed until stopped. `comparison PROGRAMS stored FILE`
 //! makes the stored calls of a file. `comparison PROGRAMS again FILE` runs the
 //! cases of a file of differences once more. PROGRAMS is a folder with the
@@ -13,6 +13,7 @@
 
 mod case;
 mod comparison;
+mod conversions;
 mod expected;
 mod guarded;
 mod journals;
@@ -40,7 +41,10 @@ fn report(programs: &Path, text: &str) -> io::Result<()> {
 /// So many cases; whether they agree and cover what they should.
 fn run(programs: &Path, seed: u64, journals: u64, calls: u64) -> io::Result<bool> {
     let mut comparison = Comparison::new(programs)?;
-    let mut verdict = comparison.singles(seed, calls)?;
+    let (mut verdict, conversions) = comparison.conversions(seed)?;
+    if matches!(verdict, Verdict::Agree) {
+        verdict = comparison.singles(seed, calls)?;
+    }
     if matches!(verdict, Verdict::Agree) {
         verdict = comparison.journals(seed, journals)?;
     }
@@ -52,7 +56,7 @@ fn run(programs: &Path, seed: u64, journals: u64, calls: u64) -> io::Result<bool
     let begins = (calls + BEGINS - 1) / BEGINS;
     println!(
         "seed {seed}: {journals} journals, {calls} single calls, {begins} begins and reads, \
-        0 differences"
+        {conversions} conversions, 0 differences"
     );
     Ok(covered)
 }

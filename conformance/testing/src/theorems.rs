@@ -23,15 +23,43 @@ pub fn statement(fields: &[&str]) -> Option<String> {
     })
 }
 
-/// The same for a single call, with the plan and the ledger it was given.
+/// The same for a single call, with the plan and the ledger it was given; a
+/// conversion is given neither.
 fn single(given: &str, called: &str, answered: &str, after: &str) -> Option<String> {
     Some(match first_letter(called)? {
+        ("D", day) => date_of_day(&integer(day)?, answered)?,
+        ("G", date) => day_of_date(&date.replace('-', " "), answered)?,
         ("N", track) => format!("EntriesAgree {given} {track} {}", words(answered)?),
         ("Y", "") => format!("ReadyAgrees {given} ({}) {after}", answer(answered)?),
         _ => {
             let (called, answered) = (call(called)?, answer(answered)?);
             format!("CallAgrees {given} ({called}) ({answered}) {after}")
         }
+    })
+}
+
+fn date_of_day(day: &str, answered: &str) -> Option<String> {
+    Some(match first_letter(answered)? {
+        ("R", number) => format!("NoDate {day} {number}"),
+        (_, date) => format!("DateIs {day} {}", date.replace(',', " ")),
+    })
+}
+
+fn day_of_date(date: &str, answered: &str) -> Option<String> {
+    Some(match first_letter(answered)? {
+        ("R", number) => format!("NoDay {date} {number}"),
+        (_, day) => format!("DayIs {date} {}", integer(day)?),
+    })
+}
+
+/// A day: `pos` of a number from 0 on, `negsuc` of one less than how far it is
+/// below 0.
+fn integer(text: &str) -> Option<String> {
+    let number: i64 = text.parse().ok()?;
+    Some(if number < 0 {
+        format!("(negsuc {})", -number - 1)
+    } else {
+        format!("(pos {number})")
     })
 }
 
@@ -42,7 +70,10 @@ fn first_letter(text: &str) -> Option<(&str, &str)> {
 
 fn call(text: &str) -> Option<String> {
     match first_letter(text)? {
-        ("E", event) => Some(format!("e {event}")),
+        ("E", given) => {
+            let (event, day) = given.split_once('@')?;
+            Some(format!("e {event} {}", integer(day)?))
+        }
         ("S", "") => Some("s".to_string()),
         ("F", track) => Some(format!("f {track}")),
         _ => None,

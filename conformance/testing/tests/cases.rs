@@ -54,7 +54,7 @@ fn answers(shows: &str) -> Vec<String> {
 #[test]
 fn stored_calls_show_what_they_say() {
     assert_eq!(answers("P begun"), ["begun"]);
-    assert_eq!(answers("a begin "), ["begun", "R17", "begun"]);
+    assert_eq!(answers("a begin "), ["begun", "R17", "begun", "begun"]);
     let own = ["D0,0", "D0", "D51,65535", "D6", "0033ffff"];
     assert_eq!(answers("P's ledger under P"), own);
     let refused = ["R24", "R24", "R24", "R24", ""];
@@ -85,7 +85,7 @@ fn stored_calls_that_finish_leave_zeros_behind_the_leading_words() {
         let mut calls = calls::all().into_iter();
         let call = calls.find(|call| call.shows == shows).expect("stored");
         let left = call.line.rsplit(';').next().expect("words");
-        let tracks = &left[8..left.len() - 4];
+        let tracks = &left[16..left.len() - 4];
         assert!(tracks.chars().all(|digit| digit == '0'), "{shows}");
         assert!(left.ends_with("a5a5"), "{shows}");
     }
@@ -123,6 +123,63 @@ fn stored_calls_on_plans_of_each_tail_have_the_sums_that_they_say() {
     assert_eq!(answers("a plan of 86 bytes, its own ledger"), ["D1,0"]);
 }
 
+/// The answers to the stored calls whose comment starts so, and the day in the
+/// words afterwards, low word first.
+fn days_kept(shows: &str) -> Vec<(String, String)> {
+    let calls = calls::all().into_iter();
+    let shown = calls.filter(|call| call.shows.starts_with(shows));
+    let kept = |call: calls::Stored| {
+        let words = call.line.rsplit(';').next().expect("words");
+        (answer(&call.line).to_string(), words[8..16].to_string())
+    };
+    shown.map(kept).collect()
+}
+
+#[test]
+fn stored_calls_on_days_keep_the_day_of_an_accepted_event() {
+    let kept = |answer: &str, day: &str| vec![(answer.to_string(), day.to_string())];
+    assert_eq!(days_kept("P begun"), kept("begun", "53fbfffe"));
+    let windows = [
+        ("the day before a window", "D0,0", "00040000"),
+        ("the first day of a window", "D1,0", "00050000"),
+        ("the last day of a window", "D1,0", "00060000"),
+        ("the day after a window", "D0,0", "00070000"),
+        ("the range's first day after", "D1,0", "53fbfffe"),
+        ("the range's last day after", "D1,0", "c95c0002"),
+        ("an equal day", "D1,0", "00070000"),
+        ("a falling day: 26", "R26", "00070000"),
+        ("a signal keeps the day", "D1", "00070000"),
+    ];
+    for (shows, answer, day) in windows {
+        assert_eq!(days_kept(shows), kept(answer, day), "{shows}");
+    }
+    let ready = ["D6", "D6"];
+    assert_eq!(answers("a ledger of the range's"), ready);
+    assert_eq!(answers("an over ledger of the first day"), ["D0"]);
+    let out = ["R18", "R18", "R18", "R18", ""];
+    assert_eq!(answers("a ledger of the day after the range"), out);
+}
+
+#[test]
+fn stored_conversions_are_the_paper_s() {
+    let found = [
+        ("day -109573", "D1600,1,1"),
+        ("day -1", "D1899,12,31"),
+        ("day 0", "D1900,1,1"),
+        ("day 59", "D1900,3,1"),
+        ("day 182620", "D2399,12,31"),
+        ("date 1600-1-1", "D-109573"),
+        ("date 1899-12-31", "D-1"),
+        ("date 1900-3-1", "D59"),
+        ("date 2399-12-31", "D182620"),
+    ];
+    for (shows, answered) in found {
+        let mut calls = calls::all().into_iter();
+        let call = calls.find(|call| call.shows == shows).expect("stored");
+        assert_eq!(answer(&call.line), answered, "{shows}");
+    }
+}
+
 /// The lines that a stored run prints.
 fn lines(name: &str) -> Vec<String> {
     let folder = root().join("conformance/cases").join(name);
@@ -152,6 +209,87 @@ fn stored_runs_end_half_withdrawn_or_are_not_over() {
         }
     }
     assert_eq!((over, not_over), (7, 3));
+}
+
+#[test]
+fn stored_runs_with_windows_and_days_print_what_their_names_say() {
+    let runs: [(&str, &[&str]); 15] = [
+        (
+            "window_opens",
+            &["E 10 0 0", "E 10 1 0", "E 11 1 0", "H 2 0"],
+        ),
+        ("window_last_day", &["E 10 1 0", "E 11 1 0", "H 2 0"]),
+        ("window_passed", &["E 10 0 0", "E 10 0 0", "S 1", "H 0 0"]),
+        (
+            "window_of_one_day",
+            &["E 10 0 0", "E 10 1 0", "E 10 0 0", "H 1 0"],
+        ),
+        (
+            "windows_at_the_range_ends",
+            &["E 10 1 0", "E 11 0 0", "E 11 1 0", "H 2 0"],
+        ),
+        ("window_of_one_track", &["E 1 1 0", "E 1 1 0", "H 2 0"]),
+        (
+            "window_keeps_scope_open",
+            &[
+                "E 10 1 0", "E 11 1 0", "E 12 1 0", "E 14 0 0", "E 14 1 1", "E 13 0 0", "S 1",
+                "F 0 90 -", "H 1 1",
+            ],
+        ),
+        (
+            "windows_256",
+            &["E 256 0 0", "E 256 1 0", "E 1 1 0", "E 2 0 0", "H 2 0"],
+        ),
+        ("day_equal", &["E 10 1 0", "E 11 1 0", "E 12 1 0", "H 3 0"]),
+        (
+            "day_kept_by_an_event_that_moves_none",
+            &["E 99 0 0", "R 26", "S 1", "E 10 0 0", "R 26", "H 0 0"],
+        ),
+        (
+            "day_of_a_refused_event_not_kept",
+            &["R 19", "E 10 1 0", "H 1 0"],
+        ),
+        (
+            "days_from_below_0",
+            &["E 10 1 0", "E 11 1 0", "E 12 1 0", "H 3 0"],
+        ),
+        (
+            "r26_falling_goes_on",
+            &["E 10 1 0", "R 26", "R 26", "E 11 1 0", "H 2 0"],
+        ),
+        (
+            "r26_out_of_range_goes_on",
+            &[
+                "R 26", "R 26", "R 26", "R 26", "E 10 1 0", "E 11 1 0", "H 2 0",
+            ],
+        ),
+        (
+            "r26_before_20",
+            &[
+                "E 10 1 0", "E 11 1 0", "E 12 1 0", "E 14 1 1", "E 13 1 0", "R 26", "R 26", "R 20",
+                "R 19", "H 0 0",
+            ],
+        ),
+    ];
+    for (name, expected) in runs {
+        assert_eq!(lines(name)[1..], *expected, "{name}");
+    }
+}
+
+#[test]
+fn stored_runs_of_refused_plans_print_the_number_of_their_name_alone() {
+    let mut refused = 0;
+    for case in cases::all() {
+        let name = case.folder.rsplit('/').next().expect("a name");
+        let number = name.strip_prefix('r').and_then(|n| n.split('_').next());
+        let number = number.and_then(|n| n.parse::<u8>().ok());
+        let plans = number.filter(|n| *n <= 16 || *n == 25);
+        if let Some(number) = plans {
+            assert_eq!(lines(name), [format!("R {number}")], "{name}");
+            refused += 1;
+        }
+    }
+    assert_eq!(refused, 53);
 }
 
 #[test]

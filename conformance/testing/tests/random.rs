@@ -1,9 +1,10 @@
 //! Generated cases against what must hold of all of them.
 
+use second::days::Term;
 use second::journal::{self, Outcome, Record};
 use second::ledger::{self, Clause, Ledger, Mode};
 use second::manager::{self, Answer};
-use second::plan::{self, Plan, MAX_TRACKS, NONE};
+use second::plan::{self, Plan, Records, MAX_TRACKS, NONE};
 use second::refusal::Refusal;
 use second::rules;
 use testing::coverage;
@@ -26,7 +27,7 @@ fn generated_plans_are_accepted() {
 
 #[test]
 fn damaged_plans_get_the_wanted_number() {
-    for number in damage::FIRST..=damage::LAST {
+    for number in damage::NUMBERS {
         for index in 0..40 {
             let mut rng = Rng::for_case(7, u64::from(number), index);
             let bytes = damage::refused_as(&mut rng, MAX_TRACKS, number);
@@ -61,7 +62,7 @@ fn ledgers_are_sound_or_violate_one_clause() {
 fn perform(plan: &[u8], words: &mut [u16], record: Record) -> Outcome {
     let refused = Outcome::Refused;
     match record {
-        Record::Event(event) => match manager::event(plan, words, event) {
+        Record::Event(event, day) => match manager::event(plan, words, event, day) {
             Answer::Done(m) => Outcome::Event(event, m),
             Answer::Refused(refusal) => refused(refusal),
         },
@@ -111,10 +112,10 @@ fn single_calls_leave_sound_ledgers_sound_and_others_alone() {
         let single = singles::single(&mut rng, MAX_TRACKS);
         let mut words = single.words.clone();
         let record = match single.call {
-            Call::Event(event) => Record::Event(event),
+            Call::Event(event, day) => Record::Event(event, day),
             Call::Signal => Record::Signal,
             Call::Fire(track) => Record::Fire(track),
-            Call::Ready | Call::Entries(_) => continue,
+            _ => continue,
         };
         match perform(&single.plan, &mut words, record) {
             Outcome::Refused(_) => assert_eq!(words, single.words),
@@ -132,14 +133,14 @@ fn single_calls_leave_sound_ledgers_sound_and_others_alone() {
 fn refusal(single: &Single) -> Option<Refusal> {
     let (plan, mut words) = (&single.plan[..], single.words.clone());
     let record = match single.call {
-        Call::Event(event) => Record::Event(event),
+        Call::Event(event, day) => Record::Event(event, day),
         Call::Signal => Record::Signal,
         Call::Fire(track) => Record::Fire(track),
         Call::Ready => match manager::ready(plan, &words) {
             Answer::Refused(refusal) => return Some(refusal),
             Answer::Done(_) => return None,
         },
-        Call::Entries(_) => return None,
+        Call::Entries(_) | Call::DateOfDay(_) | Call::DayOfDate(_) => return None,
     };
     match perform(plan, &mut words, record) {
         Outcome::Refused(refusal) => Some(refusal),
@@ -167,7 +168,7 @@ fn a_ledger_begun_under_another_plan_is_24_unless_alike_in_both_words() {
         assert_ne!(plan, other);
         assert_eq!(plan.track_count(), other.track_count());
         assert!(ledger::is_of(&other, &single.words) && ledger::is_sound(&other, &single.words));
-        let same = ledger::leading(&plan) == ledger::leading(&other);
+        let same = ledger::plan_words(&plan) == ledger::plan_words(&other);
         let refusal = refusal(&single);
         match single.call {
             Call::Entries(track) if !same => {
@@ -201,7 +202,7 @@ fn plans_alike_have_other_bytes_and_the_same_leading_words() {
         let plan = plan::read(&plans::bytes(&mut rng, MAX_TRACKS)).expect("accepted");
         if let Some(other) = neighbours::alike(&mut rng, &plan) {
             assert_ne!(plan.records(), other.records());
-            assert_eq!(ledger::leading(&plan), ledger::leading(&other));
+            assert_eq!(ledger::plan_words(&plan), ledger::plan_words(&other));
             found += 1;
         }
     }
@@ -293,7 +294,8 @@ fn ledgers_near_their_finish_are_sound_and_often_a_call_away() {
         assert!(!near.is_over() && ledger::is_sound(&plan, &near.words()));
         let events = journals::moving_events(&plan, &near, |_| true);
         let tracks = 0..plan.track_count() as u16;
-        let records = events.into_iter().map(Record::Event);
+        let on_day = |e| Record::Event(e, journals::event_day(&mut rng, &plan, &near, e));
+        let records = events.into_iter().map(on_day);
         let mut records = records.chain(tracks.map(Record::Fire));
         away += u32::from(records.any(|record| {
             let mut after = near.clone();
@@ -325,6 +327,97 @@ fn short_histories_end_half_withdrawn_by_events_and_by_firings() {
         }
     }
     assert!(by_event > 70 && by_firing > 70, "{by_event} {by_firing}");
+}
+
+/// The records without the transitions that may not be taken on a day, and
+/// without windows.
+fn open_on(plan: &Plan, day: i32) -> Records {
+    let mut records = plan.records().clone();
+    let shut = |n: u16| {
+        let mut windows = plan.records().windows.iter();
+        windows.any(|w| w.transition == n && !(w.term.first..=w.term.last).contains(&day))
+    };
+    let mut number = 0..;
+    records
+        .transitions
+        .retain(|_| !shut(number.next().expect("a number")));
+    records.windows.clear();
+    records
+}
+
+#[test]
+fn an_event_does_what_it_does_without_the_steps_that_the_day_forbids() {
+    let (mut moving, mut shut) = (0, 0);
+    for index in 0..4_000 {
+        let mut rng = Rng::for_case(7, 13, index);
+        let plan = plan::read(&plans::bytes(&mut rng, 8)).expect("accepted");
+        let mut ledger = ledgers::sound(&mut rng, &plan);
+        let event = journals::any_event(&mut rng, &plan);
+        let day = journals::event_day(&mut rng, &plan, &ledger, event);
+        let open = plan::read(&open_on(&plan, day).encode()).expect("accepted");
+        let mut other = rules::begin(&open);
+        other.tracks = ledger.tracks.clone();
+        if day < ledger.day || !Term::RANGE.contains(day) {
+            let refused = rules::event(&plan, &mut ledger, event, day);
+            assert!(matches!(refused, Err(Refusal::Day)));
+            continue;
+        }
+        let answer = rules::event(&plan, &mut ledger, event, day);
+        assert_eq!(answer, rules::event(&open, &mut other, event, day));
+        assert_eq!(ledger.tracks, other.tracks);
+        moving += u32::from(matches!(answer, Ok(m) if m.moved > 0));
+        shut += u32::from(open.transition_count() < plan.transition_count());
+    }
+    assert!(moving > 1_000 && shut > 1_000, "{moving} {shut}");
+}
+
+#[test]
+fn accepted_days_never_fall_and_are_kept() {
+    let (mut kept, mut refused) = (0, 0);
+    for index in 0..1_000 {
+        let mut rng = Rng::for_case(7, 14, index);
+        let plan = plan::read(&plans::bytes(&mut rng, MAX_TRACKS)).expect("accepted");
+        let mut ledger = rules::begin(&plan);
+        assert_eq!(ledger.day, -109_573);
+        for record in journals::history(&mut rng, &plan).0 {
+            let before = ledger.day;
+            let outcome = journal::perform(&plan, &mut ledger, record);
+            match (record, outcome) {
+                (Record::Event(_, day), Outcome::Event(..)) => {
+                    assert!(day >= before && ledger.day == day);
+                    kept += 1;
+                }
+                (Record::Event(_, day), Outcome::Refused(Refusal::Day)) => {
+                    assert!(day < before || day > 182_620);
+                    assert_eq!(ledger.day, before);
+                    refused += 1;
+                }
+                _ => assert_eq!(ledger.day, before),
+            }
+        }
+    }
+    assert!(kept > 10_000 && refused > 500, "{kept} {refused}");
+}
+
+#[test]
+fn conversions_are_found_and_refused() {
+    let (mut found, mut refused) = (0, 0);
+    for index in 0..2_000 {
+        let mut rng = Rng::for_case(7, 15, index);
+        let line = vectors::conversion_line(&mut rng);
+        let again = vectors::conversion_line(&mut Rng::for_case(7, 15, index));
+        assert_eq!(line, again);
+        let fields: Vec<&str> = line.split(';').collect();
+        assert_eq!(fields.len(), 6);
+        match fields[4] {
+            "R26" => refused += 1,
+            answer => {
+                assert!(answer.starts_with('D'), "{line}");
+                found += 1;
+            }
+        }
+    }
+    assert!(found > 800 && refused > 500, "{found} {refused}");
 }
 
 #[test]

@@ -6,7 +6,7 @@ use std::process::{Command, Stdio};
 
 use second::manager;
 use testing::generate::singles::Call;
-use testing::samples::two_links;
+use testing::samples::{two_links, window};
 use testing::vectors;
 
 /// What the first file holds below its imports, of cases given as lines;
@@ -16,7 +16,7 @@ fn theorems(name: &str, lines: &str) -> Option<String> {
     fs::create_dir_all(&folder).expect("directory");
     let mut child = Command::new(env!("CARGO_BIN_EXE_theorems"))
         .arg(&folder)
-        .args(["1", "20", "8"])
+        .args(["1", "20", "10"])
         .stdin(Stdio::piped())
         .stdout(Stdio::null())
         .stderr(Stdio::null())
@@ -36,23 +36,24 @@ fn theorems(name: &str, lines: &str) -> Option<String> {
 
 #[test]
 fn a_history_is_its_answers_and_its_words() {
-    let expected = "-- H;0400;00010002;E7,S,F1;begun|D1,0|D2|R22;0003ffff\n\
+    let expected = "-- H;0400;00010002;E7@5,E8@-5,S,F1;begun|D1,0|R26|D2|R22;0003ffff\n\
                     pub case-0 : HistoryAgrees (4 ∷ 0 ∷ []) (1 ∷ 2 ∷ []) \
-                    (e 7 ∷ s ∷ f 1 ∷ []) \
-                    (done [] ∷ done (1 ∷ 0 ∷ []) ∷ done (2 ∷ []) ∷ refusal 22 ∷ []) \
+                    (e 7 (pos 5) ∷ e 8 (negsuc 4) ∷ s ∷ f 1 ∷ []) \
+                    (done [] ∷ done (1 ∷ 0 ∷ []) ∷ refusal 26 ∷ done (2 ∷ []) ∷ \
+                    refusal 22 ∷ []) \
                     (3 ∷ 65535 ∷ [])\n\
                     unfolding computing\ncase-0 = (refl, refl)\n";
-    let line = "H;0400;00010002;E7,S,F1;begun|D1,0|D2|R22;0003ffff\n";
+    let line = "H;0400;00010002;E7@5,E8@-5,S,F1;begun|D1,0|R26|D2|R22;0003ffff\n";
     assert_eq!(theorems("history", line).as_deref(), Some(expected));
 }
 
 #[test]
 fn plans_and_single_calls_have_statements_of_their_own() {
-    let lines = "P;;2\nP;04;A3,8,5\nL;;0001;Y;R18;0001\nL;;;N3;;\nL;;;F9;R17;\n";
+    let lines = "P;;2\nP;04;A3,8,5,2\nL;;0001;Y;R18;0001\nL;;;N3;;\nL;;;F9;R17;\n";
     let text = theorems("others", lines).expect("theorems");
     let says = |statement: &str| assert!(text.contains(statement), "{text}");
     says("case-0 : PlanAgrees ([]) (turnedBack 2)\n");
-    says("case-1 : PlanAgrees (4 ∷ []) (acceptedWith 3 8 5)\n");
+    says("case-1 : PlanAgrees (4 ∷ []) (acceptedWith 3 8 5 2)\n");
     says("case-2 : ReadyAgrees ([]) (1 ∷ []) (refusal 18) (1 ∷ [])\n");
     says("case-3 : EntriesAgree ([]) ([]) 3 ([])\n");
     says("case-4 : CallAgrees ([]) ([]) (f 9) (refusal 17) ([])\n");
@@ -62,7 +63,7 @@ fn plans_and_single_calls_have_statements_of_their_own() {
 fn calls_refused_as_24_are_a_sort_of_their_own() {
     // One root in one state, and a ledger of zeros.
     let plan = "06000100ffff0a00020000000000000004000400";
-    let zeros = "0000".repeat(69);
+    let zeros = "0000".repeat(71);
     let line = |call: &str, answer: &str| format!("L;{plan};{zeros};{call};{answer};{zeros}\n");
     let lines = line("S", "R24").repeat(2) + &line("N0", "");
     let text = theorems("other-plan", &lines).expect("theorems");
@@ -74,9 +75,10 @@ fn calls_refused_as_24_are_a_sort_of_their_own() {
 #[test]
 fn calls_with_roots_in_both_modes_are_a_sort_of_their_own() {
     let plan = two_links().encode();
-    let mut words = vec![0; 136];
+    let mut words = vec![0; 138];
     manager::begin(&plan, &mut words);
-    for call in [Call::Event(1), Call::Signal, Call::Fire(0), Call::Event(3)] {
+    let event = |event| Call::Event(event, -1);
+    for call in [event(1), Call::Signal, Call::Fire(0), event(3)] {
         vectors::answer(&plan, &mut words, call);
     }
     // Of two like firings and a signal, as many different ones as wanted.
@@ -86,9 +88,56 @@ fn calls_with_roots_in_both_modes_are_a_sort_of_their_own() {
     assert_eq!(text.matches("pub case-").count(), 2);
     let zeros = "0 ∷ ".repeat(134);
     let sum = words[1];
-    let fired = format!("(f 1) (done (60 ∷ 65535 ∷ [])) (146 ∷ {sum} ∷ {zeros}[])");
+    let leading = format!("146 ∷ {sum} ∷ 65535 ∷ 65535");
+    let fired = format!("(f 1) (done (60 ∷ 65535 ∷ [])) ({leading} ∷ {zeros}[])");
     assert!(text.contains(&fired), "{text}");
     assert!(text.contains("(s) (done (1 ∷ []))"), "{text}");
+}
+
+#[test]
+fn events_that_meet_a_window_or_are_refused_as_26_are_a_sort_of_their_own() {
+    let mut plan = two_links();
+    plan.windows = vec![window(0, 5, 9)];
+    let plan = plan.encode();
+    let mut words = vec![0; 138];
+    manager::begin(&plan, &mut words);
+    // One event of 8 / 5 is wanted, and one of the other calls.
+    let days = [4, 200_000];
+    let line = |day| vectors::call_line(&plan, &words, Call::Event(1, day)) + "\n";
+    let text = theorems("dated", &days.map(line).concat()).expect("theorems");
+    assert_eq!(text.matches("pub case-").count(), 1);
+    assert!(text.contains("(e 1 (pos 4)) (done (1 ∷ 0 ∷ []))"), "{text}");
+    let text = theorems("day", &line(200_000)).expect("theorems");
+    assert!(text.contains("(e 1 (pos 200000)) (refusal 26)"), "{text}");
+}
+
+/// The theorem of one conversion.
+fn conversion(name: &str, line: &str) -> String {
+    let text = theorems(name, line).expect("theorems");
+    let says = text.split(" : ").nth(1).expect("a theorem");
+    says.lines().next().expect("a line").to_string()
+}
+
+#[test]
+fn conversions_are_given_neither_plan_nor_words() {
+    let dates = [
+        (
+            "L;;;D-109573;D1600,1,1;\n",
+            "DateIs (negsuc 109572) 1600 1 1",
+        ),
+        ("L;;;D182621;R26;\n", "NoDate (pos 182621) 26"),
+        ("L;;;G1899-12-31;D-1;\n", "DayIs 1899 12 31 (negsuc 0)"),
+        ("L;;;G2000-3-1;D36585;\n", "DayIs 2000 3 1 (pos 36585)"),
+        ("L;;;G1900-2-29;R26;\n", "NoDay 1900 2 29 26"),
+    ];
+    for (number, (line, says)) in dates.into_iter().enumerate() {
+        assert_eq!(conversion(&format!("date-{number}"), line), says);
+    }
+    // The date of a late day would be slow to compute.
+    let late = "L;;;D0;D1900,1,1;\nL;;;D-109172;D1601,2,5;\n";
+    let early = "L;;;D-109173;D1601,2,4;\n";
+    let taken = conversion("late", &format!("{late}{early}"));
+    assert_eq!(taken, "DateIs (negsuc 109172) 1601 2 4");
 }
 
 #[test]

@@ -4,9 +4,10 @@
 //!
 //! Taken are HISTORIES histories, PLANS refused plans and LEDGERS calls on
 //! damaged ledgers, and fewer histories that end half withdrawn, whole runs,
-//! accepted plans, and calls on sound ledgers, on those with roots in both
-//! modes and on those of other plans: of each sort as many different ones as
-//! there are. Cases too large to be computed quickly are dropped.
+//! accepted plans, calls on sound ledgers, on those with roots in both modes
+//! and on those of other plans, events that windows or days have a say in, and
+//! conversions: of each sort as many different ones as there are. Cases too
+//! large to be computed quickly are dropped.
 
 use std::collections::{BTreeSet, HashMap};
 use std::fs;
@@ -14,11 +15,13 @@ use std::io;
 use std::path::Path;
 use std::process::ExitCode;
 
+use second::days::Term;
 use second::journal::{self, Record, Records};
-use second::ledger::{self, track_words, Clause};
+use second::ledger::{self, track_words, Clause, Ledger};
 use second::plan::{self, Plan};
-use second::record::{self, Header};
 use second::rules;
+use testing::faults;
+use testing::generate::journals::windows_met;
 use testing::theorems::{parts, statement};
 
 /// Theorems to a file.
@@ -28,11 +31,13 @@ const FILE: usize = 30;
 const IMPORTS: &str = "\
 use mathlib.Core.Path.{refl}
 use mathlib.Core.List.{[], _∷_}
+use lib.IntN.{pos, negsuc}
 use Rattle.rules.specs.Acceptance.{turnedBack}
 use Rattle.rules.specs.Call.{refusal, done}
 use Rattle.starred.specs.Computing.{computing}
 use Rattle.agreement.specs.Statements.{e, f, s, acceptedWith, \
-    HistoryAgrees, PlanAgrees, CallAgrees, ReadyAgrees, EntriesAgree, RunAgrees}
+    HistoryAgrees, PlanAgrees, CallAgrees, ReadyAgrees, EntriesAgree, RunAgrees, \
+    DateIs, NoDate, DayIs, NoDay}
 ";
 
 /// The sorts of cases.
@@ -49,6 +54,10 @@ enum Sort {
     Damaged,
     /// A call on a ledger whose leading words are not the plan's.
     OtherPlan,
+    /// An event that meets a window, or is refused for its day.
+    Dated,
+    /// A conversion of a day or a date.
+    Conversion,
     /// An event, a signal or a firing that is done with roots in both modes:
     /// what finish may follow, or may not.
     Parted,
@@ -65,7 +74,7 @@ struct Share {
     limit: usize,
 }
 
-fn shares(histories: usize, plans: usize, ledgers: usize) -> [Share; 11] {
+fn shares(histories: usize, plans: usize, ledgers: usize) -> [Share; 13] {
     let share = |sort, name, wanted, limit| Share {
         sort,
         name,
@@ -80,7 +89,7 @@ fn shares(histories: usize, plans: usize, ledgers: usize) -> [Share; 11] {
             histories / 10,
             1000,
         ),
-        share(Sort::Run, "whole runs", histories / 10, 1200),
+        share(Sort::Run, "whole runs", histories / 10, 800),
         share(Sort::Refused, "refused plans", plans, 300),
         share(Sort::Oversized, "plans refused as 6 or 16", plans / 20, 500),
         share(Sort::Accepted, "accepted plans", plans / 20, 300),
@@ -92,8 +101,15 @@ fn shares(histories: usize, plans: usize, ledgers: usize) -> [Share; 11] {
             ledgers / 4,
             240,
         ),
-        share(Sort::Undoing, "signals and firings done", ledgers / 4, 240),
-        share(Sort::Other, "other calls", ledgers / 4, 200),
+        share(
+            Sort::Dated,
+            "events that meet a window or are refused as 26",
+            ledgers / 5,
+            240,
+        ),
+        share(Sort::Undoing, "signals and firings done", ledgers / 5, 240),
+        share(Sort::Other, "other calls", ledgers / 5, 200),
+        share(Sort::Conversion, "conversions", ledgers / 10, 400),
     ]
 }
 
@@ -110,7 +126,7 @@ fn fields_of(line: &str) -> Vec<&str> {
 }
 
 /// The sort of a case and its size: the bytes of the plan, read once for
-/// the begin and once for each call.
+/// the begin and once for each call; for the date of a day, the days before it.
 fn sort_of(fields: &[&str]) -> Option<(Sort, usize)> {
     let plan = fields.get(1)?.len() / 2;
     Some(match *fields {
@@ -121,13 +137,22 @@ fn sort_of(fields: &[&str]) -> Option<(Sort, usize)> {
             };
             (sort, plan * (1 + parts(calls, ',').count()))
         }
-        ["U", _, journal, _] => (Sort::Run, plan * (1 + journal.len() / 8)),
+        ["U", _, journal, _] => {
+            let records = run_records(&numbers(journal, 2)).count();
+            (Sort::Run, plan * (1 + records))
+        }
         ["P", _, "6" | "16"] => (Sort::Oversized, plan),
         ["P", _, answer] if answer.starts_with('A') => (Sort::Accepted, plan),
         ["P", _, _] => (Sort::Refused, plan),
+        ["L", "", "", call, _, _] if call.starts_with(['D', 'G']) => {
+            (Sort::Conversion, days_before(call))
+        }
         ["L", _, _, _, "R17" | "R18", _] => (Sort::Damaged, plan),
         ["L", bytes, words, _, "R24" | "", _] if !differing(bytes, words).is_empty() => {
             (Sort::OtherPlan, plan)
+        }
+        ["L", bytes, words, call, answer, _] if is_dated(bytes, words, call, answer) => {
+            (Sort::Dated, plan)
         }
         ["L", bytes, words, call, answer, _] if is_parted(bytes, words, call, answer) => {
             (Sort::Parted, plan)
@@ -136,6 +161,65 @@ fn sort_of(fields: &[&str]) -> Option<(Sort, usize)> {
         ["L", _, _, _, _, _] => (Sort::Other, plan),
         _ => return None,
     })
+}
+
+/// The days of the range before the day whose date is asked for; none of a day
+/// out of range or for a date.
+fn days_before(call: &str) -> usize {
+    let day = call.strip_prefix('D').and_then(|day| day.parse().ok());
+    let day = day.filter(|&day| Term::RANGE.contains(day));
+    day.map_or(0, |day: i32| (day - Term::RANGE.first) as usize)
+}
+
+/// Whether an event meets a window, or is refused for its day.
+fn is_dated(plan: &str, words: &str, call: &str, answer: &str) -> bool {
+    answer == "R26" || !windows_of_call(plan, words, call, answer).is_empty()
+}
+
+/// How the windows that an event meets stand to its day; none of another call,
+/// or of one that is refused.
+fn windows_of_call(plan: &str, words: &str, call: &str, answer: &str) -> BTreeSet<&'static str> {
+    let plan = plan::read(&numbers(plan, 2)).ok();
+    match (plan, records(call).next()) {
+        (Some(plan), Some(record)) if answer.starts_with('D') => {
+            let ledger = Ledger::decode(&plan, &numbers(words, 4));
+            windows(&plan, &ledger, record)
+        }
+        _ => BTreeSet::new(),
+    }
+}
+
+/// How the windows that a record meets stand to its day.
+fn windows(plan: &Plan, ledger: &Ledger, record: Record) -> BTreeSet<&'static str> {
+    let (event, day) = match record {
+        Record::Event(event, day) => (event, day),
+        _ => return BTreeSet::new(),
+    };
+    let stands = |term: Term| match term {
+        Term { first, last } if first == last && day == first => "its day",
+        Term { first, .. } if day == first => "first day",
+        Term { last, .. } if day == last => "last day",
+        Term { first, .. } if day < first => "before",
+        Term { last, .. } if day > last => "after",
+        _ => "within",
+    };
+    let met = windows_met(plan, ledger, event);
+    met.into_iter().map(stands).collect()
+}
+
+/// The same for all records of a history.
+fn windows_of_history(plan: &str, records: impl Iterator<Item = Record>) -> BTreeSet<&'static str> {
+    let plan = match plan::read(&numbers(plan, 2)) {
+        Ok(plan) => plan,
+        Err(_) => return BTreeSet::new(),
+    };
+    let mut ledger = rules::begin(&plan);
+    let met = records.flat_map(|record| {
+        let met = windows(&plan, &ledger, record);
+        journal::perform(&plan, &mut ledger, record);
+        met
+    });
+    met.collect()
 }
 
 fn is_undoing(call: &str, answer: &str) -> bool {
@@ -164,7 +248,7 @@ fn ending(plan: &str, mut records: impl Iterator<Item = Record>) -> Option<(char
         let parted = parted(&plan, &ledger.words());
         journal::perform(&plan, &mut ledger, record);
         let letter = match record {
-            Record::Event(_) => 'E',
+            Record::Event(..) => 'E',
             Record::Signal => 'S',
             Record::Fire(_) | Record::FireLowest => 'F',
         };
@@ -175,7 +259,10 @@ fn ending(plan: &str, mut records: impl Iterator<Item = Record>) -> Option<(char
 /// The records of a history's calls.
 fn records(calls: &str) -> impl Iterator<Item = Record> + '_ {
     let record = |call: &str| match (call.get(..1)?, call.get(1..)?) {
-        ("E", event) => Some(Record::Event(event.parse().ok()?)),
+        ("E", given) => {
+            let (event, day) = given.split_once('@')?;
+            Some(Record::Event(event.parse().ok()?, day.parse().ok()?))
+        }
         ("S", _) => Some(Record::Signal),
         ("F", track) => Some(Record::Fire(track.parse().ok()?)),
         _ => None,
@@ -208,7 +295,7 @@ fn differing(plan: &str, words: &str) -> Vec<&'static str> {
     let words: Vec<u16> = numbers(words, 4);
     match plan::read(&numbers(plan, 2)) {
         Ok(plan) if words.len() >= ledger::words_needed(&plan) => {
-            let pairs = ledger::leading(&plan).into_iter().zip(words);
+            let pairs = ledger::plan_words(&plan).into_iter().zip(words);
             let named = ["length", "sum"].into_iter().zip(pairs);
             let differ = named.filter(|(_, (own, lent))| own != lent);
             differ.map(|(name, _)| name).collect()
@@ -217,26 +304,38 @@ fn differing(plan: &str, words: &str) -> Vec<&'static str> {
     }
 }
 
-/// What a case shows: a history its plan's height, the outcomes of its calls
-/// and its ending, a run its sorts of lines and its ending, a plan its refusal,
-/// a call what it changes and how the roots stand where they are in both modes,
-/// the clauses violated or the leading words that are not the plan's.
+/// What a case shows: a history its plan's height, the outcomes of its calls,
+/// its ending and the windows that it meets, a run its sorts of lines, its
+/// ending and its windows, a plan its refusal and what windows have to do with
+/// it, a call what it changes, how the roots stand where they are in both modes
+/// and the windows that it meets, the clauses violated or the leading words
+/// that are not the plan's, a conversion its month.
 fn shows(fields: &[&str]) -> String {
     match *fields {
         ["H", plan, _, calls, answers, _] => {
             let made = parts(calls, ',').zip(parts(answers, '|').skip(1));
             let outcomes: BTreeSet<String> = made.map(|(c, a)| outcome(c, a)).collect();
             let ending = ending(plan, records(calls));
-            format!("{:?} {outcomes:?} {ending:?}", height(plan))
+            let windows = windows_of_history(plan, records(calls));
+            format!("{:?} {outcomes:?} {ending:?} {windows:?}", height(plan))
         }
         ["U", plan, journal, output] => {
             let output = String::from_utf8(numbers(output, 2)).unwrap_or_default();
             let firsts: BTreeSet<&str> = output.lines().filter_map(|l| l.get(..1)).collect();
-            let ending = ending(plan, run_records(&numbers(journal, 2)));
-            format!("{firsts:?} {ending:?}")
+            let journal = numbers(journal, 2);
+            let ending = ending(plan, run_records(&journal));
+            let windows = windows_of_history(plan, run_records(&journal));
+            format!("{firsts:?} {ending:?} {windows:?}")
         }
-        ["P", plan, "3"] => format!("3 {}", falls(&numbers(plan, 2))),
-        ["P", _, answer] => parts(answer, ',').take(1).collect(),
+        ["P", plan, "3"] => format!("3 {:?}", faults::fall(&numbers(plan, 2))),
+        ["P", plan, "25"] => window_faults(&numbers(plan, 2)),
+        ["P", plan, answer] => {
+            let tracks: String = parts(answer, ',').take(1).collect();
+            let windowed = plan::read_records(&numbers(plan, 2));
+            let windowed = windowed.map_or(false, |records| !records.windows.is_empty());
+            format!("{tracks} {windowed}")
+        }
+        ["L", "", "", call, answer, _] if call.starts_with(['D', 'G']) => conversion(call, answer),
         ["L", plan, before, call, "R24" | "", _] => {
             format!("{} {:?}", &call[..1], differing(plan, before))
         }
@@ -246,8 +345,10 @@ fn shows(fields: &[&str]) -> String {
                 let (before, after) = (numbers(before, 4), numbers(after, 4));
                 let roots = parted(&plan, &before).then(|| standings(&plan, &before));
                 let changes = changes(&plan, &before, &after);
-                format!("{} {changes} {roots:?}", outcome(call, answer))
+                let windows = windows_of_call(fields[1], fields[2], call, answer);
+                format!("{} {changes} {roots:?} {windows:?}", outcome(call, answer))
             }
+            Ok(_) if answer == "R26" => day_refused(&numbers(before, 4), call),
             _ => outcome(call, answer),
         },
         _ => String::new(),
@@ -262,19 +363,37 @@ fn violations(plan: &Plan, words: &[u16]) -> String {
     format!("{violated:?} {roots:?}")
 }
 
-/// Of a plan refused as 3: whether a kind falls, rather than being none.
-fn falls(plan: &[u8]) -> bool {
-    let mut kinds = Vec::new();
-    let mut rest = plan;
-    while let Some(header) = Header::read(rest) {
-        kinds.push(header.kind);
-        let length = usize::from(header.length).max(record::HEADER);
-        rest = rest.get(length..).unwrap_or_default();
+/// The forms of 25 that a plan has.
+fn window_faults(plan: &[u8]) -> String {
+    match plan::read_records(plan) {
+        Ok(records) => format!("25 {:?}", faults::window_faults(&records)),
+        Err(_) => String::new(),
     }
-    let fall = kinds.windows(2).position(|pair| pair[1] < pair[0]);
-    fall.map_or(false, |at| {
-        kinds[..at + 2].iter().all(|kind| (1..=4).contains(kind))
-    })
+}
+
+/// How a day is refused: out of range or falling, and by how much.
+fn day_refused(words: &[u16], call: &str) -> String {
+    let day = match records(call).next() {
+        Some(Record::Event(_, day)) => day,
+        _ => return String::new(),
+    };
+    let last = ledger::day_of(words);
+    let over = words[ledger::LEADING_WORDS] == 0;
+    let beyond = (day < Term::RANGE.first, day > Term::RANGE.last);
+    format!("R26 {over} {beyond:?} {} {}", day < 0, day + 1 == last)
+}
+
+/// A conversion's letter, its refusal or month, and whether the day is before
+/// day 0.
+fn conversion(call: &str, answer: &str) -> String {
+    let letter = &call[..1];
+    if answer.starts_with('R') {
+        return format!("{letter}R {}", call.len());
+    }
+    let date = if letter == "D" { answer } else { call };
+    let month = date.split([',', '-']).nth(1).unwrap_or_default();
+    let below = [call, answer].iter().any(|text| text.starts_with("D-"));
+    format!("{letter} {month} {below}")
 }
 
 fn height(plan: &str) -> Option<u32> {

@@ -1,6 +1,6 @@
 //! `vectors SEED HISTORIES SINGLES DAMAGED [TRACKS]`: prints HISTORIES lines
-//! `H`, DAMAGED lines `P`, SINGLES lines `L` and HISTORIES lines `U`. TRACKS
-//! limits the tracks of the plans.
+//! `H`, DAMAGED lines `P`, SINGLES lines `L`, HISTORIES lines `U` and HISTORIES
+//! lines `L` of conversions. TRACKS limits the tracks of the plans.
 
 use std::io::{self, BufWriter, Write};
 use std::process::ExitCode;
@@ -42,6 +42,7 @@ fn print_all(numbers: &[u64]) -> io::Result<()> {
     print_lines(&mut out, (seed, 14), histories, |r| {
         vectors::unwind_line(r, limit)
     })?;
+    print_lines(&mut out, (seed, 15), histories, vectors::conversion_line)?;
     out.flush()
 }
 

@@ -2,26 +2,15 @@
 
 use super::{Change, Coverage, Happening};
 use crate::faults::{self, WindowFault};
+use crate::generate::journals::windows_met;
 use crate::generate::singles::{Call, Single};
 use second::days::Term;
 use second::ledger::{self, words_needed, Clause, Ledger, LEADING_WORDS};
 use second::plan::{self, Plan, WINDOW};
 use second::refusal::Refusal;
-use second::rules;
 
 /// Windows of a plan with many.
 const MANY: usize = 100;
-
-/// The windows of the transitions that tracks would take by an event, were it
-/// not for the day.
-fn windows_met(plan: &Plan, ledger: &Ledger, event: u16) -> Vec<Term> {
-    (0..plan.track_count())
-        .filter(|&t| rules::may_move(plan, ledger, t))
-        .filter_map(|t| plan.transition(ledger.tracks[t].state, event))
-        .map(|(_, term)| term)
-        .filter(|&term| term != Term::RANGE)
-        .collect()
-}
 
 impl Coverage {
     /// Counts the windows of an accepted plan.

@@ -325,16 +325,23 @@ pub fn event_day(rng: &mut Rng, plan: &Plan, ledger: &Ledger, event: u16) -> i32
     if rng.chance(3) {
         return refused_day(rng, ledger);
     }
-    let windows: Vec<Term> = (0..plan.track_count())
-        .filter(|&t| rules::may_move(plan, ledger, t))
-        .filter_map(|t| plan.transition(ledger.tracks[t].state, event))
-        .map(|(_, term)| term)
-        .filter(|&term| term != Term::RANGE && term.last >= ledger.day)
-        .collect();
+    let mut windows = windows_met(plan, ledger, event);
+    windows.retain(|term| term.last >= ledger.day);
     match rng.pick(&windows) {
         Some(term) => window_day(rng, ledger.day, term),
         None => later_day(rng, plan, ledger.day),
     }
+}
+
+/// The windows of the transitions that tracks would take by an event, were it
+/// not for the day.
+pub fn windows_met(plan: &Plan, ledger: &Ledger, event: u16) -> Vec<Term> {
+    (0..plan.track_count())
+        .filter(|&t| rules::may_move(plan, ledger, t))
+        .filter_map(|t| plan.transition(ledger.tracks[t].state, event))
+        .map(|(_, term)| term)
+        .filter(|&term| term != Term::RANGE)
+        .collect()
 }
 
 /// A day of a window that has not passed by the last day, or one beside it.
