@@ -101,6 +101,7 @@ pub enum Happening {
     WindowOtherFirst,
     WindowsCrowded,
     WindowsCrowdedOther,
+    HundredsRefused,
     WindowOpen,
     WindowFirstDay,
     WindowLastDay,
@@ -134,7 +135,7 @@ pub enum Happening {
     DayUnsoundOver,
 }
 
-const HAPPENINGS: usize = 105;
+const HAPPENINGS: usize = 106;
 
 /// Refusals 1 to 26.
 const REFUSALS: usize = 26;
@@ -143,7 +144,7 @@ const REFUSALS: usize = 26;
 /// among their counts, since it gives no number.
 const REFUSAL_FLOORS: [u64; REFUSALS] = [
     15, 300, 400, 400, 300, 200, 400, 200, 250, 200, 200, 200, 200, 200, 200, 200, 5_000, 40_000,
-    3_000, 15_000, 6_000, 12_000, 1_800, 10_000, 200, 3_000,
+    3_000, 15_000, 6_000, 12_000, 1_800, 10_000, 650, 9_500,
 ];
 
 /// Names and floors of the happenings, in the order of the enum.
@@ -393,177 +394,190 @@ const HAPPENING_FLOORS: [(Happening, &str, u64); HAPPENINGS] = [
     (
         Happening::WindowsAccepted,
         "plan with windows accepted",
-        1000,
+        65_000,
     ),
     (
         Happening::ManyWindowsAccepted,
         "plan of 100 windows or more accepted",
-        100,
+        750,
     ),
     (
         Happening::FallAfterWindow,
         "3: a kind that falls after a window",
-        10,
+        55,
     ),
-    (Happening::WindowAfterEnd, "7: a window after the end", 10),
+    (Happening::WindowAfterEnd, "7: a window after the end", 60),
     (
         Happening::WindowNoTransition,
         "25: a window names no transition",
-        10,
+        95,
     ),
     (
         Happening::WindowRepeated,
         "25: a window repeats a transition",
-        10,
+        200,
     ),
     (
         Happening::WindowReversed,
         "25: a window ends before it begins",
-        10,
+        100,
     ),
     (
         Happening::WindowBeforeRange,
         "25: a window begins before the range",
-        10,
+        95,
     ),
     (
         Happening::WindowAfterRange,
         "25: a window ends after the range",
-        10,
+        95,
     ),
     (
         Happening::WindowOtherFirst,
         "8 to 16 before a window's fault",
-        10,
+        350,
     ),
     (
         Happening::WindowsCrowded,
         "25: more windows than transitions",
-        10,
+        150,
     ),
     (
         Happening::WindowsCrowdedOther,
         "8 to 16: more windows than transitions",
-        10,
+        75,
+    ),
+    (
+        Happening::HundredsRefused,
+        "refused plan of more than 256 windows",
+        50,
     ),
     (
         Happening::WindowOpen,
         "event that takes a step with a window",
-        1000,
+        10_000,
     ),
     (
         Happening::WindowFirstDay,
         "step taken on its window's first day",
-        1000,
+        6_500,
     ),
     (
         Happening::WindowLastDay,
         "step taken on its window's last day",
-        1000,
+        7_000,
     ),
     (
         Happening::WindowOfOneDay,
         "step taken in a window of one day",
-        1000,
+        4_000,
     ),
     (
         Happening::WindowOnRangeFirst,
         "step with a window on the range's first day",
-        100,
+        500,
     ),
     (
         Happening::WindowOnRangeLast,
         "step with a window on the range's last day",
-        100,
+        4_000,
     ),
     (
         Happening::WindowNotYet,
         "step ignored before its window",
-        1000,
+        1_500,
     ),
     (
         Happening::WindowPassed,
         "step ignored after its window",
-        1000,
+        6_500,
     ),
     (
         Happening::WindowDayBefore,
         "step ignored the day before its window",
-        100,
+        500,
     ),
     (
         Happening::WindowDayAfter,
         "step ignored the day after its window",
-        100,
+        900,
     ),
     (
         Happening::WindowShutOthersMove,
         "step ignored, other tracks move",
-        100,
+        5_500,
     ),
     (
         Happening::WindowShutNoneMoves,
         "step ignored, none moves",
-        1000,
+        1_500,
     ),
-    (Happening::DayEqual, "event on the last accepted day", 1000),
-    (Happening::DayLater, "event on a later day", 1000),
+    (
+        Happening::DayEqual,
+        "event on the last accepted day",
+        60_000,
+    ),
+    (Happening::DayLater, "event on a later day", 40_000),
     (
         Happening::DayKeptMovingNone,
         "later day kept, none moves",
-        1000,
+        8_000,
     ),
-    (Happening::DayFirst, "event on the range's first day", 1000),
-    (Happening::DayLast, "event on the range's last day", 1000),
+    (Happening::DayFirst, "event on the range's first day", 4_000),
+    (Happening::DayLast, "event on the range's last day", 15_000),
     (
         Happening::DayCrossesZero,
         "event from a day below 0 to 0 or above",
-        100,
+        1_000,
     ),
-    (Happening::DayFalls, "26: a falling day", 1000),
-    (Happening::DayFallsByOne, "26: a day that falls by one", 100),
+    (Happening::DayFalls, "26: a falling day", 5_000),
+    (
+        Happening::DayFallsByOne,
+        "26: a day that falls by one",
+        2_000,
+    ),
     (
         Happening::DayBeforeRange,
         "26: a day before the range",
-        1000,
+        2_000,
     ),
-    (Happening::DayAfterRange, "26: a day after the range", 1000),
+    (Happening::DayAfterRange, "26: a day after the range", 2_000),
     (
         Happening::DayExtreme,
         "26: the least or the greatest number",
-        100,
+        850,
     ),
-    (Happening::DayRefusedOver, "26 on an over ledger", 100),
+    (Happening::DayRefusedOver, "26 on an over ledger", 1_000),
     (
         Happening::EventZeroBeforeDay,
         "19 on a day that would be 26",
-        100,
+        850,
     ),
     (
         Happening::GoesOnAfterDay,
         "journal that moves on after 26",
-        100,
+        2_000,
     ),
     (Happening::WithdrawnKind, "23 by kind 16", 100),
     (
         Happening::LedgerOfFirstDay,
         "ledger of the range's first day, sound",
-        1000,
+        10_000,
     ),
     (
         Happening::LedgerOfLastDay,
         "ledger of the range's last day, sound",
-        1000,
+        7_500,
     ),
     (
         Happening::DayUnsoundAwake,
         "18: the day out of range, not over",
-        100,
+        900,
     ),
     (
         Happening::DayUnsoundOver,
         "18: the day out of range, over",
-        100,
+        650,
     ),
 ];
 

@@ -289,7 +289,7 @@ fn stored_runs_of_refused_plans_print_the_number_of_their_name_alone() {
             refused += 1;
         }
     }
-    assert_eq!(refused, 53);
+    assert_eq!(refused, 54);
 }
 
 #[test]
@@ -302,7 +302,7 @@ fn stored_calls_are_refused_with_the_number_that_they_name() {
             named += 1;
         }
     }
-    assert_eq!(named, 30);
+    assert_eq!(named, 65);
 }
 
 #[test]

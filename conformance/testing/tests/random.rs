@@ -368,7 +368,7 @@ fn an_event_does_what_it_does_without_the_steps_that_the_day_forbids() {
         moving += u32::from(matches!(answer, Ok(m) if m.moved > 0));
         shut += u32::from(open.transition_count() < plan.transition_count());
     }
-    assert!(moving > 1_000 && shut > 1_000, "{moving} {shut}");
+    assert!(moving > 700 && shut > 1_000, "{moving} {shut}");
 }
 
 #[test]
@@ -396,7 +396,7 @@ fn accepted_days_never_fall_and_are_kept() {
             }
         }
     }
-    assert!(kept > 10_000 && refused > 500, "{kept} {refused}");
+    assert!(kept > 5_000 && refused > 200, "{kept} {refused}");
 }
 
 #[test]
@@ -443,6 +443,6 @@ fn lines_are_made_again_from_the_same_seed() {
 fn a_small_batch_reaches_most_rows() {
     let rows = coverage::batch(3, 300).rows();
     let reached = rows.iter().filter(|row| row.count > 0).count();
-    assert_eq!(rows.len(), 103);
-    assert!(reached >= 98, "{reached}");
+    assert_eq!(rows.len(), 150);
+    assert!(reached >= 144, "{reached}");
 }

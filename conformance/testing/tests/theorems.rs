@@ -101,13 +101,12 @@ fn events_that_meet_a_window_or_are_refused_as_26_are_a_sort_of_their_own() {
     let plan = plan.encode();
     let mut words = vec![0; 138];
     manager::begin(&plan, &mut words);
-    // One event of 8 / 5 is wanted, and one of the other calls.
-    let days = [4, 200_000];
+    // Of two like events before the window and one out of range, two wanted.
+    let days = [4, 3, 200_000];
     let line = |day| vectors::call_line(&plan, &words, Call::Event(1, day)) + "\n";
     let text = theorems("dated", &days.map(line).concat()).expect("theorems");
-    assert_eq!(text.matches("pub case-").count(), 1);
+    assert_eq!(text.matches("pub case-").count(), 2);
     assert!(text.contains("(e 1 (pos 4)) (done (1 ∷ 0 ∷ []))"), "{text}");
-    let text = theorems("day", &line(200_000)).expect("theorems");
     assert!(text.contains("(e 1 (pos 200000)) (refusal 26)"), "{text}");
 }
 

@@ -6,7 +6,7 @@ use crate::generate::journals::windows_met;
 use crate::generate::singles::{Call, Single};
 use second::days::Term;
 use second::ledger::{self, words_needed, Clause, Ledger, LEADING_WORDS};
-use second::plan::{self, Plan, WINDOW};
+use second::plan::{self, Plan, MAX_TRANSITIONS, WINDOW};
 use second::refusal::Refusal;
 
 /// Windows of a plan with many.
@@ -44,6 +44,8 @@ impl Coverage {
         let crowded = records.windows.len() > records.transitions.len();
         self.count_if(crowded && unfit, Happening::WindowsCrowded);
         self.count_if(crowded && !unfit, Happening::WindowsCrowdedOther);
+        let hundreds = records.windows.len() > MAX_TRANSITIONS;
+        self.count_if(hundreds, Happening::HundredsRefused);
         let faults = faults::window_faults(&records);
         self.count_if(!faults.is_empty() && !unfit, Happening::WindowOtherFirst);
         if let ([fault], true) = (&faults[..], unfit) {

@@ -31,19 +31,23 @@ pub fn any_plan(rng: &mut Rng, limit: usize) -> Vec<u8> {
 
 /// Some refusal of a plan, 25 more often, since it has the most forms.
 fn any_number(rng: &mut Rng) -> u8 {
-    if rng.chance(10) {
+    if rng.chance(16) {
         return 25;
     }
     rng.pick(&NUMBERS).unwrap_or(25)
 }
 
-/// A plan whose first refusal is `number`. A limit below 9 tracks leaves no
+/// A plan whose first refusal is `number`, now and then with a window's fault
+/// behind it. A limit below 9 tracks leaves no
 /// height to exceed; such a plan is damaged in another way.
 pub fn refused_as(rng: &mut Rng, limit: usize, number: u8) -> Vec<u8> {
     let room = number != HEIGHT || limit > MAX_HEIGHT as usize;
     for _ in 0..if room { 64 } else { 0 } {
         let mut plan = plans::records(rng, limit);
         spoil_records(rng, &mut plan, limit, number);
+        if rng.chance(15) {
+            spoil_windows(rng, &mut plan);
+        }
         let mut bytes = plan.encode();
         spoil_bytes(rng, &mut bytes, number);
         if matches!(plan::read(&bytes), Err(r) if r.number() == number) {
@@ -297,8 +301,8 @@ fn spoil_windows(rng: &mut Rng, plan: &mut Records) {
             plan.windows.insert(place, window);
         }
         2 => reverse(rng, &mut plan.windows[at]),
-        3 => plan.windows[at].term.first = days::outside(rng),
-        _ => plan.windows[at].term.last = days::outside(rng),
+        3 => plan.windows[at].term.first = days::before_range(rng),
+        _ => plan.windows[at].term.last = days::after_range(rng),
     }
 }
 

@@ -17,32 +17,40 @@ pub fn any_day(rng: &mut Rng) -> i32 {
     }
 }
 
-/// A day from `low` to `high`, both included and of the range.
+/// A day from `low` to `high`, both included.
 pub fn between(rng: &mut Rng, low: i32, high: i32) -> i32 {
-    low + rng.below((high - low) as usize + 1) as i32
+    let days = high.abs_diff(low) as usize + 1;
+    low.wrapping_add(rng.below(days) as i32)
 }
 
-/// A day out of range, often just so, now and then the least or the greatest
-/// number.
+/// A day out of range, on either side.
 pub fn outside(rng: &mut Rng) -> i32 {
-    let Term { first, last } = Term::RANGE;
-    match rng.below(10) {
-        0..=1 => first - 1,
-        2..=3 => last + 1,
-        4 => i32::MIN,
-        5 => i32::MAX,
-        6 => first - 1 - rng.below(1000) as i32,
-        7 => last + 1 + rng.below(1000) as i32,
-        _ => any_outside(rng),
+    if rng.chance(50) {
+        before_range(rng)
+    } else {
+        after_range(rng)
     }
 }
 
-fn any_outside(rng: &mut Rng) -> i32 {
-    loop {
-        let day = rng.draw() as i32;
-        if !Term::RANGE.contains(day) {
-            return day;
-        }
+/// A day before the range, often just so, now and then the least number.
+pub fn before_range(rng: &mut Rng) -> i32 {
+    let last = Term::RANGE.first - 1;
+    match rng.below(10) {
+        0..=3 => last,
+        4..=5 => i32::MIN,
+        6..=7 => last - rng.below(1000) as i32,
+        _ => between(rng, i32::MIN, last),
+    }
+}
+
+/// A day after the range, often just so, now and then the greatest number.
+pub fn after_range(rng: &mut Rng) -> i32 {
+    let first = Term::RANGE.last + 1;
+    match rng.below(10) {
+        0..=3 => first,
+        4..=5 => i32::MAX,
+        6..=7 => first + rng.below(1000) as i32,
+        _ => between(rng, first, i32::MAX),
     }
 }
 

@@ -377,7 +377,7 @@ pub fn day_near_windows(rng: &mut Rng, plan: &Plan) -> i32 {
     match window.filter(|_| rng.chance(80)) {
         Some(window) => {
             let edge = rng.pick(&[window.term.first, window.term.last]);
-            days::clamped(edge.unwrap_or(0) - 2 + rng.below(4) as i32)
+            days::clamped(edge.unwrap_or(0) - 1 + rng.below(3) as i32)
         }
         None => days::any_day(rng),
     }

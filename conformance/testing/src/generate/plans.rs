@@ -173,7 +173,7 @@ fn taste_of(rng: &mut Rng, tracks: usize) -> Taste {
         last: rng.between(5, 40),
         codeless: if rng.chance(30) { 40 } else { 12 },
         deviating: 25,
-        windows: rng.pick(&[0, 0, 0, 8, 25, 60, 100]).unwrap_or(0),
+        windows: rng.pick(&[0, 0, 0, 0, 8, 25, 50, 100]).unwrap_or(0),
     }
 }
 
