@@ -175,10 +175,10 @@ pub fn read_records(bytes: &[u8]) -> Result<Records, Refusal> {
 
 /// The record's length; 3 and 4 judged. `before` is the kind before it.
 fn record_length(header: Header, before: u16) -> Result<usize, Refusal> {
-    let place = place(header.kind).ok_or(Refusal::Kind)?;
-    demand(Some(place) >= self::place(before), Refusal::Kind)?;
-    demand(header.length == LENGTHS[place], Refusal::Length)?;
-    Ok(usize::from(LENGTHS[place]))
+    let own = place(header.kind).ok_or(Refusal::Kind)?;
+    demand(Some(own) >= place(before), Refusal::Kind)?;
+    demand(header.length == LENGTHS[own], Refusal::Length)?;
+    Ok(usize::from(LENGTHS[own]))
 }
 
 /// The length of each kind of record, in the order of `KINDS`.

@@ -309,7 +309,7 @@ fn differing(plan: &str, words: &str) -> Vec<&'static str> {
 /// ending and its windows, a plan its refusal and what windows have to do with
 /// it, a call what it changes, how the roots stand where they are in both modes
 /// and the windows that it meets, the clauses violated or the leading words
-/// that are not the plan's, a conversion its month.
+/// that are not the plan's, a conversion what sort of day or date it is given.
 fn shows(fields: &[&str]) -> String {
     match *fields {
         ["H", plan, _, calls, answers, _] => {
@@ -383,17 +383,25 @@ fn day_refused(words: &[u16], call: &str) -> String {
     format!("R26 {over} {beyond:?} {} {}", day < 0, day + 1 == last)
 }
 
-/// A conversion's letter, its refusal or month, and whether the day is before
-/// day 0.
+/// Of a day its season or the side of the range that it lies on; of a date
+/// whether it is before day 0 and in February, or which of its fields is wrong.
 fn conversion(call: &str, answer: &str) -> String {
-    let letter = &call[..1];
-    if answer.starts_with('R') {
-        return format!("{letter}R {}", call.len());
-    }
-    let date = if letter == "D" { answer } else { call };
-    let month = date.split([',', '-']).nth(1).unwrap_or_default();
+    let refused = answer == "R26";
     let below = [call, answer].iter().any(|text| text.starts_with("D-"));
-    format!("{letter} {month} {below}")
+    let date = call.strip_prefix('G').or_else(|| answer.strip_prefix('D'));
+    let fields = date.unwrap_or_default().split(['-', ',']);
+    match fields
+        .filter_map(|field| field.parse().ok())
+        .collect::<Vec<u16>>()[..]
+    {
+        [year, month, day] if refused => {
+            let fits = ((1600..2400).contains(&year), (1..=12).contains(&month));
+            format!("no day {fits:?} {} {}", day == 0, day > 31)
+        }
+        [_, month, _] if call.starts_with('G') => format!("day {below} {}", month == 2),
+        [_, month, _] => format!("date {}", (month - 1) / 3),
+        _ => format!("no date {below}"),
+    }
 }
 
 fn height(plan: &str) -> Option<u32> {
