@@ -419,66 +419,42 @@ fn days() -> Vec<Stored> {
 /// Ledgers whose day is at an end of the range, or out of it.
 fn days_of_ledgers() -> Vec<Stored> {
     let Term { first, last } = Term::RANGE;
-    let plan = sample();
-    let over = || worked(&plan, &[10, 11, 12, 14, 13].map(event));
-    let on = |shows: &str, words: Vec<u16>, call| stored(shows, &plan, &words, call);
+    let awake = |shows: &str, day| {
+        let shows = format!("a ledger of {shows}");
+        stored(&shows, &sample(), &on_day(withdrawn(), day), Ready)
+    };
+    let over = |shows: &str, day, call| {
+        let ended = worked(&sample(), &[10, 11, 12, 14, 13].map(event));
+        let shows = format!("an over ledger of {shows}");
+        stored(&shows, &sample(), &on_day(ended, day), call)
+    };
+    let mut calls = after_the_range();
+    calls.extend([
+        awake("the range's first day: ready", first),
+        awake("the range's last day: ready", last),
+        awake("the day before the range: 18", first - 1),
+        awake("the least number: 18", i32::MIN),
+        awake("the greatest number: 18", i32::MAX),
+        over("the first day: ready", first, Ready),
+        over("the day before the range: 18", first - 1, Ready),
+        over("the day after the range: 18", last + 1, Signal),
+        over("the greatest number, event 0: 18", i32::MAX, event(0)),
+    ]);
+    calls
+}
+
+/// Every call on a ledger of the day after the range.
+fn after_the_range() -> Vec<Stored> {
+    let words = on_day(withdrawn(), Term::RANGE.last + 1);
+    let shows = "a ledger of the day after the range";
+    let other = format!("{shows}, under another plan: 24");
     let begin = Stored {
         shows: "a begin takes a ledger whose day is out of range".to_string(),
-        line: vectors::begin_line(&plan, &on_day(withdrawn(), last + 1)),
+        line: vectors::begin_line(&sample(), &words),
     };
-    let mut calls = by_each_call(
-        "a ledger of the day after the range, 18",
-        &plan,
-        &on_day(withdrawn(), last + 1),
-    );
-    calls.extend([
-        on(
-            "a ledger of the range's first day: ready",
-            on_day(withdrawn(), first),
-            Ready,
-        ),
-        on(
-            "a ledger of the range's last day: ready",
-            on_day(withdrawn(), last),
-            Ready,
-        ),
-        on(
-            "a ledger of the day before the range: 18",
-            on_day(withdrawn(), first - 1),
-            Ready,
-        ),
-        on(
-            "a ledger of the least number: 18",
-            on_day(withdrawn(), i32::MIN),
-            Ready,
-        ),
-        on(
-            "a ledger of the greatest number: 18",
-            on_day(withdrawn(), i32::MAX),
-            Ready,
-        ),
-        on(
-            "an over ledger of the first day: ready",
-            on_day(over(), first),
-            Ready,
-        ),
-        on(
-            "an over ledger of the day before the range: 18",
-            on_day(over(), first - 1),
-            Ready,
-        ),
-        on(
-            "an over ledger of the day after the range: 18",
-            on_day(over(), last + 1),
-            Signal,
-        ),
-        on(
-            "an over ledger of no day, event 0: 18",
-            on_day(over(), i32::MAX),
-            event(0),
-        ),
-        begin,
-    ]);
+    let mut calls = by_each_call(&format!("{shows}, 18"), &sample(), &words);
+    calls.push(stored(&other, &other_code(), &words, Ready));
+    calls.push(begin);
     calls
 }
 
@@ -498,6 +474,7 @@ fn conversions() -> Vec<Stored> {
     ];
     let none = [
         (1900, 2, 29),
+        (2100, 2, 29),
         (2000, 2, 30),
         (2001, 4, 31),
         (1599, 12, 31),

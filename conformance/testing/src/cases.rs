@@ -37,6 +37,7 @@ pub fn all() -> Vec<Case> {
         unfit_plans(),
         unfit_transitions(),
         windows(),
+        full_window(),
         unread_windows(),
         unfit_windows(),
         many_windows(),
@@ -494,6 +495,15 @@ fn windows() -> Vec<Case> {
         ),
         case("window_keeps_scope_open", &closing, &closed),
     ]
+}
+
+/// A full root asks for room only on the days of the step that needs it.
+fn full_window() -> Vec<Case> {
+    let mut plan = looping();
+    plan.windows = vec![window(1, 10, 20)];
+    let days = [9, 10, 20, 21].map(|day| Event(2, day));
+    let records = often(32, 1, &[&days[..], &[Event(3, 21)]].concat());
+    vec![case("window_of_a_full_root", &plan, &records)]
 }
 
 /// The order of window records, and broken ones: 3, 4, 5 and 7.

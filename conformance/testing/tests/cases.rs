@@ -157,7 +157,7 @@ fn stored_calls_on_days_keep_the_day_of_an_accepted_event() {
     assert_eq!(answers("a ledger of the range's"), ready);
     assert_eq!(answers("an over ledger of the first day"), ["D0"]);
     let out = ["R18", "R18", "R18", "R18", ""];
-    assert_eq!(answers("a ledger of the day after the range"), out);
+    assert_eq!(answers("a ledger of the day after the range, 18"), out);
 }
 
 #[test]
@@ -274,6 +274,9 @@ fn stored_runs_with_windows_and_days_print_what_their_names_say() {
     for (name, expected) in runs {
         assert_eq!(lines(name)[1..], *expected, "{name}");
     }
+    let full = lines("window_of_a_full_root").split_off(33);
+    let expected = ["E 2 0 0", "R 21", "R 21", "E 2 0 0", "E 3 1 0", "H 0 0"];
+    assert_eq!(full, expected);
 }
 
 #[test]
@@ -302,7 +305,7 @@ fn stored_calls_are_refused_with_the_number_that_they_name() {
             named += 1;
         }
     }
-    assert_eq!(named, 65);
+    assert_eq!(named, 67);
 }
 
 #[test]
