@@ -9,51 +9,33 @@ use native.Mathlib.Omega.{arith}
 use lib.ListN.{length, getD, set, replicate, length-set, length-replicate}
 use lib.Seq.{getD-set-same, getD-set-other}
 use lib.Dec.{eqb, leb}
-use lib.IntN.{ℤ, pos, negsuc}
-use lib.Signed.{mag, ltZ, leZ}
+use lib.Signed.{mag, ltZ}
 use borrow.Author.Tests.{eqb-true, eqb-false, le-leb, lt-leb, eq-eqb, ne-eqb, not-true, not-false}
 use Rattle.rules.specs.Names.{Day}
 use Rattle.rules.specs.Fold.{someBelow}
-use Rattle.rules.specs.Day.{isDay, earliestDay, latestDay}
+use Rattle.rules.specs.Day.{isDay}
 use Rattle.rules.specs.Plan.{Plan, transitionCount, window}
 use Rattle.rules.specs.Acceptance.{repeatsWindow, badWindow}
 use Rattle.rules.proofs.Tests.{look, or-right}
-use Rattle.rules.proofs.Folds.{some-at, some-more}
-use Rattle.plan.proofs.RefusalTests.{not-ltb}
-use Rattle.plan.proofs.WindowLaws.{read, read-back, read-lt}
-
--- one order of signed numbers by the other
-le-not : (x y : ℤ) → leZ y x ≡ not (ltZ x y)
-le-not (pos a) (pos b) = sym (not-ltb a b)
-le-not (pos a) (negsuc b) = refl
-le-not (negsuc a) (pos b) = refl
-le-not (negsuc a) (negsuc b) = sym (not-ltb b a)
-
--- the range of days
-module _ (z : Day) (h : mag z < 2147483648) where
-  pub too-early : ltZ (read z) earliestDay ≡ true → isDay z ≡ false
-  unfolding isDay
-  too-early t = rw (le-not z earliestDay, ← read-back z h, t)
-
-  pub not-too-early : ltZ (read z) earliestDay ≡ false → isDay z ≡ leZ (read z) latestDay
-  unfolding isDay
-  not-too-early t = let q : ltZ z earliestDay ≡ false = rw (read-back z h) at t in rw (le-not z earliestDay, q, read-back z h)
+use Rattle.rules.proofs.Folds.{some-more}
+use Rattle.signed.proofs.Integers.{rd}
+use Rattle.plan.proofs.WindowLaws.{read-back, read-lt}
 
 -- the days of a window
 unfoldable pub daysBad : Day → Day → Bool
 daysBad first last = ltZ last first || not (isDay first) || not (isDay last)
 
 module _ (first last : Day) (h : mag first < 2147483648) (k : mag last < 2147483648) where
-  pub ends-early : ltZ (read last) (read first) ≡ true → daysBad first last ≡ true
+  pub ends-early : ltZ (rd last) (rd first) ≡ true → daysBad first last ≡ true
   unfolding daysBad
   ends-early t = rw (sym (read-lt last first k h) ∙ t)
 
-  module _ (t : ltZ (read last) (read first) ≡ false) (r : Bool) (e : r ≡ isDay (read first)) where
+  module _ (t : ltZ (rd last) (rd first) ≡ false) (r : Bool) (e : r ≡ isDay (rd first)) where
     pub first-out : not r ≡ true → daysBad first last ≡ true
     unfolding daysBad
     first-out g = rw (sym (read-lt last first k h) ∙ t, ap isDay (sym (read-back first h)) ∙ sym e ∙ not-true r g)
 
-    pub by-last : (s : Bool) → s ≡ isDay (read last) → not r ≡ false → daysBad first last ≡ not s
+    pub by-last : (s : Bool) → s ≡ isDay (rd last) → not r ≡ false → daysBad first last ≡ not s
     unfolding daysBad
     by-last s f g = rw (sym (read-lt last first k h) ∙ t, ap isDay (sym (read-back first h)) ∙ sym e ∙ not-false r g, ap isDay (sym (read-back last k)) ∙ sym f)
 
@@ -91,7 +73,7 @@ module _ (p : Plan) where
       named-before h = parts ∙ rw (lt-leb (transitionCount p) x l, sym (s .marks x m) ∙ h)
 
       module _ (h : getD named x false ≡ false) (first last : Day) (i : mag first < 2147483648) (j : mag last < 2147483648) (ef : first ≡ window p w .first)
-          (el : last ≡ window p w .last) (b : Bool) (eb : b ≡ daysBad (read first) (read last)) where
+          (el : last ≡ window p w .last) (b : Bool) (eb : b ≡ daysBad (rd first) (rd last)) where
         pub by-days : badWindow p w ≡ b
         unfolding daysBad
         by-days =

@@ -1,5 +1,6 @@
 // Refusal 25: a window names no transition, repeats one, ends before it begins, or leaves the range of days. One pass marks the transitions that
 // windows name.
+use calendar::dates::is_day;
 use plan::windows::first_day;
 use plan::windows::last_day;
 use plan::windows::window_transition;
@@ -12,21 +13,6 @@ ghost use Rattle.rules.specs.Day.{isDay};
 ghost use Rattle.rules.specs.Plan.{planOf};
 ghost use Rattle.rules.specs.Acceptance.{badWindow};
 ghost use Rattle.plan.specs.Holds.{Holds};
-
-// 1 January 1600 and 31 December 2399.
-const EARLIEST_DAY: i32 = -109573;
-
-const LATEST_DAY: i32 = 182620;
-
-// Whether a day is in the range.
-fn is_day(day: i32) -> bool
-    ensures { λ r. ⌜ r ≡ isDay day ⌝ }
-{
-    if day < EARLIEST_DAY {
-        return false;
-    }
-    day <= LATEST_DAY
-}
 
 // Whether the last day comes before the first, or either is out of the range.
 fn bad_days(first: i32, last: i32) -> bool
