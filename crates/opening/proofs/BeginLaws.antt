@@ -18,8 +18,8 @@ use Rattle.rules.proofs.Opening.{wakes-same, roots-to}
 use Rattle.rules.proofs.Scopes.{root-none}
 use Rattle.rules.proofs.LeadingLaws.{length-stamped}
 use Rattle.rules.proofs.Stored.{Storable, written-same, written-twice, length-written, tidy-written, read-written}
-use Rattle.rules.proofs.Windows.{few-windows}
-use Rattle.plan.proofs.FieldLaws.{track-count, state-count, transition-count, window-count}
+use Rattle.plan.proofs.FieldLaws.{track-count, state-count}
+use Rattle.plan.proofs.WindowLaws.{length-most}
 use Rattle.ledger.specs.Ladder.{Room, Tidy, Accepts, ledgerOf}
 use Rattle.ledger.proofs.Words.{leading-room}
 use Rattle.lookup.specs.Figures.{Numbers}
@@ -49,10 +49,7 @@ pub stamped-room : (bs ws : List ℕ) {vs : List ℕ} {tracks : ℕ} → Room ws
 stamped-room bs ws r e = record { few = r .few; words = omega (arith, r .words, ap length e, length-stamped bs ws (leading-room r)) }
 
 pub length-word : {bs : List ℕ} {c : Counts} → Accepts bs c → length bs < 65536
-length-word {bs} {c} a =
-    let h = a .holds in
-    let w = few-windows (planOf bs c) (plan-facts bs c a .windows) in
-    omega (arith, h .whole, h .tracks, h .states, h .transitions, w, window-count bs c, transition-count bs c)
+length-word {bs} {c} a = omega (arith, length-most bs c (plan-facts bs c a .windows) (a .holds))
 
 -- a ledger all asleep can be stored, and is read back
 abbrev asleep : Ledger

@@ -18,8 +18,7 @@ use Rattle.rules.specs.Plan.{Plan, transitionCount, window}
 use Rattle.rules.specs.Acceptance.{repeatsWindow, badWindow}
 use Rattle.rules.proofs.Tests.{look, or-right}
 use Rattle.rules.proofs.Folds.{some-more}
-use Rattle.signed.proofs.Integers.{rd}
-use Rattle.plan.proofs.WindowLaws.{read-back, read-lt}
+use Rattle.signed.proofs.Integers.{rd, read-back, read-lt}
 
 -- the days of a window
 unfoldable pub daysBad : Day → Day → Bool
