@@ -13,7 +13,7 @@ use lib.Dec.{eqb, ltb}
 use borrow.Author.Tests.{eqb-true, eqb-false, eq-eqb, ltb-true, ltb-false, le-leb, leb-true}
 use Rattle.rules.specs.declared.Mode.{Mode}
 use Rattle.rules.specs.declared.Mode.the-variants.{Asleep, Forward, Undoing}
-use Rattle.rules.specs.Layout.{leadingWords, headWords, entryWidth, trackWidth, trackPlace}
+use Rattle.rules.specs.Layout.{leadingWords, headWords, entryWidth, trackWidth, trackPlace, wordCount}
 use Rattle.rules.specs.Ledger.{Entry, Configuration, isAwake, sleeping, modeWord, heldWords, modeOf, entryAt, heldAt, configurationAt, configurationWords}
 use Rattle.rules.specs.Soundness.{goodMode, goodCount, unusedZero, asleepZero, isTidy}
 use Rattle.rules.proofs.Tests.{look, clash, and-holds, or-holds, or-right, implies, implied}
@@ -152,6 +152,15 @@ module _ (limit : ℕ) where
       elim (look (eqb t n)) [
         | inl e ↦ let i = eqb-true t n e in let q : trackPlace limit t ≡ trackPlace limit n = ap (trackPlace limit) i in omega arith
         | inr e ↦ let f : t ≡ n → ⊥ = eqb-false t n e in let r = place-below n t (omega arith) in omega arith
+      ]
+
+  -- fewer tracks need no more words
+  pub fewer-words : (n m : ℕ) → n ≤ m → wordCount limit n ≤ wordCount limit m
+  unfolding wordCount
+  fewer-words n m h =
+      elim (look (eqb n m)) [
+        | inl e ↦ let q : trackPlace limit n ≡ trackPlace limit m = ap (trackPlace limit) (eqb-true n m e) in omega arith
+        | inr e ↦ let f : n ≡ m → ⊥ = eqb-false n m e in omega (arith, place-below m n (omega arith))
       ]
 
   pub length-configurationWords : (c : Configuration) → length (c .held) ≤ limit → length (configurationWords limit c) ≡ trackWidth limit
