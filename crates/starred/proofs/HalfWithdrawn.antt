@@ -3,6 +3,7 @@
 use mathlib.Core.Path.{_≡_, refl}
 use mathlib.Core.List.{List, [], _∷_, _++_}
 use Prim.Native.Nat.{ℕ}
+use lib.IntN.{pos}
 use lib.ListN.{length, take, replicate}
 use Rattle.rules.specs.Layout.{entryLimit}
 use Rattle.rules.specs.Call.{Answer, refusal, done, Call, event, signal, fire, nothing, readyOutcome, callOutcome}
@@ -11,7 +12,7 @@ use Rattle.starred.specs.SamplePlan.{twoRoots, lentFor}
 use Rattle.starred.specs.Computing.{computing}
 
 abbrev e : ℕ → Call
-e n = event (record { event = n })
+e n = event (record { event = n; day = pos 0 })
 
 abbrev f : ℕ → Call
 f t = fire (record { track = t })
@@ -32,7 +33,8 @@ pub ends-by-firing : answers (e 5 ∷ e 1 ∷ s ∷ f 0 ∷ e 2 ∷ f 1 ∷ f 0 
 unfolding computing
 ends-by-firing = refl
 
-pub all-asleep : words (e 5 ∷ e 1 ∷ s ∷ f 0 ∷ e 2 ∷ f 1 ∷ []) ≡ take 2 (words []) ++ (replicate 201 0 ++ replicate 2 7)
+-- the last day, 0, stays
+pub all-asleep : words (e 5 ∷ e 1 ∷ s ∷ f 0 ∷ e 2 ∷ f 1 ∷ []) ≡ take 2 (words []) ++ (0 ∷ 0 ∷ replicate 201 0 ++ replicate 2 7)
 unfolding computing
 all-asleep = refl
 
@@ -58,7 +60,7 @@ all-withdrawn = (refl, refl)
 -- "Soundness reads the new settling": the first root has ended and holds an entry, the second is undoing in its hosting state and holds so many
 abbrev mixed : ℕ → List ℕ → List ℕ
 mixed count pair =
-    take 2 (words []) ++ (1 ∷ 2 ∷ 1 ∷ 42 ∷ 65535 ∷ replicate 62 0) ++ (2 ∷ 4 ∷ count ∷ pair) ++ replicate 62 0 ++ replicate 67 0
+    take 4 (words []) ++ (1 ∷ 2 ∷ 1 ∷ 42 ∷ 65535 ∷ replicate 62 0) ++ (2 ∷ 4 ∷ count ∷ pair) ++ replicate 62 0 ++ replicate 67 0
 
 pub finish-left : (callOutcome entryLimit twoRoots (mixed 0 (0 ∷ 0 ∷ [])) s .answer ≡ refusal 18)
     × (callOutcome entryLimit twoRoots (mixed 1 (51 ∷ 65535 ∷ [])) s .answer ≡ done (1 ∷ []))

@@ -1,8 +1,9 @@
--- The leading words on plan P, from bytes and words: begin writes them, an over ledger keeps them, and under a neighbour's plan every call but
+-- The plan's two leading words on plan P, from bytes and words: begin writes them, an over ledger keeps them, and under a neighbour's plan every call but
 -- begin is refused by them. Each is proved by computing the definitions of the rules. Assumes nothing.
 use mathlib.Core.Path.{_≡_, refl}
 use mathlib.Core.List.{List, [], _∷_}
 use Prim.Native.Nat.{ℕ}
+use lib.IntN.{pos}
 use lib.ListN.{length, take, replicate}
 use Rattle.rules.specs.Layout.{entryLimit}
 use Rattle.rules.specs.Leading.{planSum}
@@ -12,7 +13,7 @@ use Rattle.starred.specs.SamplePlan.{planP, neighbourP, alikeP, lentFor}
 use Rattle.starred.specs.Computing.{computing}
 
 abbrev e : ℕ → Call
-e n = event (record { event = n })
+e n = event (record { event = n; day = pos 0 })
 
 -- P's words after begin and a list of events: one is underway, one is over
 abbrev words : List Call → List ℕ
@@ -61,17 +62,17 @@ pub other-over : (answer planP over (signal nothing) ≡ refusal 20) × (answer 
 unfolding computing
 other-over = (refl, refl)
 
-pub zeros-other : (answer planP (replicate 203 0) (signal nothing) ≡ refusal 24)
-    × (answer planP (172 ∷ 609 ∷ replicate 201 0) (signal nothing) ≡ refusal 20)
-    × (answer planP (replicate 203 7) (signal nothing) ≡ refusal 24)
-    × (answer planP (172 ∷ 609 ∷ replicate 201 7) (signal nothing) ≡ refusal 18)
-    × (answer planP (replicate 202 0) (signal nothing) ≡ refusal 17)
+pub zeros-other : (answer planP (replicate 205 0) (signal nothing) ≡ refusal 24)
+    × (answer planP (172 ∷ 609 ∷ replicate 203 0) (signal nothing) ≡ refusal 20)
+    × (answer planP (replicate 205 7) (signal nothing) ≡ refusal 24)
+    × (answer planP (172 ∷ 609 ∷ 0 ∷ 0 ∷ replicate 201 7) (signal nothing) ≡ refusal 18)
+    × (answer planP (replicate 204 0) (signal nothing) ≡ refusal 17)
 unfolding computing
 zeros-other = (refl, refl, refl, refl, refl)
 
 -- "either word is not the plan's"
-pub either-word : (answer planP (170 ∷ 609 ∷ replicate 201 0) (signal nothing) ≡ refusal 24)
-    × (answer planP (172 ∷ 608 ∷ replicate 201 0) (signal nothing) ≡ refusal 24)
+pub either-word : (answer planP (170 ∷ 609 ∷ replicate 203 0) (signal nothing) ≡ refusal 24)
+    × (answer planP (172 ∷ 608 ∷ replicate 203 0) (signal nothing) ≡ refusal 24)
 unfolding computing
 either-word = (refl, refl)
 

@@ -1,9 +1,10 @@
 -- The starred lines of 'Runs and edges', in the paper's order, from the plan's bytes and a lent ledger's words. Each is proved by
--- computing the definitions of the rules: both sides come to the same value. Assumes nothing.
+-- computing the definitions of the rules: both sides come to the same value. Every event is on day 0. Assumes nothing.
 use mathlib.Core.Path.{_≡_, refl}
 use mathlib.Core.Bool.{true, false}
 use mathlib.Core.List.{List, [], _∷_, _++_}
 use Prim.Native.Nat.{ℕ}
+use lib.IntN.{pos}
 use Rattle.rules.specs.declared.Counts.{Counts}
 use Rattle.rules.specs.Plan.{planOf}
 use Rattle.rules.specs.Acceptance.{accepted, readPlan}
@@ -21,10 +22,10 @@ abbrev lent : List ℕ
 lent = lentFor 3
 
 abbrev countsP : Counts
-countsP = record { tracks = 3; states = 8; transitions = 5 }
+countsP = record { tracks = 3; states = 8; transitions = 5; windows = 0 }
 
 abbrev e : ℕ → Call
-e n = event (record { event = n })
+e n = event (record { event = n; day = pos 0 })
 
 abbrev f : ℕ → Call
 f t = fire (record { track = t })
@@ -85,6 +86,7 @@ pub reads-P : planOf planP countsP
           ∷ record { source = 5; event = 12; code = 52; deviation = 65535; destination = 6 }
           ∷ record { source = 6; event = 14; code = 54; deviation = 65535; destination = 7 }
           ∷ [];
+      windows = [];
     }
 unfolding computing
 reads-P = refl

@@ -69,11 +69,11 @@ twoRoots =
     ∷ 4 ∷ 4
     ∷ [])
 
--- "events 10, 11, 12, signal, four times kind 19"
+-- "events 10, 11, 12, signal, four times kind 19", each event on day 0
 unfoldable pub journalP : List ℕ
 journalP =
     bytesOf
-    (6 ∷ 16 ∷ 10 ∷ 6 ∷ 16 ∷ 11 ∷ 6 ∷ 16 ∷ 12
+    (10 ∷ 20 ∷ 10 ∷ 0 ∷ 0 ∷ 10 ∷ 20 ∷ 11 ∷ 0 ∷ 0 ∷ 10 ∷ 20 ∷ 12 ∷ 0 ∷ 0
     ∷ 4 ∷ 17
     ∷ 4 ∷ 19 ∷ 4 ∷ 19 ∷ 4 ∷ 19 ∷ 4 ∷ 19
     ∷ [])
