@@ -1,5 +1,5 @@
 -- What calls on words that pass the checks are answered: a firing that is allowed is done, and no call of a list from an accepted begin is
--- refused for the ledger that it got. The words hold the ledger of the rules, and that ledger refuses by 19 to 22 alone. Assumes nothing.
+-- refused for the ledger that it got. The words hold the day and the ledger of the rules, and these refuse by 19 to 22 and 26 alone. Assumes nothing.
 use mathlib.Core.Path.{_≡_, refl, sym, ap, subst}
 use mathlib.Core.Logic.{_⊎_, inl, inr}
 use mathlib.Core.Bool.{Bool, true, false, cond, not}
@@ -9,6 +9,7 @@ use native.Mathlib.Omega.{arith}
 use lib.Dec.{eqb}
 use Rattle.rules.specs.declared.Counts.{Counts}
 use Rattle.rules.specs.declared.Mode.the-variants.{Undoing}
+use Rattle.rules.specs.Names.{Day}
 use Rattle.rules.specs.Fold.{firstRefusal}
 use Rattle.rules.specs.Plan.{Plan, planOf}
 use Rattle.rules.specs.Acceptance.{accepted, readPlan}
@@ -16,41 +17,44 @@ use Rattle.rules.specs.Ledger.{Ledger, isEmpty}
 use Rattle.rules.specs.Scope.{isOver}
 use Rattle.rules.specs.Event.{isFull}
 use Rattle.rules.specs.Fire.{newest, mayFire}
-use Rattle.rules.specs.Call.{refusal, done, Call, event, signal, fire, nothing, callRefusals, callRefusal, figures, callOutcome, beginOutcome}
+use Rattle.rules.specs.Call.{refusal, done, Call, event, signal, fire, nothing, badDay, callRefusals, callRefusal, figures, callOutcome, beginOutcome}
+use Rattle.rules.specs.Leading.{lastDay}
 use Rattle.rules.specs.ReferenceRun.{wordsAfter, ledgerAfter}
 use Rattle.rules.proofs.LedgerChecks.{Passes}
 use Rattle.rules.proofs.Ready.{fireable-not-over}
 use Rattle.restoration.proofs.SoundWords.{theLedger, Holds, passes-holds, call-accepted, call-refused}
 use Rattle.restoration.proofs.Restoration.{history-holds, goes-on}
 
--- the numbers by which a ledger that passes the checks refuses
+-- the numbers by which a ledger that passes the checks refuses: 19 to 22, and 26
 abbrev pub CallNumber : ℕ → Type 0
-CallNumber m = (19 ≤ m) × (m ≤ 22)
+CallNumber m = ((19 ≤ m) × (m ≤ 22)) ⊎ (m ≡ 26)
 
 -- a table of them, its head taken off
 head : (b : Bool) (n r m : ℕ) → CallNumber n → cond b n r ≡ m → (r ≡ m → (m ≡ 0) ⊎ CallNumber m) → (m ≡ 0) ⊎ CallNumber m
 head true n r m h e f = inr (subst CallNumber e h)
 head false n r m h e f = f e
 
-module _ (limit : ℕ) (p : Plan) (l : Ledger) where
+module _ (limit : ℕ) (p : Plan) (d : Day) (l : Ledger) where
   -- what is accepted: a signal where the ledger is not over, a firing where the track may be fired
-  pub signal-allowed : isOver p l ≡ false → callRefusal limit p l (signal nothing) ≡ 0
+  pub signal-allowed : isOver p l ≡ false → callRefusal limit p d l (signal nothing) ≡ 0
   unfolding callRefusal callRefusals firstRefusal
   signal-allowed o = rw o
 
-  pub fire-allowed : (t : ℕ) → mayFire p l t ≡ true → callRefusal limit p l (fire (record { track = t })) ≡ 0
+  pub fire-allowed : (t : ℕ) → mayFire p l t ≡ true → callRefusal limit p d l (fire (record { track = t })) ≡ 0
   unfolding callRefusal callRefusals firstRefusal
   fire-allowed t h = rw (fireable-not-over p l t h, h)
 
-  pub refused-by-call : (c : Call) (m : ℕ) → callRefusal limit p l c ≡ m → (m ≡ 0) ⊎ CallNumber m
+  pub refused-by-call : (c : Call) (m : ℕ) → callRefusal limit p d l c ≡ m → (m ≡ 0) ⊎ CallNumber m
   unfolding callRefusal callRefusals firstRefusal
   refused-by-call (event a) m e =
-      head (eqb (a .event) 0) 19 _ m (omega arith, omega arith) e
-      (λ f. head (isOver p l) 20 _ m (omega arith, omega arith) f (λ g. head (isFull p limit l (a .event)) 21 0 m (omega arith, omega arith) g (λ h. inl (sym h))))
-  refused-by-call (signal a) m e = head (isOver p l) 20 0 m (omega arith, omega arith) e (λ h. inl (sym h))
+      head (eqb (a .event) 0) 19 _ m (inl (omega arith, omega arith)) e
+      (λ f. head (badDay d (a .day)) 26 _ m (inr refl) f
+      (λ g. head (isOver p l) 20 _ m (inl (omega arith, omega arith)) g
+      (λ h. head (isFull p limit l a) 21 0 m (inl (omega arith, omega arith)) h (λ i. inl (sym i)))))
+  refused-by-call (signal a) m e = head (isOver p l) 20 0 m (inl (omega arith, omega arith)) e (λ h. inl (sym h))
   refused-by-call (fire a) m e =
-      head (isOver p l) 20 _ m (omega arith, omega arith) e
-      (λ f. head (not (mayFire p l (a .track))) 22 0 m (omega arith, omega arith) f (λ h. inl (sym h)))
+      head (isOver p l) 20 _ m (inl (omega arith, omega arith)) e
+      (λ f. head (not (mayFire p l (a .track))) 22 0 m (inl (omega arith, omega arith)) f (λ h. inl (sym h)))
 
 module _ (limit : ℕ) (bs : List ℕ) (k : Counts) (read : readPlan bs ≡ accepted k) where
   abbrev p : Plan
@@ -61,14 +65,14 @@ module _ (limit : ℕ) (bs : List ℕ) (k : Counts) (read : readPlan bs ≡ acce
   Done ws l t =
       callOutcome limit bs ws (fire (record { track = t })) .answer ≡ done (newest (l t .held) .code ∷ newest (l t .held) .deviation ∷ [])
 
-  pub fire-done : (ws : List ℕ) (l : Ledger) → Holds limit bs k read ws l → (t : ℕ) → mayFire p l t ≡ true → Done ws l t
+  pub fire-done : (ws : List ℕ) (d : Day) (l : Ledger) → Holds limit bs k read ws d l → (t : ℕ) → mayFire p l t ≡ true → Done ws l t
   unfolding figures
-  fire-done ws l h t m = ap (λ o. o .answer) (call-accepted limit bs k read ws l h (fire (record { track = t })) (fire-allowed limit p l t m))
+  fire-done ws d l h t m = ap (λ o. o .answer) (call-accepted limit bs k read ws d l h (fire (record { track = t })) (fire-allowed limit p d l t m))
 
   -- "a firing is allowed where the rule under Fire lets that track be fired": on words that pass the checks such a call is done
   pub allowed-done : (ws : List ℕ) → Passes limit bs p ws
       → (t : ℕ) → mayFire p (theLedger limit bs k read ws) t ≡ true → Done ws (theLedger limit bs k read ws) t
-  allowed-done ws h = fire-done ws (theLedger limit bs k read ws) (passes-holds limit bs k read ws h)
+  allowed-done ws h = fire-done ws (lastDay ws) (theLedger limit bs k read ws) (passes-holds limit bs k read ws h)
 
   -- so in a list from an accepted begin, "if any track is undoing and holds an entry", some firing would be done
   pub goes-on-done : (lent : List ℕ) → beginOutcome limit bs lent .answer ≡ done [] → (cs : List Call)
@@ -76,19 +80,19 @@ module _ (limit : ℕ) (bs : List ℕ) (k : Counts) (read : readPlan bs ≡ acce
       → (u : ℕ) × Done (wordsAfter limit bs lent cs) (ledgerAfter limit bs p lent cs) u
   goes-on-done lent h cs t d e =
       let (u, m) = goes-on limit bs k read lent cs h t d e in
-      (u, fire-done (wordsAfter limit bs lent cs) (ledgerAfter limit bs p lent cs) (history-holds limit bs k read lent cs h) u m)
+      (u, fire-done (wordsAfter limit bs lent cs) _ (ledgerAfter limit bs p lent cs) (history-holds limit bs k read lent cs h) u m)
 
   -- "Its first call gets the ledger as an accepted begin left it, each later one the ledger as the call before left it": that is long enough,
   -- the plan's own and sound, so no call of the list is refused by 17, 24 or 18, nor by the plan
   pub refused-for-the-call : (lent : List ℕ) → beginOutcome limit bs lent .answer ≡ done [] → (cs : List Call) (c : Call) (m : ℕ)
       → callOutcome limit bs (wordsAfter limit bs lent cs) c .answer ≡ refusal m → CallNumber m
-  refused-for-the-call lent h cs c m e = go (callRefusal limit p (ledgerAfter limit bs p lent cs) c) refl
+  refused-for-the-call lent h cs c m e = go (callRefusal limit p (lastDay (wordsAfter limit bs lent cs)) (ledgerAfter limit bs p lent cs) c) refl
     where
-      go : (r : ℕ) → callRefusal limit p (ledgerAfter limit bs p lent cs) c ≡ r → CallNumber m
+      go : (r : ℕ) → callRefusal limit p (lastDay (wordsAfter limit bs lent cs)) (ledgerAfter limit bs p lent cs) c ≡ r → CallNumber m
       go zero z =
-          let q = ap (λ o. o .answer) (call-accepted limit bs k read _ _ (history-holds limit bs k read lent cs h) c z) in
+          let q = ap (λ o. o .answer) (call-accepted limit bs k read _ _ _ (history-holds limit bs k read lent cs h) c z) in
           let y : _≡_ {A = ℕ} 0 1 = cc in absurd (omega arith)
       go (suc r) z =
-          let q = ap (λ o. o .answer) (call-refused limit bs k read _ _ (history-holds limit bs k read lent cs h) c r z) in
+          let q = ap (λ o. o .answer) (call-refused limit bs k read _ _ _ (history-holds limit bs k read lent cs h) c r z) in
           let y : m ≡ suc r = cc in
-          elim (refused-by-call limit p _ c (suc r) z) [ inl x ↦ absurd (omega arith) | inr x ↦ subst CallNumber (sym y) x ]
+          elim (refused-by-call limit p _ _ c (suc r) z) [ inl x ↦ absurd (omega arith) | inr x ↦ subst CallNumber (sym y) x ]

@@ -1,6 +1,5 @@
 -- The bound on firings, on words: the words hold the ledger of the rules, so the firings done are the theory's; and words that are not
 -- sound allow none. Assumes nothing.
-use Prim.{tt}
 use mathlib.Core.Path.{_≡_, refl, sym, ap, ap₂, _∙_}
 use mathlib.Core.Bool.{true, false, cond, not, _&&_}
 use mathlib.Core.List.{List, [], _∷_}
@@ -9,11 +8,13 @@ use native.Mathlib.Omega.{arith}
 use lib.Dec.{eqb}
 use borrow.Author.Tests.{ne-eqb}
 use Rattle.rules.specs.declared.Counts.{Counts}
+use Rattle.rules.specs.Names.{Day}
 use Rattle.rules.specs.Plan.{Plan, trackCount, planOf}
 use Rattle.rules.specs.Acceptance.{accepted, readPlan}
 use Rattle.rules.specs.Layout.{entryLimit}
 use Rattle.rules.specs.Ledger.{Ledger}
-use Rattle.rules.specs.Call.{Answer, refusal, done, Call, event, signal, fire, refusedOr, ledgerRefusal, callRefusals, callRefusal, next, callOutcome}
+use Rattle.rules.specs.Call.{Answer, refusal, done, Call, event, signal, fire, refusedOr, ledgerRefusal, callRefusals, callRefusal, callOutcome}
+use Rattle.rules.specs.Leading.{lastDay}
 use Rattle.rules.specs.Transcript.{firingsOf}
 use Rattle.rules.specs.ReferenceRun.{answersFrom}
 use Rattle.rules.proofs.Acceptance.{Accepted, accepts}
@@ -61,42 +62,40 @@ module _ (limit : ℕ) (bs : List ℕ) (k : Counts) (read : readPlan bs ≡ acce
   abbrev answers : List ℕ → List Call → List Answer
   answers ws cs = answersFrom limit bs ws cs
 
-  -- the number by the ledger that the words hold, as the theory has it
-  abbrev number : Ledger → Call → ℕ
-  number l c = callRefusal limit p l (asRules (asTheory c))
+  -- the number by the day and the ledger that the words hold, as the theory has it
+  abbrev number : Day → Ledger → Call → ℕ
+  number d l c = callRefusal limit p d l (asRules (asTheory c))
 
   -- one call
-  step : (ws : List ℕ) (l : Ledger) → Holds limit bs k read ws l → (c : Call)
-      → (firingsOf c (callOutcome limit bs ws c .answer) ≡ cond (eqb (number l c) 0) (seam.firingsOf (asTheory c)) 0)
-      × (isEventDone c (callOutcome limit bs ws c .answer) ≡ (eqb (number l c) 0 && seam.isEvent (asTheory c)))
-  step ws l h c = go (callRefusal limit p l c) refl
+  step : (ws : List ℕ) (d : Day) (l : Ledger) → Holds limit bs k read ws d l → (c : Call)
+      → (firingsOf c (callOutcome limit bs ws c .answer) ≡ cond (eqb (number d l c) 0) (seam.firingsOf (asTheory c)) 0)
+      × (isEventDone c (callOutcome limit bs ws c .answer) ≡ (eqb (number d l c) 0 && seam.isEvent (asTheory c)))
+  step ws d l h c = go (callRefusal limit p d l c) refl
     where
-      back : number l c ≡ callRefusal limit p l c
-      back = ap (callRefusal limit p l) (there-and-back c)
+      back : number d l c ≡ callRefusal limit p d l c
+      back = ap (callRefusal limit p d l) (there-and-back c)
 
-      go : (r : ℕ) → callRefusal limit p l c ≡ r
-          → (firingsOf c (callOutcome limit bs ws c .answer) ≡ cond (eqb (number l c) 0) (seam.firingsOf (asTheory c)) 0)
-          × (isEventDone c (callOutcome limit bs ws c .answer) ≡ (eqb (number l c) 0 && seam.isEvent (asTheory c)))
-      go zero e = rw (call-accepted limit bs k read ws l h c e, back, e) (same-firing c _, same-event c _)
+      go : (r : ℕ) → callRefusal limit p d l c ≡ r
+          → (firingsOf c (callOutcome limit bs ws c .answer) ≡ cond (eqb (number d l c) 0) (seam.firingsOf (asTheory c)) 0)
+          × (isEventDone c (callOutcome limit bs ws c .answer) ≡ (eqb (number d l c) 0 && seam.isEvent (asTheory c)))
+      go zero e = rw (call-accepted limit bs k read ws d l h c e, back, e) (same-firing c _, same-event c _)
       go (suc r) e =
-          let no : eqb (number l c) 0 ≡ false = ne-eqb (number l c) 0 (λ z. let w : suc r ≡ 0 = sym e ∙ sym back ∙ z in omega arith) in
-          rw (call-refused limit bs k read ws l h c r e, no) (refused-firing c (suc r), refused-event c (suc r))
+          let no : eqb (number d l c) 0 ≡ false = ne-eqb (number d l c) 0 (λ z. let w : suc r ≡ 0 = sym e ∙ sym back ∙ z in omega arith) in
+          rw (call-refused limit bs k read ws d l h c r e, no) (refused-firing c (suc r), refused-event c (suc r))
 
-  same-firings : (cs : List Call) (ws : List ℕ) (l : Ledger) → Holds limit bs k read ws l
-      → firingsIn cs (answers ws cs) ≡ firingsFrom document01 p limit tt l (listed cs)
+  same-firings : (cs : List Call) (ws : List ℕ) (d : Day) (l : Ledger) → Holds limit bs k read ws d l
+      → firingsIn cs (answers ws cs) ≡ firingsFrom document01 p limit d l (listed cs)
   unfolding firingsIn answersFrom firingsFrom listed
-  same-firings [] ws l h = refl
-  same-firings (c ∷ cs) ws l h =
-      ap₂ (λ x y. x + y) (step ws l h c .0)
-      (same-firings cs (callOutcome limit bs ws c .words) (next limit p l (asRules (asTheory c))) (next-holds limit bs k read ws l h c))
+  same-firings [] ws d l h = refl
+  same-firings (c ∷ cs) ws d l h =
+      ap₂ (λ x y. x + y) (step ws d l h c .0) (same-firings cs (callOutcome limit bs ws c .words) _ _ (next-holds limit bs k read ws d l h c))
 
-  same-eventless : (cs : List Call) (ws : List ℕ) (l : Ledger) → Holds limit bs k read ws l
-      → isWithout isEventDone cs (answers ws cs) ≡ isEventless document01 p limit tt l (listed cs)
+  same-eventless : (cs : List Call) (ws : List ℕ) (d : Day) (l : Ledger) → Holds limit bs k read ws d l
+      → isWithout isEventDone cs (answers ws cs) ≡ isEventless document01 p limit d l (listed cs)
   unfolding isWithout answersFrom isEventless listed
-  same-eventless [] ws l h = refl
-  same-eventless (c ∷ cs) ws l h =
-      ap₂ (λ x y. not x && y) (step ws l h c .1)
-      (same-eventless cs (callOutcome limit bs ws c .words) (next limit p l (asRules (asTheory c))) (next-holds limit bs k read ws l h c))
+  same-eventless [] ws d l h = refl
+  same-eventless (c ∷ cs) ws d l h =
+      ap₂ (λ x y. not x && y) (step ws d l h c .1) (same-eventless cs (callOutcome limit bs ws c .words) _ _ (next-holds limit bs k read ws d l h c))
 
   -- words that do not pass the checks: every call is refused
   refused-all : (cs : List Call) (ws : List ℕ) (r : ℕ) → ledgerRefusal limit bs p ws ≡ suc r → firingsIn cs (answers ws cs) ≡ 0
@@ -104,7 +103,7 @@ module _ (limit : ℕ) (bs : List ℕ) (k : Counts) (read : readPlan bs ≡ acce
   refused-all [] ws r h = refl
   refused-all (c ∷ cs) ws r h =
       let i = refused-all cs ws r h in
-      rw (outcome limit bs k read ws c (suc r) (refused-first limit bs p ws r h (callRefusals limit p (theLedger limit bs k read ws) c))) (omega arith)
+      rw (outcome limit bs k read ws c (suc r) (refused-first limit bs p ws r h (callRefusals limit p (lastDay ws) (theLedger limit bs k read ws) c))) (omega arith)
 
   -- in any list without an accepted event, from any words, at most `limit` firings for each track are accepted
   pub firings-bounded : (ws : List ℕ) (cs : List Call) → isWithout isEventDone cs (answersFrom limit bs ws cs) ≡ true
@@ -115,8 +114,8 @@ module _ (limit : ℕ) (bs : List ℕ) (k : Counts) (read : readPlan bs ≡ acce
       go zero e =
           let l = theLedger limit bs k read ws in
           let h = passes-holds limit bs k read ws (none-passes limit bs p ws e) in
-          rw (same-firings cs ws l h)
-          (theorem.firings-bounded laws01 limit p ok (listed cs) tt l (h .kept) (sym (same-eventless cs ws l h) ∙ n))
+          rw (same-firings cs ws (lastDay ws) l h)
+          (theorem.firings-bounded laws01 limit p ok (listed cs) (lastDay ws) l (h .kept) (sym (same-eventless cs ws (lastDay ws) l h) ∙ n))
       go (suc r) e = let z = refused-all cs ws r e in omega arith
 
 -- "No firings beyond 32 times the number of tracks follow one another without an event or a deviation."

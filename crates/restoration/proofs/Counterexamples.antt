@@ -7,6 +7,7 @@ use mathlib.Core.List.{List, [], _∷_}
 use mathlib.Core.Option.{some}
 use Prim.Native.Nat.{ℕ, zero, suc, _-_, _<_}
 use native.Mathlib.Omega.{arith}
+use lib.IntN.{pos}
 use lib.ListN.{length}
 use lib.Dec.{eqb}
 use Rattle.rules.specs.declared.Counts.{Counts}
@@ -55,7 +56,7 @@ asked-of-all bs c read k =
 
 -- one event, a signal and a firing, which is refused where nothing was installed
 abbrev calls : List Call
-calls = event (record { event = 1 }) ∷ signal nothing ∷ fire (record { track = 0 }) ∷ []
+calls = event (record { event = 1; day = pos 0 }) ∷ signal nothing ∷ fire (record { track = 0 }) ∷ []
 
 contrary : {A : Type 0} → false ≡ true → A
 contrary h = clash h refl
@@ -65,7 +66,7 @@ planC : ℕ → List ℕ
 planC code = bytesOf (6 ∷ 1 ∷ 65535 ∷ 10 ∷ 2 ∷ 0 ∷ 0 ∷ 0 ∷ 14 ∷ 3 ∷ 0 ∷ 1 ∷ code ∷ 65535 ∷ 0 ∷ 4 ∷ 4 ∷ [])
 
 abbrev countsC : Counts
-countsC = record { tracks = 1; states = 1; transitions = 1 }
+countsC = record { tracks = 1; states = 1; transitions = 1; windows = 0 }
 
 abbrev C : ℕ → Plan
 C code = planOf (planC code) countsC
@@ -164,7 +165,7 @@ planR code =
     ∷ 4 ∷ 4 ∷ [])
 
 abbrev countsR : Counts
-countsR = record { tracks = 2; states = 3; transitions = 1 }
+countsR = record { tracks = 2; states = 3; transitions = 1; windows = 0 }
 
 abbrev R : ℕ → Plan
 R code = planOf (planR code) countsR
@@ -249,7 +250,7 @@ planW =
     ∷ 4 ∷ 4 ∷ [])
 
 abbrev countsW : Counts
-countsW = record { tracks = 2; states = 2; transitions = 2 }
+countsW = record { tracks = 2; states = 2; transitions = 2; windows = 0 }
 
 abbrev W : Plan
 W = planOf planW countsW
@@ -289,7 +290,7 @@ commute-needed claim =
     let y : _≡_ {A = ℕ} 1 0 = ap length z in omega arith
   where
     made : List Call
-    made = event (record { event = 1 }) ∷ signal nothing ∷ fire (record { track = 0 }) ∷ fire (record { track = 1 }) ∷ []
+    made = event (record { event = 1; day = pos 0 }) ∷ signal nothing ∷ fire (record { track = 0 }) ∷ fire (record { track = 1 }) ∷ []
 
     withdrawn : AllWithdrawn W (ledgerAfter entryLimit planW W (lentFor 2) made)
     withdrawn zero l r = record { undoing = refl; empty = refl; shut = refl }

@@ -1,6 +1,5 @@
 -- Document 01's rules are an instance of the seams: the parameters are the rules' own functions, and each law follows from their text. The
 -- theory itself unfolds nothing that a later request may change. Assumes nothing.
-use Prim.{Unit, tt}
 use mathlib.Core.Path.{_≡_, refl, ap, _∙_, fun-ext}
 use mathlib.Core.Logic.{inl, inr}
 use mathlib.Core.Bool.{Bool, true, false, not, _&&_, _||_}
@@ -10,23 +9,26 @@ use Prim.Native.Nat.{ℕ, zero, suc}
 use lib.ListN.{length}
 use lib.Dec.{eqb, leb}
 use borrow.Author.Tests.{ne-eqb, not-true, not-false, leb-false}
+use Rattle.rules.specs.Names.{Day}
+use Rattle.rules.specs.Day.{earliestDay}
 use Rattle.rules.specs.Fold.{firstRefusal}
-use Rattle.rules.specs.Plan.{Plan, trackCount, noState, replacement, transitionFor}
+use Rattle.rules.specs.Plan.{Plan, trackCount, noState, replacement, transitionFor, takenOn}
 use Rattle.rules.specs.Ledger.{Configuration, Ledger, isForward}
 use Rattle.rules.specs.Scope.{hasOpenScope, isOver}
 use Rattle.rules.specs.Opening.{enter}
 use Rattle.rules.specs.Event as rule-event
-use Rattle.rules.specs.Event.{hasCode, move, moved, closed, isReplaced, isFull, afterEvent}
+use Rattle.rules.specs.Event.{EventArguments, hasCode, move, moved, closed, isReplaced, isFull, afterEvent}
 use Rattle.rules.specs.Finish.{isFinishing, finished}
 use Rattle.rules.specs.Signal as rule-signal
 use Rattle.rules.specs.Signal.{abandoned, afterSignal}
 use Rattle.rules.specs.Fire.{mayFire, fired, afterFire}
 use Rattle.rules.specs.Call as call
-use Rattle.rules.specs.Call.{EventArguments, SignalArguments, FireArguments, callRefusals, callRefusal, after, next}
+use Rattle.rules.specs.Call.{SignalArguments, FireArguments, badDay, callRefusals, callRefusal, after, dayAfter, next, nextDay}
 use Rattle.rules.specs.FinishedRun.{taken, movesBelow, movesOf}
 use Rattle.rules.proofs.Tests.{clash, none-some, and-holds, passed}
 use Rattle.rules.proofs.Folds.{some-not}
 use Rattle.rules.proofs.Acceptance.{transition-for}
+use Rattle.rules.proofs.DayLaws.{taken-on}
 use Rattle.rules.proofs.Closing as closing
 use Rattle.rules.proofs.Finishing.{goes-on, finish-cases}
 use Rattle.theory.specs.Seams.{Seams, CallOf, event, signal, fire, installed, installedBy, install, recorded, goes, changeOf, turned, work}
@@ -53,7 +55,7 @@ there-and-back (call.signal a) = refl
 there-and-back (call.fire a) = refl
 
 -- A change is named by its transition, a retraction by its code; a signal turns every forward track; finish is looked for after every call;
--- there are no leading words.
+-- the leading words hold the last accepted day.
 abbrev pub document01 : Seams
 document01 =
     record {
@@ -61,36 +63,36 @@ document01 =
       Signal = SignalArguments;
       Firing = FireArguments;
       track = λ a. a .track;
-      move = λ p l a. move p l (a .event);
-      moved = λ p l a. moved p l (a .event);
+      move = move;
+      moved = moved;
       entry = λ a c d. record { code = c; deviation = d };
       closed = λ p l a. closed p l;
       Change = ℕ;
       change = λ a x. x;
-      movesOf = λ p S l a. movesOf p S l (a .event);
+      movesOf = movesOf;
       Retraction = ℕ;
       retraction = λ e. e .code;
       isTurned = λ p a t. true;
       isFinishing = isFinishing;
       looksForFinish = λ c. true;
-      Head = Unit {0};
-      firstHead = λ p. tt;
-      nextHead = λ limit p h l c. tt;
-      refusal = λ limit p h l c. callRefusal limit p l (asRules c);
-      next = λ limit p h l c. next limit p l (asRules c);
+      Head = Day;
+      firstHead = λ p. earliestDay;
+      nextHead = λ limit p d l c. nextDay limit p d l (asRules c);
+      refusal = λ limit p d l c. callRefusal limit p d l (asRules c);
+      next = λ limit p d l c. next limit p d l (asRules c);
     }
 
 -- Moves.
-module _ (p : Plan) (l : Ledger) (e : ℕ) where
-  pub move-takes : (t x : ℕ) → move p l e t ≡ some x → Takes p l t x
+module _ (p : Plan) (l : Ledger) (a : EventArguments) where
+  pub move-takes : (t x : ℕ) → move p l a t ≡ some x → Takes p l t x
   unfolding move
   move-takes t x h = go (isForward (l t .mode) && not (hasOpenScope p l t)) refl
     where
       go : (b : Bool) → (isForward (l t .mode) && not (hasOpenScope p l t)) ≡ b → Takes p l t x
       go true k =
           let (f, n) = and-holds (isForward (l t .mode)) (not (hasOpenScope p l t)) k in
-          let q : transitionFor p (l t .state) e ≡ some x = rw k at h in
-          let (r, s, v) = transition-for p (l t .state) e x q in
+          let q : takenOn p (a .day) (transitionFor p (l t .state) (a .event)) ≡ some x = rw k at h in
+          let (r, s, v) = transition-for p (l t .state) (a .event) x (taken-on p (a .day) (transitionFor p (l t .state) (a .event)) x q .0) in
           record { forward = f; free = not-true (hasOpenScope p l t) n; real = r; from = s }
       go false k = let q : none ≡ some x = rw k at h in none-some refl q
 
@@ -104,15 +106,16 @@ unfolding rule-event.installedBy installedBy
 same-by a p none k = refl
 same-by a p (some x) k = same-installed a _ _ k
 
-moved-is : (p : Plan) (l : Ledger) (a : EventArguments) → moved p l (a .event) ≡ enter p (goes document01 p l a) (recorded document01 p l a)
+moved-is : (p : Plan) (l : Ledger) (a : EventArguments) → moved p l a ≡ enter p (goes document01 p l a) (recorded document01 p l a)
 unfolding moved
-moved-is p l a = ap (enter p (goes document01 p l a)) (fun-ext (λ t. same-by a p (move p l (a .event) t) (l t)))
+moved-is p l a = ap (enter p (goes document01 p l a)) (fun-ext (λ t. same-by a p (move p l a t) (l t)))
 
 -- The changes of an event, as a word for each track.
-moves-below-join : (p : Plan) (S : ℕ → Bool) (l : Ledger) (e n : ℕ) → movesBelow p n S l e ≡ join n (λ t. when (S t) (taken (move p l e t)))
+moves-below-join : (p : Plan) (S : ℕ → Bool) (l : Ledger) (a : EventArguments) (n : ℕ)
+    → movesBelow p n S l a ≡ join n (λ t. when (S t) (taken (move p l a t)))
 unfolding movesBelow join
-moves-below-join p S l e zero = refl
-moves-below-join p S l e (suc n) = ap (λ w. w ++ when (S n) (taken (move p l e n))) (moves-below-join p S l e n)
+moves-below-join p S l a zero = refl
+moves-below-join p S l a (suc n) = ap (λ w. w ++ when (S n) (taken (move p l a n))) (moves-below-join p S l a n)
 
 same-taken : (a : EventArguments) (o : Option ℕ) → taken o ≡ changeOf document01 a o
 unfolding taken changeOf
@@ -120,59 +123,78 @@ same-taken a none = refl
 same-taken a (some x) = refl
 
 moves-are : (p : Plan) (S : ℕ → Bool) (l : Ledger) (a : EventArguments)
-    → movesOf p S l (a .event) ≡ join (trackCount p) (λ t. when (S t) (changeOf document01 a (move p l (a .event) t)))
+    → movesOf p S l a ≡ join (trackCount p) (λ t. when (S t) (changeOf document01 a (move p l a t)))
 unfolding movesOf
 moves-are p S l a =
-    moves-below-join p S l (a .event) (trackCount p)
-    ∙ ap (join (trackCount p)) (fun-ext (λ t. ap (when (S t)) (same-taken a (move p l (a .event) t))))
+    moves-below-join p S l a (trackCount p)
+    ∙ ap (join (trackCount p)) (fun-ext (λ t. ap (when (S t)) (same-taken a (move p l a t))))
 
--- Settling and refusals.
-module _ (limit : ℕ) (p : Plan) (l : Ledger) where
-  pub next-accepted : (c : call.Call) → callRefusal limit p l c ≡ 0 → next limit p l c ≡ after p l c
-  unfolding next
-  next-accepted c h = rw h
-
-  pub next-refused : (c : call.Call) → (callRefusal limit p l c ≡ 0 → ⊥) → next limit p l c ≡ l
-  unfolding next
-  next-refused c h = rw (ne-eqb (callRefusal limit p l c) 0 h)
-
+-- Settling: every call ends with finish.
+module _ (p : Plan) (l : Ledger) where
   pub turned-is : (a : SignalArguments) → rule-signal.turned l ≡ turned document01 p l a
   unfolding rule-signal.turned
   turned-is a = refl
 
-  -- every call ends with finish
   ends : (m k : Ledger) → k ≡ finished p m → Settled document01 p true m k
   ends m k q = elim (finish-cases p m) [ inl f ↦ inl (q ∙ f .0, λ h. f .1) | inr o ↦ inr (λ t. ap (λ (x : Ledger). x t) q ∙ o t) ]
 
-  settled : (c : Calls) → callRefusal limit p l (asRules c) ≡ 0 → Settled document01 p true (work document01 p l c) (next limit p l (asRules c))
+-- Refusals; the day is the last accepted one.
+module _ (limit : ℕ) (p : Plan) (d : Day) (l : Ledger) where
+  pub next-accepted : (c : call.Call) → callRefusal limit p d l c ≡ 0 → next limit p d l c ≡ after p l c
+  unfolding next
+  next-accepted c h = rw h
+
+  pub next-refused : (c : call.Call) → (callRefusal limit p d l c ≡ 0 → ⊥) → next limit p d l c ≡ l
+  unfolding next
+  next-refused c h = rw (ne-eqb (callRefusal limit p d l c) 0 h)
+
+  pub day-accepted : (c : call.Call) → callRefusal limit p d l c ≡ 0 → nextDay limit p d l c ≡ dayAfter d c
+  unfolding nextDay
+  day-accepted c h = rw h
+
+  pub day-refused : (c : call.Call) → (callRefusal limit p d l c ≡ 0 → ⊥) → nextDay limit p d l c ≡ d
+  unfolding nextDay
+  day-refused c h = rw (ne-eqb (callRefusal limit p d l c) 0 h)
+
+  settled : (c : Calls) → callRefusal limit p d l (asRules c) ≡ 0 → Settled document01 p true (work document01 p l c) (next limit p d l (asRules c))
   unfolding after afterEvent afterSignal afterFire
-  settled (event a) z = ends (closed p (moved p l (a .event))) _ (next-accepted (call.event a) z)
+  settled (event a) z = ends p l (closed p (moved p l a)) _ (next-accepted (call.event a) z)
   settled (signal a) z =
-      ends (abandoned p (turned document01 p l a)) _ (next-accepted (call.signal a) z ∙ ap (λ (m : Ledger). finished p (abandoned p m)) (turned-is a))
-  settled (fire a) z = ends (abandoned p (fired p l (a .track))) _ (next-accepted (call.fire a) z)
+      ends p l (abandoned p (turned document01 p l a)) _
+      (next-accepted (call.signal a) z ∙ ap (λ (m : Ledger). finished p (abandoned p m)) (turned-is p l a))
+  settled (fire a) z = ends p l (abandoned p (fired p l (a .track))) _ (next-accepted (call.fire a) z)
 
   -- 21 leaves room for an entry
-  has-spare : (a : EventArguments) → isFull p limit l (a .event) ≡ false → Spare document01 limit p l a
+  has-spare : (a : EventArguments) → isFull p limit l a ≡ false → Spare document01 limit p l a
   unfolding isFull
   has-spare a r t b h =
-      let f : ℕ → Bool = λ t. (hasCode p (move p l (a .event) t) || isReplaced p (moved p l (a .event)) t) in
+      let f : ℕ → Bool = λ t. (hasCode p (move p l a t) || isReplaced p (moved p l a) t) in
       let q = some-not (trackCount p) (λ t. f t && leb limit (length (l t .held))) r t b in
       let y : leb limit (length (l t .held)) ≡ false = rw h at q in
       leb-false limit (length (l t .held)) y
 
-  pub event-accepted : (a : EventArguments) → callRefusal limit p l (call.event a) ≡ 0
-      → (isOver p l ≡ false) × (isFull p limit l (a .event) ≡ false)
+  event-passed : (a : EventArguments) → callRefusal limit p d l (call.event a) ≡ 0
+      → (badDay d (a .day) ≡ false) × (isOver p l ≡ false) × (isFull p limit l a ≡ false)
   unfolding callRefusal callRefusals firstRefusal
-  event-accepted a h =
+  event-passed a h =
       let (x, y) = passed (eqb (a .event) 0) 18 _ h in
-      let (o, z) = passed (isOver p l) 19 _ y in
-      (o, passed (isFull p limit l (a .event)) 20 _ z .0)
+      let (b, w) = passed (badDay d (a .day)) 25 _ y in
+      let (o, z) = passed (isOver p l) 19 _ w in
+      (b, o, passed (isFull p limit l a) 20 _ z .0)
 
-  pub signal-accepted : (a : SignalArguments) → callRefusal limit p l (call.signal a) ≡ 0 → isOver p l ≡ false
+  pub event-accepted : (a : EventArguments) → callRefusal limit p d l (call.event a) ≡ 0
+      → (isOver p l ≡ false) × (isFull p limit l a ≡ false)
+  event-accepted a h = let (b, o, r) = event-passed a h in (o, r)
+
+  -- 26 refused no accepted event
+  pub event-day : (a : EventArguments) → callRefusal limit p d l (call.event a) ≡ 0 → badDay d (a .day) ≡ false
+  event-day a h = event-passed a h .0
+
+  pub signal-accepted : (a : SignalArguments) → callRefusal limit p d l (call.signal a) ≡ 0 → isOver p l ≡ false
   unfolding callRefusal callRefusals firstRefusal
   signal-accepted a h = passed (isOver p l) 19 _ h .0
 
-  pub fire-accepted : (a : FireArguments) → callRefusal limit p l (call.fire a) ≡ 0 → (isOver p l ≡ false) × (mayFire p l (a .track) ≡ true)
+  pub fire-accepted : (a : FireArguments) → callRefusal limit p d l (call.fire a) ≡ 0 → (isOver p l ≡ false) × (mayFire p l (a .track) ≡ true)
   unfolding callRefusal callRefusals firstRefusal
   fire-accepted a h =
       let (o, z) = passed (isOver p l) 19 _ h in
@@ -181,7 +203,7 @@ module _ (limit : ℕ) (p : Plan) (l : Ledger) where
 pub laws01 : Laws document01
 laws01 =
     record {
-      move-takes = λ p l a. move-takes p l (a .event);
+      move-takes = move-takes;
       moved-is = moved-is;
       entry-code = λ a c d. refl;
       entry-deviation = λ a c d. refl;
@@ -191,11 +213,11 @@ laws01 =
       moves-are = moves-are;
       turned-up = λ p ok a t h e. refl;
       goes-on = goes-on;
-      settled = λ limit p h l c z. settled limit p l c z;
-      refused = λ limit p h l c n. (next-refused limit p l (asRules c) n, refl);
-      event-accepted = λ limit p h l a z. let (o, r) = event-accepted limit p l a z in (o, has-spare limit p l a r);
-      signal-accepted = λ limit p h l. signal-accepted limit p l;
-      fire-accepted = λ limit p h l. fire-accepted limit p l;
+      settled = settled;
+      refused = λ limit p d l c n. (next-refused limit p d l (asRules c) n, day-refused limit p d l (asRules c) n);
+      event-accepted = λ limit p d l a z. let (o, r) = event-accepted limit p d l a z in (o, has-spare limit p d l a r);
+      signal-accepted = signal-accepted;
+      fire-accepted = fire-accepted;
     }
 
 -- Finish is looked for after every call.

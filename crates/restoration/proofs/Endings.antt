@@ -13,7 +13,7 @@ use Rattle.rules.specs.Plan.{Plan, trackCount, noState, optional, host, owner, 
 use Rattle.rules.specs.Ledger.{Configuration, Ledger, isAwake, isForward, isUndoing, isEmpty, sleeping}
 use Rattle.rules.specs.Scope.{hasOpenScope, isEnded, isBare}
 use Rattle.rules.specs.Finish.{isFinishing}
-use Rattle.rules.specs.Event.{moved, isClosing, isClosed, closed}
+use Rattle.rules.specs.Event.{EventArguments, moved, isClosing, isClosed, closed}
 use Rattle.rules.specs.Signal.{abandoned}
 use Rattle.rules.specs.Fire.{newest, mayFire, removed, deviatesTo, fired}
 use Rattle.rules.proofs.Tests.{look, look-option, clash, refuted, and-holds, or-holds, strong}
@@ -75,7 +75,7 @@ module _ (p : Plan) (ok : Accepted p) (m : Ledger) (n : Nested p m) (f : isFinis
 
 module _ (limit : ℕ) (p : Plan) (ok : Accepted p) (l : Ledger) (s : Sound limit p l) where
   -- an event that finishes closes no scope: its host would be awake, forward and in a hosting state, which is not final
-  pub event-ends : (e : ℕ) → isFinishing p (closed p (moved p l e)) ≡ true → (z : ℕ) → isClosing p (moved p l e) z ≡ false
+  pub event-ends : (e : EventArguments) → isFinishing p (closed p (moved p l e)) ≡ true → (z : ℕ) → isClosing p (moved p l e) z ≡ false
   event-ends e f z =
       let M = moved p l e in
       let nm = moved-nested p l e ok (s .formed .nested) in

@@ -1,16 +1,17 @@
 -- "no signal turning any of them meanwhile", literally: a forward scope's run went over no signal at all. An accepted signal of document 01
 -- turns every forward scope, and nothing but a root ever goes forward again, so a scope that is forward was so all along. Assumes nothing.
-use Prim.{tt}
 use mathlib.Core.Path.{_≡_, refl, subst}
 use mathlib.Core.Bool.{true, false}
 use mathlib.Core.List.{[], _++_}
 use Prim.Native.Nat.{ℕ}
+use Rattle.rules.specs.Names.{Day}
+use Rattle.rules.specs.Day.{earliestDay}
 use Rattle.rules.specs.Plan.{Plan, owner, isInside}
 use Rattle.rules.specs.Ledger.{Ledger, isForward}
 use Rattle.rules.specs.Scope.{isOpen}
 use Rattle.rules.specs.Opening.{begun}
-use Rattle.rules.specs.Event.{moved, isClosing, closed}
-use Rattle.rules.specs.Call.{EventArguments, FireArguments, Call, event, signal, fire, callRefusal, next}
+use Rattle.rules.specs.Event.{EventArguments, moved, isClosing, closed}
+use Rattle.rules.specs.Call.{FireArguments, Call, event, signal, fire, callRefusal, next, nextDay}
 use Rattle.rules.specs.FinishedRun.{movesOf, Reached, Running, Finished}
 use Rattle.rules.specs.FinishedRun as run
 use Rattle.rules.proofs.Tests.{clash}
@@ -24,45 +25,45 @@ use Rattle.restoration.proofs.Document01.{document01, laws01, unfinishe
 use Rattle.restoration.proofs.Runs01.{from-running}
 
 -- a run that went over no signal
-pub data Unsignalled (p : Plan) (limit s : ℕ) : Ledger → Word → Type 0 where
-  by-begin : isOpen p (begun p) s ≡ true → Unsignalled p limit s (begun p) []
-  by-call : {l : Ledger} → Reached p limit l → (c : Call) → isOpen p l s ≡ false → isOpen p (next limit p l c) s ≡ true
-      → Unsignalled p limit s (next limit p l c) []
-  over-event : {l : Ledger} {w : Word} → Unsignalled p limit s l w → (a : EventArguments) → callRefusal limit p l (event a) ≡ 0
-      → isOpen p (next limit p l (event a)) s ≡ true
-      → Unsignalled p limit s (next limit p l (event a)) (w ++ movesOf p (isInside p s) l (a .event))
-  over-fire : {l : Ledger} {w : Word} → Unsignalled p limit s l w → (a : FireArguments) → callRefusal limit p l (fire a) ≡ 0
-      → isOpen p (next limit p l (fire a)) s ≡ true → Unsignalled p limit s (next limit p l (fire a)) w
+pub data Unsignalled (p : Plan) (limit s : ℕ) : Day → Ledger → Word → Type 0 where
+  by-begin : isOpen p (begun p) s ≡ true → Unsignalled p limit s earliestDay (begun p) []
+  by-call : {d : Day} {l : Ledger} → Reached p limit d l → (c : Call) → isOpen p l s ≡ false → isOpen p (next limit p d l c) s ≡ true
+      → Unsignalled p limit s (nextDay limit p d l c) (next limit p d l c) []
+  over-event : {d : Day} {l : Ledger} {w : Word} → Unsignalled p limit s d l w → (a : EventArguments) → callRefusal limit p d l (event a) ≡ 0
+      → isOpen p (next limit p d l (event a)) s ≡ true
+      → Unsignalled p limit s (nextDay limit p d l (event a)) (next limit p d l (event a)) (w ++ movesOf p (isInside p s) l a)
+  over-fire : {d : Day} {l : Ledger} {w : Word} → Unsignalled p limit s d l w → (a : FireArguments) → callRefusal limit p d l (fire a) ≡ 0
+      → isOpen p (next limit p d l (fire a)) s ≡ true → Unsignalled p limit s (nextDay limit p d l (fire a)) (next limit p d l (fire a)) w
 
 module _ (limit : ℕ) (p : Plan) (ok : Accepted p) (s : ℕ) where
   abbrev Forward : Ledger → Type 0
   Forward l = isForward (l (owner p s) .mode) ≡ true
 
-  run-sound : {l : Ledger} {w : Word} → Running p limit s l w → Sound document01 limit p l
+  run-sound : {d : Day} {l : Ledger} {w : Word} → Running p limit s d l w → Sound document01 limit p l
   run-sound r = theorem.running-sound laws01 unfinished01 limit p ok (from-running p limit r)
 
-  run-open : {l : Ledger} {w : Word} → Running p limit s l w → isOpen p l s ≡ true
+  run-open : {d : Day} {l : Ledger} {w : Word} → Running p limit s d l w → isOpen p l s ≡ true
   run-open r = theorem.running-open laws01 unfinished01 limit p ok (from-running p limit r)
 
-  pub unsignalled : {l : Ledger} {w : Word} → Running p limit s l w → isForward (l (owner p s) .mode) ≡ true → Unsignalled p limit s l w
+  pub unsignalled : {d : Day} {l : Ledger} {w : Word} → Running p limit s d l w → isForward (l (owner p s) .mode) ≡ true → Unsignalled p limit s d l w
   unsignalled (run.by-begin o) f = by-begin o
   unsignalled (run.by-call r c n o) f = by-call r c n o
-  unsignalled (run.over-event {l = l} r a h o) f =
-      let q = theorem.open-next laws01 unfinished01 limit p ok s tt l (seam.event a) h o in
+  unsignalled (run.over-event {d = d} {l = l} r a h o) f =
+      let q = theorem.open-next laws01 unfinished01 limit p ok s d l (seam.event a) h o in
       over-event (unsignalled r (event-forward laws01 limit p ok l (run-sound r) s (run-open r) a (subst Forward q f))) a h o
-  unsignalled (run.over-signal {l = l} r a h n o) f =
-      let q = theorem.open-next laws01 unfinished01 limit p ok s tt l (seam.signal a) h o in
+  unsignalled (run.over-signal {d = d} {l = l} r a h n o) f =
+      let q = theorem.open-next laws01 unfinished01 limit p ok s d l (seam.signal a) h o in
       let k = run-sound r in
       let g = signal-forward laws01 limit p ok l k s (run-open r) a (subst Forward q f) in
       let (t, i, j) = theorem.forward-inside laws01 unfinished01 limit p ok l s k (run-open r) g in
       clash j (n t i)
-  unsignalled (run.over-fire {l = l} r a h o) f =
-      let q = theorem.open-next laws01 unfinished01 limit p ok s tt l (seam.fire a) h o in
-      over-fire (unsignalled r (fire-forward laws01 limit p ok l (run-sound r) s (run-open r) (a .track) (laws01 .fire-accepted limit p tt l a h .1) (subst Forward q f))) a h o
+  unsignalled (run.over-fire {d = d} {l = l} r a h o) f =
+      let q = theorem.open-next laws01 unfinished01 limit p ok s d l (seam.fire a) h o in
+      over-fire (unsignalled r (fire-forward laws01 limit p ok l (run-sound r) s (run-open r) (a .track) (laws01 .fire-accepted limit p d l a h .1) (subst Forward q f))) a h o
 
   -- so a finished run went over no signal
   pub finished-unsignalled : {w : Word} → Finished p limit s w
-      → (l : Ledger) × (v : Word) × (a : EventArguments) × Unsignalled p limit s l v × (callRefusal limit p l (event a) ≡ 0)
-      × (isClosing p (moved p l (a .event)) s ≡ true) × (w ≡ v ++ movesOf p (isInside p s) l (a .event))
-  finished-unsignalled (run.closed {l = l} {w = v} r a h c) =
-      (l, v, a, unsignalled r (closing-forward laws01 limit p ok l (run-sound r) s (run-open r) a c), h, c, refl)
+      → (d : Day) × (l : Ledger) × (v : Word) × (a : EventArguments) × Unsignalled p limit s d l v × (callRefusal limit p d l (event a) ≡ 0)
+      × (isClosing p (moved p l a) s ≡ true) × (w ≡ v ++ movesOf p (isInside p s) l a)
+  finished-unsignalled (run.closed {d = d} {l = l} {w = v} r a h c) =
+      (d, l, v, a, unsignalled r (closing-forward laws01 limit p ok l (run-sound r) s (run-open r) a c), h, c, refl)

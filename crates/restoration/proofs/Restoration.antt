@@ -1,6 +1,5 @@
--- Restoration and progress for the reference run, on words: the words hold the ledger of the rules, call by call, and the clerk's books are
+-- Restoration and progress for the reference run, on words: the words hold the day and the ledger of the rules, call by call, and the clerk's books are
 -- the theory's; so both are the theory's theorems. Assumes nothing.
-use Prim.{tt}
 use mathlib.Core.Path.{_≡_, refl, sym, ap, _∙_, subst}
 use mathlib.Core.Bool.{true, false, cond}
 use mathlib.Core.List.{List, [], _∷_}
@@ -10,13 +9,17 @@ use lib.Dec.{eqb}
 use borrow.Author.Tests.{ne-eqb}
 use Rattle.rules.specs.declared.Counts.{Counts}
 use Rattle.rules.specs.declared.Mode.the-variants.{Undoing}
+use Rattle.rules.specs.Names.{Day}
+use Rattle.rules.specs.Day.{earliestDay}
 use Rattle.rules.specs.Plan.{Plan, trackCount, planOf}
 use Rattle.rules.specs.Acceptance.{accepted, readPlan}
 use Rattle.rules.specs.Ledger.{Ledger, isEmpty, ledgerAt}
 use Rattle.rules.specs.Opening.{begun}
+use Rattle.rules.specs.Event.{EventArguments}
 use Rattle.rules.specs.Fire.{mayFire}
-use Rattle.rules.specs.Call.{EventArguments, SignalArguments, FireArguments, Answer, refusal, done, Call, event, signal, fire, callRefusal, next, callOutcome, beginOutcome}
+use Rattle.rules.specs.Call.{SignalArguments, FireArguments, Answer, refusal, done, Call, event, signal, fire, callRefusal, next, nextDay, callOutcome, beginOutcome}
 use Rattle.rules.specs.Books.{Books}
+use Rattle.rules.specs.Leading.{lastDay}
 use Rattle.rules.specs.ReferenceRun.{wordsFrom, wordsAfter, bookedCall, booked, booksFrom, booksAfter, ledgerAfter, AllWithdrawn}
 use Rattle.rules.proofs.Acceptance.{Accepted, accepts}
 use Rattle.theory.specs.Seams.{CallOf}
@@ -66,74 +69,76 @@ module _ (limit : ℕ) (bs : List ℕ) (c : Counts) (read : readPlan bs ≡ acce
   abbrev ok : Accepted p
   ok = accepts bs c read
 
-  abbrev Hold : List ℕ → Ledger → Type 0
-  Hold ws l = Holds limit bs c read ws l
+  abbrev Hold : List ℕ → Day → Ledger → Type 0
+  Hold ws d l = Holds limit bs c read ws d l
 
-  -- the theory's ledger after a list of calls
-  abbrev ledgerBy : Ledger → List Call → Ledger
-  ledgerBy l cs = ledgerFrom document01 p limit tt l (listed cs)
+  -- the theory's day and ledger after a list of calls
+  dayBy : Day → Ledger → List Call → Day
+  dayBy d l [] = d
+  dayBy d l (e ∷ cs) = dayBy (nextDay limit p d l (asRules (asTheory e))) (next limit p d l (asRules (asTheory e))) cs
 
-  -- words along a list hold it
-  list-follows : (cs : List Call) (ws : List ℕ) (l : Ledger) → Hold ws l → Hold (wordsFrom limit bs ws cs) (ledgerBy l cs)
-  unfolding wordsFrom ledgerFrom listed
-  list-follows [] ws l h = h
-  list-follows (d ∷ cs) ws l h =
-      list-follows cs (callOutcome limit bs ws d .words) (next limit p l (asRules (asTheory d)))
-      (next-holds limit bs c read ws l h d)
+  abbrev ledgerBy : Day → Ledger → List Call → Ledger
+  ledgerBy d l cs = ledgerFrom document01 p limit d l (listed cs)
 
-  pub list-holds : (cs : List Call) (ws : List ℕ) (l : Ledger) → Hold ws l → (m : Ledger) × Hold (wordsFrom limit bs ws cs) m
-  list-holds cs ws l h = (ledgerBy l cs, list-follows cs ws l h)
+  -- words along a list hold them
+  list-follows : (cs : List Call) (ws : List ℕ) (d : Day) (l : Ledger) → Hold ws d l → Hold (wordsFrom limit bs ws cs) (dayBy d l cs) (ledgerBy d l cs)
+  unfolding wordsFrom ledgerFrom listed dayBy
+  list-follows [] ws d l h = h
+  list-follows (e ∷ cs) ws d l h = list-follows cs (callOutcome limit bs ws e .words) _ _ (next-holds limit bs c read ws d l h e)
 
-  -- the words after a list from an accepted begin hold the ledger that they read as
+  pub list-holds : (cs : List Call) (ws : List ℕ) (d : Day) (l : Ledger) → Hold ws d l → (e : Day) × (m : Ledger) × Hold (wordsFrom limit bs ws cs) e m
+  list-holds cs ws d l h = (dayBy d l cs, ledgerBy d l cs, list-follows cs ws d l h)
+
+  -- the words after a list from an accepted begin hold the day and the ledger that they read as
   pub history-holds : (lent : List ℕ) (cs : List Call) → beginOutcome limit bs lent .answer ≡ done []
-      → Hold (wordsAfter limit bs lent cs) (ledgerAfter limit bs p lent cs)
+      → Hold (wordsAfter limit bs lent cs) (lastDay (wordsAfter limit bs lent cs)) (ledgerAfter limit bs p lent cs)
   unfolding ledgerAfter wordsAfter
   history-holds lent cs h =
-      let (m, g) = list-holds cs (beginOutcome limit bs lent .words) (begun p) (begin-holds limit bs c read lent h) in
-      subst (Hold (wordsFrom limit bs (beginOutcome limit bs lent .words) cs)) (sym (g .reads)) g
+      let (e, m, g) = list-holds cs (beginOutcome limit bs lent .words) earliestDay (begun p) (begin-holds limit bs c read lent h) in
+      let ws = wordsFrom limit bs (beginOutcome limit bs lent .words) cs in
+      subst (Hold ws (lastDay ws)) (sym (g .reads)) (subst (λ x. Hold ws x m) (sym (g .day)) g)
 
   abbrev begun-by : List Call → Ledger
-  begun-by cs = ledgerBy (begun p) cs
+  begun-by cs = ledgerBy earliestDay (begun p) cs
 
   begin-list : (lent : List ℕ) (cs : List Call) → beginOutcome limit bs lent .answer ≡ done [] → ledgerAfter limit bs p lent cs ≡ begun-by cs
   unfolding ledgerAfter wordsAfter
-  begin-list lent cs h = list-follows cs (beginOutcome limit bs lent .words) (begun p) (begin-holds limit bs c read lent h) .reads
+  begin-list lent cs h = list-follows cs (beginOutcome limit bs lent .words) earliestDay (begun p) (begin-holds limit bs c read lent h) .reads
 
   -- books of the theory, kept along the words with no more asked
   module _ (k : theory.Books document01 p limit) where
-    same-booked : (ws : List ℕ) (l : Ledger) → Hold ws l → (d : Call) (b : k .State)
-        → freelyBooked limit bs p (k .changed) (k .retracted) (ledgerAt limit ws n) d (callOutcome limit bs ws d .answer) b
-        ≡ theory.booked document01 p limit k tt l (asTheory d) b
+    same-booked : (ws : List ℕ) (d : Day) (l : Ledger) → Hold ws d l → (e : Call) (b : k .State)
+        → freelyBooked limit bs p (k .changed) (k .retracted) (ledgerAt limit ws n) e (callOutcome limit bs ws e .answer) b
+        ≡ theory.booked document01 p limit k d l (asTheory e) b
     unfolding freelyBooked theory.booked
-    same-booked ws l h d b = go (callRefusal limit p l d) refl
+    same-booked ws d l h e b = go (callRefusal limit p d l e) refl
       where
-        back : callRefusal limit p l (asRules (asTheory d)) ≡ callRefusal limit p l d
-        back = ap (callRefusal limit p l) (there-and-back d)
+        back : callRefusal limit p d l (asRules (asTheory e)) ≡ callRefusal limit p d l e
+        back = ap (callRefusal limit p d l) (there-and-back e)
 
-        go : (x : ℕ) → callRefusal limit p l d ≡ x
-            → freelyBooked limit bs p (k .changed) (k .retracted) (ledgerAt limit ws n) d (callOutcome limit bs ws d .answer) b
-            ≡ cond (eqb (callRefusal limit p l (asRules (asTheory d))) 0) (theory.bookedCall document01 p limit k l (asTheory d) b) b
-        go zero e = rw (call-accepted limit bs c read ws l h d e, h .reads, back, e) (same-call p limit k bs l d b)
-        go (suc x) e =
-            let no : eqb (callRefusal limit p l (asRules (asTheory d))) 0 ≡ false =
-            ne-eqb (callRefusal limit p l (asRules (asTheory d))) 0 (λ z. let w : suc x ≡ 0 = sym e ∙ sym back ∙ z in omega arith) in
-            rw (call-refused limit bs c read ws l h d x e, no)
+        go : (x : ℕ) → callRefusal limit p d l e ≡ x
+            → freelyBooked limit bs p (k .changed) (k .retracted) (ledgerAt limit ws n) e (callOutcome limit bs ws e .answer) b
+            ≡ cond (eqb (callRefusal limit p d l (asRules (asTheory e))) 0) (theory.bookedCall document01 p limit k l (asTheory e) b) b
+        go zero z = rw (call-accepted limit bs c read ws d l h e z, h .reads, back, z) (same-call p limit k bs l e b)
+        go (suc x) z =
+            let no : eqb (callRefusal limit p d l (asRules (asTheory e))) 0 ≡ false =
+            ne-eqb (callRefusal limit p d l (asRules (asTheory e))) 0 (λ y. let w : suc x ≡ 0 = sym z ∙ sym back ∙ y in omega arith) in
+            rw (call-refused limit bs c read ws d l h e x z, no)
 
-    same-books : (cs : List Call) (ws : List ℕ) (l : Ledger) → Hold ws l → (b : k .State)
-        → freely limit bs p (k .changed) (k .retracted) ws cs b ≡ theory.booksFrom document01 p limit k tt l (listed cs) b
+    same-books : (cs : List Call) (ws : List ℕ) (d : Day) (l : Ledger) → Hold ws d l → (b : k .State)
+        → freely limit bs p (k .changed) (k .retracted) ws cs b ≡ theory.booksFrom document01 p limit k d l (listed cs) b
     unfolding freely theory.booksFrom listed
-    same-books [] ws l h b = refl
-    same-books (d ∷ cs) ws l h b =
-        ap (freely limit bs p (k .changed) (k .retracted) (callOutcome limit bs ws d .words) cs) (same-booked ws l h d b)
-        ∙ same-books cs (callOutcome limit bs ws d .words) (next limit p l (asRules (asTheory d)))
-        (next-holds limit bs c read ws l h d)
-        (theory.booked document01 p limit k tt l (asTheory d) b)
+    same-books [] ws d l h b = refl
+    same-books (e ∷ cs) ws d l h b =
+        ap (freely limit bs p (k .changed) (k .retracted) (callOutcome limit bs ws e .words) cs) (same-booked ws d l h e b)
+        ∙ same-books cs (callOutcome limit bs ws e .words) _ _ (next-holds limit bs c read ws d l h e)
+        (theory.booked document01 p limit k d l (asTheory e) b)
 
     pub freely-restored : (lent : List ℕ) (cs : List Call) → beginOutcome limit bs lent .answer ≡ done [] → (b : k .State)
         → AllWithdrawn p (ledgerAfter limit bs p lent cs)
         → freely limit bs p (k .changed) (k .retracted) (beginOutcome limit bs lent .words) cs b ≡ b
     freely-restored lent cs h b w =
-        same-books cs (beginOutcome limit bs lent .words) (begun p) (begin-holds limit bs c read lent h) b
+        same-books cs (beginOutcome limit bs lent .words) earliestDay (begun p) (begin-holds limit bs c read lent h) b
         ∙ theorem.restored laws01 unfinished01 limit p ok k (listed cs) b (subst (AllWithdrawn p) (begin-list lent cs h) w)
 
   -- "if every root is undoing, holds nothing and has no open scope, her books stand exactly as at that begin"

@@ -1,14 +1,14 @@
 -- Document 01's runs and books are the theory's at its instance: the same runs, the same deeds, and every books of the rules are books of the
 -- theory. Assumes nothing.
-use Prim.{Unit, tt}
 use mathlib.Core.Path.{_≡_, refl, sym, ap, _∙_, subst}
 use mathlib.Core.Bool.{true}
 use mathlib.Core.List.{List, [], _∷_}
 use Prim.Native.Nat.{ℕ, _<_}
+use Rattle.rules.specs.Names.{Day}
 use Rattle.rules.specs.Plan.{Plan, transitionCount, replacement, mover}
 use Rattle.rules.specs.Ledger.{Ledger}
 use Rattle.rules.specs.Scope.{isOpen}
-use Rattle.rules.specs.Call.{Call, event, signal, fire, next}
+use Rattle.rules.specs.Call.{Call, event, signal, fire, next, nextDay}
 use Rattle.rules.specs.FinishedRun as rule
 use Rattle.rules.specs.Books as book
 use Rattle.restoration.specs.LenientBooks.{freelyCall}
@@ -23,11 +23,11 @@ same-act changed (x ∷ w) b = same-act changed w (changed x b)
 
 module _ (p : Plan) (limit : ℕ) where
   -- The theory's runs are the rules', and back.
-  to-reached : {h : Unit {0}} {l : Ledger} → theory.Reached document01 p limit h l → rule.Reached p limit l
+  to-reached : {d : Day} {l : Ledger} → theory.Reached document01 p limit d l → rule.Reached p limit d l
   to-reached theory.start = rule.start
   to-reached (theory.then r c) = rule.then (to-reached r) (asRules c)
 
-  to-running : {s : ℕ} {h : Unit {0}} {l : Ledger} {w : List ℕ} → theory.Running document01 p limit s h l w → rule.Running p limit s l w
+  to-running : {s : ℕ} {d : Day} {l : Ledger} {w : List ℕ} → theory.Running document01 p limit s d l w → rule.Running p limit s d l w
   to-running (theory.by-begin o) = rule.by-begin o
   to-running (theory.by-call r c f o) = rule.by-call (to-reached r) (asRules c) f o
   to-running (theory.over-event r a z o) = rule.over-event (to-running r) a z o
@@ -37,15 +37,16 @@ module _ (p : Plan) (limit : ℕ) where
   pub to-finished : {s : ℕ} {a : document01 .Event} {w : List ℕ} → theory.Finished document01 p limit s a w → rule.Finished p limit s w
   to-finished (theory.closed r a z c) = rule.closed (to-running r) a z c
 
-  pub from-reached : {l : Ledger} → rule.Reached p limit l → theory.Reached document01 p limit tt l
+  pub from-reached : {d : Day} {l : Ledger} → rule.Reached p limit d l → theory.Reached document01 p limit d l
   from-reached rule.start = theory.start
-  from-reached (rule.then {l = l} r c) =
-      subst (λ d. theory.Reached document01 p limit tt (next limit p l d)) (there-and-back c) (theory.then (from-reached r) (asTheory c))
+  from-reached (rule.then {d = d} {l = l} r c) =
+      subst (λ e. theory.Reached document01 p limit (nextDay limit p d l e) (next limit p d l e)) (there-and-back c)
+      (theory.then (from-reached r) (asTheory c))
 
-  pub from-running : {s : ℕ} {l : Ledger} {w : List ℕ} → rule.Running p limit s l w → theory.Running document01 p limit s tt l w
+  pub from-running : {s : ℕ} {d : Day} {l : Ledger} {w : List ℕ} → rule.Running p limit s d l w → theory.Running document01 p limit s d l w
   from-running (rule.by-begin o) = theory.by-begin o
-  from-running {s} (rule.by-call {l = l} r c f o) =
-      subst (λ d. isOpen p (next limit p l d) s ≡ true → theory.Running document01 p limit s tt (next limit p l d) []) (there-and-back c)
+  from-running {s} (rule.by-call {d = d} {l = l} r c f o) =
+      subst (λ e. isOpen p (next limit p d l e) s ≡ true → theory.Running document01 p limit s (nextDay limit p d l e) (next limit p d l e) []) (there-and-back c)
       (theory.by-call (from-reached r) (asTheory c) f) o
   from-running (rule.over-event r a z o) = theory.over-event (from-running r) a z o
   from-running (rule.over-signal r a z f o) = theory.over-signal (from-running r) a z (λ t i y. f t i) o

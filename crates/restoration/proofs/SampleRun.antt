@@ -4,6 +4,7 @@ use mathlib.Core.Path.{_≡_, refl}
 use mathlib.Core.List.{List, [], _∷_}
 use Prim.Native.Nat.{ℕ, zero, suc}
 use native.Mathlib.Omega.{arith}
+use lib.IntN.{pos}
 use Rattle.rules.specs.Layout.{entryLimit}
 use Rattle.rules.specs.Call.{Call, event, signal, fire, nothing, done, beginOutcome}
 use Rattle.rules.specs.Books.{act, Books}
@@ -22,7 +23,7 @@ abbrev lent : List ℕ
 lent = lentFor 3
 
 abbrev e : ℕ → Call
-e n = event (record { event = n })
+e n = event (record { event = n; day = pos 0 })
 
 abbrev f : ℕ → Call
 f t = fire (record { track = t })

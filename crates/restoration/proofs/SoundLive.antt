@@ -1,9 +1,8 @@
 -- Soundness as document 01 says it: on ledgers it is soundness as the theory says it, the words of a sound ledger are sound, and sound words
 -- hold a sound ledger, or one that is over. So progress holds on sound words. Assumes nothing.
-use Prim.{tt}
 use mathlib.Core.Path.{_≡_, sym, ap, _∙_, subst}
 use mathlib.Core.Logic.{inl, inr}
-use mathlib.Core.Bool.{true, false, not, _||_}
+use mathlib.Core.Bool.{true, false, not, _&&_, _||_}
 use mathlib.Core.List.{List}
 use Prim.Native.Nat.{ℕ, _<_, _≤_}
 use lib.ListN.{length}
@@ -11,8 +10,11 @@ use native.Mathlib.Omega.{arith}
 use lib.Dec.{ltb}
 use borrow.Author.Tests.{ltb-true, ltb-false, not-true}
 use Rattle.rules.specs.declared.Mode.the-variants.{Undoing}
+use Rattle.rules.specs.Names.{Day}
+use Rattle.rules.specs.Day.{isDay}
 use Rattle.rules.specs.Plan.{Plan, trackCount}
 use Rattle.rules.specs.Layout.{wordCount}
+use Rattle.rules.specs.Leading.{lastDay}
 use Rattle.rules.specs.Ledger.{Configuration, Ledger, isAwake, isEmpty, ledgerAt, written}
 use Rattle.rules.specs.Scope.{isOver}
 use Rattle.rules.specs.Fire.{mayFire}
@@ -22,6 +24,7 @@ use Rattle.rules.proofs.Tests.{look, clash, and-holds, and-both, or-holds, or-r
 use Rattle.rules.proofs.Folds.{every-at}
 use Rattle.rules.proofs.Acceptance.{Accepted}
 use Rattle.rules.proofs.Soundness.{Live, live-facts, live-of}
+use Rattle.rules.proofs.LeadingLaws.{day-written}
 use Rattle.rules.proofs.Stored.{Storable, read-written, tidy-written, storable-read}
 use Rattle.theory.proofs.Nesting.{Awake, Nested}
 use Rattle.theory.proofs.Entries.{Good, may-deviate}
@@ -118,27 +121,39 @@ module _ (limit : ℕ) (p : Plan) (ok : Accepted p) where
   kept-is l (inr s) = or-right (isOver p l) (isLive p l) (sound-live limit p ok l s)
 
   -- any call, refused or not
-  pub kept-next : (l : Ledger) → Kept document01 limit p l → (c : Call) → Kept document01 limit p (next limit p l c)
-  kept-next l k c =
-      subst (λ d. Kept document01 limit p (next limit p l d)) (there-and-back c) (theory.kept-next laws01 unfinished01 limit p ok tt l k (asTheory c))
+  pub kept-next : (d : Day) (l : Ledger) → Kept document01 limit p l → (c : Call) → Kept document01 limit p (next limit p d l c)
+  kept-next d l k c =
+      subst (λ e. Kept document01 limit p (next limit p d l e)) (there-and-back c) (theory.kept-next laws01 unfinished01 limit p ok d l k (asTheory c))
 
-  -- The same on words.
-  pub words-sound : (l : Ledger) (ws : List ℕ) → wordCount limit (trackCount p) ≤ length ws → Kept document01 limit p l
+  -- The same on words; writing tracks leaves the day.
+  pub words-sound : (l : Ledger) (ws : List ℕ) → wordCount limit (trackCount p) ≤ length ws → isDay (lastDay ws) ≡ true → Kept document01 limit p l
       → isSound limit p (written limit (trackCount p) l ws) ≡ true
   unfolding isSound
-  words-sound l ws b k =
+  words-sound l ws b d k =
       let st = kept-storable l k in
+      let vs = written limit (trackCount p) l ws in
       let q = read-written limit (trackCount p) l ws (st .fits) b (st .beyond) in
-      and-both (areTidy limit (written limit (trackCount p) l ws) (trackCount p))
-      (isOver p (ledgerAt limit (written limit (trackCount p) l ws) (trackCount p)) || isLive p (ledgerAt limit (written limit (trackCount p) l ws) (trackCount p)))
-      (tidy-written limit (trackCount p) l ws st b) (rw q (kept-is l k))
+      and-both (isDay (lastDay vs) && areTidy limit vs (trackCount p))
+      (isOver p (ledgerAt limit vs (trackCount p)) || isLive p (ledgerAt limit vs (trackCount p)))
+      (and-both (isDay (lastDay vs)) (areTidy limit vs (trackCount p)) (ap isDay (day-written ws ws limit (trackCount p) l (st .fits) b) ∙ d)
+      (tidy-written limit (trackCount p) l ws st b))
+      (rw q (kept-is l k))
 
-  -- and what sound words hold
+  -- and what sound words hold: a day in range,
+  pub words-day : (ws : List ℕ) → isSound limit p ws ≡ true → isDay (lastDay ws) ≡ true
+  unfolding isSound
+  words-day ws s =
+      let l = ledgerAt limit ws (trackCount p) in
+      let (b, v) = and-holds (isDay (lastDay ws) && areTidy limit ws (trackCount p)) (isOver p l || isLive p l) s in
+      and-holds (isDay (lastDay ws)) (areTidy limit ws (trackCount p)) b .0
+
+  -- and a sound ledger, or one that is over
   pub words-kept : (ws : List ℕ) → isSound limit p ws ≡ true → Kept document01 limit p (ledgerAt limit ws (trackCount p))
   unfolding isSound isOver
   words-kept ws s =
       let l = ledgerAt limit ws (trackCount p) in
-      let (tidy, v) = and-holds (areTidy limit ws (trackCount p)) (isOver p l || isLive p l) s in
+      let (b, v) = and-holds (isDay (lastDay ws) && areTidy limit ws (trackCount p)) (isOver p l || isLive p l) s in
+      let tidy = and-holds (isDay (lastDay ws)) (areTidy limit ws (trackCount p)) b .1 in
       let st = storable-read limit (trackCount p) ws tidy in
       elim (or-holds (isOver p l) (isLive p l) v) [
         | inr h ↦ inr (sound-of limit p ok l st h)

@@ -1,21 +1,22 @@
 -- The theory's theorems for document 01, about the rules' own functions: what is taken, recorded, closed, turned and kept there. Each is the
 -- theorem of that name at the instance. Assumes nothing.
-use Prim.{tt}
 use mathlib.Core.Path.{_≡_, refl, sym, ap, _∙_, subst, fun-ext}
 use mathlib.Core.Logic.{_⊎_}
 use mathlib.Core.Bool.{true, false, _&&_}
 use mathlib.Core.List.{List, [], _∷_, _++_}
 use mathlib.Core.Option.{Option, none, some}
 use Prim.Native.Nat.{ℕ, _<_}
+use lib.IntN.{pos}
+use Rattle.rules.specs.Names.{Day}
 use Rattle.rules.specs.Plan.{Plan, trackCount, transitionCount, transition, host, mover, isStateOf, isFinal, isInside}
 use Rattle.rules.specs.Ledger.{Configuration, Ledger, isAwake, isForward, isUndoing, isEmpty}
 use Rattle.rules.specs.Scope.{hasOpenScope, isOver}
 use Rattle.rules.specs.Opening.{enter}
-use Rattle.rules.specs.Event.{install, installed, destinationOf, installedBy, move, moved, isClosing, isClosed, closed}
+use Rattle.rules.specs.Event.{EventArguments, install, installed, destinationOf, installedBy, move, moved, isClosing, isClosed, closed}
 use Rattle.rules.specs.Finish.{isFinishing}
 use Rattle.rules.specs.Signal.{turned, isAbandoning, abandoned}
 use Rattle.rules.specs.Fire.{mayFire, fired}
-use Rattle.rules.specs.Call.{EventArguments, SignalArguments, Call, event, signal, fire, callRefusal, next}
+use Rattle.rules.specs.Call.{SignalArguments, Call, event, signal, fire, callRefusal, next}
 use Rattle.rules.specs.Books.{act}
 use Rattle.rules.specs.FinishedRun.{Reached, start, then, Running, by-begin, by-call, over-event, over-signal, over-fire, Finished}
 use Rattle.rules.proofs.Tests.{clash, refuted}
@@ -47,7 +48,7 @@ use Rattle.restoration.proofs.Document01.{document01, asTheory, there-a
 pub use Rattle.theory.proofs.SoundParts.{Over, sleeping-asleep}
 pub use Rattle.theory.proofs.MovingNested.{to-none, to-destination, to-some, has-code}
 pub use Rattle.theory.proofs.SoundKept.{over-is}
-pub use Rattle.restoration.proofs.Document01.{move-takes, next-accepted, next-refused, event-accepted, signal-accepted, fire-accepted}
+pub use Rattle.restoration.proofs.Document01.{move-takes, next-accepted, next-refused, day-accepted, day-refused, event-accepted, event-day, signal-accepted, fire-accepted}
 
 -- sound, and sound or over
 abbrev pub Sound : ℕ → Plan → Ledger → Type 0
@@ -86,30 +87,27 @@ module _ (p : Plan) where
   by-some o k x h = rw (h, installedBy)
 
 -- Moves.
-module _ (p : Plan) (l : Ledger) (e : ℕ) where
-  abbrev a : EventArguments
-  a = record { event = e }
-
+module _ (p : Plan) (l : Ledger) (a : EventArguments) where
   abbrev pub recorded : Ledger
-  recorded t = installedBy p (move p l e t) (l t)
+  recorded t = installedBy p (move p l a t) (l t)
 
   abbrev pub goes : ℕ → Option ℕ
-  goes t = destinationOf p (move p l e t)
+  goes t = destinationOf p (move p l a t)
 
   same-recorded : recorded ≡ seam.recorded document01 p l a
-  same-recorded = fun-ext (λ t. same-by a p (move p l e t) (l t))
+  same-recorded = fun-ext (λ t. same-by a p (move p l a t) (l t))
 
-  pub moved-is : moved p l e ≡ enter p goes recorded
+  pub moved-is : moved p l a ≡ enter p goes recorded
   moved-is = moving.moved-is laws01 p l a ∙ ap (enter p goes) (sym same-recorded)
 
   pub recorded-awake : (t : ℕ) → isAwake (recorded t .mode) ≡ isAwake (l t .mode)
   recorded-awake t = ap (λ (m : Ledger). isAwake (m t .mode)) same-recorded ∙ moving.recorded-awake laws01 p l a t
 
-  pub mover-awake : (t x : ℕ) → move p l e t ≡ some x → Awake l t
+  pub mover-awake : (t x : ℕ) → move p l a t ≡ some x → Awake l t
   mover-awake = moving.mover-awake laws01 p l a
 
   module _ (ok : Accepted p) (n : Nested p l) where
-    pub mover-is : (t x : ℕ) → move p l e t ≡ some x → mover p x ≡ t
+    pub mover-is : (t x : ℕ) → move p l a t ≡ some x → mover p x ≡ t
     mover-is = moving.mover-is laws01 p l a ok n
 
     pub recorded-nested : Nested p recorded
@@ -118,26 +116,26 @@ module _ (p : Plan) (l : Ledger) (e : ℕ) where
     pub goes-free : Enterable p recorded goes
     goes-free = subst (λ m. Enterable p m goes) (sym same-recorded) (moving.goes-free laws01 p l a ok n)
 
-    pub moved-nested : Nested p (moved p l e)
+    pub moved-nested : Nested p (moved p l a)
     moved-nested = moving.moved-nested laws01 p l a ok n
 
-    pub moved-still : (t : ℕ) → Awake l t → move p l e t ≡ none → moved p l e t ≡ l t
+    pub moved-still : (t : ℕ) → Awake l t → move p l a t ≡ none → moved p l a t ≡ l t
     moved-still = moving.moved-still laws01 p l a ok n
 
-    pub moved-busy : (t : ℕ) → Awake l t → hasOpenScope p l t ≡ true → moved p l e t ≡ l t
+    pub moved-busy : (t : ℕ) → Awake l t → hasOpenScope p l t ≡ true → moved p l a t ≡ l t
     moved-busy = moving.moved-busy laws01 p l a ok n
 
 -- Closing: the event does not matter.
 module _ (p : Plan) (l : Ledger) where
   abbrev any : EventArguments
-  any = record { event = 0 }
+  any = record { event = 0; day = pos 0 }
 
   pub closed-awake : (t : ℕ) → Awake (closed p l) t → (isClosed p l t ≡ false) × Awake l t
   closed-awake = closing.closed-awake laws01 p l any
 
 module _ (p : Plan) (ok : Accepted p) (l : Ledger) (n : Nested p l) where
   pub closed-nested : Nested p (closed p l)
-  closed-nested = closing.closed-nested laws01 p ok l n (record { event = 0 })
+  closed-nested = closing.closed-nested laws01 p ok l n (any p l)
 
 -- A signal turns every forward track.
 module _ (p : Plan) (ok : Accepted p) (a : SignalArguments) (l : Ledger) where
@@ -177,20 +175,20 @@ pub may-fire : (limit : ℕ) (p : Plan) (l : Ledger) (t : ℕ) → mayFire p l t
     → (t < trackCount p) × (isUndoing (l t .mode) ≡ true) × (isEmpty (l t .held) ≡ false) × (hasOpenScope p l t ≡ false)
 may-fire limit p l t h = fireable.may-fire p l t h
 
-pub over-refused : (limit : ℕ) (p : Plan) (l : Ledger) → isOver p l ≡ true → (c : Call) → callRefusal limit p l c ≡ 0 → ⊥
-over-refused limit p l o c =
-    subst (λ d. callRefusal limit p l d ≡ 0 → ⊥) (there-and-back c) (settling.over-refused laws01 limit p tt l o (asTheory c))
+pub over-refused : (limit : ℕ) (p : Plan) (d : Day) (l : Ledger) → isOver p l ≡ true → (c : Call) → callRefusal limit p d l c ≡ 0 → ⊥
+over-refused limit p d l o c =
+    subst (λ e. callRefusal limit p d l e ≡ 0 → ⊥) (there-and-back c) (settling.over-refused laws01 limit p d l o (asTheory c))
 
-module _ (limit : ℕ) (p : Plan) (ok : Accepted p) (l : Ledger) (f : Formed limit p l) (e : ℕ) where
-  pub event-roots : RootsAwake p l → RootsAwake p (closed p (moved p l e))
-  event-roots = sound-event.event-roots laws01 limit p ok l f (record { event = e })
+module _ (limit : ℕ) (p : Plan) (ok : Accepted p) (l : Ledger) (f : Formed limit p l) (a : EventArguments) where
+  pub event-roots : RootsAwake p l → RootsAwake p (closed p (moved p l a))
+  event-roots = sound-event.event-roots laws01 limit p ok l f a
 
-  pub event-abandoning : ((s : ℕ) → isAbandoning p l s ≡ false) → (s : ℕ) → isAbandoning p (closed p (moved p l e)) s ≡ false
-  event-abandoning = sound-event.event-abandoning laws01 limit p ok l f (record { event = e })
+  pub event-abandoning : ((s : ℕ) → isAbandoning p l s ≡ false) → (s : ℕ) → isAbandoning p (closed p (moved p l a)) s ≡ false
+  event-abandoning = sound-event.event-abandoning laws01 limit p ok l f a
 
 -- what a call does, finish apart
 abbrev pub work : Plan → Ledger → Call → Ledger
-work p l (event a) = closed p (moved p l (a .event))
+work p l (event a) = closed p (moved p l a)
 work p l (signal a) = abandoned p (turned l)
 work p l (fire a) = abandoned p (fired p l (a .track))
 
@@ -214,21 +212,21 @@ module _ (limit : ℕ) (p : Plan) (ok : Accepted p) (l : Ledger) (s : Sound limi
   fire-sound = sound-retraction.fire-sound laws01 limit p ok l s
 
   -- what an accepted call leaves has nothing left to settle but finish
-  pub worked : (c : Call) → callRefusal limit p l c ≡ 0 → Worked p (work p l c)
-  worked (event a) h =
-      let m = moved p l (a .event) in
+  pub worked : (d : Day) (c : Call) → callRefusal limit p d l c ≡ 0 → Worked p (work p l c)
+  worked d (event a) h =
+      let m = moved p l a in
       record {
-        nested = closed-nested p ok m (moved-nested p l (a .event) ok (s .formed .nested));
-        roots = event-roots limit p ok l (s .formed) (a .event) (s .roots);
+        nested = closed-nested p ok m (moved-nested p l a ok (s .formed .nested));
+        roots = event-roots limit p ok l (s .formed) a (s .roots);
         closing = closed-done p m;
-        abandoning = event-abandoning limit p ok l (s .formed) (a .event) (s .abandoning);
+        abandoning = event-abandoning limit p ok l (s .formed) a (s .abandoning);
       }
-  worked (signal a) h =
+  worked d (signal a) h =
       let k = signal-sound a (signal-unended p ok a l) in
       record { nested = k .formed .nested; roots = k .roots; closing = k .closing; abandoning = k .abandoning }
-  worked (fire a) h =
+  worked d (fire a) h =
       let t = a .track in
-      let may = fire-accepted limit p l a h .1 in
+      let may = fire-accepted limit p d l a h .1 in
       let X = fired p l t in
       record {
         nested = abandoned-formed limit p ok X (fired-formed t may) .nested;
@@ -240,20 +238,20 @@ module _ (limit : ℕ) (p : Plan) (ok : Accepted p) (l : Ledger) (s : Sound limi
       }
 
 -- an accepted call leaves its work, or all asleep
-pub next-cases : (limit : ℕ) (p : Plan) (ok : Accepted p) (l : Ledger) (c : Call) → callRefusal limit p l c ≡ 0
-    → (next limit p l c ≡ work p l c) ⊎ Over (next limit p l c)
-next-cases limit p ok l (event a) h = settling.next-cases laws01 limit p tt l (seam.event a) h
-next-cases limit p ok l (signal a) h =
-    subst (λ m. (next limit p l (signal a) ≡ abandoned p m) ⊎ Over (next limit p l (signal a))) (sym (same-turned p ok a l))
-    (settling.next-cases laws01 limit p tt l (seam.signal a) h)
-next-cases limit p ok l (fire a) h = settling.next-cases laws01 limit p tt l (seam.fire a) h
+pub next-cases : (limit : ℕ) (p : Plan) (ok : Accepted p) (d : Day) (l : Ledger) (c : Call) → callRefusal limit p d l c ≡ 0
+    → (next limit p d l c ≡ work p l c) ⊎ Over (next limit p d l c)
+next-cases limit p ok d l (event a) h = settling.next-cases laws01 limit p d l (seam.event a) h
+next-cases limit p ok d l (signal a) h =
+    subst (λ m. (next limit p d l (signal a) ≡ abandoned p m) ⊎ Over (next limit p d l (signal a))) (sym (same-turned p ok a l))
+    (settling.next-cases laws01 limit p d l (seam.signal a) h)
+next-cases limit p ok d l (fire a) h = settling.next-cases laws01 limit p d l (seam.fire a) h
 
 -- Runs: what lists of calls reach is sound or over, and a run stands on what one reaches.
 module _ (limit : ℕ) (p : Plan) (ok : Accepted p) where
-  pub reached-kept : {l : Ledger} → Reached p limit l → Kept limit p l
+  pub reached-kept : {d : Day} {l : Ledger} → Reached p limit d l → Kept limit p l
   reached-kept r = histories.reached-kept laws01 unfinished01 limit p ok (from-reached p limit r)
 
-  pub running-reached : {s : ℕ} {l : Ledger} {w : List ℕ} → Running p limit s l w → Reached p limit l
+  pub running-reached : {s : ℕ} {d : Day} {l : Ledger} {w : List ℕ} → Running p limit s d l w → Reached p limit d l
   running-reached (by-begin o) = start
   running-reached (by-call r c f o) = then r c
   running-reached (over-event r a z o) = then (running-reached r) (event a)

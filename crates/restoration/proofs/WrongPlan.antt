@@ -7,8 +7,8 @@ use mathlib.Core.List.{List, []}
 use Prim.Native.Nat.{ℕ, _≤_}
 use native.Mathlib.Omega.{arith}
 use lib.ListN.{length, getD}
-use lib.Dec.{eqb, ltb}
-use borrow.Author.Tests.{eqb-true, not-false, ltb-true, ltb-false, le-ltb}
+use lib.Dec.{eqb}
+use borrow.Author.Tests.{eqb-true, not-false, le-ltb}
 use Rattle.rules.specs.declared.Counts.{Counts}
 use Rattle.rules.specs.Plan.{trackCount, planOf}
 use Rattle.rules.specs.Acceptance.{accepted, readPlan}
@@ -17,7 +17,7 @@ use Rattle.rules.specs.Leading.{planSum, otherPlan}
 use Rattle.rules.specs.Call.{refusal, done, Call, refusedOr, underPlan, tooShort, ledgerRefusal, callOutcome, beginOutcome, readyOutcome, entriesPart}
 use Rattle.rules.specs.ReferenceRun.{wordsAfter}
 use Rattle.rules.proofs.Tests.{look, or-fails}
-use Rattle.rules.proofs.TrackWords.{place-below}
+use Rattle.rules.proofs.TrackWords.{fewer-words}
 use Rattle.rules.proofs.LedgerChecks.{refused-first, other-refused}
 use Rattle.restoration.proofs.SoundWords.{outcome}
 use Rattle.restoration.proofs.Restoration.{history-holds}
@@ -44,15 +44,6 @@ other-differs bs bs′ ws e d =
           absurd (d (sym a ∙ a′) (sym b ∙ b′))
     ]
 
--- the words of fewer tracks are no more
-fewer : (limit n m : ℕ) → n ≤ m → wordCount limit n ≤ wordCount limit m
-unfolding wordCount
-fewer limit n m h =
-    elim (look (ltb n m)) [
-      | inl l ↦ omega (arith, place-below limit m n (ltb-true n m l))
-      | inr l ↦ let e : n ≡ m = omega (arith, h, ltb-false n m l) in rw e (omega arith)
-    ]
-
 module _ (limit : ℕ) (bs : List ℕ) (k : Counts) (read : readPlan bs ≡ accepted k) (lent : List ℕ) (begun : beginOutcome limit bs lent .answer ≡ done [])
     (cs : List Call) where
   abbrev ws : List ℕ
@@ -70,7 +61,7 @@ module _ (limit : ℕ) (bs : List ℕ) (k : Counts) (read : readPlan bs ≡ acce
     refused =
         let h = history-holds limit bs k read lent cs begun in
         let long : wordCount limit (trackCount (planOf bs′ k′)) ≤ length ws =
-        omega (arith, h .long, fewer limit (trackCount (planOf bs′ k′)) (trackCount (planOf bs k)) few) in
+        omega (arith, h .long, fewer-words limit (trackCount (planOf bs′ k′)) (trackCount (planOf bs k)) few) in
         other-refused limit bs′ (planOf bs′ k′) ws (le-ltb (length ws) (wordCount limit (trackCount (planOf bs′ k′))) long)
         (other-differs bs bs′ ws (h .own) differ)
 

@@ -42,7 +42,7 @@ pub record Lenient (p : Plan) (limit : ℕ) (asked : Asked) : Type 1 where
 -- The reference run's books, with no condition on the changes.
 module _ (limit : ℕ) (bs : List ℕ) (p : Plan) {S : Type 0} (changed retracted : ℕ → S → S) where
   unfoldable pub freelyCall : Ledger → Call → S → S
-  freelyCall l (event a) b = act changed (movesOf p (λ t. true) l (a .event)) b
+  freelyCall l (event a) b = act changed (movesOf p (λ t. true) l a) b
   freelyCall l (signal a) b = b
   freelyCall l (fire a) b = retracted (newest (l (a .track) .held) .code) b
 
