@@ -5,7 +5,7 @@ use mathlib.Core.Path.{_≡_, refl, sym, ap, _∙_, subst}
 use mathlib.Core.Logic.{_⊎_, inl, inr}
 use mathlib.Core.Bool.{true, false, _&&_}
 use mathlib.Core.List.{List, [], _∷_, _++_}
-use mathlib.Core.Option.{none, some}
+use mathlib.Core.Option.{none}
 use Prim.Native.Nat.{ℕ, zero, suc, _*_, _<_, _≤_}
 use native.Mathlib.Omega.{arith}
 use lib.ListN.{length}
@@ -22,7 +22,6 @@ use Rattle.rules.specs.Finish.{isFinishing}
 use Rattle.rules.specs.Signal.{turned, abandoned, afterSignal}
 use Rattle.rules.specs.Fire.{newest, mayFire, deviatesTo, fired, afterFire}
 use Rattle.rules.specs.Call.{Answer, refusal, done, Call, signal, fire, nothing, after, next, nextDay, callOutcome, beginOutcome}
-use Rattle.rules.specs.Leading.{lastDay}
 use Rattle.rules.specs.Transcript.{heldTotal, firingsOf}
 use Rattle.rules.specs.Books.{Books}
 use Rattle.rules.specs.ReferenceRun.{wordsFrom, wordsAfter, answersFrom, booksAfter, ledgerAfter, AllWithdrawn}
@@ -131,7 +130,7 @@ module _ (limit : ℕ) (bs : List ℕ) (k : Counts) (read : readPlan bs ≡ acce
   abbrev ok : Accepted p
   ok = accepts bs k read
 
-  words-append : (cs ds : List Call) (ws : List ℕ) → wordsFrom limit bs ws (cs ++ ds) ≡ wordsFrom limit bs (wordsFrom limit bs ws cs) ds
+  pub words-append : (cs ds : List Call) (ws : List ℕ) → wordsFrom limit bs ws (cs ++ ds) ≡ wordsFrom limit bs (wordsFrom limit bs ws cs) ds
   unfolding wordsFrom
   words-append [] ds ws = refl
   words-append (c ∷ cs) ds ws = words-append cs ds (callOutcome limit bs ws c .words)

@@ -12,7 +12,7 @@ use borrow.Author.Tests.{ne-eqb, not-true, not-false, leb-false}
 use Rattle.rules.specs.Names.{Day}
 use Rattle.rules.specs.Day.{earliestDay}
 use Rattle.rules.specs.Fold.{firstRefusal}
-use Rattle.rules.specs.Plan.{Plan, trackCount, noState, replacement, transitionFor, takenOn}
+use Rattle.rules.specs.Plan.{Plan, trackCount, noState, replacement, transitionFor, mayTake, takenOn}
 use Rattle.rules.specs.Ledger.{Configuration, Ledger, isForward}
 use Rattle.rules.specs.Scope.{hasOpenScope, isOver}
 use Rattle.rules.specs.Opening.{enter}
@@ -84,17 +84,29 @@ document01 =
 
 -- Moves.
 module _ (p : Plan) (l : Ledger) (a : EventArguments) where
-  pub move-takes : (t x : ℕ) → move p l a t ≡ some x → Takes p l t x
+  -- a forward track without an open scope takes its state's transition for the event, and may take it on the day
+  move-is : (t x : ℕ) → move p l a t ≡ some x
+      → (isForward (l t .mode) ≡ true) × (hasOpenScope p l t ≡ false) × (transitionFor p (l t .state) (a .event) ≡ some x) × (mayTake p (a .day) x ≡ true)
   unfolding move
-  move-takes t x h = go (isForward (l t .mode) && not (hasOpenScope p l t)) refl
+  move-is t x h = go (isForward (l t .mode) && not (hasOpenScope p l t)) refl
     where
-      go : (b : Bool) → (isForward (l t .mode) && not (hasOpenScope p l t)) ≡ b → Takes p l t x
+      go : (b : Bool) → (isForward (l t .mode) && not (hasOpenScope p l t)) ≡ b
+          → (isForward (l t .mode) ≡ true) × (hasOpenScope p l t ≡ false) × (transitionFor p (l t .state) (a .event) ≡ some x) × (mayTake p (a .day) x ≡ true)
       go true k =
           let (f, n) = and-holds (isForward (l t .mode)) (not (hasOpenScope p l t)) k in
           let q : takenOn p (a .day) (transitionFor p (l t .state) (a .event)) ≡ some x = rw k at h in
-          let (r, s, v) = transition-for p (l t .state) (a .event) x (taken-on p (a .day) (transitionFor p (l t .state) (a .event)) x q .0) in
-          record { forward = f; free = not-true (hasOpenScope p l t) n; real = r; from = s }
+          let (r, m) = taken-on p (a .day) (transitionFor p (l t .state) (a .event)) x q in
+          (f, not-true (hasOpenScope p l t) n, r, m)
       go false k = let q : none ≡ some x = rw k at h in none-some refl q
+
+  pub move-takes : (t x : ℕ) → move p l a t ≡ some x → Takes p l t x
+  move-takes t x h =
+      let (f, n, q, m) = move-is t x h in
+      let (r, s, v) = transition-for p (l t .state) (a .event) x q in
+      record { forward = f; free = n; real = r; from = s }
+
+  pub move-day : (t x : ℕ) → move p l a t ≡ some x → mayTake p (a .day) x ≡ true
+  move-day t x h = move-is t x h .3
 
 -- Entries are those of the rules.
 same-installed : (a : EventArguments) (c d : ℕ) (k : Configuration) → rule-event.installed c d k ≡ installed (document01 .entry a) c d k

@@ -9,6 +9,7 @@ pub mod Allowed
 pub mod WrongPlan
 pub mod Endings
 pub mod Continuation
+pub mod Days
 pub mod Bound
 pub mod LiteralRuns
 -- Books for the sample plan; what would be false.

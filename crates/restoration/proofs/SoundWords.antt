@@ -103,7 +103,7 @@ module _ (limit : ℕ) (bs : List ℕ) (k : Counts) (read : readPlan bs ≡ acce
   theLedger ws = ledgerAt limit ws n
 
   -- the refusals of a call whose words pass the checks are those by its day and ledger
-  refusals : (ws : List ℕ) (c : Call) → Passes limit bs thePlan ws
+  pub refusals : (ws : List ℕ) (c : Call) → Passes limit bs thePlan ws
       → firstRefusal (ledgerRefusals limit bs thePlan ws ++ callRefusals limit thePlan (lastDay ws) (theLedger ws) c)
       ≡ callRefusal limit thePlan (lastDay ws) (theLedger ws) c
   unfolding callRefusal

@@ -1,11 +1,11 @@
 -- Days: a transition that is taken on a day is one that the windows let take it, a day that 26 does not refuse is in range and not before the
 -- last, and the order of days is one. Each follows from the tests, sign by sign. Assumes nothing.
-use mathlib.Core.Path.{_≡_, refl, ap, _∙_, subst}
-use mathlib.Core.Bool.{Bool, true, false, not, _&&_, _||_}
+use mathlib.Core.Path.{_≡_, refl, subst}
+use mathlib.Core.Bool.{Bool, true, false, not, _||_}
 use mathlib.Core.Option.{Option, none, some}
 use Prim.Native.Nat.{ℕ, _<_}
 use native.Mathlib.Omega.{arith}
-use lib.Dec.{eqb, leb, ltb}
+use lib.Dec.{eqb}
 use lib.IntN.{pos, negsuc}
 use lib.Signed.{leZ, ltZ}
 use borrow.Author.Tests.{eq-eqb, ltb-false, leb-true, le-leb, not-false}
