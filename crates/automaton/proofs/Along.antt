@@ -8,6 +8,8 @@ use mathlib.Core.List.{List, [], _∷_, _++_}
 use Prim.Native.Nat.{ℕ, zero, suc, _<_}
 use native.Mathlib.Omega.{arith}
 use Rattle.rules.specs.declared.Counts.{Counts}
+use Rattle.rules.specs.Names.{Day}
+use Rattle.rules.specs.Day.{earliestDay}
 use Rattle.rules.specs.Plan.{Plan, trackCount, planOf, isRoot}
 use Rattle.rules.specs.Acceptance.{accepted, readPlan}
 use Rattle.rules.specs.Ledger.{Configuration, Ledger, isAwake, isEmpty, ledgerAt}
@@ -25,7 +27,7 @@ use Rattle.theory.proofs.SoundEvent.{bare-of}
 use Rattle.restoration.proofs.Document01.{laws01}
 use Rattle.restoration.proofs.Restoration.{list-holds}
 use Rattle.restoration.proofs.SoundWords.{Holds, begin-holds, call-holds, call-accepted, call-refused}
-use Rattle.restoration.proofs.Theorems01.{over-refused, next-accepted, next-refused, sleeping-asleep, Sound, Over, Kept, over-is}
+use Rattle.restoration.proofs.Theorems01.{over-refused, next-accepted, next-refused, day-refused, sleeping-asleep, Sound, Over, Kept, over-is}
 use Rattle.automaton.specs.Configuration.{Conf, Vect, hasTerminated, hasCompensated, init}
 use Rattle.automaton.specs.Semantics.{FailReading, Act, Run, stop}
 use Rattle.automaton.specs.View.{isOnTop, viewOf, view, actsOf}
@@ -85,79 +87,81 @@ module _ (ρ : FailReading) (limit : ℕ) (bs : List ℕ) (k : Counts) (read : r
   abbrev led : List ℕ → Ledger
   led ws = ledgerAt limit ws (trackCount p)
 
-  abbrev Held : List ℕ → Ledger → Type 0
-  Held ws l = Holds limit bs k read ws l
+  abbrev Held : List ℕ → Day → Ledger → Type 0
+  Held ws d l = Holds limit bs k read ws d l
 
   not-zero : {r n : ℕ} → n ≡ suc r → n ≡ 0 → ⊥
   not-zero {r} {n} e z = omega arith
 
   -- one call
-  module _ (ws : List ℕ) (l : Ledger) (h : Held ws l) (c : Call) where
+  module _ (ws : List ℕ) (d : Day) (l : Ledger) (h : Held ws d l) (c : Call) where
     abbrev words : List ℕ
     words = callOutcome limit bs ws c .words
 
     abbrev here : List Act
     here = made (callOutcome limit bs ws c .answer) (actsOf p ρ (led ws) c)
 
-    no-acts : (r : ℕ) → callRefusal limit p l c ≡ suc r → here ≡ []
+    no-acts : (r : ℕ) → callRefusal limit p d l c ≡ suc r → here ≡ []
     no-acts r e =
-        ap (λ x. made x (actsOf p ρ (led ws) c)) (ap (λ o. o .answer) (call-refused limit bs k read ws l h c r e)) ∙ (unfold made in refl)
+        ap (λ x. made x (actsOf p ρ (led ws) c)) (ap (λ o. o .answer) (call-refused limit bs k read ws d l h c r e)) ∙ (unfold made in refl)
 
-    some-acts : callRefusal limit p l c ≡ 0 → here ≡ actsOf p ρ l c
+    some-acts : callRefusal limit p d l c ≡ 0 → here ≡ actsOf p ρ l c
     some-acts e =
-        ap (λ x. made x (actsOf p ρ (led ws) c)) (ap (λ o. o .answer) (call-accepted limit bs k read ws l h c e))
+        ap (λ x. made x (actsOf p ρ (led ws) c)) (ap (λ o. o .answer) (call-accepted limit bs k read ws d l h c e))
         ∙ (unfold made in ap (λ m. actsOf p ρ m c) (h .reads))
 
-    still : (r : ℕ) → callRefusal limit p l c ≡ suc r → Held words l
-    still r e = subst (Holds limit bs k read words) (next-refused limit p l c (λ z. not-zero e z)) (call-holds limit bs k read ws l h c)
+    still : (r : ℕ) → callRefusal limit p d l c ≡ suc r → Held words d l
+    still r e =
+        subst (Held words d) (next-refused limit p d l c (λ z. not-zero e z))
+        (subst (λ x. Held words x (next limit p d l c)) (day-refused limit p d l c (λ z. not-zero e z)) (call-holds limit bs k read ws d l h c))
 
-    refused-of : Over l → (r : ℕ) × (callRefusal limit p l c ≡ suc r)
-    refused-of o = go (callRefusal limit p l c) refl
+    refused-of : Over l → (r : ℕ) × (callRefusal limit p d l c ≡ suc r)
+    refused-of o = go (callRefusal limit p d l c) refl
       where
-        go : (n : ℕ) → callRefusal limit p l c ≡ n → (r : ℕ) × (callRefusal limit p l c ≡ suc r)
-        go zero e = absurd (over-refused limit p l (over-is p l o) c e)
+        go : (n : ℕ) → callRefusal limit p d l c ≡ n → (r : ℕ) × (callRefusal limit p d l c ≡ suc r)
+        go zero e = absurd (over-refused limit p d l (over-is p l o) c e)
         go (suc r) e = (r, e)
 
   -- over: no more steps, and nothing changes
-  over-rest : (cs : List Call) (ws : List ℕ) (l : Ledger) → Held ws l → Over l → (actsFrom limit bs p ρ ws cs ≡ []) × (led (wordsFrom limit bs ws cs) ≡ l)
+  over-rest : (cs : List Call) (ws : List ℕ) (d : Day) (l : Ledger) → Held ws d l → Over l → (actsFrom limit bs p ρ ws cs ≡ []) × (led (wordsFrom limit bs ws cs) ≡ l)
   unfolding wordsFrom actsFrom
-  over-rest [] ws l h o = (refl, h .reads)
-  over-rest (c ∷ cs) ws l h o =
-      let (r, e) = refused-of ws l h c o in
-      let (x, y) = over-rest cs (words ws l h c) l (still ws l h c r e) o in
-      (ap (λ v. v ++ actsFrom limit bs p ρ (words ws l h c) cs) (no-acts ws l h c r e) ∙ x, y)
+  over-rest [] ws d l h o = (refl, h .reads)
+  over-rest (c ∷ cs) ws d l h o =
+      let (r, e) = refused-of ws d l h c o in
+      let (x, y) = over-rest cs (words ws d l h c) d l (still ws d l h c r e) o in
+      (ap (λ v. v ++ actsFrom limit bs p ρ (words ws d l h c) cs) (no-acts ws d l h c r e) ∙ x, y)
 
-  from-run : (cs : List Call) (ws : List ℕ) (l : Ledger) → Held ws l → Sound limit p l → Played p ρ (view p ρ l) (actsFrom limit bs p ρ ws cs) (led (wordsFrom limit bs ws cs))
+  from-run : (cs : List Call) (ws : List ℕ) (d : Day) (l : Ledger) → Held ws d l → Sound limit p l → Played p ρ (view p ρ l) (actsFrom limit bs p ρ ws cs) (led (wordsFrom limit bs ws cs))
   unfolding wordsFrom actsFrom
-  from-run [] ws l h s = record { reached = view p ρ l; run = stop; shown = inl (ap (view p ρ) (h .reads)) }
-  from-run (c ∷ cs) ws l h s = go (callRefusal limit p l c) refl (λ m g v. from-run cs (words ws l h c) m g v)
+  from-run [] ws d l h s = record { reached = view p ρ l; run = stop; shown = inl (ap (view p ρ) (h .reads)) }
+  from-run (c ∷ cs) ws d l h s = go (callRefusal limit p d l c) refl (λ b m g v. from-run cs (words ws d l h c) b m g v)
     where
       rest : List Act
-      rest = actsFrom limit bs p ρ (words ws l h c) cs
+      rest = actsFrom limit bs p ρ (words ws d l h c) cs
 
       last : Ledger
-      last = led (wordsFrom limit bs (words ws l h c) cs)
+      last = led (wordsFrom limit bs (words ws d l h c) cs)
 
       Rest : Type 0
-      Rest = (m : Ledger) → Held (words ws l h c) m → Sound limit p m → Played p ρ (view p ρ m) rest last
+      Rest = (b : Day) (m : Ledger) → Held (words ws d l h c) b m → Sound limit p m → Played p ρ (view p ρ m) rest last
 
-      took : callRefusal limit p l c ≡ 0 → Kept limit p (next limit p l c) → Rest → Played p ρ (view p ρ l) (actsOf p ρ l c ++ rest) last
+      took : callRefusal limit p d l c ≡ 0 → Kept limit p (next limit p d l c) → Rest → Played p ρ (view p ρ l) (actsOf p ρ l c ++ rest) last
       took e (inr v) ih =
-          let x = stepwise p ρ ok limit l s c e in
-          let q = ap (view p ρ) (next-accepted limit p l c e) ∙ x .left in
-          joined p ρ ok (run-same p ρ (x .run) (goes-on p ρ ok limit (next limit p l c) (x .reached) v q)) (ih (next limit p l c) (call-holds limit bs k read ws l h c) v)
+          let x = stepwise p ρ ok limit d l s c e in
+          let q = ap (view p ρ) (next-accepted limit p d l c e) ∙ x .left in
+          joined p ρ ok (run-same p ρ (x .run) (goes-on p ρ ok limit (next limit p d l c) (x .reached) v q)) (ih _ (next limit p d l c) (call-holds limit bs k read ws d l h c) v)
       took e (inl o) ih =
-          let x = stepwise p ρ ok limit l s c e in
-          let q = ap (view p ρ) (next-accepted limit p l c e) ∙ x .left in
-          let (a, b) = over-rest cs (words ws l h c) (next limit p l c) (call-holds limit bs k read ws l h c) o in
+          let x = stepwise p ρ ok limit d l s c e in
+          let q = ap (view p ρ) (next-accepted limit p d l c e) ∙ x .left in
+          let (a, b) = over-rest cs (words ws d l h c) _ (next limit p d l c) (call-holds limit bs k read ws d l h c) o in
           joined p ρ ok (x .run)
           (subst (λ z. Played p ρ (x .reached) z last) (sym a)
-          (subst (λ z. Played p ρ (x .reached) [] z) (sym b) (record { reached = x .reached; run = stop; shown = shown-or-ended p ρ ok (next limit p l c) (x .reached) q })))
+          (subst (λ z. Played p ρ (x .reached) [] z) (sym b) (record { reached = x .reached; run = stop; shown = shown-or-ended p ρ ok (next limit p d l c) (x .reached) q })))
 
-      go : (n : ℕ) → callRefusal limit p l c ≡ n → Rest → Played p ρ (view p ρ l) (here ws l h c ++ rest) last
+      go : (n : ℕ) → callRefusal limit p d l c ≡ n → Rest → Played p ρ (view p ρ l) (here ws d l h c ++ rest) last
       go zero e ih =
-          subst (λ z. Played p ρ (view p ρ l) (z ++ rest) last) (sym (some-acts ws l h c e)) (took e (call-holds limit bs k read ws l h c .kept) ih)
-      go (suc r) e ih = subst (λ z. Played p ρ (view p ρ l) (z ++ rest) last) (sym (no-acts ws l h c r e)) (ih l (still ws l h c r e) s)
+          subst (λ z. Played p ρ (view p ρ l) (z ++ rest) last) (sym (some-acts ws d l h c e)) (took e (call-holds limit bs k read ws d l h c .kept) ih)
+      go (suc r) e ih = subst (λ z. Played p ρ (view p ρ l) (z ++ rest) last) (sym (no-acts ws d l h c r e)) (ih d l (still ws d l h c r e) s)
 
   -- every list of calls
   pub list-run : (lent : List ℕ) (cs : List Call) → beginOutcome limit bs lent .answer ≡ done []
@@ -166,38 +170,38 @@ module _ (ρ : FailReading) (limit : ℕ) (bs : List ℕ) (k : Counts) (read : r
   list-run lent cs h =
       let w = beginOutcome limit bs lent .words in
       subst (λ z. Played p ρ z (actsFrom limit bs p ρ w cs) (led (wordsFrom limit bs w cs))) (begin-init p ok ρ)
-      (from-run cs w (begun p) (begin-holds limit bs k read lent h) (begun-sound laws01 limit p ok))
+      (from-run cs w earliestDay (begun p) (begin-holds limit bs k read lent h) (begun-sound laws01 limit p ok))
 
   -- a call answers and leaves what its big steps end in, and nothing else; a refused one stays
-  answered : (ws : List ℕ) (l : Ledger) → Held ws l → (c : Call) (d : Conf)
-      → Answered p ρ (callOutcome limit bs ws c .answer) c (view p ρ l) d ↔ (d ≡ view p ρ (next limit p l c))
-  answered ws l h c d = go (h .kept) (callRefusal limit p l c) refl
+  answered : (ws : List ℕ) (d : Day) (l : Ledger) → Held ws d l → (c : Call) (b : Conf)
+      → Answered p ρ (callOutcome limit bs ws c .answer) c (view p ρ l) b ↔ (b ≡ view p ρ (next limit p d l c))
+  answered ws d l h c b = go (h .kept) (callRefusal limit p d l c) refl
     where
-      go : Kept limit p l → (r : ℕ) → callRefusal limit p l c ≡ r
-          → Answered p ρ (callOutcome limit bs ws c .answer) c (view p ρ l) d ↔ (d ≡ view p ρ (next limit p l c))
-      go (inl o) zero e = absurd (over-refused limit p l (over-is p l o) c e)
+      go : Kept limit p l → (r : ℕ) → callRefusal limit p d l c ≡ r
+          → Answered p ρ (callOutcome limit bs ws c .answer) c (view p ρ l) b ↔ (b ≡ view p ρ (next limit p d l c))
+      go (inl o) zero e = absurd (over-refused limit p d l (over-is p l o) c e)
       go (inr s) zero e =
-          subst (λ m. Answered p ρ (callOutcome limit bs ws c .answer) c (view p ρ l) d ↔ (d ≡ view p ρ m)) (sym (next-accepted limit p l c e))
-          (subst (λ a. Answered p ρ a c (view p ρ l) d ↔ (d ≡ view p ρ (after p l c)))
-          (sym (ap (λ o. o .answer) (call-accepted limit bs k read ws l h c e)))
-          (unfold Answered in exactly p ρ ok limit l s c e .ends d))
+          subst (λ m. Answered p ρ (callOutcome limit bs ws c .answer) c (view p ρ l) b ↔ (b ≡ view p ρ m)) (sym (next-accepted limit p d l c e))
+          (subst (λ a. Answered p ρ a c (view p ρ l) b ↔ (b ≡ view p ρ (after p l c)))
+          (sym (ap (λ o. o .answer) (call-accepted limit bs k read ws d l h c e)))
+          (unfold Answered in exactly p ρ ok limit d l s c e .ends b))
       go w (suc r) e =
-          subst (λ m. Answered p ρ (callOutcome limit bs ws c .answer) c (view p ρ l) d ↔ (d ≡ view p ρ m)) (sym (next-refused limit p l c (λ z. not-zero e z)))
-          (subst (λ a. Answered p ρ a c (view p ρ l) d ↔ (d ≡ view p ρ l))
-          (sym (ap (λ o. o .answer) (call-refused limit bs k read ws l h c r e)))
+          subst (λ m. Answered p ρ (callOutcome limit bs ws c .answer) c (view p ρ l) b ↔ (b ≡ view p ρ m)) (sym (next-refused limit p d l c (λ z. not-zero e z)))
+          (subst (λ a. Answered p ρ a c (view p ρ l) b ↔ (b ≡ view p ρ l))
+          (sym (ap (λ o. o .answer) (call-refused limit bs k read ws d l h c r e)))
           (unfold Answered in (λ q. q, λ q. q)))
 
-  from-ends : (cs : List Call) (ws : List ℕ) (l : Ledger) → Held ws l → (d : Conf)
-      → EndsFrom limit bs p ρ ws cs (view p ρ l) d ↔ (d ≡ view p ρ (led (wordsFrom limit bs ws cs)))
+  from-ends : (cs : List Call) (ws : List ℕ) (d : Day) (l : Ledger) → Held ws d l → (b : Conf)
+      → EndsFrom limit bs p ρ ws cs (view p ρ l) b ↔ (b ≡ view p ρ (led (wordsFrom limit bs ws cs)))
   unfolding EndsFrom wordsFrom
-  from-ends [] ws l h d = let e = ap (view p ρ) (h .reads) in (λ q. q ∙ sym e, λ q. q ∙ e)
-  from-ends (c ∷ cs) ws l h d =
-      let m = next limit p l c in
-      let rest = from-ends cs (callOutcome limit bs ws c .words) m (call-holds limit bs k read ws l h c) d in (
+  from-ends [] ws d l h b = let e = ap (view p ρ) (h .reads) in (λ q. q ∙ sym e, λ q. q ∙ e)
+  from-ends (c ∷ cs) ws d l h b =
+      let m = next limit p d l c in
+      let rest = from-ends cs (callOutcome limit bs ws c .words) _ m (call-holds limit bs k read ws d l h c) b in (
         λ x.
             let (e, a, y) = x in
-            rest .0 (subst (λ z. EndsFrom limit bs p ρ (callOutcome limit bs ws c .words) cs z d) (answered ws l h c e .0 a) y),
-        λ q. (view p ρ m, answered ws l h c (view p ρ m) .1 refl, rest .1 q),
+            rest .0 (subst (λ z. EndsFrom limit bs p ρ (callOutcome limit bs ws c .words) cs z b) (answered ws d l h c e .0 a) y),
+        λ q. (view p ρ m, answered ws d l h c (view p ρ m) .1 refl, rest .1 q),
       )
 
   -- Proposition 1, over a list of calls: the big steps from init end in what the ledger shows, and nowhere else
@@ -207,7 +211,7 @@ module _ (ρ : FailReading) (limit : ℕ) (bs : List ℕ) (k : Counts) (read : r
   list-ends lent cs h d =
       let w = beginOutcome limit bs lent .words in
       subst (λ z. EndsFrom limit bs p ρ w cs z d ↔ (d ≡ view p ρ (led (wordsFrom limit bs w cs)))) (begin-init p ok ρ)
-      (from-ends cs w (begun p) (begin-holds limit bs k read lent h) d)
+      (from-ends cs w earliestDay (begun p) (begin-holds limit bs k read lent h) d)
 
   kept-sound : (l : Ledger) → Kept limit p l → (t : ℕ) → Awake l t → Sound limit p l
   kept-sound l (inl o) t a = clash a (ap (λ (c : Configuration). isAwake (c .mode)) (o t) ∙ sleeping-asleep)
@@ -232,5 +236,5 @@ module _ (ρ : FailReading) (limit : ℕ) (bs : List ℕ) (k : Counts) (read : r
       sound-after : Awake (ledgerAfter limit bs p lent cs) A → Sound limit p (ledgerAfter limit bs p lent cs)
       sound-after a =
           unfold ledgerAfter wordsAfter in
-          let (m, g) = list-holds limit bs k read cs (beginOutcome limit bs lent .words) (begun p) (begin-holds limit bs k read lent h) in
+          let (b, m, g) = list-holds limit bs k read cs (beginOutcome limit bs lent .words) earliestDay (begun p) (begin-holds limit bs k read lent h) in
           kept-sound (ledgerAfter limit bs p lent cs) (subst (Kept limit p) (sym (g .reads)) (g .kept)) A a

@@ -9,9 +9,10 @@ use Prim.Native.Nat.{ℕ, zero, suc, _+_, _<_, _≤_}
 use native.Mathlib.Omega.{arith}
 use lib.Dec.{eqb}
 use borrow.Author.Tests.{eqb-true, eqb-false}
+use Rattle.rules.specs.Names.{Day}
 use Rattle.rules.specs.Plan.{Plan, trackCount, optional}
 use Rattle.rules.specs.Ledger.{Ledger}
-use Rattle.rules.specs.Event.{moves, moved, closesScope, closed}
+use Rattle.rules.specs.Event.{EventArguments, moves, moved, closesScope, closed}
 use Rattle.rules.specs.Signal.{turned, abandoned}
 use Rattle.rules.specs.Fire.{newest, fired}
 use Rattle.rules.specs.Call.{SignalArguments, FireArguments, nothing, Call, event, signal, fire, callRefusal, after}
@@ -83,7 +84,7 @@ module _ (f : ℕ → Bool) where
           (ap not (refuted (has (listedFrom n (suc i) f (λ t. t)) i) (λ h. let (b, y) = has-from n (suc i) i h in omega arith))) r
       go false r = r
 
-  from-sucs : (e n i : ℕ) → sucs e (listedFrom n i f (λ t. t)) ≡ listedFrom n i f (λ t. sucAt t e)
+  from-sucs : (e : EventArguments) (n i : ℕ) → sucs e (listedFrom n i f (λ t. t)) ≡ listedFrom n i f (λ t. sucAt t e)
   unfolding listedFrom sucs
   from-sucs e zero i = refl
   from-sucs e (suc n) i = go (f i) (from-sucs e n (suc i))
@@ -160,15 +161,15 @@ module _ (p : Plan) (ρ : FailReading) (ok : Accepted p) (l : Ledger) (n : Neste
       go (nestfailAt A) d r h = clash h refl
       go (nestcompAt A) d r h = clash h refl
 
-module _ (p : Plan) (ρ : FailReading) (ok : Accepted p) (limit : ℕ) (l : Ledger) (s : Sound limit p l) where
+module _ (p : Plan) (ρ : FailReading) (ok : Accepted p) (limit : ℕ) (day : Day) (l : Ledger) (s : Sound limit p l) where
   abbrev n : Nested p l
   n = s .formed .nested
 
   -- An event.
-  order : ℕ → List ℕ
+  order : EventArguments → List ℕ
   order e = listed (trackCount p) (moves p l e) (λ t. t)
 
-  order-has : (e A : ℕ) → (has (order e) A ≡ true) ↔ (moves p l e A ≡ true)
+  order-has : (e : EventArguments) (A : ℕ) → (has (order e) A ≡ true) ↔ (moves p l e A ≡ true)
   unfolding order listed
   order-has e A = (
     λ h. has-from (moves p l e) (trackCount p) 0 A h .1,
@@ -178,7 +179,7 @@ module _ (p : Plan) (ρ : FailReading) (ok : Accepted p) (limit : ℕ) (l : Ledg
         from-has (moves p l e) (trackCount p) 0 A (omega arith) (omega arith) h,
   )
 
-  pub event-settling : (e : ℕ) → Exhausts p ρ isSilent (view p ρ (moved p l e)) (view p ρ (closed p (moved p l e)))
+  pub event-settling : (e : EventArguments) → Exhausts p ρ isSilent (view p ρ (moved p l e)) (view p ρ (closed p (moved p l e)))
   event-settling e =
       let m = moved p l e in
       let nm = moved-nested p l e ok n in (
@@ -187,11 +188,11 @@ module _ (p : Plan) (ρ : FailReading) (ok : Accepted p) (limit : ℕ) (l : Ledg
             (view-settled p ρ ok (closed p m) (closed-nested p ok m nm) (closed-done p m) (event-abandoning limit p ok l (s .formed) e (s .abandoning))),
       )
 
-  pub event-settling-acts : (e : ℕ) → actsIn p ρ (event-settling e .0) ≡ closers p (moved p l e)
+  pub event-settling-acts : (e : EventArguments) → actsIn p ρ (event-settling e .0) ≡ closers p (moved p l e)
   unfolding event-settling
   event-settling-acts e = run-acts p ρ isSilent (closing-run p ρ ok (moved p l e) (moved-nested p l e ok n)) (closers-silent p ρ (moved p l e))
 
-  event-big : (e : ℕ) → OnEvent p ρ e (view p ρ l) (view p ρ (closed p (moved p l e)))
+  event-big : (e : EventArguments) → OnEvent p ρ e (view p ρ l) (view p ρ (closed p (moved p l e)))
   unfolding movings order listed
   event-big e =
       record {
@@ -204,11 +205,11 @@ module _ (p : Plan) (ρ : FailReading) (ok : Accepted p) (limit : ℕ) (l : Ledg
       }
 
   -- in any of them: the automata that move, and what is reached before the settling
-  pub order-moves : (e : ℕ) (d : Conf) (x : OnEvent p ρ e (view p ρ l) d) (A : ℕ) → has (x .order) A ≡ moves p l e A
+  pub order-moves : (e : EventArguments) (d : Conf) (x : OnEvent p ρ e (view p ρ l) d) (A : ℕ) → has (x .order) A ≡ moves p l e A
   order-moves e d x A =
       alike (has (x .order) A) (moves p l e A) (λ h. suc-enabled p ρ l ok n A e .0 (x .those A .1 h)) (λ h. x .those A .0 (suc-enabled p ρ l ok n A e .1 h))
 
-  pub event-between : (e : ℕ) (d : Conf) (x : OnEvent p ρ e (view p ρ l) d) → x .between ≡ view p ρ (moved p l e)
+  pub event-between : (e : EventArguments) (d : Conf) (x : OnEvent p ρ e (view p ρ l) d) → x .between ≡ view p ρ (moved p l e)
   unfolding event-big
   event-between e d x =
       let y = event-big e in
@@ -217,15 +218,15 @@ module _ (p : Plan) (ρ : FailReading) (ok : Accepted p) (limit : ℕ) (l : Ledg
       (λ A. view-once p ρ ok l n A)
       (λ A B h k. apart p l e ρ ok n A B (sym (order-moves e d x A) ∙ h) (sym (order-moves e d x B) ∙ k))
 
-  event-one : (e : ℕ) (c d : Conf) → OnEvent p ρ e (view p ρ l) c → OnEvent p ρ e (view p ρ l) d → c ≡ d
+  event-one : (e : EventArguments) (c d : Conf) → OnEvent p ρ e (view p ρ l) c → OnEvent p ρ e (view p ρ l) d → c ≡ d
   event-one e c d x y =
       silent-unique p ρ ok (y .between) c d
       (subst (λ z. Exhausts p ρ isSilent z c) (event-between e c x ∙ sym (event-between e d y)) (x .settling)) (y .settling)
 
   -- A signal.
-  signal-big : (a : SignalArguments) → callRefusal limit p l (signal a) ≡ 0 → OnSignal p ρ (view p ρ l) (view p ρ (abandoned p (turned l)))
+  signal-big : (a : SignalArguments) → callRefusal limit p day l (signal a) ≡ 0 → OnSignal p ρ (view p ρ l) (view p ρ (abandoned p (turned l)))
   signal-big a h =
-      let k = worked limit p ok l s (signal a) h in
+      let k = worked limit p ok l s day (signal a) h in
       record {
         between = view p ρ (turned l);
         turning = (run-steps p ρ isFail (turning-run p ρ ok l n) (turners-fail p ρ l), none-going p ρ ok l n);
@@ -252,12 +253,12 @@ module _ (p : Plan) (ρ : FailReading) (ok : Accepted p) (limit : ℕ) (l : Ledg
     pub settling : Exhausts p ρ isSilent between (view p ρ (abandoned p (fired p l t)))
     pub acts : actsIn p ρ (settling .0) ≡ firingActs t
 
-  pub fire-fired : (a : FireArguments) → callRefusal limit p l (fire a) ≡ 0 → Fired (a .track)
+  pub fire-fired : (a : FireArguments) → callRefusal limit p day l (fire a) ≡ 0 → Fired (a .track)
   unfolding firingActs
   fire-fired a h =
       let t = a .track in
-      let may = fire-accepted limit p l a h .1 in
-      let k = worked limit p ok l s (fire a) h in
+      let may = fire-accepted limit p day l a h .1 in
+      let k = worked limit p ok l s day (fire a) h in
       let (b, v, r) = first-of p ρ (fire-run p ρ ok l n t (s .formed .good t) may) _ _ refl in
       let silent =
       back-silent p ρ t (deviationStep t (optional (newest (l t .held) .deviation)) ++ abandonings p ρ (fired p l t))
@@ -274,7 +275,7 @@ module _ (p : Plan) (ρ : FailReading) (ok : Accepted p) (limit : ℕ) (l : Ledg
         acts = run-acts p ρ isSilent r silent;
       }
 
-  fire-big : (a : FireArguments) → callRefusal limit p l (fire a) ≡ 0
+  fire-big : (a : FireArguments) → callRefusal limit p day l (fire a) ≡ 0
       → OnFiring p ρ (a .track) (newest (l (a .track) .held) .code) (view p ρ l) (view p ρ (abandoned p (fired p l (a .track))))
   fire-big a h = let x = fire-fired a h in record { between = x .between; firing = x .firing; settling = x .settling }
 
@@ -284,23 +285,23 @@ module _ (p : Plan) (ρ : FailReading) (ok : Accepted p) (limit : ℕ) (l : Ledg
       silent-unique p ρ ok (y .between) c d (subst (λ z. Exhausts p ρ isSilent z c) same (x .settling)) (y .settling)
 
   -- what is reached before finish is looked for
-  big : (c : Call) → callRefusal limit p l c ≡ 0 → Big p ρ c (view p ρ l) (view p ρ (work p l c))
+  big : (c : Call) → callRefusal limit p day l c ≡ 0 → Big p ρ c (view p ρ l) (view p ρ (work p l c))
   unfolding Big
-  big (event a) h = event-big (a .event)
+  big (event a) h = event-big a
   big (signal a) h = signal-big a h
   big (fire a) h = (newest (l (a .track) .held) .code, fire-big a h)
 
   -- the report's Proposition 1: only one configuration is reached
   pub one-only : (c : Call) (d e : Conf) → Big p ρ c (view p ρ l) d → Big p ρ c (view p ρ l) e → d ≡ e
   unfolding Big
-  one-only (event a) d e x y = event-one (a .event) d e x y
+  one-only (event a) d e x y = event-one a d e x y
   one-only (signal a) d e x y = signal-one (view p ρ l) d e x y
   one-only (fire a) d e x y = fire-one (a .track) (x .0) (y .0) d e (x .1) (y .1)
 
   -- an accepted call leads exactly where the automaton's big steps end
-  pub exactly-big : (c : Call) → callRefusal limit p l c ≡ 0 → (d : Conf) → Ends p ρ c (view p ρ l) d ↔ (d ≡ view p ρ (after p l c))
+  pub exactly-big : (c : Call) → callRefusal limit p day l c ≡ 0 → (d : Conf) → Ends p ρ c (view p ρ l) d ↔ (d ≡ view p ρ (after p l c))
   unfolding Ends
   exactly-big c h d =
       let m = view p ρ (work p l c) in
-      let left = after-view p ρ ok limit l s c h in
+      let left = after-view p ρ ok limit day l s c h in
       (λ x. let (e, b, q) = x in q ∙ ap (afterFinish p) (one-only c e m b (big c h)) ∙ sym left, λ q. (m, big c h, q ∙ left))

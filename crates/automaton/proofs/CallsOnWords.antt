@@ -9,6 +9,7 @@ use Rattle.rules.specs.declared.Counts.{Counts}
 use Rattle.rules.specs.Fold.{firstRefusal}
 use Rattle.rules.specs.Plan.{Plan, trackCount, planOf, isRoot}
 use Rattle.rules.specs.Acceptance.{accepted, readPlan}
+use Rattle.rules.specs.Leading.{lastDay}
 use Rattle.rules.specs.Ledger.{Ledger, ledgerAt}
 use Rattle.rules.specs.Call.{refusal, done, Call, refusedOr, ledgerRefusals, ledgerRefusal, callRefusals, callRefusal, figures, after, callOutcome, beginOutcome}
 use Rattle.rules.proofs.Acceptance.{passed-all, read-passed, Accepted, accepts}
@@ -53,25 +54,25 @@ module _ (ρ : FailReading) (limit : ℕ) (bs : List ℕ) (k : Counts) (read : r
   -- what an accepted call was made on, and what it leaves
   record Made (ws : List ℕ) (c : Call) (told : List ℕ) : Type 0 where
     sound : Sound limit p (theLedger ws)
-    taken : callRefusal limit p (theLedger ws) c ≡ 0
+    taken : callRefusal limit p (lastDay ws) (theLedger ws) c ≡ 0
     leaves : theLedger (callOutcome limit bs ws c .words) ≡ after p (theLedger ws) c
     kept : Kept limit p (theLedger (callOutcome limit bs ws c .words))
-    holds : Holds limit bs k read ws (theLedger ws)
+    holds : Holds limit bs k read ws (lastDay ws) (theLedger ws)
 
   made : (ws : List ℕ) (c : Call) (told : List ℕ) → callOutcome limit bs ws c .answer ≡ done told → Made ws c told
-  made ws c told h = go (passes-holds limit bs k read ws (done-passes limit bs k read ws c told h)) (callRefusal limit p (theLedger ws) c) refl
+  made ws c told h = go (passes-holds limit bs k read ws (done-passes limit bs k read ws c told h)) (callRefusal limit p (lastDay ws) (theLedger ws) c) refl
     where
-      go : Holds limit bs k read ws (theLedger ws) → (r : ℕ) → callRefusal limit p (theLedger ws) c ≡ r → Made ws c told
-      go w (suc r) e = absurd (not-both told (suc r) (sym h ∙ ap (λ o. o .answer) (call-refused limit bs k read ws (theLedger ws) w c r e)))
+      go : Holds limit bs k read ws (lastDay ws) (theLedger ws) → (r : ℕ) → callRefusal limit p (lastDay ws) (theLedger ws) c ≡ r → Made ws c told
+      go w (suc r) e = absurd (not-both told (suc r) (sym h ∙ ap (λ o. o .answer) (call-refused limit bs k read ws (lastDay ws) (theLedger ws) w c r e)))
       go w zero e =
           elim (w .kept) [
-            | inl o ↦ absurd (over-refused limit p (theLedger ws) (over-is p (theLedger ws) o) c e)
+            | inl o ↦ absurd (over-refused limit p (lastDay ws) (theLedger ws) (over-is p (theLedger ws) o) c e)
             | inr v ↦
-                let x = call-holds limit bs k read ws (theLedger ws) w c in
+                let x = call-holds limit bs k read ws (lastDay ws) (theLedger ws) w c in
                 record {
                   sound = v;
                   taken = e;
-                  leaves = x .reads ∙ next-accepted limit p (theLedger ws) c e;
+                  leaves = x .reads ∙ next-accepted limit p (lastDay ws) (theLedger ws) c e;
                   kept = subst (Kept limit p) (sym (x .reads)) (x .kept);
                   holds = w;
                 }
@@ -93,8 +94,8 @@ module _ (ρ : FailReading) (limit : ℕ) (bs : List ℕ) (k : Counts) (read : r
   pub words-exactly : (ws : List ℕ) (c : Call) (told : List ℕ) → callOutcome limit bs ws c .answer ≡ done told → ExactlyWords ws c told (callOutcome limit bs ws c .words)
   words-exactly ws c told h =
       let m = made ws c told h in
-      let x = exactly p ρ ok limit (theLedger ws) (m .sound) c (m .taken) in
-      let q = done-same told (figures p (theLedger ws) c) (sym h ∙ ap (λ o. o .answer) (call-accepted limit bs k read ws (theLedger ws) (m .holds) c (m .taken))) in
+      let x = exactly p ρ ok limit (lastDay ws) (theLedger ws) (m .sound) c (m .taken) in
+      let q = done-same told (figures p (theLedger ws) c) (sym h ∙ ap (λ o. o .answer) (call-accepted limit bs k read ws (lastDay ws) (theLedger ws) (m .holds) c (m .taken))) in
       record {
         before = x;
         afterwards = m .leaves;
@@ -111,7 +112,7 @@ module _ (ρ : FailReading) (limit : ℕ) (bs : List ℕ) (k : Counts) (read : r
   unfolding refusedOr
   refused-still ws c r h = go _ refl
     where
-      go : (x : ℕ) → firstRefusal (ledgerRefusals limit bs p ws ++ callRefusals limit p (theLedger ws) c) ≡ x → callOutcome limit bs ws c .words ≡ ws
+      go : (x : ℕ) → firstRefusal (ledgerRefusals limit bs p ws ++ callRefusals limit p (lastDay ws) (theLedger ws) c) ≡ x → callOutcome limit bs ws c .words ≡ ws
       go zero e = absurd (not-both _ r (sym (ap (λ o. o .answer) (outcome limit bs k read ws c 0 e)) ∙ h))
       go (suc x) e = ap (λ o. o .words) (outcome limit bs k read ws c (suc x) e)
 
@@ -121,14 +122,14 @@ module _ (ρ : FailReading) (limit : ℕ) (bs : List ℕ) (k : Counts) (read : r
   unfolding refusedOr
   words-refused ws c r h above below full v = checks (ledgerRefusal limit bs p ws) refl
     where
-      go : Holds limit bs k read ws (theLedger ws) → (x : ℕ) → callRefusal limit p (theLedger ws) c ≡ x → ⊥
-      go w zero e = not-both _ r (sym (ap (λ o. o .answer) (call-accepted limit bs k read ws (theLedger ws) w c e)) ∙ h)
+      go : Holds limit bs k read ws (lastDay ws) (theLedger ws) → (x : ℕ) → callRefusal limit p (lastDay ws) (theLedger ws) c ≡ x → ⊥
+      go w zero e = not-both _ r (sym (ap (λ o. o .answer) (call-accepted limit bs k read ws (lastDay ws) (theLedger ws) w c e)) ∙ h)
       go w (suc x) e =
-          let q : r ≡ suc x = refusal-same r (suc x) (sym h ∙ ap (λ o. o .answer) (call-refused limit bs k read ws (theLedger ws) w c x e)) in
-          refused-none p (passed-all p (read-passed bs k read)) ρ limit (theLedger ws) (w .kept) c x e (λ z. full (q ∙ z)) v
+          let q : r ≡ suc x = refusal-same r (suc x) (sym h ∙ ap (λ o. o .answer) (call-refused limit bs k read ws (lastDay ws) (theLedger ws) w c x e)) in
+          refused-none p (passed-all p (read-passed bs k read)) ρ limit (lastDay ws) (theLedger ws) (w .kept) c x e (λ z. full (q ∙ z)) (λ z. omega arith) v
 
       checks : (x : ℕ) → ledgerRefusal limit bs p ws ≡ x → ⊥
-      checks zero e = go (passes-holds limit bs k read ws (none-passes limit bs p ws e)) (callRefusal limit p (theLedger ws) c) refl
+      checks zero e = go (passes-holds limit bs k read ws (none-passes limit bs p ws e)) (callRefusal limit p (lastDay ws) (theLedger ws) c) refl
       checks (suc x) e =
           let q : r ≡ suc x =
           refusal-same r (suc x) (sym h ∙ ap (λ o. o .answer) (outcome limit bs k read ws c (suc x) (refused-first limit bs p ws x e _))) in

@@ -3,7 +3,7 @@
 -- configuration within the view is, its track is so on the ledger. Assumes nothing.
 use mathlib.Core.Path.{_≡_, refl, sym, ap, _∙_, subst}
 use mathlib.Core.Logic.{_↔_, inl, inr}
-use mathlib.Core.Bool.{Bool, true, false, cond, not, _&&_}
+use mathlib.Core.Bool.{Bool, true, false, cond, not}
 use mathlib.Core.List.{List, [], _∷_, _++_}
 use mathlib.Core.Option.{Option, none, some}
 use Prim.{Unit, tt}
@@ -13,15 +13,16 @@ use lib.Dec.{eqb}
 use borrow.Author.Tests.{eqb-true, eq-eqb, ne-eqb, lt-ltb, not-true}
 use Rattle.rules.specs.declared.Mode.{Mode}
 use Rattle.rules.specs.declared.Mode.the-variants.{Asleep, Forward, Undoing}
+use Rattle.rules.specs.Names.{Day}
 use Rattle.rules.specs.Fold.{everyBelow, firstRefusal}
-use Rattle.rules.specs.Plan.{Plan, trackCount, host, transitionCount, transition, transitionFor}
+use Rattle.rules.specs.Plan.{Plan, trackCount, host, transitionCount, transition, mayTake, takenOn}
 use Rattle.rules.specs.Ledger.{Entry, Ledger, isAwake, isForward, isUndoing, isEmpty}
 use Rattle.rules.specs.Scope.{hasOpenScope, isOver}
-use Rattle.rules.specs.Event.{isMove, move, moves, isFull}
+use Rattle.rules.specs.Event.{EventArguments, isMove, move, moves, isFull}
 use Rattle.rules.specs.Fire.{newest, mayFire}
-use Rattle.rules.specs.Call.{FireArguments, Call, event, signal, fire, callRefusals, callRefusal}
-use Rattle.rules.proofs.Tests.{look, look-option, clash, refuted, and-both}
-use Rattle.rules.proofs.Folds.{first-none, some-at, every-at}
+use Rattle.rules.specs.Call.{FireArguments, Call, event, signal, fire, badDay, callRefusals, callRefusal}
+use Rattle.rules.proofs.Tests.{look, look-option, clash, refuted}
+use Rattle.rules.proofs.Folds.{every-at}
 use Rattle.rules.proofs.Acceptance.{Passed, Accepted, accepted-facts, sane}
 use Rattle.rules.proofs.Abandoning.{hosts-higher}
 use Rattle.rules.proofs.Modes.{forward-awake}
@@ -35,7 +36,7 @@ use Rattle.restoration.proofs.Theorems01.{move-takes, mover-awake, fire-accepte
 use Rattle.automaton.specs.Enabled.{Allows, StepFor}
 use Rattle.automaton.proofs.Settled.{view-settled}
 use Rattle.automaton.proofs.Frames.{down, frame, frames, instead-some, within-parts, top-parts, shown-free, shown-busy, view-frame, view-frames, view-law, frame-law, replaced}
-use Rattle.automaton.proofs.MovingSteps.{moves-some, on-event, takes, arrival}
+use Rattle.automaton.proofs.MovingSteps.{takes-it, moves-some, on-event, takes, arrival}
 use Rattle.automaton.proofs.TurningSteps.{going-forward, going-of, fails}
 use Rattle.automaton.proofs.FiringSteps.{comp-step}
 use Rattle.automaton.proofs.CallSteps.{over-view}
@@ -89,26 +90,17 @@ module _ (p : Plan) (ρ : FailReading) (l : Ledger) where
   member-shows [] β n h = h .0
   member-shows (x ∷ α) β n h = member-shows α β n (h .1)
 
-  moves-of : (A i x : ℕ) → isForward (l A .mode) ≡ true → hasOpenScope p l A ≡ false → x < transitionCount p → transition p x .source ≡ l A .state
-      → transition p x .event ≡ i → moves p l i A ≡ true
-  unfolding moves move transitionFor isMove
-  moves-of A i x f b c s e =
-      rw (f, b)
-      (elim (look-option (transitionFor p (l A .state) i)) [
-        | inl q ↦
-            clash
-            (some-at (transitionCount p) (λ x. eqb (transition p x .source) (l A .state) && eqb (transition p x .event) i) x c
-            (and-both (eqb (transition p x .source) (l A .state)) (eqb (transition p x .event) i) (eq-eqb _ _ s) (eq-eqb _ _ e)))
-            (first-none (transitionCount p) (λ x. eqb (transition p x .source) (l A .state) && eqb (transition p x .event) i) (unfold transitionFor in q))
-        | inr q ↦ rw (q .1, isMove)
-      ])
+  moves-of : Accepted p → (A : ℕ) (i : EventArguments) (x : ℕ) → isForward (l A .mode) ≡ true → hasOpenScope p l A ≡ false → x < transitionCount p
+      → transition p x .source ≡ l A .state → transition p x .event ≡ i .event → mayTake p (i .day) x ≡ true → moves p l i A ≡ true
+  unfolding moves move isMove takenOn
+  moves-of ok A i x f b c s e m = rw (f, b, takes-it p ok (i .event) (l A .state) x c s e, takenOn, m, isMove)
 
   step-allowed : (ok : Accepted p) (n : Nested p l) {c d : Conf} {a : Act} → VStep p ρ c a d → ShowsAll c → Allowed a
   unfolding Shows ShowsAll Allowed mayFire
   step-allowed ok n s =
       elim s as (λ n a m x. Shows n → Allowed a) (λ c a d x. ShowsAll c → Allowed a) [
-        | SUC A q i x S b e f g ↦
-            λ h. let (w, free, st, r, hd) = h in moves-of A i x (way-forward (l A .mode) r) free b (f ∙ st) g
+        | SUC A q i x S b e f g m ↦
+            λ h. let (w, free, st, r, hd) = h in moves-of ok A i x (way-forward (l A .mode) r) free b (f ∙ st) g m
         | FAIL A q S ↦ λ h. let (w, free, st, r, hd) = h in going-of p l ρ A (way-forward (l A .mode) r) free
         | FAILNEST A q S c w ↦ λ h. facing-going p l ρ A w (h .0)
         | COMP A q c S ↦
@@ -186,7 +178,7 @@ module _ (p : Plan) (ρ : FailReading) (l : Ledger) where
         )
 
     -- SUC at an automaton exactly if the event moves its track
-    pub suc-enabled : (t e : ℕ) → ((d : Conf) × VStep p ρ (view p ρ l) (sucAt t e) d) ↔ (moves p l e t ≡ true)
+    pub suc-enabled : (t : ℕ) (e : EventArguments) → ((d : Conf) × VStep p ρ (view p ρ l) (sucAt t e) d) ↔ (moves p l e t ≡ true)
     suc-enabled t e = (λ s. suc-only (s .0) (s .1), λ h. track-step t (arrival p l e t) (sucAt t e) (moving-awake h) (takes p l e ρ ok n t h))
       where
         suc-only : (d : Conf) → VStep p ρ (view p ρ l) (sucAt t e) d → moves p l e t ≡ true
@@ -240,16 +232,16 @@ module _ (p : Plan) (ρ : FailReading) (ok : Accepted p) (limit : ℕ) (l : Ledg
         silent = view-settled p ρ ok l n′ (s .closing) (s .abandoning);
       }
 
--- Refusals 19, 20 and 22: no step that the call asks for applies. 21 alone refuses one that would.
+-- Refusals 19, 20 and 22: no step that the call asks for applies. 21 and 26 alone refuse one that would.
 module _ (p : Plan) (passed : Passed p) (ρ : FailReading) where
   ok : Accepted p
   ok = accepted-facts p passed
 
   -- no transition is on event 0 (refusal 13)
-  zero-none : (l : Ledger) → Nested p l → (t : ℕ) (d : Conf) → VStep p ρ (view p ρ l) (sucAt t 0) d → ⊥
-  zero-none l n t d v =
-      let (x, q) = moves-some p l 0 t (suc-enabled p ρ l ok n t 0 .0 (d, v)) in
-      clash (eq-eqb (transition p x .event) 0 (on-event p l 0 t x q)) (sane p passed x (move-takes p l 0 t x q .real) .event)
+  zero-none : (l : Ledger) → Nested p l → (t : ℕ) (a : EventArguments) → a .event ≡ 0 → (d : Conf) → VStep p ρ (view p ρ l) (sucAt t a) d → ⊥
+  zero-none l n t a z d v =
+      let (x, q) = moves-some p l a t (suc-enabled p ρ l ok n t a .0 (d, v)) in
+      clash (eq-eqb (transition p x .event) 0 (on-event p l a t x q ∙ z)) (sane p passed x (move-takes p l a t x q .real) .event)
 
   -- an over ledger shows the empty vector, to which no rule applies
   over-none : (l : Ledger) → Over l → (a : Act) (d : Conf) → VStep p ρ (view p ρ l) a d → ⊥
@@ -263,39 +255,40 @@ module _ (p : Plan) (passed : Passed p) (ρ : FailReading) where
       go : {c d : Conf} {a : Act} → c ≡ end → VStep p ρ c a d → ⊥
       go e (VECT α β {n = n} s) = filled α n β e
 
-  sound-none : (limit : ℕ) (l : Ledger) → Sound limit p l → (c : Call) (r : ℕ) → callRefusal limit p l c ≡ suc r → (suc r ≡ 21 → ⊥)
-      → StepFor p ρ c (view p ρ l) → ⊥
+  sound-none : (limit : ℕ) (day : Day) (l : Ledger) → Sound limit p l → (c : Call) (r : ℕ) → callRefusal limit p day l c ≡ suc r
+      → (suc r ≡ 21 → ⊥) → (suc r ≡ 26 → ⊥) → StepFor p ρ c (view p ρ l) → ⊥
   unfolding StepFor callRefusal callRefusals firstRefusal
-  sound-none limit l s (event a) r e f v =
+  sound-none limit day l s (event a) r e f g v =
       elim (look (eqb (a .event) 0)) [
-        | inl z ↦ let (A, d, w) = v in zero-none l (s .formed .nested) A d (subst (λ i. VStep p ρ (view p ρ l) (sucAt A i) d) (eqb-true (a .event) 0 z) w)
-        | inr z ↦ full (isFull p limit l (a .event)) (rw (z, not-over p ok limit l s) at e)
+        | inl z ↦ let (A, d, w) = v in zero-none l (s .formed .nested) A a (eqb-true (a .event) 0 z) d w
+        | inr z ↦ rest (badDay day (a .day)) (isFull p limit l a) (rw (z, not-over p ok limit l s) at e)
       ]
     where
-      full : (b : Bool) → _≡_ {A = ℕ} (cond b 21 0) (suc r) → ⊥
-      full true e = f (sym e)
-      full false e = omega arith
-  sound-none limit l s (signal a) r e f v = let q : 0 ≡ suc r = rw (not-over p ok limit l s) at e in omega arith
-  sound-none limit l s (fire a) r e f v =
+      rest : (b c : Bool) → _≡_ {A = ℕ} (cond b 26 (cond c 21 0)) (suc r) → ⊥
+      rest true c e = g (sym e)
+      rest false true e = f (sym e)
+      rest false false e = omega arith
+  sound-none limit day l s (signal a) r e f g v = let q : 0 ≡ suc r = rw (not-over p ok limit l s) at e in omega arith
+  sound-none limit day l s (fire a) r e f g v =
       let may = allows p ρ ok limit l s .comp (a .track) .0 v in let q : 0 ≡ suc r = rw (not-over p ok limit l s, may) at e in omega arith
 
   -- of every sound ledger, over ones too
-  pub refused-none : (limit : ℕ) (l : Ledger) → Kept limit p l → (c : Call) (r : ℕ) → callRefusal limit p l c ≡ suc r → (suc r ≡ 21 → ⊥)
-      → StepFor p ρ c (view p ρ l) → ⊥
+  pub refused-none : (limit : ℕ) (day : Day) (l : Ledger) → Kept limit p l → (c : Call) (r : ℕ) → callRefusal limit p day l c ≡ suc r
+      → (suc r ≡ 21 → ⊥) → (suc r ≡ 26 → ⊥) → StepFor p ρ c (view p ρ l) → ⊥
   unfolding StepFor
-  refused-none limit l (inr s) c r e f v = sound-none limit l s c r e f v
-  refused-none limit l (inl o) (event a) r e f v = let (A, d, w) = v in over-none l o (sucAt A (a .event)) d w
-  refused-none limit l (inl o) (signal a) r e f v = let (A, d, w) = v in over-none l o (failAt A) d w
-  refused-none limit l (inl o) (fire a) r e f v = let (k, d, w) = v in over-none l o (compAt (a .track) k) d w
+  refused-none limit day l (inr s) c r e f g v = sound-none limit day l s c r e f g v
+  refused-none limit day l (inl o) (event a) r e f g v = let (A, d, w) = v in over-none l o (sucAt A a) d w
+  refused-none limit day l (inl o) (signal a) r e f g v = let (A, d, w) = v in over-none l o (failAt A) d w
+  refused-none limit day l (inl o) (fire a) r e f g v = let (k, d, w) = v in over-none l o (compAt (a .track) k) d w
 
   -- and a firing is accepted wherever its COMP applies
-  pub fire-accepted-if : (limit : ℕ) (l : Ledger) → Sound limit p l → (a : FireArguments)
-      → StepFor p ρ (fire a) (view p ρ l) ↔ (callRefusal limit p l (fire a) ≡ 0)
+  pub fire-accepted-if : (limit : ℕ) (day : Day) (l : Ledger) → Sound limit p l → (a : FireArguments)
+      → StepFor p ρ (fire a) (view p ρ l) ↔ (callRefusal limit p day l (fire a) ≡ 0)
   unfolding StepFor
-  fire-accepted-if limit l s a = (
+  fire-accepted-if limit day l s a = (
     λ v. accepting (allows p ρ ok limit l s .comp (a .track) .0 v),
-    λ h. allows p ρ ok limit l s .comp (a .track) .1 (fire-accepted limit p l a h .1),
+    λ h. allows p ρ ok limit l s .comp (a .track) .1 (fire-accepted limit p day l a h .1),
   )
     where
-      accepting : mayFire p l (a .track) ≡ true → callRefusal limit p l (fire a) ≡ 0
+      accepting : mayFire p l (a .track) ≡ true → callRefusal limit p day l (fire a) ≡ 0
       accepting may = unfold callRefusal callRefusals firstRefusal in rw (not-over p ok limit l s, may)

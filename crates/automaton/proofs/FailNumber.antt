@@ -73,7 +73,7 @@ module _ (ρ : FailReading) where
     unfolding turnsIn isFail isForwards
     one-less s =
         elim s as (λ n a m x. isFail a ≡ true → turnsIn n ≡ suc (turnsIn m)) (λ c a d x. isFail a ≡ true → turnsInAll c ≡ suc (turnsInAll d)) [
-          | SUC A q i x S b e f g ↦ λ h. clash h refl
+          | SUC A q i x S b e f g m ↦ λ h. clash h refl
           | FAIL A q S ↦ λ h. refl
           | FAILNEST A q S c w ↦ λ h. host-less ρ w (turnsInAll c)
           | COMP A q c S ↦ λ h. clash h refl

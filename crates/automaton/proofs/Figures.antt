@@ -154,15 +154,15 @@ module _ (p : Plan) (ρ : FailReading) (ok : Accepted p) (l : Ledger) (n : Neste
   pub figures-counted : (limit : ℕ) (c : Call) → figures p l c ≡ countedSteps p ρ l c
   unfolding figures countedSteps actsOf movings closers turners abandonings
   figures-counted limit (event a) =
-      let m = moved p l (a .event) in
+      let m = moved p l a in
       let T = trackCount p in
-      let go : ℕ → Act = λ t. sucAt t (a .event) in
+      let go : ℕ → Act = λ t. sucAt t a in
       ap₂ (λ x y. x ∷ y ∷ [])
-      (sym (number-joined isSuc (listed T (moves p l (a .event)) go) (listed T (closesScope p m) nestsucAt)
-      ∙ right-none _ _ _ (all-listed isSuc (moves p l (a .event)) go (λ k. unfold isSuc in refl) T) (none-listed isSuc (closesScope p m) nestsucAt (λ k. unfold isSuc in refl) T)))
-      (closings-counted p ρ ok m (moved-nested p l (a .event) ok n) ∙ listed-length T (closesScope p m) nestsucAt
-      ∙ sym (number-joined isNestsuc (listed T (moves p l (a .event)) go) (listed T (closesScope p m) nestsucAt)
-      ∙ left-none _ _ _ (none-listed isNestsuc (moves p l (a .event)) go (λ k. unfold isNestsuc in refl) T) (all-listed isNestsuc (closesScope p m) nestsucAt (λ k. unfold isNestsuc in refl) T)))
+      (sym (number-joined isSuc (listed T (moves p l a) go) (listed T (closesScope p m) nestsucAt)
+      ∙ right-none _ _ _ (all-listed isSuc (moves p l a) go (λ k. unfold isSuc in refl) T) (none-listed isSuc (closesScope p m) nestsucAt (λ k. unfold isSuc in refl) T)))
+      (closings-counted p ρ ok m (moved-nested p l a ok n) ∙ listed-length T (closesScope p m) nestsucAt
+      ∙ sym (number-joined isNestsuc (listed T (moves p l a) go) (listed T (closesScope p m) nestsucAt)
+      ∙ left-none _ _ _ (none-listed isNestsuc (moves p l a) go (λ k. unfold isNestsuc in refl) T) (all-listed isNestsuc (closesScope p m) nestsucAt (λ k. unfold isNestsuc in refl) T)))
   figures-counted limit (signal a) =
       let T = trackCount p in
       ap (λ x. x ∷ [])

@@ -10,11 +10,13 @@ use native.Mathlib.Omega.{arith}
 use lib.Dec.{eqb}
 use borrow.Author.Tests.{eqb-true, eqb-false, eq-eqb, ne-eqb}
 use Rattle.rules.specs.declared.Counts.{Counts}
+use Rattle.rules.specs.Names.{Day}
+use Rattle.rules.specs.Day.{earliestDay}
 use Rattle.rules.specs.Plan.{Plan, trackCount, planOf, optional, isRoot}
 use Rattle.rules.specs.Acceptance.{accepted, readPlan}
 use Rattle.rules.specs.Ledger.{Ledger, ledgerAt}
 use Rattle.rules.specs.Opening.{begun}
-use Rattle.rules.specs.Event.{move, moves, moved, closesScope}
+use Rattle.rules.specs.Event.{EventArguments, move, moves, moved, closesScope}
 use Rattle.rules.specs.Signal.{turned}
 use Rattle.rules.specs.Fire.{newest, fired}
 use Rattle.rules.specs.Call.{done, Call, event, signal, fire, callRefusal, next, callOutcome, beginOutcome}
@@ -62,7 +64,7 @@ unfolding symbol trace leaveAt
 leave-symbol A basicAlone k = refl
 leave-symbol A nestedToo k = refl
 
-past : (A e n i : ℕ) (f : ℕ → Bool) → A < i → projected A (listedFrom n i f (λ t. sucAt t e)) ≡ []
+past : (A : ℕ) (e : EventArguments) (n i : ℕ) (f : ℕ → Bool) → A < i → projected A (listedFrom n i f (λ t. sucAt t e)) ≡ []
 unfolding listedFrom projected symbol trace
 past A e zero i f b = refl
 past A e (suc n) i f b =
@@ -71,7 +73,7 @@ past A e (suc n) i f b =
     elim (look (f i)) [ inl y ↦ rw (y, d, ih) | inr y ↦ rw (y, ih) ]
 
 -- one of the steps is A's
-one-symbol : (A e n i : ℕ) (f : ℕ → Bool) → i ≤ A → A < i + n → projected A (listedFrom n i f (λ t. sucAt t e)) ≡ cond (f A) (activity e ∷ []) []
+one-symbol : (A : ℕ) (e : EventArguments) (n i : ℕ) (f : ℕ → Bool) → i ≤ A → A < i + n → projected A (listedFrom n i f (λ t. sucAt t e)) ≡ cond (f A) (activity (e .event) ∷ []) []
 unfolding listedFrom projected symbol trace
 one-symbol A e zero i f b c = absurd (omega arith)
 one-symbol A e (suc n) i f b c =
@@ -96,10 +98,10 @@ module _ (limit : ℕ) (p : Plan) (ρ : FailReading) (ok : Accepted p) (comp : �
   add = adds p ok comp perfect tagged A root limit
 
   -- what an event adds
-  added : Ledger → ℕ → List Symbol → List Symbol
-  added l e v = cond (moves p l e A) (leftAfter comp v (activity e)) v
+  added : Ledger → EventArguments → List Symbol → List Symbol
+  added l e v = cond (moves p l e A) (leftAfter comp v (activity (e .event))) v
 
-  module _ (l : Ledger) (n : Nested p l) (e : ℕ) where
+  module _ (l : Ledger) (n : Nested p l) (e : EventArguments) where
     at-root : (v : List Symbol) → act add (taken (move p l e A)) v ≡ added l e v
     unfolding act taken added
     at-root v =
@@ -153,7 +155,7 @@ module _ (limit : ℕ) (p : Plan) (ρ : FailReading) (ok : Accepted p) (comp : �
         (no-symbols A (trackCount p) 0 (closesScope p (moved p l e)) nestsucAt (λ k. unfold symbol trace in refl)))
         ∙ one-left v)
       where
-        one-left : (v : List Symbol) → leftOf comp v (cond (moves p l e A) (activity e ∷ []) [] ++ []) ≡ added l e v
+        one-left : (v : List Symbol) → leftOf comp v (cond (moves p l e A) (activity (e .event) ∷ []) [] ++ []) ≡ added l e v
         one-left v = unfold leftOf added in elim (look (moves p l e A)) [ inl h ↦ rw h | inr h ↦ rw h ]
 
   no-turns : (l : Ledger) → projected A (turners p ρ l ++ abandonings p ρ (turned l)) ≡ []
@@ -182,14 +184,14 @@ module _ (limit : ℕ) (p : Plan) (ρ : FailReading) (ok : Accepted p) (comp : �
             (takes-other p ok comp perfect tagged A root limit c v (other-code p ok comp perfect tagged A root limit t c h (eqb-false t A q)))
       ]
 
-  call-string : (l : Ledger) → Reached p limit l → Sound limit p l → (c : Call) → callRefusal limit p l c ≡ 0 → (v : List Symbol)
+  call-string : (d : Day) (l : Ledger) → Reached p limit d l → Sound limit p l → (c : Call) → callRefusal limit p d l c ≡ 0 → (v : List Symbol)
       → bookedCall limit bs p books l c v ≡ leftOf comp v (projected A (actsOf p ρ l c))
   unfolding bookedCall actsOf
-  call-string l r s (event a) h v = event-string l (s .formed .nested) (a .event) v
-  call-string l r s (signal a) h v = sym (ap (leftOf comp v) (no-turns l) ∙ (unfold leftOf in refl))
-  call-string l r s (fire a) h v =
+  call-string d l r s (event a) h v = event-string l (s .formed .nested) a v
+  call-string d l r s (signal a) h v = sym (ap (leftOf comp v) (no-turns l) ∙ (unfold leftOf in refl))
+  call-string d l r s (fire a) h v =
       let t = a .track in
-      let (b, u, e, f) = may-fire limit p l t (fire-accepted limit p l a h .1) in
+      let (b, u, e, f) = may-fire limit p l t (fire-accepted limit p d l a h .1) in
       fire-string l (fired p l t) t (newest (l t .held) .code) (optional (newest (l t .held) .deviation))
       (newest-own p t (l t .held) (reached-own p ok comp perfect limit r t) e) v
 
@@ -207,33 +209,33 @@ module _ (ρ : FailReading) (limit : ℕ) (bs : List ℕ) (k : Counts) (read : r
     abbrev theBooks : Books p limit
     theBooks = stringBooks p ok comp perfect tagged A root limit
 
-    one-call : (c : Call) (ws : List ℕ) (l : Ledger) → Holds limit bs k read ws l → Reached p limit l → (v : List Symbol)
+    one-call : (c : Call) (ws : List ℕ) (d : Day) (l : Ledger) → Holds limit bs k read ws d l → Reached p limit d l → (v : List Symbol)
         → booked limit bs p theBooks (led ws) c (callOutcome limit bs ws c .answer) v
         ≡ leftOf comp v (projected A (made (callOutcome limit bs ws c .answer) (actsOf p ρ (led ws) c)))
     unfolding booked made
-    one-call c ws l h r v = go (h .kept) (callRefusal limit p l c) refl
+    one-call c ws d l h r v = go (h .kept) (callRefusal limit p d l c) refl
       where
-        go : Kept limit p l → (x : ℕ) → callRefusal limit p l c ≡ x
+        go : Kept limit p l → (x : ℕ) → callRefusal limit p d l c ≡ x
             → booked limit bs p theBooks (led ws) c (callOutcome limit bs ws c .answer) v
             ≡ leftOf comp v (projected A (made (callOutcome limit bs ws c .answer) (actsOf p ρ (led ws) c)))
-        go (inl o) zero e = absurd (over-refused limit p l (over-is p l o) c e)
+        go (inl o) zero e = absurd (over-refused limit p d l (over-is p l o) c e)
         go (inr s) zero e =
-            rw (call-accepted limit bs k read ws l h c e, h .reads)
-            (call-string limit p ρ ok comp perfect tagged A low root bs l r s c e v)
-        go w (suc x) e = rw (call-refused limit bs k read ws l h c x e) (unfold projected leftOf in refl)
+            rw (call-accepted limit bs k read ws d l h c e, h .reads)
+            (call-string limit p ρ ok comp perfect tagged A low root bs d l r s c e v)
+        go w (suc x) e = rw (call-refused limit bs k read ws d l h c x e) (unfold projected leftOf in refl)
 
     -- the books along a list stand as the string of its steps leaves them
-    along : (cs : List Call) (ws : List ℕ) (l : Ledger) → Holds limit bs k read ws l → Reached p limit l → (v : List Symbol)
+    along : (cs : List Call) (ws : List ℕ) (d : Day) (l : Ledger) → Holds limit bs k read ws d l → Reached p limit d l → (v : List Symbol)
         → booksFrom limit bs p theBooks ws cs v ≡ leftOf comp v (projected A (actsFrom limit bs p ρ ws cs))
     unfolding booksFrom actsFrom
-    along [] ws l h r v = unfold projected leftOf in refl
-    along (c ∷ cs) ws l h r v =
+    along [] ws d l h r v = unfold projected leftOf in refl
+    along (c ∷ cs) ws d l h r v =
         let words = callOutcome limit bs ws c .words in
         let here = made (callOutcome limit bs ws c .answer) (actsOf p ρ (led ws) c) in
         let rest = actsFrom limit bs p ρ words cs in
-        along cs words (next limit p l c) (call-holds limit bs k read ws l h c) (run.then r c)
+        along cs words _ (next limit p d l c) (call-holds limit bs k read ws d l h c) (run.then r c)
         (booked limit bs p theBooks (led ws) c (callOutcome limit bs ws c .answer) v)
-        ∙ ap (λ z. leftOf comp z (projected A rest)) (one-call c ws l h r v)
+        ∙ ap (λ z. leftOf comp z (projected A rest)) (one-call c ws d l h r v)
         ∙ sym (left-joined comp v (projected A here) (projected A rest))
         ∙ ap (leftOf comp v) (sym (projected-joined A here rest))
 
@@ -244,5 +246,5 @@ module _ (ρ : FailReading) (limit : ℕ) (bs : List ℕ) (k : Counts) (read : r
     restored-cancel lent cs h w =
         let words = beginOutcome limit bs lent .words in
         let e : leftOf comp [] (projected A (actsFrom limit bs p ρ words cs)) ≡ [] =
-        sym (along cs words (begun p) (begin-holds limit bs k read lent h) run.start []) ∙ restored limit bs k read theBooks lent cs h [] w in
+        sym (along cs words earliestDay (begun p) (begin-holds limit bs k read lent h) run.start []) ∙ restored limit bs k read theBooks lent cs h [] w in
         rw e

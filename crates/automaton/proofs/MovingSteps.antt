@@ -2,22 +2,23 @@
 -- another; entering the destination is goto. Assumes nothing.
 use mathlib.Core.Path.{_≡_, refl, sym, ap, _∙_, subst}
 use mathlib.Core.Logic.{inl, inr}
-use mathlib.Core.Bool.{Bool, true, false, not, _&&_}
+use mathlib.Core.Bool.{Bool, true, false, _&&_}
 use mathlib.Core.List.{List}
 use mathlib.Core.Option.{Option, none, some}
 use Prim.Native.Nat.{ℕ, _<_}
 use lib.Dec.{eqb}
-use Rattle.rules.specs.Plan.{Plan, trackCount, transition, mover, optional, host, isHostedBy, isAbove, transitionFor}
-use Rattle.rules.specs.Ledger.{Entry, Configuration, Ledger, isAwake, isForward}
-use Rattle.rules.specs.Scope.{hasOpenScope}
+use Rattle.rules.specs.Plan.{Plan, trackCount, transition, mover, optional, host, isHostedBy, isAbove, mayTake, transitionCount, transitionFor}
+use Rattle.rules.specs.Ledger.{Entry, Configuration, Ledger, isAwake}
 use Rattle.rules.specs.Opening.{enter}
-use Rattle.rules.specs.Event.{install, isMove, move, moves, moved}
-use Rattle.rules.proofs.Tests.{look, look-option, clash, none-some}
+use Rattle.rules.specs.Event.{EventArguments, install, isMove, move, moves, moved}
+use borrow.Author.Tests.{eq-eqb}
+use Rattle.rules.proofs.Tests.{look, look-option, clash, none-some, and-both}
+use Rattle.rules.proofs.Folds.{some-at, first-none}
 use Rattle.rules.proofs.Acceptance.{Accepted, transition-for}
 use Rattle.rules.proofs.Opening.{wakes-root}
 use Rattle.theory.proofs.Nesting.{Awake, Nested, free-below}
 use Rattle.theory.proofs.EnteringNested.{Fate, enters, wakens, stays, fate, arrived-awake}
-use Rattle.restoration.proofs.Theorems01.{move-takes, by-some, to-none, to-some, to-destination, recorded, goes, moved-is, recorded-awake, mover-awake, mover-is, recorded-nested, goes-free, moved-still}
+use Rattle.restoration.proofs.Theorems01.{move-takes, move-for, move-day, by-some, to-none, to-some, to-destination, recorded, goes, moved-is, recorded-awake, mover-awake, mover-is, recorded-nested, goes-free, moved-still}
 use Rattle.automaton.specs.Configuration.{forward, NConf, Basic, push, goto}
 use Rattle.automaton.specs.Semantics.{FailReading, sucAt, Step, SUC, Run}
 use Rattle.automaton.specs.View.{stackOf, directionOf, isWithin, basic, viewOf, isOnTop, view, movings}
@@ -26,12 +27,26 @@ use Rattle.automaton.proofs.Frames.{same-conf, top-parts, top-of, shown
 use Rattle.automaton.proofs.Entered as entered
 use Rattle.automaton.proofs.Replacing.{unchanged, frames-view, allStepped, stepped-all, stepped-not, steps-run}
 
+-- the transition is the state's for the event
+pub takes-it : (p : Plan) → Accepted p → (i q x : ℕ) → x < transitionCount p → transition p x .source ≡ q → transition p x .event ≡ i → transitionFor p q i ≡ some x
+takes-it p ok i q x b s e =
+    elim (look-option (transitionFor p q i)) [
+      | inl h ↦
+          clash
+          (some-at (transitionCount p) (λ x. eqb (transition p x .source) q && eqb (transition p x .event) i) x b
+          (and-both (eqb (transition p x .source) q) (eqb (transition p x .event) i) (eq-eqb _ _ s) (eq-eqb _ _ e)))
+          (first-none (transitionCount p) (λ x. eqb (transition p x .source) q && eqb (transition p x .event) i) (unfold transitionFor in h))
+      | inr h ↦
+          let (c, t, u) = transition-for p q i (h .0) (h .1) in
+          h .1 ∙ ap some (ok .deterministic (h .0) x c b (t ∙ sym s) (u ∙ sym e))
+    ]
+
 -- installing is pushing
 pub stack-install : (c d : ℕ) (es : List Entry) → stackOf (install c d es) ≡ push c (optional d) (stackOf es)
 unfolding stackOf install push
 stack-install c d es = elim (look (eqb c 0)) [ inl e ↦ rw e | inr e ↦ rw e ]
 
-module _ (p : Plan) (l : Ledger) (e : ℕ) where
+module _ (p : Plan) (l : Ledger) (e : EventArguments) where
   pub moves-some : (t : ℕ) → moves p l e t ≡ true → (x : ℕ) × (move p l e t ≡ some x)
   unfolding moves isMove
   moves-some t h =
@@ -48,13 +63,8 @@ module _ (p : Plan) (l : Ledger) (e : ℕ) where
   none-moves t h = elim (look-option (move p l e t)) [ inl q ↦ q | inr q ↦ clash (some-moves t (q .0) (q .1)) h ]
 
   -- the transition taken is one for the event
-  pub on-event : (t x : ℕ) → move p l e t ≡ some x → transition p x .event ≡ e
-  unfolding move
-  on-event t x h =
-      elim (look (isForward (l t .mode) && not (hasOpenScope p l t))) [
-        | inl k ↦ let q : transitionFor p (l t .state) e ≡ some x = rw k at h in transition-for p (l t .state) e x q .2
-        | inr k ↦ let q : none ≡ some x = rw k at h in none-some refl q
-      ]
+  pub on-event : (t x : ℕ) → move p l e t ≡ some x → transition p x .event ≡ e .event
+  on-event t x h = transition-for p (l t .state) (e .event) x (move-for p l e t x h) .2
 
   -- where a track goes
   pub arrives : ℕ → Option ℕ → NConf
@@ -87,13 +97,14 @@ module _ (p : Plan) (l : Ledger) (e : ℕ) where
         let w = move-takes p l e t x q in
         let own : mover p x ≡ t = mover-is p l e ok n t x q in
         let from : transition p x .source ≡ l t .state = w .from in
-        let on : transition p x .event ≡ e = on-event t x q in
+        let on : transition p x .event ≡ e .event = on-event t x q in
+        let day : mayTake p (e .day) x ≡ true = move-day p l e t x q in
         let one : viewOf p ρ l t ≡ Basic t (l t .state) forward (stackOf (l t .held)) =
         view-law p ρ l ok t (n .below t (awake t h)) ∙ shown-free p ρ l t (viewOf p ρ l) (w .free)
         ∙ ap (λ z. Basic t (l t .state) (directionOf z) (stackOf (l t .held))) (w .forward) in
         subst (λ z. Step p ρ z (sucAt t e) (arrival t)) (sym one)
         (subst (λ z. Step p ρ (Basic t (l t .state) forward (stackOf (l t .held))) (sucAt t e) z) (sym (arrival-is t x q))
-        (SUC t (l t .state) e x (stackOf (l t .held)) (w .real) (cc) (cc) (cc)))
+        (SUC t (l t .state) e x (stackOf (l t .held)) (w .real) (cc) (cc) (cc) (cc)))
 
     root-awake : (t : ℕ) → host p t ≡ none → isAwake (m t .mode) ≡ isAwake (l t .mode)
     root-awake t h = ap (λ (k : Ledger). isAwake (k t .mode)) (moved-is p l e) ∙ go (fate p ok (recorded p l e) (goes p l e) t)

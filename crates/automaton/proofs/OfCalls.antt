@@ -57,7 +57,7 @@ module _ (ρ : FailReading) (bs : List ℕ) (k : Counts) (read : readPlan bs ≡
 pub event-exactly : (ρ : FailReading) (κs : Lfts 2) (a : ArgsD event.signature κs) (r : ResD event.signature κs)
     (s : AtExit (endedOf 2 event-kinds.ps event-kinds.r) κs) → event-reads.Post κs a r s
     → (k : Counts) (read : readPlan (now (a .0)) ≡ accepted k)
-    → AsAutomaton ρ (now (a .0)) k read (now (a .1 .0)) (paper.event (record { event = a .1 .1 .0 })) (eventTold r) (now (s .1 .0))
+    → AsAutomaton ρ (now (a .0)) k read (now (a .1 .0)) (paper.event (record { event = a .1 .1 .0; day = a .1 .1 .1 .0 })) (eventTold r) (now (s .1 .0))
 event-exactly ρ κs a r s p k read = as-automaton ρ (now (a .0)) k read (now (a .1 .0)) _ (event-meets κs a r s p)
 
 pub signal-exactly : (ρ : FailReading) (κs : Lfts 2) (a : ArgsD signal.signature κs) (r : ResD signal.signature κs)

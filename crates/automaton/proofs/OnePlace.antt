@@ -2,7 +2,7 @@
 -- and none is nested in another; and so it is in a view. Assumes nothing.
 use mathlib.Core.Path.{_≡_, refl, sym, ap, ap₂, _∙_, subst}
 use mathlib.Core.Logic.{_⊎_, inl, inr}
-use mathlib.Core.Bool.{Bool, true, false, cond, not, _&&_, _||_}
+use mathlib.Core.Bool.{Bool, true, false, cond, not, _||_}
 use mathlib.Core.List.{List, [], _∷_, _++_}
 use mathlib.Core.Option.{Option, none, some}
 use Prim.Native.Nat.{ℕ, zero, suc, _+_, _<_, _≤_}
@@ -10,12 +10,12 @@ use native.Mathlib.Nat.{zero-add}
 use native.Mathlib.Omega.{arith}
 use lib.Dec.{eqb}
 use borrow.Author.Tests.{eqb-true, eqb-false, eq-eqb, ne-eqb, not-true}
-use Rattle.rules.specs.Plan.{Plan, trackCount, transitionCount, transition, optional, mover, isStateOf, isIn, isHostedBy, isHosting, isAbove, firstState, transitionFor}
+use Rattle.rules.specs.Plan.{Plan, trackCount, transitionCount, transition, optional, mover, isStateOf, isIn, isHostedBy, isHosting, isAbove, firstState, transitionFor, mayTake, takenOn}
+use Rattle.rules.specs.Event.{EventArguments}
 use Rattle.rules.specs.Ledger.{Ledger}
 use Rattle.rules.specs.Scope.{hasOpenScope}
-use Rattle.rules.proofs.Tests.{look, look-option, clash, refuted, and-holds, and-both, or-right}
-use Rattle.rules.proofs.Folds.{first-none, some-at}
-use Rattle.rules.proofs.Acceptance.{Accepted, transition-for}
+use Rattle.rules.proofs.Tests.{look, clash, refuted, and-holds, or-right}
+use Rattle.rules.proofs.Acceptance.{Accepted}
 use Rattle.rules.proofs.Scopes.{in-host, host-by}
 use Rattle.rules.proofs.Forest.{Reaches, above-lower}
 use Rattle.rules.proofs.Abandoning.{hosts-higher}
@@ -27,6 +27,7 @@ use Rattle.automaton.specs.StepTests.{isSuc}
 use Rattle.automaton.specs.BigSteps.{has, isOnceEach, sucs}
 use Rattle.automaton.specs.View.{isWithin, basic, nested, viewOf, isOnTop, view}
 use Rattle.automaton.proofs.Frames.{down, reach-up, beside, roots-beside, within-parts, top-parts, shown-free, shown-busy, view-law}
+use Rattle.automaton.proofs.MovingSteps.{takes-it}
 
 -- at how many places an automaton stands
 mutual
@@ -101,7 +102,7 @@ module _ (p : Plan) (ρ : FailReading) where
   unfolding count countAll cut cutAll isComp
   comp-cut A k s =
       elim s as (λ n a m x. a ≡ compAt A k → (1 ≤ count A n) × (count A n ≤ 1 → cut A n ≡ m)) (λ c a d x. a ≡ compAt A k → (1 ≤ countAll A c) × (countAll A c ≤ 1 → cutAll A c ≡ d)) [
-        | SUC B q i x S b e f g ↦ λ h. clash (ap isComp h) refl
+        | SUC B q i x S b e f g m ↦ λ h. clash (ap isComp h) refl
         | FAIL B q S ↦ λ h. clash (ap isComp h) refl
         | FAILNEST B q S c w ↦ λ h. clash (ap isComp h) refl
         | COMP B q c S ↦ λ h. let z : B ≡ A = cc in rw (eq-eqb B A z) (omega arith, λ w. refl)
@@ -131,14 +132,14 @@ module _ (p : Plan) (ρ : FailReading) where
   comp-unique A k j c d e h s r = sym (comp-cut A k s refl .1 h) ∙ comp-cut A j r refl .1 h
 
 -- SUC on an event at the automata of a set, all at once
-module _ (p : Plan) (i : ℕ) where
+module _ (p : Plan) (i : EventArguments) where
   leaves : ℕ → ℕ → Stack → Option ℕ → NConf
   leaves A q S none = Basic A q forward S
   leaves A q S (some x) = goto p A (transition p x .destination) (push (transition p x .code) (optional (transition p x .deviation)) S)
 
   mutual
     went : (ℕ → Bool) → NConf → NConf
-    went f (Basic A q forward S) = cond (f A) (leaves A q S (transitionFor p q i)) (Basic A q forward S)
+    went f (Basic A q forward S) = cond (f A) (leaves A q S (takenOn p (i .day) (transitionFor p q (i .event)))) (Basic A q forward S)
     went f (Basic A q backward S) = Basic A q backward S
     went f (Nest A q r S c) = Nest A q r S (wentAll f c)
 
@@ -156,7 +157,7 @@ module _ (p : Plan) (i : ℕ) where
     went-same : (f g : ℕ → Bool) (n : NConf) → ((B : ℕ) → 1 ≤ count B n → f B ≡ g B) → went f n ≡ went g n
     went-same f g (Basic A q forward S) h =
         let e = one-here A A refl in
-        ap (λ x. cond x (leaves A q S (transitionFor p q i)) (Basic A q forward S)) (h A (let w : ℕ = cond (eqb A A) 1 0 in let e′ : w ≡ 1 = e in let g : 1 ≤ w = omega arith in g))
+        ap (λ x. cond x (leaves A q S (takenOn p (i .day) (transitionFor p q (i .event)))) (Basic A q forward S)) (h A (let w : ℕ = cond (eqb A A) 1 0 in let e′ : w ≡ 1 = e in let g : 1 ≤ w = omega arith in g))
     went-same f g (Basic A q backward S) h = refl
     went-same f g (Nest A q r S c) h =
         ap (Nest A q r S)
@@ -218,21 +219,13 @@ module _ (p : Plan) (ρ : FailReading) (ok : Accepted p) where
             (λ z. r (reach-up p ok A C B (subst (λ x. isHostedBy p x C ≡ true) (state-of p A q o .1) (host-by p C q (in-host p q C y))) z))))
       ]
 
-  module _ (i A : ℕ) (f g : ℕ → Bool) (agree : (B : ℕ) → (B ≡ A → ⊥) → f B ≡ g B) (here : f A ≡ true)
+  module _ (i : EventArguments) (A : ℕ) (f g : ℕ → Bool) (agree : (B : ℕ) → (B ≡ A → ⊥) → f B ≡ g B) (here : f A ≡ true)
       (clear : (B : ℕ) → Reaches p ok A B → g B ≡ false) where
-    -- the transition is the state's
-    takes-it : (q x : ℕ) → x < transitionCount p → transition p x .source ≡ q → transition p x .event ≡ i → transitionFor p q i ≡ some x
-    takes-it q x b s e =
-        elim (look-option (transitionFor p q i)) [
-          | inl h ↦
-              clash
-              (some-at (transitionCount p) (λ x. eqb (transition p x .source) q && eqb (transition p x .event) i) x b
-              (and-both (eqb (transition p x .source) q) (eqb (transition p x .event) i) (eq-eqb _ _ s) (eq-eqb _ _ e)))
-              (first-none (transitionCount p) (λ x. eqb (transition p x .source) q && eqb (transition p x .event) i) (unfold transitionFor in h))
-          | inr h ↦
-              let (c, t, u) = transition-for p q i (h .0) (h .1) in
-              h .1 ∙ ap some (ok .deterministic (h .0) x c b (t ∙ sym s) (u ∙ sym e))
-        ]
+    -- the transition is the state's, on the day
+    takes-on : (q x : ℕ) → x < transitionCount p → transition p x .source ≡ q → transition p x .event ≡ i .event → mayTake p (i .day) x ≡ true
+        → takenOn p (i .day) (transitionFor p q (i .event)) ≡ some x
+    unfolding takenOn
+    takes-on q x b s e m = rw (takes-it p ok (i .event) q x b s e, takenOn, m)
 
     goto-quiet : (q : ℕ) (S : Stack) → isStateOf p A q ≡ true → went p i g (goto p A q S) ≡ goto p A q S
     unfolding goto
@@ -259,16 +252,17 @@ module _ (p : Plan) (ρ : FailReading) (ok : Accepted p) where
       same : countAll A c ≤ 1 → wentAll p i f c ≡ wentAll p i g d
       rest : (B : ℕ) → g B ≡ true → countAll B d ≤ countAll B c
 
-    suc-went-basic : (q x : ℕ) (S : Stack) → x < transitionCount p → mover p x ≡ A → transition p x .source ≡ q → transition p x .event ≡ i
+    suc-went-basic : (q x : ℕ) (S : Stack) → x < transitionCount p → mover p x ≡ A → transition p x .source ≡ q → transition p x .event ≡ i .event
+        → mayTake p (i .day) x ≡ true
         → Went (Basic A q forward S) (goto p A (transition p x .destination) (push (transition p x .code) (optional (transition p x .deviation)) S))
     unfolding count went leaves
-    suc-went-basic q x S b e s v =
+    suc-went-basic q x S b e s v y =
         let t = transition p x .destination in
         let S′ = push (transition p x .code) (optional (transition p x .deviation)) S in
         let own : isStateOf p A t ≡ true = subst (λ y. isStateOf p y t ≡ true) e (ok .destination-own x b) in
         record {
           there = let e = one-here p i A A refl in let w : ℕ = cond (eqb A A) 1 0 in let e′ : w ≡ 1 = e in let g : 1 ≤ w = omega arith in g;
-          same = λ w. rw (here, takes-it q x b s v, leaves) (sym (goto-quiet t S′ own));
+          same = λ w. rw (here, takes-on q x b s v y, leaves) (sym (goto-quiet t S′ own));
           rest = λ B y. let z = goto-absent B t S′ own y in let w : ℕ = count B (goto p A t S′) in let z′ : w ≡ 0 = z in let k : ℕ = cond (eqb A B) 1 0 in let g : w ≤ k = omega arith in g;
         }
 
@@ -276,12 +270,12 @@ module _ (p : Plan) (ρ : FailReading) (ok : Accepted p) where
     unfolding count countAll went wentAll isSuc
     suc-went s =
         elim s as (λ n a m x. a ≡ sucAt A i → Went n m) (λ c a d x. a ≡ sucAt A i → WentAll c d) [
-          | SUC B q j x S b e k v ↦
+          | SUC B q j x S b e k v y ↦
               λ h.
               let z : A ≡ B = cc in
               let w : i ≡ j = cc in
               subst (λ C. Went (Basic C q forward S) (goto p C (transition p x .destination) (push (transition p x .code) (optional (transition p x .deviation)) S))) z
-              (suc-went-basic q x S b (e ∙ sym z) k (v ∙ sym w))
+              (suc-went-basic q x S b (e ∙ sym z) k (v ∙ ap (λ (a : EventArguments). a .event) (sym w)) (ap (λ (a : EventArguments). mayTake p (a .day) x) w ∙ y))
           | FAIL B q S ↦ λ h. clash (ap isSuc h) refl
           | FAILNEST B q S c w ↦ λ h. clash (ap isSuc h) refl
           | COMP B q c S ↦ λ h. clash (ap isSuc h) refl
@@ -339,7 +333,7 @@ module _ (p : Plan) (ρ : FailReading) (ok : Accepted p) where
         absent A c z B b e = let b′ : 1 ≤ countAll A c = subst (λ x. 1 ≤ countAll x c) e b in omega arith
 
   -- SUC at the automata of a list one after the other, each standing at one place and none nested in another
-  suc-run : (i : ℕ) {c d : Conf} {w : List Act} → Run p ρ c w d → (order : List ℕ) → w ≡ sucs i order → isOnceEach order ≡ true
+  suc-run : (i : EventArguments) {c d : Conf} {w : List Act} → Run p ρ c w d → (order : List ℕ) → w ≡ sucs i order → isOnceEach order ≡ true
       → ((A : ℕ) → has order A ≡ true → countAll A c ≤ 1) → ((A B : ℕ) → has order A ≡ true → has order B ≡ true → isAbove p A B ≡ true → ⊥)
       → wentAll p i (has order) c ≡ d
   unfolding sucs has isOnceEach
@@ -360,7 +354,7 @@ module _ (p : Plan) (ρ : FailReading) (ok : Accepted p) where
       (λ B h. let v = u .rest B h in let k = one B (later B h) in let m : ℕ = countAll B c in let n : ℕ = countAll B d in let v′ : n ≤ m = v in let k′ : m ≤ 1 = k in let g : n ≤ 1 = omega arith in g)
       (λ B C h k z. apart B C (later B h) (later C k) z)
 
-  pub suc-unique : (i : ℕ) (c d e : Conf) (v w : List ℕ) → Run p ρ c (sucs i v) d → Run p ρ c (sucs i w) e → isOnceEach v ≡ true → isOnceEach w ≡ true
+  pub suc-unique : (i : EventArguments) (c d e : Conf) (v w : List ℕ) → Run p ρ c (sucs i v) d → Run p ρ c (sucs i w) e → isOnceEach v ≡ true → isOnceEach w ≡ true
       → has v ≡ has w → ((A : ℕ) → countAll A c ≤ 1) → ((A B : ℕ) → has v A ≡ true → has v B ≡ true → isAbove p A B ≡ true → ⊥) → d ≡ e
   suc-unique i c d e v w r s x y h one apart =
       sym (suc-run i r v refl x (λ A k. one A) apart) ∙ ap (λ f. wentAll p i f c) h

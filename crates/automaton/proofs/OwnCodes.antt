@@ -8,10 +8,11 @@ use mathlib.Core.Option.{Option}
 use Prim.Native.Nat.{ℕ}
 use lib.Dec.{eqb}
 use borrow.Author.Tests.{eqb-true, eqb-false, eq-eqb}
+use Rattle.rules.specs.Names.{Day}
 use Rattle.rules.specs.Plan.{Plan, owner, transition, noState, replacement}
 use Rattle.rules.specs.Ledger.{Entry, Configuration, Ledger, isEmpty, sleeping}
 use Rattle.rules.specs.Opening.{begun, enter}
-use Rattle.rules.specs.Event.{install, move, moved, isClosed, closesScope, closed}
+use Rattle.rules.specs.Event.{EventArguments, install, move, moved, isClosed, closesScope, closed}
 use Rattle.rules.specs.Signal.{turned, isAbandoned, abandoned}
 use Rattle.rules.specs.Fire.{newest, older, removed, deviatesTo, fired}
 use Rattle.rules.specs.Soundness.{everyHeld}
@@ -71,7 +72,7 @@ module _ (p : Plan) where
         go (stays e w q) = ap (λ (c : Configuration). own t (c .held)) q ∙ h t
 
     module _ (comp : ℕ → ℕ) (perfect : Perfect comp p) where
-      recorded-own : (l : Ledger) → Nested p l → (e : ℕ) → ((t : ℕ) → own t (l t .held) ≡ true) → (t : ℕ) → own t (recorded p l e t .held) ≡ true
+      recorded-own : (l : Ledger) → Nested p l → (e : EventArguments) → ((t : ℕ) → own t (l t .held) ≡ true) → (t : ℕ) → own t (recorded p l e t .held) ≡ true
       recorded-own l n e h t =
           elim (look-option (move p l e t)) [
             | inl q ↦ ap (λ (c : Configuration). own t (c .held)) (by-none p (move p l e t) (l t) q) ∙ h t
@@ -82,7 +83,7 @@ module _ (p : Plan) where
                 (λ z. code-of p t x (move-takes p l e t x (q .1) .real) (mover-is p l e ok n t x (q .1))) (h t)
           ]
 
-      moved-own : (l : Ledger) → Nested p l → (e : ℕ) → ((t : ℕ) → own t (l t .held) ≡ true) → (t : ℕ) → own t (moved p l e t .held) ≡ true
+      moved-own : (l : Ledger) → Nested p l → (e : EventArguments) → ((t : ℕ) → own t (l t .held) ≡ true) → (t : ℕ) → own t (moved p l e t .held) ≡ true
       moved-own l n e h t = ap (λ m. own t (m t .held)) (moved-is p l e) ∙ enter-own (recorded p l e) (goes p l e) (recorded-own l n e h) t
 
       closed-own : (l : Ledger) → ((t : ℕ) → own t (l t .held) ≡ true) → (t : ℕ) → own t (closed p l t .held) ≡ true
@@ -114,34 +115,34 @@ module _ (p : Plan) where
           ]
 
       work-own : (l : Ledger) → Nested p l → (c : Call) → ((t : ℕ) → own t (l t .held) ≡ true) → (t : ℕ) → own t (work p l c t .held) ≡ true
-      work-own l n (event a) h = closed-own (moved p l (a .event)) (moved-own l n (a .event) h)
+      work-own l n (event a) h = closed-own (moved p l a) (moved-own l n a h)
       work-own l n (signal a) h = left-own (turned l) (λ t. ap (own t) (turned-held p ok a l t) ∙ h t)
       work-own l n (fire a) h =
           left-own (fired p l (a .track))
           (λ u. ap (λ m. own u (m u .held)) (fired-is p l (a .track)) ∙ enter-own (removed l (a .track)) (deviatesTo l (a .track)) (removed-own l (a .track) h) u)
 
       module _ (limit : ℕ) where
-        next-own : (l : Ledger) → Kept limit p l → (c : Call) → ((t : ℕ) → own t (l t .held) ≡ true) → (t : ℕ) → own t (next limit p l c t .held) ≡ true
-        next-own l k c h t =
-            elim (look (eqb (callRefusal limit p l c) 0)) [
-              | inr z ↦ ap (λ m. own t (m t .held)) (next-refused limit p l c (eqb-false (callRefusal limit p l c) 0 z)) ∙ h t
+        next-own : (d : Day) (l : Ledger) → Kept limit p l → (c : Call) → ((t : ℕ) → own t (l t .held) ≡ true) → (t : ℕ) → own t (next limit p d l c t .held) ≡ true
+        next-own d l k c h t =
+            elim (look (eqb (callRefusal limit p d l c) 0)) [
+              | inr z ↦ ap (λ m. own t (m t .held)) (next-refused limit p d l c (eqb-false (callRefusal limit p d l c) 0 z)) ∙ h t
               | inl z ↦
-                  let e = eqb-true (callRefusal limit p l c) 0 z in
-                  elim (next-cases limit p ok l c e) [
+                  let e = eqb-true (callRefusal limit p d l c) 0 z in
+                  elim (next-cases limit p ok d l c e) [
                     | inl q ↦ ap (λ m. own t (m t .held)) q ∙ work-own l (nested k e) c h t
-                    | inr o ↦ none-own t (next limit p l c t .held) (ap (λ (x : Configuration). x .held) (o t) ∙ sleeping-held)
+                    | inr o ↦ none-own t (next limit p d l c t .held) (ap (λ (x : Configuration). x .held) (o t) ∙ sleeping-held)
                   ]
             ]
           where
-            nested : Kept limit p l → callRefusal limit p l c ≡ 0 → Nested p l
-            nested (inl o) e = absurd (over-refused limit p l (over-is p l o) c e)
+            nested : Kept limit p l → callRefusal limit p d l c ≡ 0 → Nested p l
+            nested (inl o) e = absurd (over-refused limit p d l (over-is p l o) c e)
             nested (inr s) e = s .formed .nested
 
-        reached-held : {l : Ledger} → Reached p limit l → (t : ℕ) → own t (l t .held) ≡ true
+        reached-held : {d : Day} {l : Ledger} → Reached p limit d l → (t : ℕ) → own t (l t .held) ≡ true
         unfolding begun
         reached-held run.start t = enter-own (all-asleep limit p ok) _ (λ u. none-own u (sleeping .held) sleeping-held) t
-        reached-held (run.then {l = l} r c) t = next-own l (reached-kept limit p ok r) c (λ u. reached-held r u) t
+        reached-held (run.then {d = d} {l = l} r c) t = next-own d l (reached-kept limit p ok r) c (λ u. reached-held r u) t
 
-        pub reached-own : {l : Ledger} → Reached p limit l → Own l
+        pub reached-own : {d : Day} {l : Ledger} → Reached p limit d l → Own l
         unfolding own
         reached-own r t = reached-held r t

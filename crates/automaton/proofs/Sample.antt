@@ -3,6 +3,7 @@
 use mathlib.Core.Path.{_≡_, refl}
 use mathlib.Core.List.{List, [], _∷_}
 use Prim.Native.Nat.{ℕ}
+use lib.IntN.{pos}
 use Rattle.rules.specs.Plan.{Plan, planOf, isRoot}
 use Rattle.rules.specs.Layout.{entryLimit}
 use Rattle.rules.specs.Ledger.{Ledger}
@@ -16,10 +17,10 @@ use Rattle.automaton.specs.Semantics.{basicAlone, nestedToo, sucAt, fail
 use Rattle.automaton.specs.View.{stackOf, directionOf, facing, isWithin, basic, nested, shown, viewTo, viewOf, isOnTop, view, leavesScope, isGoing, leaveAt, abandonings, deviationStep, movings, closers, turners, actsOf}
 
 abbrev P : Plan
-P = planOf planP (record { tracks = 3; states = 8; transitions = 5 })
+P = planOf planP (record { tracks = 3; states = 8; transitions = 5; windows = 0 })
 
 abbrev e : ℕ → Call
-e n = event (record { event = n })
+e n = event (record { event = n; day = pos 0 })
 
 abbrev f : ℕ → Call
 f t = fire (record { track = t })
@@ -95,7 +96,7 @@ unfolding computing listedFrom listed Vect pushComp pushDev stackOf directionOf 
 left-view = refl
 
 -- Event 14 instead: the vector has terminated, and NESTSUC installs the replacement.
-pub closed-acts : actsOf P basicAlone (ledger (e 10 ∷ e 11 ∷ e 12 ∷ [])) (e 14) ≡ sucAt 2 14 ∷ nestsucAt 0 ∷ []
+pub closed-acts : actsOf P basicAlone (ledger (e 10 ∷ e 11 ∷ e 12 ∷ [])) (e 14) ≡ sucAt 2 (record { event = 14; day = pos 0 }) ∷ nestsucAt 0 ∷ []
 unfolding computing listedFrom listed listedDown isWithin movings closers actsOf
 closed-acts = refl
 

@@ -5,6 +5,7 @@ use mathlib.Core.Logic.{inl, inr}
 use mathlib.Core.Bool.{true, not, _||_}
 use mathlib.Core.List.{List, [], _∷_}
 use Prim.Native.Nat.{ℕ, _+_, _<_}
+use lib.IntN.{pos}
 use native.Mathlib.Omega.{arith}
 use lib.ListN.{List·getD-eq-default}
 use lib.Dec.{eqb, ltb}
@@ -46,7 +47,7 @@ planQ =
     ∷ [])
 
 abbrev Q : Plan
-Q = planOf planQ (record { tracks = 3; states = 8; transitions = 5 })
+Q = planOf planQ (record { tracks = 3; states = 8; transitions = 5; windows = 0 })
 
 -- the compensation of an activity
 abbrev comp : ℕ → ℕ
@@ -101,7 +102,7 @@ taggedQ =
     }
 
 abbrev e : ℕ → Call
-e n = event (record { event = n })
+e n = event (record { event = n; day = pos 0 })
 
 abbrev f : ℕ → Call
 f t = fire (record { track = t })

@@ -133,7 +133,7 @@ module _ (p : Plan) (ρ : FailReading) (f : Act → Bool) where
     unfolding settlingOf basicSteps devSteps isSilent isMute trace
     silent-less s =
         elim s as (λ n a m x. isSilent a ≡ true → settlingOf n ≡ one a + settlingOf m) (λ c a d x. isSilent a ≡ true → settlingOfAll c ≡ one a + settlingOfAll d) [
-          | SUC A q i x S b e f g ↦ λ h. clash h refl
+          | SUC A q i x S b e f g m ↦ λ h. clash h refl
           | FAIL A q S ↦ λ h. clash h refl
           | FAILNEST A q S c w ↦ λ h. clash h refl
           | COMP A q c S ↦ λ h. clash h refl

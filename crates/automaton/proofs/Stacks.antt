@@ -11,6 +11,7 @@ use native.Mathlib.Omega.{arith}
 use lib.Dec.{eqb}
 use borrow.Author.Tests.{eq-eqb, ne-eqb}
 use Rattle.rules.specs.Plan.{Plan, trackCount, transition, optional, replacement, isStateOf, isIn, isHostedBy, isHosting, isAbove, firstState}
+use Rattle.rules.specs.Event.{EventArguments}
 use Rattle.rules.proofs.Tests.{look, none-some, and-holds, and-both}
 use Rattle.rules.proofs.Acceptance.{Accepted}
 use Rattle.rules.proofs.Forest.{Reaches, above-lower}
@@ -172,11 +173,11 @@ module _ (p : Plan) where
       unfolding afterStep leftOf
       other-step A a v d = rw (symbol-other A a d)
 
-      suc-records : (A i c : ℕ) (d : Option ℕ) (S : Stack) (v : List Symbol) → c ≡ comp i → Records S v
+      suc-records : (A : ℕ) (i : EventArguments) (c : ℕ) (d : Option ℕ) (S : Stack) (v : List Symbol) → c ≡ comp (i .event) → Records S v
           → Records (push c d S) (afterStep A (sucAt A i) v)
       unfolding push afterStep symbol trace leftOf pushComp Records
       suc-records A i c d S v e r =
-          rw (ne-eqb c 0 (λ z. perfect .non-empty i (sym e ∙ z)), eq-eqb A A refl) (i, v, e, left-activity comp v i, go d)
+          rw (ne-eqb c 0 (λ z. perfect .non-empty (i .event) (sym e ∙ z)), eq-eqb A A refl) (i .event, v, e, left-activity comp v (i .event), go d)
         where
           go : (d : Option ℕ) → Records (pushDev d S) v
           go none = unfold pushDev in r
@@ -199,7 +200,7 @@ module _ (p : Plan) where
       unfolding automatonOf stackIn actor tidy ownDevs symbol trace
       step-facts s =
           elim s as (λ n a m x. tidy n ≡ true → Facts n a m) (λ c a d x. Within c a d) [
-            | SUC A q i x S b e f g ↦
+            | SUC A q i x S b e f g m ↦
                 λ h.
                 let c = transition p x .code in
                 let d = optional (transition p x .deviation) in
@@ -212,7 +213,7 @@ module _ (p : Plan) where
                   reach = inl refl;
                   keeps =
                       λ z v r.
-                      let code : c ≡ comp i = perfect .codes x b (e ∙ z) ∙ ap comp g in
+                      let code : c ≡ comp (i .event) = perfect .codes x b (e ∙ z) ∙ ap comp g in
                       subst (λ z. Records z (afterStep A (sucAt A i) v)) (sym (goto-stack A t (push c d S))) (suc-records A i c d S v code r);
                 }
             | FAIL A q S ↦ λ h. record { tidied = h; same = refl; reach = inl refl; keeps = λ z v r. kept A (failAt A) S v refl r }

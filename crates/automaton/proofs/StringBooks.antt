@@ -7,10 +7,11 @@ use mathlib.Core.List.{List, [], _∷_}
 use Prim.Native.Nat.{ℕ, zero, suc, _<_}
 use lib.Dec.{eqb}
 use borrow.Author.Tests.{eqb-true, eqb-false, eq-eqb, ne-eqb}
+use Rattle.rules.specs.Names.{Day}
 use Rattle.rules.specs.Fold.{someBelow}
 use Rattle.rules.specs.Plan.{Plan, owner, trackCount, transitionCount, transition, mover, isRoot, isInside}
 use Rattle.rules.specs.Ledger.{Ledger}
-use Rattle.rules.specs.Event.{move}
+use Rattle.rules.specs.Event.{EventArguments, move}
 use Rattle.rules.specs.Call.{event}
 use Rattle.rules.specs.FinishedRun.{taken, movesBelow, movesOf, Running, by-begin, by-call, over-event, over-signal, over-fire, Finished}
 use Rattle.rules.specs.FinishedRun as run
@@ -119,7 +120,7 @@ module _ (p : Plan) where
     not-inside : (s t : ℕ) → isInside p s t ≡ true → t ≡ A → ⊥
     not-inside s t i e = clash (subst (λ x. isInside p s x ≡ true) e i) (inside-root p ok s A (root-none p A root))
 
-    pub taken-idle : (l : Ledger) → Nested p l → (e t : ℕ) → (t ≡ A → ⊥) → (v : List Symbol) → act adds (taken (move p l e t)) v ≡ v
+    pub taken-idle : (l : Ledger) → Nested p l → (e : EventArguments) (t : ℕ) → (t ≡ A → ⊥) → (v : List Symbol) → act adds (taken (move p l e t)) v ≡ v
     unfolding act taken
     taken-idle l n e t d v =
         elim (look-option (move p l e t)) [
@@ -127,7 +128,7 @@ module _ (p : Plan) where
           | inr q ↦ rw (q .1, taken) (adds-other (q .0) v (λ z. d (sym (mover-is p l e ok n t (q .0) (q .1)) ∙ z)))
         ]
 
-    inside-idle : (l : Ledger) → Nested p l → (s e n : ℕ) (v : List Symbol) → act adds (movesBelow p n (isInside p s) l e) v ≡ v
+    inside-idle : (l : Ledger) → Nested p l → (s : ℕ) (e : EventArguments) (n : ℕ) (v : List Symbol) → act adds (movesBelow p n (isInside p s) l e) v ≡ v
     unfolding act movesBelow
     inside-idle l k s e zero v = refl
     inside-idle l k s e (suc n) v =
@@ -135,28 +136,28 @@ module _ (p : Plan) where
         ∙ ap (act adds (cond (isInside p s n) (taken (move p l e n)) [])) (inside-idle l k s e n v)
         ∙ elim (look (isInside p s n)) [ inl h ↦ rw h (taken-idle l k e n (not-inside s n h) v) | inr h ↦ rw h ]
 
-    scope-idle : (l : Ledger) → Kept limit p l → (s e : ℕ) → (Over l → ⊥) → (v : List Symbol)
+    scope-idle : (l : Ledger) → Kept limit p l → (s : ℕ) (e : EventArguments) → (Over l → ⊥) → (v : List Symbol)
         → act adds (movesOf p (isInside p s) l e) v ≡ v
     unfolding movesOf
     scope-idle l (inl o) s e w v = absurd (w o)
     scope-idle l (inr k) s e w v = inside-idle l (k .formed .nested) s e (trackCount p) v
 
-    run-idle : (s : ℕ) {l : Ledger} {w : List ℕ} → Running p limit s l w → (v : List Symbol) → act adds w v ≡ v
+    run-idle : (s : ℕ) {d : Day} {l : Ledger} {w : List ℕ} → Running p limit s d l w → (v : List Symbol) → act adds w v ≡ v
     unfolding act
     run-idle s (by-begin o) v = refl
     run-idle s (by-call r c f o) v = refl
-    run-idle s (over-event {l = l} {w = w} r a h o) v =
-        act-append adds w (movesOf p (isInside p s) l (a .event)) v
-        ∙ ap (act adds (movesOf p (isInside p s) l (a .event))) (run-idle s r v)
-        ∙ scope-idle l (reached-kept limit p ok (running-reached limit p ok r)) s (a .event) (λ z. over-refused limit p l (over-is p l z) (event a) h) v
+    run-idle s (over-event {d = d} {l = l} {w = w} r a h o) v =
+        act-append adds w (movesOf p (isInside p s) l a) v
+        ∙ ap (act adds (movesOf p (isInside p s) l a)) (run-idle s r v)
+        ∙ scope-idle l (reached-kept limit p ok (running-reached limit p ok r)) s a (λ z. over-refused limit p d l (over-is p l z) (event a) h) v
     run-idle s (over-signal r a h f o) v = run-idle s r v
     run-idle s (over-fire r a h o) v = run-idle s r v
 
     pub finished-idle : (s : ℕ) (w : List ℕ) → Finished p limit s w → (v : List Symbol) → act adds w v ≡ v
-    finished-idle s w₀ (run.closed {l = l} {w = w} r a h c) v =
-        act-append adds w (movesOf p (isInside p s) l (a .event)) v
-        ∙ ap (act adds (movesOf p (isInside p s) l (a .event))) (run-idle s r v)
-        ∙ scope-idle l (reached-kept limit p ok (running-reached limit p ok r)) s (a .event) (λ z. over-refused limit p l (over-is p l z) (event a) h) v
+    finished-idle s w₀ (run.closed {d = d} {l = l} {w = w} r a h c) v =
+        act-append adds w (movesOf p (isInside p s) l a) v
+        ∙ ap (act adds (movesOf p (isInside p s) l a)) (run-idle s r v)
+        ∙ scope-idle l (reached-kept limit p ok (running-reached limit p ok r)) s a (λ z. over-refused limit p d l (over-is p l z) (event a) h) v
 
     abbrev pub stringBooks : Books p limit
     stringBooks =

@@ -105,6 +105,10 @@ module _ (p : Plan) (l : Ledger) (a : EventArguments) where
       let (r, s, v) = transition-for p (l t .state) (a .event) x q in
       record { forward = f; free = n; real = r; from = s }
 
+  -- the transition is the state's for the event, and the day is one of every window that names it
+  pub move-for : (t x : ℕ) → move p l a t ≡ some x → transitionFor p (l t .state) (a .event) ≡ some x
+  move-for t x h = move-is t x h .2
+
   pub move-day : (t x : ℕ) → move p l a t ≡ some x → mayTake p (a .day) x ≡ true
   move-day t x h = move-is t x h .3
 

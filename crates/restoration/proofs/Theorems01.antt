@@ -48,7 +48,7 @@ use Rattle.restoration.proofs.Document01.{document01, asTheory, there-a
 pub use Rattle.theory.proofs.SoundParts.{Over, sleeping-asleep}
 pub use Rattle.theory.proofs.MovingNested.{to-none, to-destination, to-some, has-code}
 pub use Rattle.theory.proofs.SoundKept.{over-is}
-pub use Rattle.restoration.proofs.Document01.{move-takes, next-accepted, next-refused, day-accepted, day-refused, event-accepted, event-day, signal-accepted, fire-accepted}
+pub use Rattle.restoration.proofs.Document01.{move-takes, move-for, move-day, next-accepted, next-refused, day-accepted, day-refused, event-accepted, event-day, signal-accepted, fire-accepted}
 
 -- sound, and sound or over
 abbrev pub Sound : ℕ → Plan → Ledger → Type 0
