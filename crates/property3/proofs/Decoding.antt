@@ -1,34 +1,45 @@
--- Nothing is lost in words: every list of calls can be encoded, with the journal's kinds, and the words of the answers give the answers back.
--- Assumes nothing.
+-- Nothing is lost in words: every list of calls whose days are 32-bit numbers can be encoded, with the journal's kinds, and the words of the
+-- answers give the answers back. Assumes nothing.
+use Prim.{Unit}
 use mathlib.Core.Path.{_≡_, refl, ap, ap₂, _∙_}
 use mathlib.Core.List.{List, [], _∷_, _++_}
 use Prim.Native.Nat.{ℕ, zero, suc}
 use native.Mathlib.Omega.{arith}
+use mir.Syntax.{w32}
+use mir.Val.{SFits}
 use Rattle.rules.specs.declared.Counts.{Counts}
 use Rattle.rules.specs.Plan.{Plan, planOf, trackCount}
+use Rattle.rules.specs.Leading.{lastDay}
 use Rattle.rules.specs.Ledger.{Ledger, ledgerAt, written}
 use Rattle.rules.specs.Fold.{firstRefusal}
 use Rattle.rules.specs.Acceptance.{accepted, readPlan}
-use Rattle.rules.specs.Call.{Answer, refusal, done, Outcome, Call, event, signal, fire, nothing, refusedOr, underPlan, ledgerRefusals, callRefusals, figures, after, callOutcome}
+use Rattle.rules.specs.Call.{Answer, refusal, done, Outcome, Call, event, signal, fire, nothing, refusedOr, underPlan, ledgerRefusals, callRefusals, figures, after, datedBy, callOutcome}
 use Rattle.rules.specs.Journal.{called, recordOf}
 use Rattle.rules.specs.ReferenceRun.{answersFrom}
-use Rattle.property3.specs.Encoding.{kindOf, argumentOf, encodedCalls, decodedCall, decodedCalls, encodedAnswer, encodedAnswers, decodedFigures, decodedAnswer, decodedAnswers}
+use Rattle.rules.proofs.SignedLaws.{joined-words}
+use Rattle.property3.specs.Encoding.{kindOf, argumentOf, dayOf, encodedCalls, decodedCall, decodedCalls, encodedAnswer, encodedAnswers, decodedFigures, decodedAnswer, decodedAnswers}
 use Rattle.property3.proofs.Shapes.{Shaped, refused, figured, shaped}
 
-call-back : (c : Call) → decodedCall (kindOf c) (argumentOf c) ≡ c
-unfolding kindOf argumentOf decodedCall
+call-back : (c : Call) → decodedCall (kindOf c) (argumentOf c) (dayOf c) ≡ c
+unfolding kindOf argumentOf dayOf decodedCall
 call-back (event a) = refl
 call-back (signal nothing) = refl
 call-back (fire a) = refl
 
-pub calls-back : (cs : List Call) → decodedCalls (encodedCalls cs) ≡ cs
+-- each call's day is a number of 32 bits
+abbrev pub AllFit : List Call → Type 0
+AllFit [] = Unit {0}
+AllFit (c ∷ cs) = SFits w32 (dayOf c) × AllFit cs
+
+pub calls-back : (cs : List Call) → AllFit cs → decodedCalls (encodedCalls cs) ≡ cs
 unfolding encodedCalls decodedCalls
-calls-back [] = refl
-calls-back (c ∷ cs) = ap₂ (λ x xs. x ∷ xs) (call-back c) (calls-back cs)
+calls-back [] h = refl
+calls-back (c ∷ cs) h =
+    ap₂ (λ x xs. x ∷ xs) (ap (decodedCall (kindOf c) (argumentOf c)) (joined-words (dayOf c) (h .0)) ∙ call-back c) (calls-back cs (h .1))
 
 -- the kinds are the journal's
-pub journal-kinds : (c : Call) → recordOf (kindOf c) (argumentOf c) ≡ called c
-unfolding kindOf argumentOf recordOf
+pub journal-kinds : (c : Call) → recordOf (kindOf c) (argumentOf c) (dayOf c) ≡ called c
+unfolding kindOf argumentOf dayOf recordOf
 journal-kinds (event a) = refl
 journal-kinds (signal nothing) = refl
 journal-kinds (fire a) = refl
@@ -55,8 +66,8 @@ module _ (limit : ℕ) (bs : List ℕ) (k : Counts) (read : readPlan bs ≡ acce
       let p : Plan = planOf bs k in
       let l : Ledger = ledgerAt limit ws (trackCount p) in
       rw (read, callOutcome, underPlan)
-      (or-not-0 ws (record { answer = done (figures p l c); words = written limit (trackCount p) (after p l c) ws })
-      (figures p l c) refl (firstRefusal (ledgerRefusals limit bs p ws ++ callRefusals limit p l c)))
+      (or-not-0 ws (record { answer = done (figures p l c); words = written limit (trackCount p) (after p l c) (datedBy c ws) })
+      (figures p l c) refl (firstRefusal (ledgerRefusals limit bs p ws ++ callRefusals limit p (lastDay ws) l c)))
 
   pub answers-back : (cs : List Call) (ws rest : List ℕ)
       → decodedAnswers cs (encodedAnswers (answersFrom limit bs ws cs) ++ rest) ≡ answersFrom limit bs ws cs

@@ -8,7 +8,8 @@ use Rattle.rules.specs.declared.FireAnswer.{FireAnswer}
 use Rattle.rules.specs.declared.EventAnswer.the-variants as event-answer
 use Rattle.rules.specs.declared.SignalAnswer.the-variants as signal-answer
 use Rattle.rules.specs.declared.FireAnswer.the-variants as fire-answer
-use Rattle.rules.specs.Call.{Answer, EventArguments, SignalArguments, FireArguments, Call, event, signal, fire, callOutcome, eventOutcome, signalOutcome, fireOutcome}
+use Rattle.rules.specs.Event.{EventArguments}
+use Rattle.rules.specs.Call.{Answer, SignalArguments, FireArguments, Call, event, signal, fire, callOutcome, eventOutcome, signalOutcome, fireOutcome}
 use Rattle.rules.specs.Answers.{eventTold, signalTold, fireTold}
 use Rattle.rules.specs.History.{History, none, event-made, signal-made, fire-made}
 use Rattle.property3.specs.Encoding.{decodedFigures}

@@ -46,7 +46,7 @@ module _ (p : Plan) (limit : ℕ) where
     module _ (bs : List ℕ) where
       into-call : (l : Ledger) (c : Call) (b : Free) → into (bookedCall limit bs p (freeBooks p limit) l c b) ≡ bookedCall limit bs p k l c (into b)
       unfolding bookedCall into
-      into-call l (event a) b = into-act (movesOf p (λ t. true) l (a .event)) b
+      into-call l (event a) b = into-act (movesOf p (λ t. true) l a) b
       into-call l (signal a) b = refl
       into-call l (fire a) b = refl
 

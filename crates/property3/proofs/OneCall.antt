@@ -1,11 +1,15 @@
 -- One call: its own promise with its answer encoded, and the three words of the answer stored. Assumes nothing.
-use mathlib.Core.Path.{_≡_, refl, ap, _∙_}
+use mathlib.Core.Path.{_≡_, refl, ap, _∙_, subst}
 use mathlib.Core.List.{List, [], _∷_, _++_}
 use Prim.Native.Nat.{ℕ, zero, suc, _+_, _≤_}
 use native.Mathlib.Nat.{suc-add}
 use native.Mathlib.Omega.{arith}
 use lib.ListN.{length, take, drop, set}
 use borrow.Author.Tests.{ne-eqb, eq-eqb}
+use mir.Syntax.{w32}
+use mir.Val.{SFits, toZ, ofZ}
+use mir.ValLaws.{toZ-ofZ}
+use Rattle.rules.specs.Names.{Day}
 use Rattle.rules.specs.Call.{Answer, Outcome, nothing, callOutcome, eventOutcome, signalOutcome, fireOutcome, Meets}
 use Rattle.property3.specs.declared.EncodedAnswer.{EncodedAnswer}
 use Rattle.rules.specs.Journal.{eventKind, signalKind}
@@ -14,22 +18,32 @@ use Rattle.property3.specs.Encoding.{decodedCall, encodedAnswer, encoded
 pub encoded : (o : Outcome) (told : Answer) (t : EncodedAnswer) (ws : List ℕ) → Meets o told ws → encodedWords t ≡ encodedAnswer told → CallMade o t ws
 encoded o told t ws m e = record { answered = e ∙ ap encodedAnswer (m .answered); left = m .left }
 
+-- a day is read back from its bits: of an event, and of a call whose day was read off words
+module _ (limit : ℕ) (bs ws : List ℕ) (t : EncodedAnswer) (ws′ : List ℕ) (day : Day) (f : SFits w32 day) where
+  pub on-day : (x : ℕ) → CallMade (eventOutcome limit bs ws (record { event = x; day = toZ w32 (ofZ w32 day) })) t ws′
+      → CallMade (eventOutcome limit bs ws (record { event = x; day = day })) t ws′
+  on-day x m = subst (λ z. CallMade (eventOutcome limit bs ws (record { event = x; day = z })) t ws′) (toZ-ofZ w32 day f) m
+
+  pub on-read : (kind x : ℕ) (d : Day) → day ≡ d → CallMade (callOutcome limit bs ws (decodedCall kind x (toZ w32 (ofZ w32 day)))) t ws′
+      → CallMade (callOutcome limit bs ws (decodedCall kind x d)) t ws′
+  on-read kind x d e m = subst (λ z. CallMade (callOutcome limit bs ws (decodedCall kind x z)) t ws′) (toZ-ofZ w32 day f ∙ e) m
+
 -- by the kind
-module _ (limit : ℕ) (bs ws : List ℕ) (kind x : ℕ) (t : EncodedAnswer) (ws′ : List ℕ) where
-  pub made-event : kind ≡ eventKind → CallMade (eventOutcome limit bs ws (record { event = x })) t ws′
-      → CallMade (callOutcome limit bs ws (decodedCall kind x)) t ws′
+module _ (limit : ℕ) (bs ws : List ℕ) (kind x : ℕ) (day : Day) (t : EncodedAnswer) (ws′ : List ℕ) where
+  pub made-event : kind ≡ eventKind → CallMade (eventOutcome limit bs ws (record { event = x; day = day })) t ws′
+      → CallMade (callOutcome limit bs ws (decodedCall kind x day)) t ws′
   unfolding eventOutcome decodedCall
-  made-event e m = rw (eq-eqb kind 16 e, decodedCall) m
+  made-event e m = rw (eq-eqb kind 20 e, decodedCall) m
 
   pub made-signal : (kind ≡ eventKind → ⊥) → kind ≡ signalKind → CallMade (signalOutcome limit bs ws nothing) t ws′
-      → CallMade (callOutcome limit bs ws (decodedCall kind x)) t ws′
+      → CallMade (callOutcome limit bs ws (decodedCall kind x day)) t ws′
   unfolding signalOutcome decodedCall
-  made-signal e f m = rw (ne-eqb kind 16 e, eq-eqb kind 17 f, decodedCall) m
+  made-signal e f m = rw (ne-eqb kind 20 e, eq-eqb kind 17 f, decodedCall) m
 
   pub made-fire : (kind ≡ eventKind → ⊥) → (kind ≡ signalKind → ⊥) → CallMade (fireOutcome limit bs ws (record { track = x })) t ws′
-      → CallMade (callOutcome limit bs ws (decodedCall kind x)) t ws′
+      → CallMade (callOutcome limit bs ws (decodedCall kind x day)) t ws′
   unfolding fireOutcome decodedCall
-  made-fire e f m = rw (ne-eqb kind 16 e, ne-eqb kind 17 f, decodedCall) m
+  made-fire e f m = rw (ne-eqb kind 20 e, ne-eqb kind 17 f, decodedCall) m
 
 -- three words stored one by one
 pub stored : (out : List ℕ) (at a b d : ℕ) → at + 3 ≤ length out

@@ -33,7 +33,7 @@ begin-meets κs a r s p = p
 
 pub event-meets : (κs : Lfts 2) (a : ArgsD event.signature κs) (r : ResD event.signature κs) (s : AtExit (endedOf 2 event-kinds.ps event-kinds.r) κs)
     → event-reads.Post κs a r s
-    → Meets (callOutcome entryLimit (now (a .0)) (now (a .1 .0)) (paper.event (record { event = a .1 .1 .0 }))) (eventTold r) (now (s .1 .0))
+    → Meets (callOutcome entryLimit (now (a .0)) (now (a .1 .0)) (paper.event (record { event = a .1 .1 .0; day = a .1 .1 .1 .0 }))) (eventTold r) (now (s .1 .0))
 unfolding eventOutcome
 event-meets κs a r s p = p
 

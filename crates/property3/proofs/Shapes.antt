@@ -5,8 +5,9 @@ use Prim.Native.Nat.{ℕ, zero, suc}
 use Rattle.rules.specs.Fold.{firstRefusal}
 use Rattle.rules.specs.Plan.{Plan, trackCount, planOf}
 use Rattle.rules.specs.Acceptance.{Reading, turnedBack, accepted, readPlan}
+use Rattle.rules.specs.Leading.{lastDay}
 use Rattle.rules.specs.Ledger.{Ledger, ledgerAt, written}
-use Rattle.rules.specs.Call.{Answer, refusal, done, Outcome, Call, event, signal, fire, refusedOr, underPlan, ledgerRefusals, callRefusals, figures, after, callOutcome}
+use Rattle.rules.specs.Call.{Answer, refusal, done, Outcome, Call, event, signal, fire, refusedOr, underPlan, ledgerRefusals, callRefusals, figures, after, datedBy, callOutcome}
 use Rattle.property3.specs.Encoding.{decodedFigures}
 
 pub data Shaped (c : Call) : Answer → Type 0 where
@@ -35,5 +36,5 @@ module _ (limit : ℕ) where
           let p : Plan = planOf bs k in
           let l : Ledger = ledgerAt limit ws (trackCount p) in
           rw (e, callOutcome, underPlan)
-          (or-shaped ws (record { answer = done (figures p l c); words = written limit (trackCount p) (after p l c) ws }) c
-          (figures-shaped p l c) (firstRefusal (ledgerRefusals limit bs p ws ++ callRefusals limit p l c)))
+          (or-shaped ws (record { answer = done (figures p l c); words = written limit (trackCount p) (after p l c) (datedBy c ws) }) c
+          (figures-shaped p l c) (firstRefusal (ledgerRefusals limit bs p ws ++ callRefusals limit p (lastDay ws) l c)))

@@ -1,16 +1,18 @@
--- Calls and answers as words: two words for a call, three for its answer. Assumes nothing.
+-- Calls and answers as words: four words for a call, three for its answer. Assumes nothing.
 use mathlib.Core.Path.{_≡_}
 use mathlib.Core.Bool.{Bool, cond}
 use mathlib.Core.List.{List, [], _∷_, _++_}
 use Prim.Native.Nat.{ℕ, zero, suc, _*_, _/_}
 use lib.ListN.{length}
+use lib.IntN.{pos}
 use lib.Dec.{eqb, ltb}
-use Rattle.rules.specs.Names.{Words}
+use Rattle.rules.specs.Names.{Words, Day}
+use Rattle.rules.specs.Signed.{joined, lowWord, highWord}
 use Rattle.rules.specs.Call.{Answer, refusal, done, Outcome, Call, event, signal, fire, nothing}
 use Rattle.rules.specs.Journal.{eventKind, signalKind, fireKind}
 use Rattle.property3.specs.declared.EncodedAnswer.{EncodedAnswer}
 
--- A call is its kind, the journal's, and its argument, an event's or a track's; a signal's is 0.
+-- A call is its kind, the journal's, its argument, an event's or a track's, and an event's day, low word first; 0 stands where there is none.
 unfoldable pub kindOf : Call → ℕ
 kindOf (event a) = eventKind
 kindOf (signal a) = signalKind
@@ -21,21 +23,28 @@ argumentOf (event a) = a .event
 argumentOf (signal a) = 0
 argumentOf (fire a) = a .track
 
+unfoldable pub dayOf : Call → Day
+dayOf (event a) = a .day
+dayOf (signal a) = pos 0
+dayOf (fire a) = pos 0
+
 unfoldable pub encodedCalls : List Call → List ℕ
 encodedCalls [] = []
-encodedCalls (c ∷ cs) = kindOf c ∷ argumentOf c ∷ encodedCalls cs
+encodedCalls (c ∷ cs) = kindOf c ∷ argumentOf c ∷ lowWord (dayOf c) ∷ highWord (dayOf c) ∷ encodedCalls cs
 
 -- and back: a kind that is neither an event's nor a signal's is a firing
-unfoldable pub decodedCall : ℕ → ℕ → Call
-decodedCall kind argument =
-    cond (eqb kind eventKind) (event (record { event = argument }))
+unfoldable pub decodedCall : ℕ → ℕ → Day → Call
+decodedCall kind argument day =
+    cond (eqb kind eventKind) (event (record { event = argument; day = day }))
     (cond (eqb kind signalKind) (signal nothing) (fire (record { track = argument })))
 
--- a word left over is no call
+-- words left over are no call
 unfoldable pub decodedCalls : List ℕ → List Call
 decodedCalls [] = []
 decodedCalls (kind ∷ []) = []
-decodedCalls (kind ∷ argument ∷ ws) = decodedCall kind argument ∷ decodedCalls ws
+decodedCalls (kind ∷ argument ∷ []) = []
+decodedCalls (kind ∷ argument ∷ low ∷ []) = []
+decodedCalls (kind ∷ argument ∷ low ∷ high ∷ ws) = decodedCall kind argument (joined low high) ∷ decodedCalls ws
 
 -- An answer is the refusal's number, 0 where accepted, and two figures, 0 where there is none.
 unfoldable pub encodedAnswer : Answer → List ℕ
@@ -67,7 +76,7 @@ decodedAnswers (c ∷ cs) (n ∷ x ∷ y ∷ out) = decodedAnswer c n x y ∷ de
 
 -- the words that the answers to encoded calls take
 unfoldable pub answerRoom : List ℕ → ℕ
-answerRoom calls = 3 * (length calls / 2)
+answerRoom calls = 3 * (length calls / 4)
 
 unfoldable pub lacksRoom : List ℕ → List ℕ → Bool
 lacksRoom calls out = ltb (length out) (answerRoom calls)

@@ -1,9 +1,10 @@
 // Property 3 of the calls: a theorem about lists of them (proofs/Property3.antt, Calls.antt), and the contract of `run_calls`, which makes such a
-// list. A call is two words, its kind as in a journal and its argument; its answer is three.
+// list. A call is four words, its kind as in a journal, its argument and an event's day; its answer is three.
 use rules::BeginAnswer;
 use rules::EventAnswer;
 use rules::FireAnswer;
 use rules::SignalAnswer;
+use signed::words;
 ghost use mathlib.Core.Path.{_≡_};
 ghost use mathlib.Core.List.{_++_};
 ghost use Prim.Native.Nat.{_+_, _≤_};
@@ -13,12 +14,12 @@ ghost use Rattle.rules.specs.Call.{nothing, callOutcome, eventOutcome, signalOu
 ghost use Rattle.property3.specs.Encoding.{decodedCall, encodedWords, answerRoom, CallMade};
 ghost use Rattle.property3.specs.CallsRun.{CallsMade, CallsRun};
 
-pub const CALL_WIDTH: usize = 2;
+pub const CALL_WIDTH: usize = 4;
 
 pub const ANSWER_WIDTH: usize = 3;
 
 // The journal's kinds. A kind that is neither an event's nor a signal's is a firing.
-pub const EVENT: u16 = 16;
+pub const EVENT: u16 = 20;
 
 pub const SIGNAL: u16 = 17;
 
@@ -48,10 +49,10 @@ fn encoded_refusal(n: u8) -> EncodedAnswer
     }
 }
 
-fn make_event(plan: &[u8], ledger: &mut [u16], name: u16) -> EncodedAnswer
-    ensures { λ r. ⌜ CallMade (eventOutcome entryLimit (now (plan .entry)) (now (ledger .entry)) (record { event = name })) r (now (ledger .exit)) ⌝ }
+fn make_event(plan: &[u8], ledger: &mut [u16], name: u16, day: i32) -> EncodedAnswer
+    ensures { λ r. ⌜ CallMade (eventOutcome entryLimit (now (plan .entry)) (now (ledger .entry)) (record { event = name; day = day })) r (now (ledger .exit)) ⌝ }
 {
-    let answer = manager::event(plan, &mut ledger[..], name);
+    let answer = manager::event(plan, &mut ledger[..], name, day);
     match answer {
         EventAnswer::Refused(n) => encoded_refusal(n),
         EventAnswer::Moved(moved, closed) => EncodedAnswer {
@@ -90,12 +91,12 @@ fn make_fire(plan: &[u8], ledger: &mut [u16], track: u16) -> EncodedAnswer
     }
 }
 
-// Makes the call that a kind and an argument stand for.
-fn make_call(plan: &[u8], ledger: &mut [u16], kind: u16, argument: u16) -> EncodedAnswer
-    ensures { λ r. ⌜ CallMade (callOutcome entryLimit (now (plan .entry)) (now (ledger .entry)) (decodedCall kind argument)) r (now (ledger .exit)) ⌝ }
+// Makes the call that a kind, an argument and a day stand for.
+fn make_call(plan: &[u8], ledger: &mut [u16], kind: u16, argument: u16, day: i32) -> EncodedAnswer
+    ensures { λ r. ⌜ CallMade (callOutcome entryLimit (now (plan .entry)) (now (ledger .entry)) (decodedCall kind argument day)) r (now (ledger .exit)) ⌝ }
 {
     if kind == EVENT {
-        return make_event(plan, &mut ledger[..], argument);
+        return make_event(plan, &mut ledger[..], argument, day);
     }
     if kind == SIGNAL {
         return make_signal(plan, &mut ledger[..]);
@@ -123,7 +124,10 @@ fn make_calls(plan: &[u8], ledger: &mut [u16], calls: &[u16], answers: &mut [u16
     while i < count {
         let kind = calls[CALL_WIDTH * i];
         let argument = calls[CALL_WIDTH * i + 1];
-        let told = make_call(plan, &mut ledger[..], kind, argument);
+        let low = calls[CALL_WIDTH * i + 2];
+        let high = calls[CALL_WIDTH * i + 3];
+        let day = words::join(low, high);
+        let told = make_call(plan, &mut ledger[..], kind, argument, day);
         write_answer(&mut answers[..], ANSWER_WIDTH * i, told);
         i += 1;
     }

@@ -5,6 +5,7 @@ use lib.ListN.{length}
 use native.Mathlib.Omega.{arith}
 use borrow.Author.Needs.{needs}
 use Rattle.property3.specs.Encoding.{answerRoom}
+use Rattle.property3.proofs.OneCall.{on-read}
 use Rattle.property3.proofs.EachCall.{Underway, underway-start, underway-next, underway-done}
 use Rattle.property3.proofs.make_calls.Statement.{statement}
 use Rattle.property3.proofs.make_calls.Tie as tie
@@ -21,10 +22,20 @@ loop-holds c = (underway-start _ _ _ _, refl, refl)
 
 write-answer-requires : tie.Need-write-answer-requires Inv-loop μ-loop
 unfolding answerRoom
-write-answer-requires c κs = omega (arith, c .before .before .before .before .before .before .before .before .before .before .before .before .before .pre, c .before .before .before .before .before .before .before .before .loop .inv .1, c .before .before .before .before .before .before .before .loop-test .taken)
+write-answer-requires c κs =
+    let loop = c .before .before .before .before .before .before .before .before .before .before in
+    omega (arith, loop .before .before .before .before .before .before .pre, loop .before .loop .inv .1, loop .loop-test .taken)
 
 loop-again : tie.Need-loop-again Inv-loop μ-loop
-loop-again c = (underway-next _ _ _ _ _ _ _ (omega (arith, c .before .before .before .before .before .before .before .before .before .before .loop-test .taken)) (omega (arith, c .before .before .before .before .before .before .before .before .before .before .before .before .before .before .before .before .pre, c .before .before .before .before .before .before .before .before .before .before .before .loop .inv .1)) (c .before .before .before .before .before .before .before .before .before .before .before .loop .inv .0) _ _ _ (c .before .before .before .before .before .before .make-call .ensures) (c .before .before .write-answer .ensures), search needs, search needs)
+loop-again c =
+    let made = c .before .before .before .before .before .before in
+    let read = made .before .before in
+    let loop = read .before .before .before .before .before in (
+      underway-next _ _ _ _ _ _ _ (omega (arith, loop .loop-test .taken)) (omega (arith, loop .before .before .before .before .before .before .pre, loop .before .loop .inv .1)) (loop .before .loop .inv .0) _ _ _
+          (on-read _ _ _ _ _ (read .join .result) (record { sfits = read .join .ok }) _ _ _ (read .join .ensures) (made .make-call .ensures)) (c .before .before .write-answer .ensures),
+      search needs,
+      search needs,
+    )
 
 returns : tie.Need-returns Inv-loop μ-loop
 returns c = underway-done _ _ _ _ _ _ _ (c .loop-test .left) (c .before .loop .inv .0)
@@ -43,6 +54,15 @@ make-calls-spec =
     (λ c. search needs)
     (λ c. search needs)
     (λ c. search needs)
+    (λ c. search needs)
+    (λ c. search needs)
+    (λ c. search needs)
+    (λ c. search needs)
+    (λ c. search needs)
+    (λ c. search needs)
+    (λ c. search needs)
+    (λ c. search needs)
+    (λ c κs. search needs)
     (λ c κs. search needs)
     (λ c. search needs)
     write-answer-requires
