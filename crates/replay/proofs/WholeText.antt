@@ -12,13 +12,14 @@ use Rattle.rules.specs.declared.Counts.{Counts}
 use Rattle.rules.specs.Record.{mostOf}
 use Rattle.rules.specs.Plan.{planOf}
 use Rattle.rules.specs.Acceptance.{turnedBack, accepted, readPlan}
-use Rattle.rules.specs.Layout.{entryLimit, leadingWords, headWords, entryWidth, trackWidth, trackPlace, wordCount}
+use Rattle.rules.specs.Layout.{entryLimit, wordCount}
 use Rattle.rules.specs.Leading.{stamped}
 use Rattle.rules.specs.Ledger.{written}
 use Rattle.rules.specs.Opening.{begun}
 use Rattle.rules.specs.Call.{beginOutcome}
 use Rattle.rules.specs.Transcript.{refusalLine, planLine, replay, mostBytes, ownWords, transcript}
 use Rattle.rules.proofs.Tests.{or-right}
+use Rattle.rules.proofs.TrackWords.{fewer-words}
 use Rattle.ledger.specs.Ladder.{Room, Accepts}
 use Rattle.plan_reader.proofs.Reader.{accepted-holds}
 use Rattle.journal.specs.Writing.{Lined, lineRoom, writtenAt}
@@ -29,18 +30,13 @@ use Rattle.replay.specs.Runs.{textRoom, runOutcome, Ran, RanFrom, RanRec
 use Rattle.replay.proofs.Keeping.{begin-words, begin-holding}
 use Rattle.replay.proofs.SameText.{replay-same}
 
--- the words of the plan's tracks are among those of 32
-fewer-words : (n : ℕ) → n ≤ 32 → wordCount entryLimit n ≤ wordCount entryLimit (mostOf 1)
-unfolding wordCount trackPlace leadingWords trackWidth headWords entryWidth entryLimit mostOf
-fewer-words n h = omega arith
-
 pub accepts : (bs : List ℕ) (c : Counts) → readPlan bs ≡ accepted c → Accepts bs c
 accepts bs c e = record { read = e; holds = accepted-holds bs c e }
 
 pub roomy : (bs : List ℕ) (c : Counts) → readPlan bs ≡ accepted c → (ws : List ℕ) → wordCount entryLimit (mostOf 1) ≤ length ws → Room ws (c .tracks)
 roomy bs c e ws h =
     let n = accepted-holds bs c e .tracks in
-    let m = fewer-words (c .tracks) n in
+    let m = fewer-words entryLimit (c .tracks) (mostOf 1) (unfold mostOf in n) in
     record { few = n; words = omega arith }
 
 own-long : wordCount entryLimit (mostOf 1) ≤ length ownWords
