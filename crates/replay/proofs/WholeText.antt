@@ -9,6 +9,7 @@ use lib.Dec.{ltb}
 use lib.ListN.{length, length-replicate}
 use borrow.Author.Tests.{lt-ltb, le-ltb, ltb-false, not-true, not-false}
 use Rattle.rules.specs.declared.Counts.{Counts}
+use Rattle.rules.specs.Day.{earliestDay}
 use Rattle.rules.specs.Record.{mostOf}
 use Rattle.rules.specs.Plan.{planOf}
 use Rattle.rules.specs.Acceptance.{turnedBack, accepted, readPlan}
@@ -120,7 +121,7 @@ module _ (bs js ws : List ℕ) where
   accepted-text c e f h =
       accepted-own c e f
       ∙ ap (λ (t : List ℕ). planLine c ++ t)
-      (replay-same bs js c f (suc (length js)) 0 0 (beginOutcome entryLimit bs ownWords .words) (beginOutcome entryLimit bs ws .words) (begun (planOf bs c))
+      (replay-same bs js c f (suc (length js)) 0 0 (beginOutcome entryLimit bs ownWords .words) (beginOutcome entryLimit bs ws .words) earliestDay (begun (planOf bs c))
       (begin-holding bs c (accepts bs c f) ownWords (roomy bs c f ownWords own-long)) (begin-holding bs c (accepts bs c f) ws (roomy bs c f ws h)))
 
   pub accepted-words : (c : Counts) → tooLong ≡ false → readPlan bs ≡ accepted c
