@@ -20,7 +20,7 @@ use Rattle.rules.specs.Opening.{wakes, enter}
 use Rattle.rules.specs.Finish.{finished}
 use Rattle.rules.specs.Signal.{abandoned}
 use Rattle.rules.specs.Fire.{newest, older, mayFire, removed, deviatesTo, fired, afterFire}
-use Rattle.rules.specs.Call.{refusal, done, fire, callRefusal, callRefusals, figures, after, fireOutcome, Meets}
+use Rattle.rules.specs.Call.{refusal, done, fire, callRefusal, callRefusals, figures, after, datedBy, fireOutcome, Meets}
 use Rattle.rules.proofs.Tests.{look, look-option, clash}
 use Rattle.rules.proofs.Acceptance.{Accepted}
 use Rattle.rules.proofs.Opening.{wakes-root, enter-kept}
@@ -239,7 +239,7 @@ module _ {bs : List ℕ} {c : Counts} {ws : List ℕ} {t : ℕ} (a : Fireable bs
       pub fire-done : {code : ℕ} → code ≡ newest (l t .held) .code → {xs : List ℕ}
           → xs ≡ written entryLimit (c .tracks) (finished p (abandoned p (ledgerOf c us))) us
           → Meets (fireOutcome entryLimit bs ws (record { track = t })) (done (code ∷ dev ∷ [])) xs
-      unfolding fireOutcome callRefusal callRefusals firstRefusal figures after afterFire
+      unfolding fireOutcome callRefusal callRefusals firstRefusal figures after datedBy afterFire
       fire-done k h =
           done-call bs c ws (a .checked) (fire (record { track = t })) (rw (a .not-over, a .may)) (rw (k, e))
           (then c ws in-order (fired p l t) stored-fired fired-words (λ m. finished p (abandoned p m)) h)

@@ -8,11 +8,12 @@ use Rattle.rules.specs.declared.Counts.{Counts}
 use Rattle.rules.specs.Fold.{countBelow, firstRefusal}
 use Rattle.rules.specs.Plan.{Plan, trackCount, planOf}
 use Rattle.rules.specs.Layout.{entryLimit}
+use Rattle.rules.specs.Leading.{lastDay}
 use Rattle.rules.specs.Ledger.{Ledger, isForward, ledgerAt, written}
 use Rattle.rules.specs.Scope.{isOver}
 use Rattle.rules.specs.Finish.{finished}
 use Rattle.rules.specs.Signal.{turned, turnings, abandoned, afterSignal}
-use Rattle.rules.specs.Call.{refusal, done, Outcome, nothing, Call, signal, refusedOr, underPlan, ledgerRefusals, callRefusals, callRefusal, figures, after, callOutcome, signalOutcome, Meets}
+use Rattle.rules.specs.Call.{refusal, done, Outcome, nothing, Call, signal, refusedOr, underPlan, ledgerRefusals, callRefusals, callRefusal, figures, after, datedBy, callOutcome, signalOutcome, Meets}
 use Rattle.rules.proofs.LedgerChecks.{passes-first}
 use Rattle.plan.proofs.FieldLaws.{track-count}
 use Rattle.ledger.specs.Ladder.{Tidy, Checked, Going, ledgerOf}
@@ -32,21 +33,21 @@ module _ (bs : List ℕ) (c : Counts) (ws : List ℕ) (g : Checked bs c ws) wher
       refusedOr ws
       (record {
         answer = done (figures p (ledgerAt entryLimit ws n) k);
-        words = written entryLimit n (after p (ledgerAt entryLimit ws n) k) ws;
+        words = written entryLimit n (after p (ledgerAt entryLimit ws n) k) (datedBy k ws);
       })
       r
 
   read : (k : Call) → callOutcome entryLimit bs ws k
-      ≡ answered k (trackCount p) (firstRefusal (ledgerRefusals entryLimit bs p ws ++ callRefusals entryLimit p (ledgerAt entryLimit ws (trackCount p)) k))
+      ≡ answered k (trackCount p) (firstRefusal (ledgerRefusals entryLimit bs p ws ++ callRefusals entryLimit p (lastDay ws) (ledgerAt entryLimit ws (trackCount p)) k))
   unfolding callOutcome underPlan
   read k = rw (g .lent .accepts .read, underPlan)
 
-  pub outcome : (k : Call) → callOutcome entryLimit bs ws k ≡ answered k (c .tracks) (callRefusal entryLimit p (ledgerAt entryLimit ws (c .tracks)) k)
+  pub outcome : (k : Call) → callOutcome entryLimit bs ws k ≡ answered k (c .tracks) (callRefusal entryLimit p (lastDay ws) (ledgerAt entryLimit ws (c .tracks)) k)
   unfolding callRefusal
   outcome k =
       read k
-      ∙ ap (answered k (trackCount p)) (passes-first entryLimit bs p ws (checked-passes bs c ws g) (callRefusals entryLimit p (ledgerAt entryLimit ws (trackCount p)) k))
-      ∙ ap (λ (n : ℕ). answered k n (firstRefusal (callRefusals entryLimit p (ledgerAt entryLimit ws n) k))) (track-count bs c)
+      ∙ ap (answered k (trackCount p)) (passes-first entryLimit bs p ws (checked-passes bs c ws g) (callRefusals entryLimit p (lastDay ws) (ledgerAt entryLimit ws (trackCount p)) k))
+      ∙ ap (λ (n : ℕ). answered k n (firstRefusal (callRefusals entryLimit p (lastDay ws) (ledgerAt entryLimit ws n) k))) (track-count bs c)
 
   pub orderly : Tidy ws (c .tracks)
   orderly = tidy-words bs c ws g
@@ -55,14 +56,14 @@ module _ (bs : List ℕ) (c : Counts) (ws : List ℕ) (g : Checked bs c ws) wher
   going n = record { checked = g; goes-on = n }
 
   -- refused by a number of its own, and accepted
-  pub refused-call : (k : Call) (r : ℕ) → callRefusal entryLimit p (ledgerOf c ws) k ≡ suc r → Meets (callOutcome entryLimit bs ws k) (refusal (suc r)) ws
+  pub refused-call : (k : Call) (r : ℕ) → callRefusal entryLimit p (lastDay ws) (ledgerOf c ws) k ≡ suc r → Meets (callOutcome entryLimit bs ws k) (refusal (suc r)) ws
   unfolding refusedOr ledgerOf
   refused-call k r q =
       let e = outcome k ∙ ap (answered k (c .tracks)) q in
       record { answered = sym (ap (λ (x : Outcome). x .answer) e); left = sym (ap (λ (x : Outcome). x .words) e) }
 
-  pub done-call : (k : Call) → callRefusal entryLimit p (ledgerOf c ws) k ≡ 0 → {fs vs : List ℕ} → fs ≡ figures p (ledgerOf c ws) k
-      → vs ≡ written entryLimit (c .tracks) (after p (ledgerOf c ws) k) ws → Meets (callOutcome entryLimit bs ws k) (done fs) vs
+  pub done-call : (k : Call) → callRefusal entryLimit p (lastDay ws) (ledgerOf c ws) k ≡ 0 → {fs vs : List ℕ} → fs ≡ figures p (ledgerOf c ws) k
+      → vs ≡ written entryLimit (c .tracks) (after p (ledgerOf c ws) k) (datedBy k ws) → Meets (callOutcome entryLimit bs ws k) (done fs) vs
   unfolding refusedOr ledgerOf
   done-call k q f w =
       let e = outcome k ∙ ap (answered k (c .tracks)) q in
@@ -88,7 +89,7 @@ module _ (bs : List ℕ) (c : Counts) (ws : List ℕ) (g : Checked bs c ws) wher
       → n ≡ countBelow (c .tracks) (λ t. isForward (ledgerOf c ws t .mode)) → vs ≡ written entryLimit (c .tracks) (turned (ledgerOf c ws)) ws
       → us ≡ written entryLimit (c .tracks) (finished p (abandoned p (ledgerOf c vs))) vs
       → Meets (signalOutcome entryLimit bs ws nothing) (done (n ∷ [])) us
-  unfolding signalOutcome callRefusal callRefusals firstRefusal figures after turnings afterSignal
+  unfolding signalOutcome callRefusal callRefusals firstRefusal figures after datedBy turnings afterSignal
   signal-done o f v w =
       let l : Ledger = ledgerOf c ws in
       done-call (signal nothing) (rw o)
