@@ -4,7 +4,7 @@ use mathlib.Core.Path.{_≡_, refl}
 use mathlib.Core.List.{List, [], _∷_, _++_}
 use Prim.Native.Nat.{ℕ}
 use lib.IntN.{pos, _-ℤ_}
-use lib.ListN.{take, drop}
+use lib.ListN.{take, drop, replicate}
 use Rattle.rules.specs.Names.{Day}
 use Rattle.rules.specs.declared.Counts.{Counts}
 use Rattle.rules.specs.Plan.{planOf}
@@ -135,10 +135,17 @@ pub day-stays : (answers (e 1 3 ∷ s ∷ f ∷ []) ≡ done (1 ∷ 0 ∷ []) �
 unfolding computing
 day-stays = (refl, refl, refl)
 
-pub refused-leaves : (words (e 1 3 ∷ e 2 2 ∷ []) ≡ words (e 1 3 ∷ [])) × (words (e 1 3 ∷ e 2 182621 ∷ []) ≡ words (e 1 3 ∷ []))
-    × (words (e 1 3 ∷ e 0 4 ∷ []) ≡ words (e 1 3 ∷ [])) × (words (e 1 3 ∷ e 2 3 ∷ e 1 4 ∷ []) ≡ words (e 1 3 ∷ e 2 3 ∷ []))
+-- the words after an event on day 3 that moves, and after the one that finishes
+abbrev moved : List ℕ
+moved = take 2 (words []) ++ (3 ∷ 0 ∷ 1 ∷ 1 ∷ 1 ∷ 50 ∷ 65535 ∷ replicate 62 0) ++ replicate 2 7
+
+abbrev over : List ℕ
+over = take 2 (words []) ++ (3 ∷ 0 ∷ replicate 67 0) ++ replicate 2 7
+
+pub refused-leaves : (words (e 1 3 ∷ []) ≡ moved) × (words (e 1 3 ∷ e 2 2 ∷ []) ≡ moved) × (words (e 1 3 ∷ e 2 182621 ∷ []) ≡ moved)
+    × (words (e 1 3 ∷ e 0 4 ∷ []) ≡ moved) × (words (e 1 3 ∷ e 2 3 ∷ []) ≡ over) × (words (e 1 3 ∷ e 2 3 ∷ e 1 4 ∷ []) ≡ over)
 unfolding computing
-refused-leaves = (refl, refl, refl, refl)
+refused-leaves = (refl, refl, refl, refl, refl, refl)
 
 -- 25 "a window names no transition, repeats one, ends before it begins or leaves the day range"
 abbrev begins : List ℕ → Answer

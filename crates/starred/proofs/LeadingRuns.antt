@@ -34,12 +34,12 @@ pub leads-P : (length planP ≡ 172) × (planSum planP ≡ 609)
 unfolding computing
 leads-P = (refl, refl)
 
--- "Begin writes them"; a call and finish leave them
-pub begin-writes : take 2 (words []) ≡ 172 ∷ 609 ∷ []
+-- "Begin writes them", and the earliest day behind them; a call and finish leave them, and an event writes its day
+pub begin-writes : take 4 (words []) ≡ 172 ∷ 609 ∷ 21499 ∷ 65534 ∷ []
 unfolding computing
 begin-writes = refl
 
-pub calls-leave : (take 2 underway ≡ 172 ∷ 609 ∷ []) × (take 2 over ≡ 172 ∷ 609 ∷ [])
+pub calls-leave : (take 4 underway ≡ 172 ∷ 609 ∷ 0 ∷ 0 ∷ []) × (take 4 over ≡ 172 ∷ 609 ∷ 0 ∷ 0 ∷ [])
 unfolding computing
 calls-leave = (refl, refl)
 
