@@ -7,6 +7,7 @@ use Prim.Native.Nat.{ℕ, _+_, _*_, _-_, _≤_, _<_}
 use native.Mathlib.Omega.{arith}
 use native.Mathlib.Nat.{add-sub-cancel-left}
 use lib.Dec.{ltb, eqb}
+use lib.IntN.{ℤ}
 use lib.ListN.{length, take, drop}
 use borrow.Author.Tests.{not-true, not-false, ltb-true, ltb-false, lt-ltb, le-ltb, ne-eqb}
 use Rattle.rules.specs.declared.Counts.{Counts}
@@ -14,13 +15,13 @@ use Rattle.rules.specs.Fold.{firstRefusal}
 use Rattle.rules.specs.Layout.{entryLimit, entryWidth, trackWidth, headWords, trackPlace, entriesPlace, wordCount}
 use Rattle.rules.specs.Plan.{planOf, trackCount}
 use Rattle.rules.specs.Acceptance.{Reading, turnedBack, accepted, readPlan}
-use Rattle.rules.specs.Leading.{stamped, otherPlan}
+use Rattle.rules.specs.Leading.{lastDay, stamped, otherPlan}
 use Rattle.rules.specs.Ledger.{ledgerAt, written}
 use Rattle.rules.specs.Opening.{begun}
 use Rattle.rules.specs.Scope.{hasOpenScope, isOver}
 use Rattle.rules.specs.Fire.{ready}
 use Rattle.rules.specs.Soundness.{areTidy, isSound}
-use Rattle.rules.specs.Call.{Answer, refusal, done, Outcome, Call, refusedOr, tooShort, ledgerRefusal, callRefusals, callOutcome, beginOutcome, readyOutcome, heldPart, entriesPart, HandsBack, Meets}
+use Rattle.rules.specs.Call.{Answer, refusal, done, Outcome, Call, refusedOr, tooShort, ledgerRefusal, callRefusals, callOutcome, eventOutcome, beginOutcome, readyOutcome, heldPart, entriesPart, HandsBack, Meets}
 use Rattle.plan.proofs.FieldLaws.{track-count}
 use Rattle.ledger.specs.Ladder.{Accepts, Lent, Checked, ledgerOf}
 use Rattle.plan_reader.proofs.Reader.{accepted-holds}
@@ -141,8 +142,8 @@ module _ (bs ws : List ℕ) where
   pub call-refused : (d : Call) (r : ℕ) → turnedBack r ≡ checked bs ws → record { answer = refusal r; words = ws } ≡ callOutcome entryLimit bs ws d
   unfolding callOutcome checked
   call-refused d r e =
-      refused-outcome bs _ ws _ _ (λ p. firstRefusal (callRefusals entryLimit p (ledgerAt entryLimit ws (trackCount p)) d))
-      (λ p. ap (refusedOr ws _) (checked-first entryLimit bs p ws (callRefusals entryLimit p (ledgerAt entryLimit ws (trackCount p)) d))) r e
+      refused-outcome bs _ ws _ _ (λ p. firstRefusal (callRefusals entryLimit p (lastDay ws) (ledgerAt entryLimit ws (trackCount p)) d))
+      (λ p. ap (refusedOr ws _) (checked-first entryLimit bs p ws (callRefusals entryLimit p (lastDay ws) (ledgerAt entryLimit ws (trackCount p)) d))) r e
 
   -- Entries.
   pub span-at : (t u a b : ℕ) → u ≡ t → Span bs ws u a b → Span bs ws t a b
@@ -222,3 +223,8 @@ pub opens-found : (bs ws : List ℕ) {c d : Counts} {opens : List Bool} → acce
 opens-found bs ws {c} {d} {opens} e f =
     let q : c ≡ d = cc in
     subst (λ k. isOver (planOf bs k) (ledgerOf k ws) ≡ false → Figures false opens (k .tracks) (hasOpenScope (planOf bs k) (ledgerOf k ws))) q f
+
+-- an event's day as it was given
+pub on-day : (bs ws : List ℕ) (e : ℕ) {x y : ℤ} → x ≡ y → {a : Answer} {vs : List ℕ}
+    → Meets (eventOutcome entryLimit bs ws (record { event = e; day = x })) a vs → Meets (eventOutcome entryLimit bs ws (record { event = e; day = y })) a vs
+on-day bs ws e q {a} {vs} m = subst (λ d. Meets (eventOutcome entryLimit bs ws (record { event = e; day = d })) a vs) q m

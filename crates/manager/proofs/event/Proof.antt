@@ -2,7 +2,8 @@
 use mathlib.Core.Path.{sym, ap, _∙_, refl}
 use Rattle.rules.specs.Call.{event, eventOutcome}
 use Rattle.rules.specs.Answers.{planTold, eventTold}
-use Rattle.manager.proofs.Checks.{meets, call-refused, call-checked}
+use Rattle.signed.proofs.Integers.{read-back}
+use Rattle.manager.proofs.Checks.{meets, call-refused, call-checked, on-day}
 use Rattle.opening.proofs.FirstStates.{first-figures}
 use borrow.Author.Needs.{needs}
 use Rattle.manager.proofs.event.Statement.{statement}
@@ -17,7 +18,10 @@ event-requires c κs =
 
 returns : tie.Need-returns
 unfolding planTold eventTold eventOutcome
-returns c = meets _ _ _ _ (call-refused _ _ (event (record { event = _ })) _ (sym (ap planTold (c .before .answer .given .1)) ∙ c .before .before .before .verify .ensures .0)) refl
+returns c = meets _ _ _ _ (call-refused _ _ (event (record { event = _; day = _ })) _ (sym (ap planTold (c .before .answer .given .1)) ∙ c .before .before .before .verify .ensures .0)) refl
+
+returns-2 : tie.Need-returns-2
+returns-2 c = on-day _ _ _ (read-back _ (c .before .before .before .before .before .before .before .before .before .before .before .before .before .before .before .fits .day .sfits)) (c .before .before .event .ensures)
 
 pub event-spec : {M : Type 1} → statement M
 event-spec =
@@ -30,4 +34,4 @@ event-spec =
     (λ c. search needs)
     returns
     (λ c. search needs)
-    (λ c. search needs))
+    returns-2)
