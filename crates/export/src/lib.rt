@@ -48,18 +48,18 @@ fn at_bit32(figure: u32) -> u64
     (figure as u64) * BIT32
 }
 
-// A figure, at bit 48.
-fn at_bit48(figure: u16) -> u64
-    ensures { λ r. ⌜ r ≡ figure * bit48 ⌝ }
-{
-    (figure as u64) * BIT48
-}
-
 // Two figures, at bits 16 and 32.
 fn pair(a: u16, b: u16) -> u64
     ensures { λ r. ⌜ r ≡ a * bit16 + b * bit32 ⌝ }
 {
     at_bit16(a) + at_bit32(b as u32)
+}
+
+// Three figures, at bits 16, 32 and 48.
+fn triple(a: u16, b: u16, c: u16) -> u64
+    ensures { λ r. ⌜ r ≡ a * bit16 + b * bit32 + c * bit48 ⌝ }
+{
+    (a as u64) * BIT16 + (b as u64) * BIT32 + (c as u64) * BIT48
 }
 
 // A plan's tracks, states and transitions, at bits 16, 32 and 48: they are few.
@@ -156,7 +156,7 @@ pub extern "C" fn retraction_date_of_day(day: i32) -> u64
     let answer = calendar::date_of_day(day);
     match answer {
         DateAnswer::Refused(n) => at_bit0(n),
-        DateAnswer::On(date) => pair(date.year, date.month) + at_bit48(date.day),
+        DateAnswer::On(date) => triple(date.year, date.month, date.day),
     }
 }
 
