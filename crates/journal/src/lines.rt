@@ -11,6 +11,7 @@ use rules::SignalAnswer;
 ghost use mathlib.Core.List.{[], _∷_, _++_};
 ghost use Prim.Native.Nat.{_+_, _<_, _≤_};
 ghost use lib.ListN.{length};
+ghost use Rattle.rules.specs.Names.{Day};
 ghost use Rattle.rules.specs.Text.{ascii, decimal, line};
 ghost use Rattle.rules.specs.Transcript.{refusalLine, planLine, tallyLine, deviationText, callLine, doneLine};
 ghost use Rattle.rules.specs.Answers.{eventTold, signalTold, fireTold};
@@ -103,10 +104,10 @@ fn fired_line(out: &mut [u8], at: usize, track: u16, code: u16, deviation: u16) 
     put_byte(out, end, NEWLINE)
 }
 
-// The line of an event, `E` event moved closed, or its refusal's.
+// The line of an event, `E` event moved closed, or its refusal's: the same on any day.
 pub fn event_line(out: &mut [u8], at: usize, name: u16, answer: EventAnswer) -> usize
     requires { ⌜ at + lineRoom ≤ length (now out) ⌝ }
-    ensures { λ r. ⌜ Lined (now (out .entry)) at (callLine (event (record { event = name })) (eventTold answer)) (now (out .exit)) r ⌝ }
+    ensures { λ r. ⌜ ((day : Day) → Lined (now (out .entry)) at (callLine (event (record { event = name; day = day })) (eventTold answer)) (now (out .exit)) r) ⌝ }
 {
     match answer {
         EventAnswer::Moved(moved, closed) => put_three(

@@ -22,7 +22,7 @@ unfolding journalLength
 returns-4 c = rw (c .if4 .taken)
 
 returns-5 : tie.Need-returns-5
-returns-5 c = sym (length-none _ (c .before .before .before .if1 .left) (c .before .before .if2 .left) (c .before .if3 .left) (c .if4 .left))
+returns-5 c = sym (length-none _ (c .before .before .if2 .left) (c .before .if3 .left) (c .if4 .left) (c .before .before .before .if1 .left))
 
 pub length-of-spec : {M : Type 1} → statement M
 length-of-spec = tie.close (tie.spec returns returns-2 returns-3 returns-4 returns-5)

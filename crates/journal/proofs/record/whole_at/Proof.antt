@@ -1,19 +1,24 @@
 -- By the kind; a record with a field has six bytes, one with a day ten. Assumes nothing.
+use mathlib.Core.Path.{_≡_, _∙_}
 use native.Mathlib.Omega.{arith}
 use borrow.Author.Needs.{needs}
-use mathlib.Core.Path.{_≡_}
 use borrow.Author.Tests.{ne-eqb}
 use Rattle.rules.specs.Journal.{journalLength, recordOf}
+use Rattle.signed.proofs.Integers.{read-back}
 use Rattle.journal.proofs.record.whole_at.Statement.{statement}
 use Rattle.journal.proofs.record.whole_at.Tie as tie
 
 word-at-requires : tie.Need-word-at-requires
 unfolding journalLength
-word-at-requires c κs = let e : journalLength (c .before .before .args .kind) ≡ 6 = rw (c .if1 .taken) in omega arith
+word-at-requires c κs = let e : journalLength (c .before .before .args .kind) ≡ 10 = rw (c .if1 .taken) in omega arith
+
+day-at-requires : tie.Need-day-at-requires
+unfolding journalLength
+day-at-requires c κs = let e : journalLength (c .before .before .before .args .kind) ≡ 10 = rw (c .before .if1 .taken) in omega arith
 
 returns : tie.Need-returns
 unfolding recordOf
-returns c = rw (c .before .if1 .taken, c .word-at .ensures)
+returns c = rw (c .before .before .if1 .taken, c .before .word-at .ensures, read-back _ (c .day-at .ok) ∙ c .day-at .ensures)
 
 returns-2 : tie.Need-returns-2
 unfolding recordOf
@@ -37,6 +42,8 @@ whole-at-spec =
     (tie.spec
     (λ c. search needs)
     word-at-requires
+    (λ c. search needs)
+    day-at-requires
     returns
     returns-2
     (λ c. search needs)
