@@ -1,5 +1,6 @@
 -- The reader's answer at a place of the journal, as the rules have it. Assumes nothing.
 use Prim.Native.Nat.{ℕ}
+use Rattle.rules.specs.Signed.{joined}
 use Rattle.rules.specs.Plan.{Plan}
 use Rattle.rules.specs.Ledger.{Ledger}
 use Rattle.rules.specs.Journal.{Item, ended, broken, fireLowest, called, fireLowestCall}
@@ -10,7 +11,7 @@ use Rattle.journal.specs.declared.record.Record.the-variants.{Ended, Bro
 abbrev pub recordTold : Record → Item
 recordTold Ended = ended
 recordTold Broken = broken
-recordTold (Event e d) = called (event (record { event = e; day = d }))
+recordTold (Event e low high) = called (event (record { event = e; day = joined low high }))
 recordTold Signal = called (signal nothing)
 recordTold (Fire t) = called (fire (record { track = t }))
 recordTold FireLowest = fireLowest

@@ -1,5 +1,4 @@
 // The records of the journal.
-use plan::fields::day_at;
 use plan::fields::word_at;
 ghost use mathlib.Core.Path.{_≡_};
 ghost use Prim.Native.Nat.{_+_, _≤_};
@@ -24,14 +23,18 @@ const WITH_FIELD: usize = 6;
 
 const WITH_DAY: usize = 10;
 
+// Where the day's high word starts.
+const HIGH_PLACE: usize = 8;
+
 // Where the kind starts.
 const KIND_PLACE: usize = 2;
 
-// What stands at a place of the journal: its end, a broken record, or what is asked for, with its field, and an event with its day.
+// What stands at a place of the journal: its end, a broken record, or what is asked for, with its field, and an event with its day's two words,
+// the low one first.
 pub enum Record {
     Ended,
     Broken,
-    Event(u16, i32),
+    Event(u16, u16, u16),
     Signal,
     Fire(u16),
     FireLowest,
@@ -70,7 +73,8 @@ fn whole_at(journal: &[u8], at: usize, kind: u16) -> Record
     if kind == EVENT {
         return Record::Event(
             word_at(journal, at + BARE),
-            day_at(journal, at + WITH_FIELD),
+            word_at(journal, at + WITH_FIELD),
+            word_at(journal, at + HIGH_PLACE),
         );
     }
     if kind == SIGNAL {
@@ -115,7 +119,7 @@ pub fn size_of(found: Record) -> usize
     match found {
         Record::Ended => 0,
         Record::Broken => 0,
-        Record::Event(_, _) => WITH_DAY,
+        Record::Event(_, _, _) => WITH_DAY,
         Record::Signal => BARE,
         Record::Fire(_) => WITH_FIELD,
         Record::FireLowest => BARE,

@@ -1,5 +1,6 @@
 -- One record: the call's promise, its line and the tally's are one, for every call. Assumes nothing.
 use mathlib.Core.Path.{_≡_, refl, sym, ap, _∙_, subst}
+use lib.IntN.{ℤ}
 use mathlib.Core.Bool.{Bool, true, false}
 use mathlib.Core.List.{List}
 use Prim.Native.Nat.{ℕ, _+_, _<_, _≤_}
@@ -9,7 +10,8 @@ use Rattle.rules.specs.declared.Counts.{Counts}
 use Rattle.rules.specs.Fold.{sumBelow}
 use Rattle.rules.specs.Plan.{planOf}
 use Rattle.rules.specs.Layout.{entryLimit}
-use Rattle.rules.specs.Call.{Answer, refusal, done, Call, event, signal, fire, EventArguments, SignalArguments, FireArguments, callOutcome, Meets}
+use Rattle.rules.specs.Event.{EventArguments}
+use Rattle.rules.specs.Call.{Answer, refusal, done, Call, event, signal, fire, SignalArguments, FireArguments, callOutcome, Meets}
 use Rattle.rules.specs.Journal.{Item}
 use Rattle.rules.specs.Transcript.{refusalLine, callLine, firingsOf, heldTotal, tallyLine}
 use Rattle.plan.proofs.FieldLaws.{track-count}
@@ -55,6 +57,13 @@ carried-out bs c d ws out from ws′ out′ place told fired next m l f e =
       fired = e .fired ∙ ap (λ (n : ℕ). from .tally .fired + n) (f ∙ ap (firingsOf d) (m .answered));
       held = held-told bs c ws′ (next .tally .held) (e .held);
     }
+
+-- an event's day as it was given
+pub carried-on : (e : ℕ) {x y : ℤ} → x ≡ y → {bs : List ℕ} {c : Counts} {ws out : List ℕ} {from : Progress} {ws′ out′ : List ℕ} {next : Progress}
+    → CarriedOut bs c (event (record { event = e; day = x })) ws out from ws′ out′ next
+    → CarriedOut bs c (event (record { event = e; day = y })) ws out from ws′ out′ next
+carried-on e q {bs} {c} {ws} {out} {from} {ws′} {out′} {next} h =
+    subst (λ d. CarriedOut bs c (event (record { event = e; day = d })) ws out from ws′ out′ next) q h
 
 -- where the reading ends no record is left to do
 pub ended-none : (x : Record) → x ≡ Ended → 0 < sizeOf (recordTold x) → ⊥

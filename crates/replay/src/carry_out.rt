@@ -6,6 +6,7 @@ use journal::tally;
 use journal::tally::Tally;
 use lookup::opens;
 use rules::Counts;
+use signed::words::join;
 ghost use Prim.Native.Nat.{_+_, _<_, _^_};
 ghost use Rattle.rules.specs.Plan.{planOf, firstState};
 ghost use Rattle.rules.specs.Call.{event, signal, fire, nothing};
@@ -146,14 +147,14 @@ pub fn carry_out(
     match found {
         Record::Ended => from,
         Record::Broken => from,
-        Record::Event(event, day) => carry_out_event(
+        Record::Event(event, low, high) => carry_out_event(
             plan,
             c,
             &mut ledger[..],
             &mut output[..],
             from,
             event,
-            day,
+            join(low, high),
             firsts,
             head,
             next,

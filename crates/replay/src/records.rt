@@ -27,7 +27,7 @@ fn is_broken(found: Record) -> bool
     match found {
         Record::Ended => false,
         Record::Broken => true,
-        Record::Event(_, _) => false,
+        Record::Event(_, _, _) => false,
         Record::Signal => false,
         Record::Fire(_) => false,
         Record::FireLowest => false,

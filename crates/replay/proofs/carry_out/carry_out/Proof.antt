@@ -1,5 +1,7 @@
 -- By the case; where the reading ends there is nothing to carry out. Assumes nothing.
-use Rattle.replay.proofs.CarriedOut.{ended-none, broken-none}
+use mathlib.Core.Path.{_∙_}
+use Rattle.signed.proofs.Integers.{read-back}
+use Rattle.replay.proofs.CarriedOut.{carried-on, ended-none, broken-none}
 use borrow.Author.Needs.{needs}
 use Rattle.replay.proofs.carry_out.carry_out.Statement.{statement}
 use Rattle.replay.proofs.carry_out.carry_out.Tie as tie
@@ -11,7 +13,9 @@ returns-2 : tie.Need-returns-2
 returns-2 c = absurd (broken-none _ (c .enum-told2 .given .1) (c .before .before .before .before .before .pre .1))
 
 returns-3 : tie.Need-returns-3
-returns-3 c = rw (c .before .before .before .before .before .before .before .before .found .given .1) (c .before .before .before .before .carry-out-event .ensures)
+returns-3 c =
+    let j = c .before .before .before .before .before .join in
+    rw (c .before .before .before .before .before .before .before .before .before .found .given .1) (carried-on _ (read-back _ (j .ok) ∙ j .ensures) (c .before .before .before .before .carry-out-event .ensures))
 
 returns-4 : tie.Need-returns-4
 returns-4 c = rw (c .before .before .before .before .before .before .before .enum-told3 .given .1) (c .before .before .before .before .carry-out-signal .ensures)
@@ -29,6 +33,7 @@ carry-out-spec =
     (λ c. search needs)
     (λ c. search needs)
     (λ c. search needs)
+    (λ c κs. search needs)
     (λ c κs. search needs)
     (λ c. search needs)
     (λ c κs. search needs)
