@@ -1,8 +1,8 @@
 -- From the choice to the call's outcome: 21 or the step where the ledger is going, and before that 19, 26 and 20. Assumes nothing.
-use mathlib.Core.Path.{_≡_, sym, ap, ap₂, _∙_, subst}
+use mathlib.Core.Path.{_≡_, refl, sym, ap, ap₂, _∙_, subst}
 use mathlib.Core.Bool.{Bool, true, false, cond, not}
 use mathlib.Core.List.{List, [], _∷_}
-use Prim.Native.Nat.{ℕ, _<_}
+use Prim.Native.Nat.{ℕ, zero, suc, _<_}
 use lib.Dec.{eqb}
 use lib.Signed.{mag, ltZ}
 use borrow.Author.Tests.{eq-eqb, ne-eqb, not-true, not-false}
@@ -19,7 +19,8 @@ use Rattle.rules.specs.Scope.{isOver}
 use Rattle.rules.specs.Event.{EventArguments, moves, moved, closings, isFull, afterEvent}
 use Rattle.rules.specs.Call.{Answer, done, Outcome, event, Meets, refusedOr, underPlan, callRefusals, figures, after, datedBy, badDay, callOutcome, eventOutcome}
 use Rattle.rules.specs.Answers.{eventTold}
-use Rattle.rules.proofs.LedgerChecks.{passes-first}
+use Rattle.rules.proofs.Tests.{passed}
+use Rattle.rules.proofs.LedgerChecks.{unlessRefused, passes-first}
 use Rattle.rules.proofs.Stored.{written-read}
 use Rattle.rules.proofs.LeadingLaws.{dated-written}
 use Rattle.rules.proofs.DayLaws.{good-day}
@@ -30,7 +31,7 @@ use Rattle.lookup.proofs.Facts.{checked-passes, plan-facts, live-of-going, tidy
 use Rattle.event_choice.specs.declared.Choice.{Choice}
 use Rattle.event_choice.specs.Chosen.{argumentsOf, Chosen}
 use Rattle.event_choice.proofs.Still.{no-moves, after-same, still-closings}
-use Rattle.event_step.specs.Outcome.{goingOutcome}
+use Rattle.event_step.specs.Outcome.{earlyRefusal, goingOutcome}
 
 met : {o : Outcome} {a : Answer} {w : List ℕ} → o ≡ record { answer = a; words = w } → Meets o a w
 met e = record { answered = ap (λ (x : Outcome). x .answer) (sym e); left = ap (λ (x : Outcome). x .words) (sym e) }
@@ -46,15 +47,8 @@ module _ (last day : Day) (h : mag day < 2147483648) {b : Bool} (e : b ≡ isDay
   day-order n {z} k f = read-lt day z h k ∙ (let q : isDay day ≡ true = ap isDay (sym (read-back day h)) ∙ sym e ∙ not-false b n in rw (q, f))
 
 -- a day as it was given, where the machine reads it back
-pub asked-of : (last : Day) {x y : Day} → x ≡ y → {b : Bool} → b ≡ badDay last x → b ≡ badDay last y
-asked-of last e q = q ∙ ap (badDay last) e
-
 pub dated-with : (u : List ℕ) {x y : Day} → x ≡ y → {v : List ℕ} → v ≡ dated x u → v ≡ dated y u
 dated-with u e q = q ∙ ap (λ z. dated z u) e
-
--- the choice is of a day that 26 lets pass
-pub choice-day : (last : Day) (r : Choice) {a : EventArguments} {b : Bool} → argumentsOf r ≡ a → b ≡ badDay last (a .day) → b ≡ false → isDay (r .day) ≡ true
-choice-day last r {a} e d z = ap (λ (x : EventArguments). isDay (x .day)) e ∙ good-day last (a .day) (sym d ∙ z) .0
 
 -- a ledger that is going: the choice for this event
 module _ (bs : List ℕ) (c : Counts) (ws : List ℕ) (g : Going bs c ws) (e : EventArguments) {r : Choice}
@@ -116,47 +110,100 @@ module _ (bs : List ℕ) (c : Counts) (ws : List ℕ) (g : Going bs c ws) (e : E
         unchanged : written entryLimit (c .tracks) l ws ≡ ws
         unchanged = unfold ledgerOf in written-read entryLimit (c .tracks) ws (tidy-words bs c ws (g .checked) .tidy) (g .checked .lent .room .words)
 
--- a ledger that is not over goes on
-pub going-of : {bs : List ℕ} {c : Counts} {ws : List ℕ} → Checked bs c ws → {r : Bool} → r ≡ isOver (planOf bs c) (ledgerOf c ws) → r ≡ false → Going bs c ws
-going-of h q z = record { checked = h; goes-on = sym q ∙ z }
+-- the refusals before the moves are chosen, as the code asks them
+module _ (p : Plan) (last : Day) (l : Ledger) (e : EventArguments) where
+  pub early-zero : e .event ≡ 0 → 19 ≡ earlyRefusal p last l e
+  unfolding earlyRefusal firstRefusal
+  early-zero z = rw (eq-eqb (e .event) 0 z)
 
--- over, and 19, 26 and 20
+  module _ (n : e .event ≡ 0 → ⊥) {b : Bool} (d : b ≡ badDay last (e .day)) where
+    pub early-day : b ≡ true → 26 ≡ earlyRefusal p last l e
+    unfolding earlyRefusal firstRefusal
+    early-day z = rw (ne-eqb (e .event) 0 n, sym d ∙ z)
+
+    module _ (on : b ≡ false) {r : Bool} (q : r ≡ isOver p l) where
+      pub early-over : r ≡ true → 20 ≡ earlyRefusal p last l e
+      unfolding earlyRefusal firstRefusal
+      early-over z = rw (ne-eqb (e .event) 0 n, sym d ∙ on, sym q ∙ z)
+
+      pub early-none : r ≡ false → 0 ≡ earlyRefusal p last l e
+      unfolding earlyRefusal firstRefusal
+      early-none z = rw (ne-eqb (e .event) 0 n, sym d ∙ on, sym q ∙ z)
+
+  -- where none applies the day is in range, and the ledger is not over
+  pub early-passed : earlyRefusal p last l e ≡ 0 → (isDay (e .day) ≡ true) × (isOver p l ≡ false)
+  unfolding earlyRefusal firstRefusal
+  early-passed z =
+      let (a, y) = passed (eqb (e .event) 0) 18 _ z in
+      let (b, x) = passed (badDay last (e .day)) 25 _ y in
+      (good-day last (e .day) b .0, passed (isOver p l) 19 _ x .0)
+
+pub day-asked : (last : Day) {x y : Day} → x ≡ y → {b : Bool} → b ≡ badDay last x → b ≡ badDay last y
+day-asked last e q = q ∙ ap (badDay last) e
+
+-- an event as it was given, where the machine reads its day back
+pub asked-of : (p : Plan) (last : Day) (l : Ledger) (e : ℕ) {x y : Day} → x ≡ y → {r : ℕ} → r ≡ earlyRefusal p last l (record { event = e; day = x })
+    → r ≡ earlyRefusal p last l (record { event = e; day = y })
+asked-of p last l e q f = f ∙ ap (λ d. earlyRefusal p last l (record { event = e; day = d })) q
+
+-- the choice is of a day in range
+pub choice-day : (r : Choice) {e : EventArguments} → argumentsOf r ≡ e → isDay (e .day) ≡ true → isDay (r .day) ≡ true
+choice-day r q h = ap (λ (x : EventArguments). isDay (x .day)) q ∙ h
+
+-- the call's outcome by them: a refusal before others decides
 module _ (bs : List ℕ) (c : Counts) (ws : List ℕ) (h : Checked bs c ws) (e : EventArguments) where
-  over-is : isOver (planOf bs c) (ledgerOf c ws) ≡ isOver (planOf bs c) (ledgerAt entryLimit ws (trackCount (planOf bs c)))
-  unfolding ledgerOf
-  over-is = ap (λ (n : ℕ). isOver (planOf bs c) (ledgerAt entryLimit ws n)) (sym (track-count bs c))
+  abbrev early : ℕ
+  early = earlyRefusal (planOf bs c) (lastDay ws) (ledgerOf c ws) e
 
-  checked : eventOutcome entryLimit bs ws e
-      ≡ refusedOr ws
+  three : (a b o : Bool) (n : ℕ) → cond a 19 (cond b 26 (cond o 20 n)) ≡ unlessRefused (cond a 19 (cond b 26 (cond o 20 0))) n
+  unfolding unlessRefused
+  three true b o n = refl
+  three false true o n = refl
+  three false false true n = refl
+  three false false false n = refl
+
+  abbrev read : Ledger
+  read = ledgerAt entryLimit ws (trackCount (planOf bs c))
+
+  abbrev later : ℕ
+  later = firstRefusal ((21, isFull (planOf bs c) entryLimit read e) ∷ [])
+
+  abbrev answered : ℕ → Outcome
+  answered =
+      refusedOr ws
       (record {
-        answer = done (figures (planOf bs c) (ledgerAt entryLimit ws (trackCount (planOf bs c))) (event e));
-        words = written entryLimit (trackCount (planOf bs c)) (afterEvent (planOf bs c) (ledgerAt entryLimit ws (trackCount (planOf bs c))) e) (dated (e .day) ws);
+        answer = done (figures (planOf bs c) read (event e));
+        words = written entryLimit (trackCount (planOf bs c)) (afterEvent (planOf bs c) read e) (dated (e .day) ws);
       })
-      (cond (eqb (e .event) 0) 19
-      (cond (badDay (lastDay ws) (e .day)) 26
-      (cond (isOver (planOf bs c) (ledgerAt entryLimit ws (trackCount (planOf bs c)))) 20
-      (firstRefusal ((21, isFull (planOf bs c) entryLimit (ledgerAt entryLimit ws (trackCount (planOf bs c))) e) ∷ [])))))
+
+  plain : eventOutcome entryLimit bs ws e
+      ≡ answered (cond (eqb (e .event) 0) 19 (cond (badDay (lastDay ws) (e .day)) 26 (cond (isOver (planOf bs c) read) 20 later)))
   unfolding eventOutcome callOutcome underPlan callRefusals firstRefusal after datedBy
-  checked = rw (h .lent .accepts .read, underPlan, passes-first entryLimit bs (planOf bs c) ws (checked-passes bs c ws h))
+  plain = rw (h .lent .accepts .read, underPlan, passes-first entryLimit bs (planOf bs c) ws (checked-passes bs c ws h))
 
-  pub event-zero : e .event ≡ 0 → Meets (eventOutcome entryLimit bs ws e) (eventTold (Refused 19)) ws
-  unfolding refusedOr eventTold
-  event-zero z = met (checked ∙ (rw (eq-eqb (e .event) 0 z)))
+  by-counts : earlyRefusal (planOf bs c) (lastDay ws) read e ≡ early
+  unfolding ledgerOf
+  by-counts = ap (λ n. earlyRefusal (planOf bs c) (lastDay ws) (ledgerAt entryLimit ws n) e) (track-count bs c)
 
-  pub event-day : (e .event ≡ 0 → ⊥) → {b : Bool} → b ≡ badDay (lastDay ws) (e .day) → b ≡ true → Meets (eventOutcome entryLimit bs ws e) (eventTold (Refused 26)) ws
-  unfolding refusedOr eventTold
-  event-day n d z = met (checked ∙ (rw (ne-eqb (e .event) 0 n, sym d ∙ z)))
+  checked : eventOutcome entryLimit bs ws e ≡ answered (unlessRefused early later)
+  unfolding earlyRefusal firstRefusal
+  checked =
+      plain
+      ∙ ap answered
+      (three (eqb (e .event) 0) (badDay (lastDay ws) (e .day)) (isOver (planOf bs c) read) later ∙ ap (λ n. unlessRefused n later) by-counts)
 
-  module _ (n : e .event ≡ 0 → ⊥) {b : Bool} (d : b ≡ badDay (lastDay ws) (e .day)) (on : b ≡ false) (r : Bool) (q : r ≡ isOver (planOf bs c) (ledgerOf c ws)) where
-    pub event-over : r ≡ true → Meets (eventOutcome entryLimit bs ws e) (eventTold (Refused 20)) ws
-    unfolding refusedOr eventTold
-    event-over z = met (checked ∙ (rw (ne-eqb (e .event) 0 n, sym d ∙ on, sym over-is ∙ sym q ∙ z)))
+  pub event-refused : (r : ℕ) → r ≡ early → (r ≡ 0 → ⊥) → Meets (eventOutcome entryLimit bs ws e) (eventTold (Refused r)) ws
+  unfolding refusedOr eventTold unlessRefused
+  event-refused zero q n = absurd (n refl)
+  event-refused (suc r) q n = met (checked ∙ (rw (← q)))
 
-    module _ (z : r ≡ false) where
-      pub event-going : (x : EventArguments) (a : Answer) (v : List ℕ) → x ≡ e → Meets (goingOutcome (planOf bs c) ws x) a v
-          → Meets (eventOutcome entryLimit bs ws e) a v
-      unfolding goingOutcome
-      event-going x a v f =
-          let s : eventOutcome entryLimit bs ws e ≡ goingOutcome (planOf bs c) ws e =
-          checked ∙ (rw (ne-eqb (e .event) 0 n, sym d ∙ on, sym over-is ∙ sym q ∙ z)) in
-          subst (λ (y : Outcome). Meets y a v) (ap (goingOutcome (planOf bs c) ws) f ∙ sym s)
+  module _ (z : early ≡ 0) where
+    pub going-of : Going bs c ws
+    going-of = record { checked = h; goes-on = early-passed (planOf bs c) (lastDay ws) (ledgerOf c ws) e z .1 }
+
+    pub event-going : (x : EventArguments) (a : Answer) (v : List ℕ) → x ≡ e → Meets (goingOutcome (planOf bs c) ws x) a v
+        → Meets (eventOutcome entryLimit bs ws e) a v
+    unfolding goingOutcome unlessRefused
+    event-going x a v f =
+        let s : eventOutcome entryLimit bs ws e ≡ goingOutcome (planOf bs c) ws e = checked ∙ (rw z) in
+        subst (λ (y : Outcome). Meets y a v) (ap (goingOutcome (planOf bs c) ws) f ∙ sym s)

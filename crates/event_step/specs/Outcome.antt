@@ -1,13 +1,19 @@
--- What an event answers and leaves once its number, its day and the ledger are known to be fit. Assumes nothing.
+-- What turns an event back before its moves are chosen, and what it answers and leaves after that. Assumes nothing.
 use mathlib.Core.List.{[], _∷_}
-use Rattle.rules.specs.Names.{Words}
+use lib.Dec.{eqb}
+use Rattle.rules.specs.Names.{Words, Refusal, Day}
 use Rattle.rules.specs.Fold.{firstRefusal}
 use Rattle.rules.specs.Layout.{entryLimit}
 use Rattle.rules.specs.Plan.{Plan, trackCount}
 use Rattle.rules.specs.Leading.{dated}
-use Rattle.rules.specs.Ledger.{ledgerAt, written}
+use Rattle.rules.specs.Ledger.{Ledger, ledgerAt, written}
+use Rattle.rules.specs.Scope.{isOver}
 use Rattle.rules.specs.Event.{EventArguments, isFull, afterEvent}
-use Rattle.rules.specs.Call.{Outcome, event, done, figures, refusedOr}
+use Rattle.rules.specs.Call.{Outcome, event, done, figures, badDay, refusedOr}
+
+-- 19, 26 and 20 in this order: the first that applies, 0 where none does. The day is the last accepted one
+unfoldable pub earlyRefusal : Plan → Day → Ledger → EventArguments → Refusal
+earlyRefusal p day l a = firstRefusal ((19, eqb (a .event) 0) ∷ (26, badDay day (a .day)) ∷ (20, isOver p l) ∷ [])
 
 -- An event other than 0 on its day on a ledger that is not over: 21, or the step.
 unfoldable pub goingOutcome : Plan → Words → EventArguments → Outcome

@@ -22,7 +22,7 @@ ghost use Rattle.ledger.specs.Ladder.{Checked, Going, ledgerOf};
 ghost use Rattle.lookup.specs.Figures.{Figures};
 ghost use Rattle.transition_index.specs.Indexed.{Indexed};
 ghost use Rattle.event_choice.specs.Chosen.{argumentsOf, Chosen};
-ghost use Rattle.event_step.specs.Outcome.{goingOutcome};
+ghost use Rattle.event_step.specs.Outcome.{earlyRefusal, goingOutcome};
 
 // 26: whether a day is out of range or before the last accepted one.
 fn is_bad_day(ledger: &[u16], day: i32) -> bool
@@ -33,6 +33,24 @@ fn is_bad_day(ledger: &[u16], day: i32) -> bool
         return true;
     }
     day < leading::last_day(ledger)
+}
+
+// The refusal 19, 26 or 20 that turns an event back, the first of them that applies; 0 where none does.
+fn refusal_of(plan: &[u8], c: Counts, ledger: &[u16], event: u16, day: i32) -> u8
+    requires { ⌜ Checked (now plan) c (now ledger) ⌝ }
+    ensures { λ r. ⌜ r ≡ earlyRefusal (planOf (now (plan .entry)) c) (lastDay (now (ledger .entry))) (ledgerOf c (now (ledger .entry)))
+        (record { event = event; day = day }) ⌝ }
+{
+    if event == 0 {
+        return 19;
+    }
+    if is_bad_day(ledger, day) {
+        return 26;
+    }
+    if reading::is_over(plan, c, ledger) {
+        return 20;
+    }
+    0
 }
 
 // An event other than 0 on its day on a ledger that is not over, its choice made, given which tracks have an open scope and the first state of
@@ -82,14 +100,9 @@ pub fn event(
         × Figures 0 (now firsts) (c .tracks) (firstState (planOf (now plan) c)) ⌝ }
     ensures { λ r. ⌜ Meets (eventOutcome entryLimit (now (plan .entry)) (now (ledger .entry)) (record { event = event; day = day })) (eventTold r) (now (ledger .exit)) ⌝ }
 {
-    if event == 0 {
-        return EventAnswer::Refused(19);
-    }
-    if is_bad_day(&ledger[..], day) {
-        return EventAnswer::Refused(26);
-    }
-    if reading::is_over(plan, c, &ledger[..]) {
-        return EventAnswer::Refused(20);
+    let refusal = refusal_of(plan, c, &ledger[..], event, day);
+    if refusal != 0 {
+        return EventAnswer::Refused(refusal);
     }
     let choice = event_choice::choose(plan, c, &ledger[..], event, day, opens);
     go_on(plan, c, &mut ledger[..], choice, opens, firsts)
@@ -111,14 +124,9 @@ pub fn event_indexed(
         × Indexed (now plan) c (now head) (now next) ⌝ }
     ensures { λ r. ⌜ Meets (eventOutcome entryLimit (now (plan .entry)) (now (ledger .entry)) (record { event = event; day = day })) (eventTold r) (now (ledger .exit)) ⌝ }
 {
-    if event == 0 {
-        return EventAnswer::Refused(19);
-    }
-    if is_bad_day(&ledger[..], day) {
-        return EventAnswer::Refused(26);
-    }
-    if reading::is_over(plan, c, &ledger[..]) {
-        return EventAnswer::Refused(20);
+    let refusal = refusal_of(plan, c, &ledger[..], event, day);
+    if refusal != 0 {
+        return EventAnswer::Refused(refusal);
     }
     let opens = opens::open_scopes(plan, c, &ledger[..]);
     let choice =
