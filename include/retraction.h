@@ -1,19 +1,26 @@
 /* The retraction manager's calls. Link with libretraction.a: `pkg-config --cflags --libs retraction`.
  *
- * Every call is given the plan's bytes, and all but read the lent ledger: two leading words, then 67 for each track of the plan; words
- * beyond are never touched. Any bytes and any words may be given. A refused call changes no word. docs/FORMATS.md says what the bytes and
- * the words are, docs/REFUSALS.md what each refusal means.
+ * Every call is given the plan's bytes, and all but read the lent ledger: four leading words, then 67 for each track of the plan; words
+ * beyond are never touched. Only the two conversions are given neither. Any bytes and any words may be given. A refused call changes no word.
+ * docs/FORMATS.md says what the bytes and the words are, docs/REFUSALS.md what each refusal means.
  *
  *   word of a ledger   what it is
  *   0                  the plan's length in bytes
  *   1                  the sum of the plan's bytes, taken as little-endian 16-bit numbers, modulo 65536
- *   2 + 67 * t         track t's mode: 0 asleep, 1 forward, 2 undoing
- *   3 + 67 * t         its state
- *   4 + 67 * t         the count of entries that it holds, 0 to 32
- *   5 + 67 * t         the first of 32 pairs of code and deviation, oldest first, unused pairs zero
+ *   2, 3               the last accepted day as a signed 32-bit number, its low word first
+ *   4 + 67 * t         track t's mode: 0 asleep, 1 forward, 2 undoing
+ *   5 + 67 * t         its state
+ *   6 + 67 * t         the count of entries that it holds, 0 to 32
+ *   7 + 67 * t         the first of 32 pairs of code and deviation, oldest first, unused pairs zero
  *
- * Begin writes the leading words. Event, signal, fire, ready and entries test them: a ledger that was begun under a plan of another length
- * or sum is refused as 24, checked between 17 and 18. So are zeros: a ledger starts with a begin.
+ * Begin writes the leading words. Event, signal, fire, ready and entries test the first two: a ledger that was begun under a plan of another
+ * length or sum is refused as 24, checked between 17 and 18. So are zeros: a ledger starts with a begin.
+ *
+ * Each event carries a day. Day 0 is 1 January 1900 by the Gregorian calendar, the day before it is -1, and days go from -109573, 1 January
+ * 1600, to 182620, 31 December 2399. A plan may restrict a transition to a window of days: on any other day the track ignores the event. Days
+ * never fall from one event to the next. An accepted event leaves its day in the ledger, even where it moves no track, and an event on a day
+ * before that, or out of range, is refused as 26, checked between 19 and 20. Begin writes -109573, so that the first event may have any day
+ * of the range. Signals and firings carry no day and change none. A ledger whose day is out of range is not sound.
  *
  * A ledger ends once each of its roots is either forward in a final state, or undoing with nothing held and no open scope, and at least one
  * is forward in a final state. Every track then goes to sleep, and what was still held is dropped unfired: the ledger is over. An event may
@@ -30,17 +37,22 @@
  *
  * The answer is one number. Its bits 0 to 15 are the refusal, 0 where the call was accepted; a refusal stands alone.
  *
- *   call      bits 16 to 31    bits 32 to 47    bits 48 to 63
- *   read      tracks           states           transitions
- *   begin     0                0                0
- *   event     tracks moved     scopes closed    0
- *   signal    tracks turned    0                0
- *   fire      code             deviation        0                (65535 for no deviation)
- *   ready     0                bits 32 to 63: bit n of that number is set exactly if track n may be fired
+ *   call          bits 16 to 31    bits 32 to 47    bits 48 to 63
+ *   read          tracks           states           transitions
+ *   begin         0                0                0
+ *   event         tracks moved     scopes closed    0
+ *   signal        tracks turned    0                0
+ *   fire          code             deviation        0                (65535 for no deviation)
+ *   ready         0                bits 32 to 63: bit n of that number is set exactly if track n may be fired
+ *   date of day   year             month            day              (months and days are counted from 1)
+ *   day of date   0                bits 32 to 63: the day as a signed 32-bit number
  *
  * Entries answers otherwise: bits 0 to 15 are the count of words of the part of the ledger that holds the track's pairs of code and
  * deviation, oldest first, and bits 16 to 47 are the index of its first word. It is 0, the empty part, if the plan or the ledger is
- * refused, the track does not exist, or it holds nothing; ready tells the refusal. */
+ * refused, the track does not exist, or it holds nothing; ready tells the refusal.
+ *
+ * The conversions go from a day to its date and back, without loss. They refuse as 26, and as nothing else, a day out of range, a date that
+ * does not exist, such as 30 February 1900, and one before 1600 or after 2399. */
 #ifndef RETRACTION_H
 #define RETRACTION_H
 
@@ -52,21 +64,25 @@ extern "C" {
 #endif
 
 /* 10000 times the major version, 100 times the minor one, and the patch. */
-#define RETRACTION_VERSION 300
-#define RETRACTION_VERSION_TEXT "0.3.0"
+#define RETRACTION_VERSION 400
+#define RETRACTION_VERSION_TEXT "0.4.0"
 
 /* Words of a ledger: the leading ones, those of each track, and all of them with so many tracks. Read tells a plan's tracks. */
-#define RETRACTION_LEADING_WORDS 2
+#define RETRACTION_LEADING_WORDS 4
 #define RETRACTION_TRACK_WORDS 67
 #define RETRACTION_LEDGER_WORDS(tracks) (RETRACTION_LEADING_WORDS + (size_t)RETRACTION_TRACK_WORDS * (size_t)(tracks))
 
 /* The most tracks that a plan has: a ledger of RETRACTION_LEDGER_WORDS(RETRACTION_MOST_TRACKS) words serves every plan. */
 #define RETRACTION_MOST_TRACKS 32
 
+/* The range of days: 1 January 1600 and 31 December 2399. */
+#define RETRACTION_FIRST_DAY (-109573)
+#define RETRACTION_LAST_DAY 182620
+
 /* A host, or a deviation, that is none. */
 #define RETRACTION_NONE 65535
 
-/* The refusals, in checking order: 24 comes between 17 and 18. 1 and 23 are the program's alone. */
+/* The refusals, in checking order: 25 comes after 16, 24 between 17 and 18, 26 between 19 and 20. 1 and 23 are the program's alone. */
 enum retraction_refusals {
     RETRACTION_TOO_LONG = 1,
     RETRACTION_NO_RECORD = 2,
@@ -84,10 +100,12 @@ enum retraction_refusals {
     RETRACTION_DEVIATION = 14,
     RETRACTION_SAME_EVENT = 15,
     RETRACTION_HEIGHT = 16,
+    RETRACTION_WINDOW = 25,
     RETRACTION_FEW_WORDS = 17,
     RETRACTION_OTHER_PLAN = 24,
     RETRACTION_UNSOUND = 18,
     RETRACTION_EVENT_ZERO = 19,
+    RETRACTION_DAY = 26,
     RETRACTION_OVER = 20,
     RETRACTION_FULL = 21,
     RETRACTION_NOT_READY = 22,
@@ -96,11 +114,13 @@ enum retraction_refusals {
 
 uint64_t retraction_read(const uint8_t *plan, size_t plan_len);
 uint64_t retraction_begin(const uint8_t *plan, size_t plan_len, uint16_t *ledger, size_t ledger_len);
-uint64_t retraction_event(const uint8_t *plan, size_t plan_len, uint16_t *ledger, size_t ledger_len, uint16_t event);
+uint64_t retraction_event(const uint8_t *plan, size_t plan_len, uint16_t *ledger, size_t ledger_len, uint16_t event, int32_t day);
 uint64_t retraction_signal(const uint8_t *plan, size_t plan_len, uint16_t *ledger, size_t ledger_len);
 uint64_t retraction_fire(const uint8_t *plan, size_t plan_len, uint16_t *ledger, size_t ledger_len, uint16_t track);
 uint64_t retraction_ready(const uint8_t *plan, size_t plan_len, uint16_t *ledger, size_t ledger_len);
 uint64_t retraction_entries(const uint8_t *plan, size_t plan_len, const uint16_t *ledger, size_t ledger_len, uint16_t track);
+uint64_t retraction_date_of_day(int32_t day);
+uint64_t retraction_day_of_date(uint16_t year, uint16_t month, uint16_t day);
 
 /* The parts of an answer. */
 static inline uint16_t retraction_refusal(uint64_t answer) { return (uint16_t)answer; }
@@ -108,8 +128,15 @@ static inline uint16_t retraction_first(uint64_t answer) { return (uint16_t)(ans
 static inline uint16_t retraction_second(uint64_t answer) { return (uint16_t)(answer >> 32); }
 static inline uint16_t retraction_third(uint64_t answer) { return (uint16_t)(answer >> 48); }
 static inline uint32_t retraction_tracks(uint64_t answer) { return (uint32_t)(answer >> 32); }
+static inline int32_t retraction_day(uint64_t answer) { return (int32_t)(uint32_t)(answer >> 32); }
 static inline uint16_t retraction_part_count(uint64_t answer) { return (uint16_t)answer; }
 static inline uint32_t retraction_part_index(uint64_t answer) { return (uint32_t)(answer >> 16); }
+
+/* The last accepted day of a ledger that was begun. */
+static inline int32_t retraction_ledger_day(const uint16_t *ledger)
+{
+    return (int32_t)((uint32_t)ledger[3] << 16 | ledger[2]);
+}
 
 /* What a refusal means, in a few words. */
 static inline const char *retraction_refusal_text(uint16_t refusal)
@@ -118,7 +145,7 @@ static inline const char *retraction_refusal_text(uint16_t refusal)
     case 0: return "accepted";
     case RETRACTION_TOO_LONG: return "the plan file or the journal is longer than 32768 bytes";
     case RETRACTION_NO_RECORD: return "fewer than 4 bytes remain where a record must start";
-    case RETRACTION_KIND: return "a record's kind is not 1 to 4, or is lower than the one before";
+    case RETRACTION_KIND: return "a record's kind is not 1 to 5, or falls in the order 1, 2, 3, 5, 4";
     case RETRACTION_LENGTH: return "a record's length is not that of its kind";
     case RETRACTION_CUT_SHORT: return "a record runs past the last byte";
     case RETRACTION_TOO_MANY: return "there is a 33rd track, a 129th state or a 257th transition";
@@ -132,10 +159,12 @@ static inline const char *retraction_refusal_text(uint16_t refusal)
     case RETRACTION_DEVIATION: return "a deviation does not fit its transition";
     case RETRACTION_SAME_EVENT: return "two transitions share source and event";
     case RETRACTION_HEIGHT: return "a track's height is above 8";
+    case RETRACTION_WINDOW: return "a window names no transition, repeats one, ends before it begins or leaves the day range";
     case RETRACTION_FEW_WORDS: return "the ledger has too few words for the plan";
     case RETRACTION_OTHER_PLAN: return "the ledger's leading words are not those of this plan";
     case RETRACTION_UNSOUND: return "the ledger is not sound under this plan";
     case RETRACTION_EVENT_ZERO: return "the event is 0";
+    case RETRACTION_DAY: return "the day or the date is out of range, or the event's day is before the last accepted one";
     case RETRACTION_OVER: return "the ledger is over";
     case RETRACTION_FULL: return "a track that the event gives an entry holds 32 already";
     case RETRACTION_NOT_READY: return "the track may not be fired now, or does not exist";

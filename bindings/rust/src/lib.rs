@@ -1,26 +1,34 @@
 //! The proved retraction manager for register plans.
 //!
 //! A [`Plan`] owns the bytes of a plan that was accepted; a [`Ledger`] belongs
-//! to a plan, has the words that it needs, led by the plan's length and sum,
-//! and is sound at all times. Each call either answers its figures or is
-//! refused with the paper's number, and a refused call changes nothing. The
-//! calls are those of `include/retraction.h`, each proved to meet the paper's
-//! rules; this crate only unpacks their answers.
+//! to a plan, has the words that it needs, led by the plan's length and sum and
+//! by the last accepted day, and is sound at all times. Each call either
+//! answers its figures or is refused with the paper's number, and a refused
+//! call changes nothing. The calls are those of `include/retraction.h`, each
+//! proved to meet the paper's rules; this crate only unpacks their answers.
+//!
+//! An event has a day. Day 0 is 1 January 1900; [`day_of_date`] and
+//! [`date_of_day`] go from dates to days and back.
 //!
 //! ```
-//! use retraction::{Moved, Plan, Refusal};
+//! use retraction::{day_of_date, Date, Moved, Plan, Refusal};
 //!
 //! # fn main() -> Result<(), Refusal> {
-//! // One track, whose first step on event 10 is taken back by retraction 50.
+//! // One track, whose first step on event 10 is taken back by retraction 50. It
+//! // is taken in January 1900 alone.
 //! let plan = Plan::read([
 //!     6, 0, 1, 0, 255, 255, // track 0: a root
 //!     10, 0, 2, 0, 0, 0, 0, 0, 0, 0, // state 0 of track 0
 //!     10, 0, 2, 0, 0, 0, 0, 0, 0, 0, // state 1 of track 0
 //!     14, 0, 3, 0, 0, 0, 10, 0, 50, 0, 255, 255, 1, 0, // from 0 on event 10, code 50, to 1
+//!     14, 0, 5, 0, 0, 0, 0, 0, 0, 0, 30, 0, 0, 0, // transition 0 on days 0 to 30
 //!     4, 0, 4, 0, // end
 //! ])?;
 //! let mut ledger = plan.begin();
-//! assert_eq!(ledger.event(10)?, Moved { moved: 1, closed: 0 });
+//! let christmas = day_of_date(Date { year: 1899, month: 12, day: 25 })?;
+//! assert_eq!(ledger.event(10, christmas)?, Moved { moved: 0, closed: 0 });
+//! assert_eq!(ledger.event(10, 0)?, Moved { moved: 1, closed: 0 });
+//! assert_eq!(ledger.event(10, christmas), Err(Refusal::Day));
 //! assert_eq!(ledger.signal()?, 1);
 //! assert_eq!(ledger.ready().collect::<Vec<_>>(), [0]);
 //! assert_eq!(ledger.fire(0)?.code, 50);
@@ -35,11 +43,19 @@ mod refusal;
 pub use refusal::Refusal;
 
 /// Words of a ledger before those of its tracks: the plan's length in bytes,
-/// and the sum modulo 65,536 of its bytes as little-endian 16-bit numbers.
-pub const LEADING_WORDS: usize = 2;
+/// the sum modulo 65,536 of its bytes as little-endian 16-bit numbers, and two
+/// for the last accepted day, a signed 32-bit number, its low word first.
+pub const LEADING_WORDS: usize = 4;
 
 /// Words of a ledger for each track.
 pub const TRACK_WORDS: usize = 67;
+
+/// The first day of the range, 1 January 1600: begin leaves it as the last
+/// accepted one.
+pub const FIRST_DAY: i32 = -109_573;
+
+/// The last day of the range, 31 December 2399.
+pub const LAST_DAY: i32 = 182_620;
 
 /// In a plan and in a ledger: a deviation or a host that is none.
 pub const NONE: u16 = 65535;
@@ -72,6 +88,38 @@ pub struct Entry {
     pub deviation: Option<u16>,
 }
 
+/// A date of the Gregorian calendar; months and days are counted from 1.
+#[derive(Clone, Copy, Debug, PartialEq, Eq, PartialOrd, Ord, Hash)]
+pub struct Date {
+    pub year: u16,
+    pub month: u16,
+    pub day: u16,
+}
+
+/// The date of a day; refused as 26 where the day is out of range.
+///
+/// ```
+/// use retraction::{date_of_day, Date, Refusal, LAST_DAY};
+/// assert_eq!(date_of_day(0), Ok(Date { year: 1900, month: 1, day: 1 }));
+/// assert_eq!(date_of_day(-1), Ok(Date { year: 1899, month: 12, day: 31 }));
+/// assert_eq!(date_of_day(LAST_DAY + 1), Err(Refusal::Day));
+/// ```
+pub fn date_of_day(day: i32) -> Result<Date, Refusal> {
+    raw::date_of_day(day)
+}
+
+/// The day of a date; refused as 26 where there is no such date, or its year is
+/// not 1600 to 2399.
+///
+/// ```
+/// use retraction::{day_of_date, Date, Refusal};
+/// assert_eq!(day_of_date(Date { year: 1900, month: 3, day: 1 }), Ok(59));
+/// assert_eq!(day_of_date(Date { year: 1900, month: 2, day: 29 }), Err(Refusal::Day));
+/// ```
+pub fn day_of_date(date: Date) -> Result<i32, Refusal> {
+    raw::day_of_date(date)
+}
+
 /// An accepted plan: it owns its bytes.
 #[derive(Clone, Debug, PartialEq, Eq)]
 #[must_use]
@@ -81,7 +129,8 @@ pub struct Plan {
 }
 
 impl Plan {
-    /// Reads a plan's bytes; refused as 2 to 16 where they do not fit.
+    /// Reads a plan's bytes; refused as 2 to 16 or 25 where they do not
+    /// fit.
     ///
     /// ```
     /// use retraction::{Plan, Refusal};
@@ -112,8 +161,8 @@ impl Plan {
         LEADING_WORDS + TRACK_WORDS * usize::from(self.counts.tracks)
     }
 
-    /// A ledger at its begin: led by the plan's length and sum, roots forward
-    /// in their first states, others asleep.
+    /// A ledger at its begin: led by the plan's length and sum and by the first
+    /// day of the range, roots forward in their first states, others asleep.
     pub fn begin(&self) -> Ledger<'_> {
         let mut words = vec![0; self.ledger_words()];
         let begun = raw::begin(&self.bytes, &mut words);
@@ -122,8 +171,8 @@ impl Plan {
     }
 
     /// A ledger that was stored as words; refused as 17 where they are too
-    /// few, as 24 where their leading words are not those of this plan, as 18
-    /// where they are not sound under it. Words beyond those that the plan
+    /// few, as 24 where the first two are not those of this plan, as 18 where
+    /// they are not sound under it. Words beyond those that the plan
     /// needs are dropped.
     ///
     /// Plans alike in length and sum are not told apart: among those, store
@@ -164,12 +213,20 @@ impl<'plan> Ledger<'plan> {
         self.plan
     }
 
-    /// Its words, the plan's length and sum, then 67 for each track, in the
-    /// machine's own byte order: to be stored, and read again by
-    /// [`Plan::ledger`].
+    /// Its words, the plan's length and sum, the last accepted day, then 67 for
+    /// each track, in the machine's own byte order: to be stored, and read
+    /// again by [`Plan::ledger`].
     #[must_use]
     pub fn words(&self) -> &[u16] {
         &self.words
+    }
+
+    /// The last accepted day: that of the last event that was not refused, or
+    /// [`FIRST_DAY`] where there was none. No event may have an earlier one.
+    #[must_use]
+    pub fn day(&self) -> i32 {
+        let [low, high] = [self.words[2], self.words[3]].map(u32::from);
+        (high << 16 | low) as i32
     }
 
     /// Whether the ledger is over: every track is asleep.
@@ -195,10 +252,10 @@ impl<'plan> Ledger<'plan> {
     ///     4, 0, 4, 0, // end
     /// ])?;
     /// let mut ledger = plan.begin();
-    /// assert_eq!(ledger.event(10)?.moved, 2);
+    /// assert_eq!(ledger.event(10, 0)?.moved, 2);
     /// assert_eq!(ledger.signal()?, 2);
     /// assert_eq!(ledger.fire(1)?.deviation, Some(1));
-    /// assert_eq!(ledger.event(11)?.moved, 1);
+    /// assert_eq!(ledger.event(11, 0)?.moved, 1);
     /// assert!(!ledger.is_over());
     /// assert_eq!(ledger.fire(0)?.code, 50);
     /// assert!(ledger.is_over());
@@ -211,11 +268,14 @@ impl<'plan> Ledger<'plan> {
         self.words[LEADING_WORDS..].iter().all(|&word| word == 0)
     }
 
-    /// An event: each forward track without an open scope takes its state's
-    /// transition for it, if it has one. It may leave the ledger over
-    /// ([`Ledger::is_over`]). Refused as 19, 20 or 21.
-    pub fn event(&mut self, event: u16) -> Result<Moved, Refusal> {
-        raw::event(&self.plan.bytes, &mut self.words, event)
+    /// An event on a day: each forward track without an open scope takes its
+    /// state's transition for it, if it has one and the day is within its
+    /// window. Accepted, it leaves its day in the ledger ([`Ledger::day`]), even
+    /// where no track moves; it may leave the ledger over
+    /// ([`Ledger::is_over`]). Refused as 19, 20 or 21, and as 26 where the day
+    /// is out of range or before the last accepted one.
+    pub fn event(&mut self, event: u16, day: i32) -> Result<Moved, Refusal> {
+        raw::event(&self.plan.bytes, &mut self.words, event, day)
     }
 
     /// A withdrawal: every forward track turns to undoing. Answers how many

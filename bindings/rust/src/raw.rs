@@ -4,10 +4,11 @@
 //!
 //! Any bytes and any words may be given. A refused call changes no word, and
 //! words beyond the plan's are never touched. [`begin`] writes the leading
-//! words; the calls after it refuse a ledger whose leading words are not those
-//! of the plan as 24, and [`entries`] then gives the empty part.
+//! words; the calls after it refuse a ledger whose first two are not those of
+//! the plan as 24, and [`entries`] then gives the empty part. The next two hold
+//! the last accepted day, which an [`event`] writes.
 
-use crate::{Counts, Entry, Moved, Refusal, NONE};
+use crate::{Counts, Date, Entry, Moved, Refusal, NONE};
 
 mod c {
     extern "C" {
@@ -24,6 +25,7 @@ mod c {
             ledger: *mut u16,
             ledger_len: usize,
             event: u16,
+            day: i32,
         ) -> u64;
         pub fn retraction_signal(
             plan: *const u8,
@@ -51,6 +53,8 @@ mod c {
             ledger_len: usize,
             track: u16,
         ) -> u64;
+        pub fn retraction_date_of_day(day: i32) -> u64;
+        pub fn retraction_day_of_date(year: u16, month: u16, day: u16) -> u64;
     }
 }
 
@@ -85,8 +89,9 @@ pub fn read(plan: &[u8]) -> Result<Counts, Refusal> {
     })
 }
 
-/// Overwrites the ledger: the plan's length and sum lead, roots are forward in
-/// their first states, others asleep.
+/// Overwrites the ledger: the plan's length and sum lead, the first day of the
+/// range is the last accepted one, roots are forward in their first states,
+/// others asleep.
 pub fn begin(plan: &[u8], ledger: &mut [u16]) -> Result<(), Refusal> {
     let (words, len) = (ledger.as_mut_ptr(), ledger.len());
     // SAFETY: both slices are whole, apart, and live through the call.
@@ -94,12 +99,12 @@ pub fn begin(plan: &[u8], ledger: &mut [u16]) -> Result<(), Refusal> {
     Ok(())
 }
 
-/// Tracks moved and scopes closed. It may leave the ledger over, as
-/// [`crate::Ledger::is_over`] has it.
-pub fn event(plan: &[u8], ledger: &mut [u16], event: u16) -> Result<Moved, Refusal> {
+/// Tracks moved and scopes closed by an event on a day. It may leave the
+/// ledger over, as [`crate::Ledger::is_over`] has it.
+pub fn event(plan: &[u8], ledger: &mut [u16], event: u16, day: i32) -> Result<Moved, Refusal> {
     let (words, len) = (ledger.as_mut_ptr(), ledger.len());
     // SAFETY: as under `begin`.
-    let answer = unsafe { c::retraction_event(plan.as_ptr(), plan.len(), words, len, event) };
+    let answer = unsafe { c::retraction_event(plan.as_ptr(), plan.len(), words, len, event, day) };
     let answer = accepted(answer)?;
     Ok(Moved {
         moved: bits(answer, 16),
@@ -143,6 +148,26 @@ pub fn entries<'a>(plan: &[u8], ledger: &'a [u16], track: u16) -> &'a [u16] {
     let answer = unsafe { c::retraction_entries(plan.as_ptr(), plan.len(), words, len, track) };
     let from = (answer >> 16) as usize;
     &ledger[from..][..usize::from(answer as u16)]
+}
+
+/// The date of a day; refused as 26 where the day is out of range.
+pub fn date_of_day(day: i32) -> Result<Date, Refusal> {
+    // SAFETY: a number is given, and a number is answered.
+    let answer = accepted(unsafe { c::retraction_date_of_day(day) })?;
+    Ok(Date {
+        year: bits(answer, 16),
+        month: bits(answer, 32),
+        day: bits(answer, 48),
+    })
+}
+
+/// The day of a date; refused as 26 where there is no such date, or its year is
+/// not 1600 to 2399.
+pub fn day_of_date(date: Date) -> Result<i32, Refusal> {
+    let Date { year, month, day } = date;
+    // SAFETY: numbers are given, and a number is answered.
+    let answer = accepted(unsafe { c::retraction_day_of_date(year, month, day) })?;
+    Ok((answer >> 32) as i32)
 }
 
 pub(crate) fn entry(code: u16, deviation: u16) -> Entry {

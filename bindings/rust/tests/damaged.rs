@@ -19,7 +19,7 @@ fn opened() -> (Vec<u8>, Vec<u16>) {
         moved: 1,
         closed: 0,
     };
-    assert_eq!(event(&plan, &mut ledger, 10), Ok(moved));
+    assert_eq!(event(&plan, &mut ledger, 10, 0), Ok(moved));
     (plan, ledger)
 }
 
@@ -38,8 +38,8 @@ fn is_refused(damage: impl Fn(&mut [u16])) {
     let (plan, mut ledger) = opened();
     damage(&mut ledger);
     let before = ledger.clone();
-    assert_eq!(event(&plan, &mut ledger, 11), Err(Unsound));
-    assert_eq!(event(&plan, &mut ledger, 0), Err(Unsound));
+    assert_eq!(event(&plan, &mut ledger, 11, 0), Err(Unsound));
+    assert_eq!(event(&plan, &mut ledger, 0, 0), Err(Unsound));
     assert_eq!(signal(&plan, &mut ledger), Err(Unsound));
     assert_eq!(fire(&plan, &mut ledger, 0), Err(Unsound));
     assert_eq!(ready(&plan, &mut ledger), Err(Unsound));
@@ -52,6 +52,11 @@ fn the_ledger_before_the_damage_is_sound() {
     let (plan, mut ledger) = opened();
     assert_eq!(ready(&plan, &mut ledger), Ok(0));
     assert_eq!(entries(&plan, &ledger, 0), [50, NONE]);
+}
+
+#[test]
+fn day_out_of_range() {
+    is_refused(|ledger| ledger[3] = 3);
 }
 
 #[test]
@@ -148,8 +153,8 @@ fn all_asleep_is_over() {
     let (plan, mut ledger) = begun();
     ledger[LEADING_WORDS..].fill(0);
     let before = ledger.clone();
-    assert_eq!(event(&plan, &mut ledger, 0), Err(EventZero));
-    assert_eq!(event(&plan, &mut ledger, 5), Err(Over));
+    assert_eq!(event(&plan, &mut ledger, 0, 0), Err(EventZero));
+    assert_eq!(event(&plan, &mut ledger, 5, 0), Err(Over));
     assert_eq!(signal(&plan, &mut ledger), Err(Over));
     assert_eq!(fire(&plan, &mut ledger, 99), Err(Over));
     assert_eq!(ready(&plan, &mut ledger), Ok(0));
@@ -162,7 +167,7 @@ fn one_word_too_few() {
     let plan = plan();
     let mut ledger = vec![9; WORDS - 1];
     assert_eq!(begin(&plan, &mut ledger), Err(FewWords));
-    assert_eq!(event(&plan, &mut ledger, 0), Err(FewWords));
+    assert_eq!(event(&plan, &mut ledger, 0, 0), Err(FewWords));
     assert_eq!(ready(&plan, &mut ledger), Err(FewWords));
     assert_eq!(entries(&plan, &ledger, 0), []);
     assert_eq!(ledger, vec![9; WORDS - 1]);

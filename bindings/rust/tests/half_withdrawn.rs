@@ -51,7 +51,7 @@ fn withdrawn(events: &[(u16, u16)], turned: u16) -> (Vec<u8>, Vec<u16>) {
     let (plan, mut ledger) = (plan(), vec![7; WORDS + 1]);
     assert_eq!(begin(&plan, &mut ledger), Ok(()));
     for &(number, tracks) in events {
-        assert_eq!(event(&plan, &mut ledger, number), moved(tracks, 0));
+        assert_eq!(event(&plan, &mut ledger, number, 0), moved(tracks, 0));
     }
     assert_eq!(signal(&plan, &mut ledger), Ok(turned));
     (plan, ledger)
@@ -60,20 +60,22 @@ fn withdrawn(events: &[(u16, u16)], turned: u16) -> (Vec<u8>, Vec<u16>) {
 /// Root 1, whose code 60 is its newest, deviates and ends: it then holds code 61.
 fn root_1_ends(plan: &[u8], ledger: &mut [u16]) {
     assert_eq!(fire(plan, ledger, 1), fired(60, Some(3)));
-    assert_eq!(event(plan, ledger, 13), moved(1, 0));
+    assert_eq!(event(plan, ledger, 13, 0), moved(1, 0));
 }
 
-/// The tracks are all asleep, the leading words and the word beyond are as they were, and every call that needs a ledger not over is 20.
+/// The tracks are all asleep, the leading words are the plan's and the last event's day, 0, the word beyond is as it was, and every call that
+/// needs a ledger not over is 20.
 fn is_over(plan: &[u8], ledger: &[u16]) {
     let mut begun = vec![7; WORDS + 1];
     assert_eq!(begin(plan, &mut begun), Ok(()));
-    assert_eq!(ledger[..LEADING_WORDS], begun[..LEADING_WORDS]);
+    assert_eq!(ledger[..2], begun[..2]);
+    assert_eq!(ledger[2..LEADING_WORDS], [0, 0]);
     assert_eq!(ledger[LEADING_WORDS..WORDS], [0; 3 * TRACK_WORDS]);
     assert_eq!(ledger[WORDS..], [7]);
     let mut lent = ledger.to_vec();
-    assert_eq!(event(plan, &mut lent, 0), Err(EventZero));
+    assert_eq!(event(plan, &mut lent, 0, 0), Err(EventZero));
     for number in [10, 13] {
-        assert_eq!(event(plan, &mut lent, number), Err(Over));
+        assert_eq!(event(plan, &mut lent, number, 0), Err(Over));
     }
     assert_eq!(signal(plan, &mut lent), Err(Over));
     for track in [0, 1, 2, 99] {
@@ -119,8 +121,8 @@ fn the_last_firing_of_a_branch_ends_it() {
 fn a_firing_that_leaves_an_entry_does_not_end_it() {
     let (plan, mut ledger) = (plan(), vec![7; WORDS + 1]);
     assert_eq!(begin(&plan, &mut ledger), Ok(()));
-    assert_eq!(event(&plan, &mut ledger, 10), moved(2, 0));
-    assert_eq!(event(&plan, &mut ledger, 15), moved(1, 1));
+    assert_eq!(event(&plan, &mut ledger, 10, 0), moved(2, 0));
+    assert_eq!(event(&plan, &mut ledger, 15, 0), moved(1, 1));
     assert_eq!(signal(&plan, &mut ledger), Ok(2));
     root_1_ends(&plan, &mut ledger);
     assert_eq!(fire(&plan, &mut ledger, 0), fired(90, None));
@@ -139,7 +141,7 @@ fn a_link_withdrawn_as_a_whole_is_not_over() {
     assert_eq!(ready(&plan, &mut ledger), Ok(0));
     assert_eq!(ledger[LEADING_WORDS..][..3], [UNDOING, 1, 0]);
     assert_eq!(ledger[LEADING_WORDS + TRACK_WORDS..][..3], [UNDOING, 3, 0]);
-    assert_eq!(event(&plan, &mut ledger, 13), moved(0, 0));
+    assert_eq!(event(&plan, &mut ledger, 13, 0), moved(0, 0));
     assert_eq!(signal(&plan, &mut ledger), Ok(0));
     assert_eq!(fire(&plan, &mut ledger, 1), Err(NotReady));
 }
@@ -179,7 +181,7 @@ fn finish_left_to_do_is_18() {
     ] {
         let before = standing(roots);
         let (plan, mut ledger) = (plan(), before.clone());
-        assert_eq!(event(&plan, &mut ledger, 10), Err(Unsound), "{roots:?}");
+        assert_eq!(event(&plan, &mut ledger, 10, 0), Err(Unsound), "{roots:?}");
         assert_eq!(signal(&plan, &mut ledger), Err(Unsound), "{roots:?}");
         assert_eq!(fire(&plan, &mut ledger, 0), Err(Unsound), "{roots:?}");
         assert_eq!(ready(&plan, &mut ledger), Err(Unsound), "{roots:?}");
@@ -203,10 +205,10 @@ fn no_finish_left_to_do_is_sound() {
 fn a_ledger_tells_that_it_is_over() -> Result<(), Refusal> {
     let plan = Plan::read(plan())?;
     let mut ledger = plan.begin();
-    assert_eq!(ledger.event(10), moved(2, 0));
+    assert_eq!(ledger.event(10, 0), moved(2, 0));
     assert_eq!(ledger.signal(), Ok(3));
     assert_eq!(ledger.fire(1), fired(60, Some(3)));
-    assert_eq!(ledger.event(13), moved(1, 0));
+    assert_eq!(ledger.event(13, 0), moved(1, 0));
     assert!(!ledger.is_over());
     assert_eq!(ledger.fire(0), fired(50, None));
     assert!(ledger.is_over());

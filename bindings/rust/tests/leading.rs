@@ -1,4 +1,4 @@
-//! The leading words: what begin writes, and refusal 24.
+//! The leading words: the length and the sum that begin writes, and refusal 24. `days.rs` has the day behind them.
 
 mod sample_plan;
 
@@ -43,7 +43,7 @@ fn worked(plan: &[u8], events: &[u16]) -> Vec<u16> {
     assert_eq!(begin(plan, &mut ledger), Ok(()));
     for &number in events {
         assert!(matches!(
-            event(plan, &mut ledger, number),
+            event(plan, &mut ledger, number, 0),
             Ok(Moved { moved: 1, .. })
         ));
     }
@@ -54,7 +54,7 @@ fn worked(plan: &[u8], events: &[u16]) -> Vec<u16> {
 fn is_refused(plan: &[u8], ledger: &[u16], refusal: Refusal) {
     let mut lent = ledger.to_vec();
     for number in [0, 10, 13] {
-        assert_eq!(event(plan, &mut lent, number), Err(refusal));
+        assert_eq!(event(plan, &mut lent, number, 0), Err(refusal));
     }
     assert_eq!(signal(plan, &mut lent), Err(refusal));
     for track in [0, 1, 99] {
@@ -68,11 +68,12 @@ fn is_refused(plan: &[u8], ledger: &[u16], refusal: Refusal) {
 #[test]
 fn begin_writes_the_length_and_the_sum() {
     let (plan, ledger) = begun();
-    assert_eq!(ledger[..5], [172, 609, 1, 0, 0]);
+    assert_eq!(ledger[..2], [172, 609]);
+    assert_eq!(ledger[LEADING_WORDS..][..3], [1, 0, 0]);
     assert_eq!(plan.len(), 172);
     let [other_sum, longer] = neighbours();
-    assert_eq!(worked(&other_sum, &[])[..LEADING_WORDS], [172, 619]);
-    assert_eq!(worked(&longer, &[])[..LEADING_WORDS], [186, 609]);
+    assert_eq!(worked(&other_sum, &[])[..2], [172, 619]);
+    assert_eq!(worked(&longer, &[])[..2], [186, 609]);
 }
 
 #[test]
@@ -126,7 +127,7 @@ fn plans_alike_in_both_words_are_not_told_apart() {
     let alike = recoded(&[(2, 52), (3, 51)]);
     let mut ledger = worked(&plan(), &[10]);
     assert_eq!(worked(&alike, &[10]), ledger);
-    assert!(event(&alike, &mut ledger, 11).is_ok());
+    assert!(event(&alike, &mut ledger, 11, 0).is_ok());
     assert_eq!(entries(&plan(), &ledger, 1), [52, NONE]);
 }
 
@@ -134,7 +135,7 @@ fn plans_alike_in_both_words_are_not_told_apart() {
 fn a_stored_ledger_is_read_under_its_own_plan() -> Result<(), Refusal> {
     let own = Plan::read(plan())?;
     let stored = own.begin().words().to_vec();
-    assert_eq!(stored[..LEADING_WORDS], [172, 609]);
+    assert_eq!(stored[..2], [172, 609]);
     assert_eq!(own.ledger(stored.clone())?, own.begin());
     assert_eq!(own.ledger(&stored[LEADING_WORDS..]), Err(FewWords));
     for neighbour in neighbours() {

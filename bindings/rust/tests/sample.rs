@@ -3,7 +3,8 @@
 mod sample_plan;
 
 use retraction::raw::{begin, entries, event, fire, read, ready, signal};
-use retraction::{Counts, Entry, Moved, Plan, Refusal, LEADING_WORDS, NONE, TRACK_WORDS};
+use retraction::{Counts, Entry, Moved, Plan, Refusal};
+use retraction::{FIRST_DAY, LAST_DAY, LEADING_WORDS, NONE, TRACK_WORDS};
 use sample_plan::{begun, plan, WORDS};
 
 fn fired(code: u16) -> Result<Entry, Refusal> {
@@ -19,7 +20,7 @@ fn moved(moved: u16, closed: u16) -> Result<Moved, Refusal> {
 fn the_sample_is_taken_back() {
     let (plan, mut ledger) = begun();
     for number in [10, 11, 12] {
-        assert_eq!(event(&plan, &mut ledger, number), moved(1, 0));
+        assert_eq!(event(&plan, &mut ledger, number, 0), moved(1, 0));
     }
     assert_eq!(entries(&plan, &ledger, 1), [51, NONE]);
     assert_eq!(signal(&plan, &mut ledger), Ok(3));
@@ -35,14 +36,14 @@ fn the_sample_is_taken_back() {
 fn a_scope_that_closes_leaves_its_replacement() {
     let (plan, mut ledger) = begun();
     for number in [10, 11, 12] {
-        assert_eq!(event(&plan, &mut ledger, number), moved(1, 0));
+        assert_eq!(event(&plan, &mut ledger, number, 0), moved(1, 0));
     }
-    assert_eq!(event(&plan, &mut ledger, 14), moved(1, 1));
+    assert_eq!(event(&plan, &mut ledger, 14, 0), moved(1, 1));
     assert_eq!(entries(&plan, &ledger, 0), [50, NONE, 90, NONE]);
     assert_eq!(entries(&plan, &ledger, 1), []);
-    assert_eq!(event(&plan, &mut ledger, 13), moved(1, 0));
+    assert_eq!(event(&plan, &mut ledger, 13, 0), moved(1, 0));
     assert_eq!(signal(&plan, &mut ledger), Err(Refusal::Over));
-    assert_eq!(ledger[..LEADING_WORDS], [172, 609]);
+    assert_eq!(ledger[..LEADING_WORDS], [172, 609, 0, 0]);
     let tracks = &ledger[LEADING_WORDS..WORDS];
     assert!(tracks.iter().all(|&word| word == 0));
 }
@@ -53,8 +54,8 @@ fn refused_calls_change_no_word() {
     let before = ledger.clone();
     let short = &mut ledger.clone()[..WORDS - 1];
     assert_eq!(begin(&[], &mut ledger), Err(Refusal::NoRecord));
-    assert_eq!(event(&plan, &mut ledger, 0), Err(Refusal::EventZero));
-    assert_eq!(event(&plan, short, 10), Err(Refusal::FewWords));
+    assert_eq!(event(&plan, &mut ledger, 0, 0), Err(Refusal::EventZero));
+    assert_eq!(event(&plan, short, 10, 0), Err(Refusal::FewWords));
     assert_eq!(signal(&plan[..45], &mut ledger), Err(Refusal::CutShort));
     assert_eq!(fire(&plan, &mut ledger, 3), Err(Refusal::NotReady));
     assert_eq!(ready(&[4, 0, 4, 0], &mut ledger), Err(Refusal::NoTrack));
@@ -75,7 +76,7 @@ fn a_plan_tells_its_counts() {
     assert_eq!(read(&plan()), Ok(counts));
     assert_eq!(read(&plan()[..171]), Err(Refusal::NoRecord));
     let plan = Plan::read(plan()).expect("the sample");
-    assert_eq!((plan.counts(), plan.ledger_words()), (counts, 203));
+    assert_eq!((plan.counts(), plan.ledger_words()), (counts, 205));
 }
 
 #[test]
@@ -83,7 +84,7 @@ fn a_ledger_is_stored_and_read_again() -> Result<(), Refusal> {
     let plan = Plan::read(plan())?;
     let mut ledger = plan.begin();
     for number in [10, 11, 12] {
-        assert_eq!(ledger.event(number), moved(1, 0));
+        assert_eq!(ledger.event(number, 0), moved(1, 0));
     }
     let mut again = plan.ledger(ledger.words())?;
     assert_eq!(again, ledger);
@@ -94,15 +95,18 @@ fn a_ledger_is_stored_and_read_again() -> Result<(), Refusal> {
         let _ = again.fire(track)?;
     }
     assert!(!again.is_over() && !ledger.is_over());
-    assert_eq!(ledger.event(14), moved(1, 1));
-    assert_eq!(ledger.event(13), moved(1, 0));
+    assert_eq!(ledger.event(14, 0), moved(1, 1));
+    assert_eq!(ledger.event(13, 0), moved(1, 0));
     assert!(ledger.is_over());
     Ok(())
 }
 
 #[test]
 fn a_refusal_has_its_number_and_its_words() {
-    let checked: Vec<u16> = (1..=17).chain([24]).chain(18..=23).collect();
+    let checked: Vec<u16> = (1..=16)
+        .chain([25, 17, 24, 18, 19, 26])
+        .chain(20..=23)
+        .collect();
     let numbers: Vec<u16> = Refusal::ALL
         .iter()
         .map(|refusal| refusal.number())
@@ -121,7 +125,7 @@ fn file(name: &str) -> String {
     std::fs::read_to_string(path).expect("a file of the repository")
 }
 
-/// The header names the refusals in the same order, and says the same of each, of a ledger's words and of the version; so do the manual
+/// The header names the refusals in the same order, and says the same of each, of a ledger's words, of the range of days and of the version; so do the manual
 /// pages of the version.
 #[test]
 fn the_header_agrees() {
@@ -141,6 +145,8 @@ fn the_header_agrees() {
     assert!(line(&format!(
         "#define RETRACTION_TRACK_WORDS {TRACK_WORDS}"
     )));
+    assert!(line(&format!("#define RETRACTION_FIRST_DAY ({FIRST_DAY})")));
+    assert!(line(&format!("#define RETRACTION_LAST_DAY {LAST_DAY}")));
     let version = env!("CARGO_PKG_VERSION");
     let part = |part: &str| part.parse::<u32>().expect("a number");
     let number = version
