@@ -1,5 +1,5 @@
-/* The paper's sample plan P and its journal, by the calls. Prints what `unwind` prints for them, and then what the ledger gets under another
- * plan. */
+/* The paper's sample plan P and its journal, by the calls, with its events on day 0. Prints what `unwind` prints for them, and then on which
+ * date the last event was, what an event the day before gets, and what the ledger gets under another plan. */
 #include <stdio.h>
 
 #include "retraction.h"
@@ -37,9 +37,9 @@ static void lay_out_plan(void)
     }
 }
 
-static void print_event(uint16_t event)
+static void print_event(uint16_t event, int32_t day)
 {
-    uint64_t answer = retraction_event(plan, sizeof plan, ledger, room, event);
+    uint64_t answer = retraction_event(plan, sizeof plan, ledger, room, event, day);
     if (retraction_refusal(answer) != 0)
         printf("R %u\n", retraction_refusal(answer));
     else
@@ -89,6 +89,16 @@ static unsigned entries_held(void)
     return words / 2;
 }
 
+/* The ledger keeps the day of the last accepted event. Days never fall: an event on the day before is refused. */
+static void print_last_day(void)
+{
+    int32_t day = retraction_ledger_day(ledger);
+    uint64_t date = retraction_date_of_day(day);
+    uint16_t refusal = retraction_refusal(retraction_event(plan, sizeof plan, ledger, room, 10, day - 1));
+    printf("last event on %u-%02u-%02u\n", retraction_first(date), retraction_second(date), retraction_third(date));
+    printf("R %u: %s\n", refusal, retraction_refusal_text(refusal));
+}
+
 /* A neighbour's plan differs from this one in a single code. The ledger, lent with it by mistake, is refused. */
 static void print_under_another_plan(void)
 {
@@ -109,14 +119,16 @@ int main(void)
         return 1;
     }
     printf("PLAN %u %u %u\n", retraction_first(read), retraction_second(read), retraction_third(read));
-    print_event(10);
-    print_event(11);
-    print_event(12);
+    int32_t day = retraction_day(retraction_day_of_date(1900, 1, 1));
+    print_event(10, day);
+    print_event(11, day);
+    print_event(12, day);
     print_signal();
     /* The only root is taken back, and none has reached its end: the ledger is not over, so the fourth firing is refused as 22, not as 20. */
     for (int i = 0; i < 4; i++)
         firings += (unsigned)print_firing(lowest_ready());
     printf("H %u %u\n", entries_held(), firings);
+    print_last_day();
     print_under_another_plan();
     return 0;
 }
