@@ -13,7 +13,7 @@ pub const ROUNDS: usize = 201;
 /// Ledgers of a round, each called on once.
 const LEDGERS: usize = 32;
 
-const SIDES: [Side; 3] = [sides::proved, sides::second, sides::fast];
+pub const SIDES: [Side; 3] = [sides::proved, sides::second, sides::fast];
 
 /// A ledger and the call on it.
 #[derive(Clone, Debug)]

@@ -1,6 +1,7 @@
-//! What is timed: plan P, the samples, a plan of two roots and random plans of
-//! three sizes, with ledgers that a history left, on each of which a call does
-//! something.
+//! What is timed: plan P, the samples, a plan of two roots, random plans of
+//! three sizes and the largest one with windows, with ledgers that a history
+//! left, on each of which a call does something. All events are on day 0, on
+//! which no window keeps a track from moving.
 
 use std::fs;
 use std::io;
@@ -17,6 +18,9 @@ use testing::samples;
 
 use crate::calls::{Given, CALLS, FINISHING};
 use crate::shapes;
+
+/// The day of all events.
+const DAY: i32 = 0;
 
 /// The folder of the samples.
 const SAMPLES: &str = concat!(env!("CARGO_MANIFEST_DIR"), "/../samples");
@@ -40,7 +44,10 @@ impl Case {
         cases.push(accepted("two roots", shapes::two_roots().encode()));
         cases.push(Case::found("small", (3, 3), (6, 9), (5, 10)));
         cases.push(Case::found("middle", (12, 14), (40, 60), (70, 110)));
-        cases.push(Case::found("largest", (32, 32), (128, 128), (256, 256)));
+        let largest = Case::found("largest", (32, 32), (128, 128), (256, 256));
+        let windowed = shapes::windowed(largest.read.records().clone(), 256);
+        cases.push(largest);
+        cases.push(accepted("windows", windowed.encode()));
         for case in &mut cases {
             case.journal = case.lively_journal(MAX_BYTES);
         }
@@ -74,9 +81,9 @@ impl Case {
         Ok(cases?.into_iter().flatten().collect())
     }
 
-    /// The first generated plan whose counts of tracks, states and
-    /// transitions lie in the ranges, whose histories do all the calls, and
-    /// that does not run dry.
+    /// The first generated plan, its windows left out, whose counts of tracks,
+    /// states and transitions lie in the ranges, whose histories do all the
+    /// calls, and that does not run dry.
     fn found(
         name: &str,
         tracks: (usize, usize),
@@ -91,17 +98,22 @@ impl Case {
                 && CALLS.iter().all(|call| case.given(call, 4).len() == 4)
                 && case.stays_lively()
         };
-        let made = (0..).map(|index| plans::bytes(&mut Rng::for_case(1, 21, index), 32));
-        made.filter_map(|plan| Case::new(name, plan))
+        let made = (0..).map(|index| plans::records(&mut Rng::for_case(1, 21, index), 32));
+        made.map(|records| shapes::windowed(records, 0).encode())
+            .filter_map(|plan| Case::new(name, plan))
             .find(fits)
             .expect("plans go on for ever")
     }
 
-    /// The name, with tracks, states and transitions.
+    /// The name, with tracks, states and transitions, and windows if any.
     pub fn label(&self) -> String {
         let (tracks, states) = (self.read.track_count(), self.read.state_count());
         let transitions = self.read.transition_count();
-        format!("{} ({tracks}, {states}, {transitions})", self.name)
+        let windows = match self.read.records().windows.len() {
+            0 => String::new(),
+            windows => format!(", {windows}"),
+        };
+        format!("{} ({tracks}, {states}, {transitions}{windows})", self.name)
     }
 
     /// Ledgers on which the call is accepted and does something; at most so
@@ -114,7 +126,7 @@ impl Case {
             let mut rng = Rng::for_case(1, 22, index);
             let (records, _) = journals::history(&mut rng, &self.read);
             let mut ledger = rules::begin(&self.read);
-            for record in records {
+            for record in records.into_iter().map(on_the_day) {
                 if let Some(call) = self.call(call, &ledger, record) {
                     let words = ledger.words();
                     given.push(Given { words, call });
@@ -140,9 +152,9 @@ impl Case {
         let holding = || ledger.tracks.iter().position(|track| track.held() > 0);
         match (name, record) {
             ("begin", _) => Some(Call::Begin),
-            ("event", Record::Event(event)) => {
-                let moves = rules::chosen_moves(&self.read, ledger, event);
-                (!moves.is_empty()).then_some(Call::Event(event))
+            ("event", Record::Event(event, day)) => {
+                let moves = rules::chosen_moves(&self.read, ledger, event, day);
+                (!moves.is_empty()).then_some(Call::Event(event, day))
             }
             ("signal", Record::Signal) => Some(Call::Signal),
             ("fire", _) => ready().next().map(Call::Fire),
@@ -161,11 +173,12 @@ impl Case {
         let mut rng = Rng::for_case(1, 23, 0);
         while journal.len() < bytes / 4 * 3 {
             let event = self.lively_event(&mut rng, &ledger);
-            journal::perform(&self.read, &mut ledger, Record::Event(event));
-            Record::Event(event).encode(&mut journal);
+            let record = Record::Event(event, DAY);
+            journal::perform(&self.read, &mut ledger, record);
+            record.encode(&mut journal);
         }
         if journal.len() % 4 == 2 {
-            Record::Event(1).encode(&mut journal);
+            Record::Event(1, DAY).encode(&mut journal);
         }
         Record::Signal.encode(&mut journal);
         while journal.len() < bytes {
@@ -180,7 +193,7 @@ impl Case {
         let mut rng = Rng::for_case(1, 24, 0);
         (0..400).all(|_| {
             let event = self.lively_event(&mut rng, &ledger);
-            let done = rules::event(&self.read, &mut ledger, event);
+            let done = rules::event(&self.read, &mut ledger, event, DAY);
             done.map_or(false, |figures| figures.moved > 0)
         })
     }
@@ -190,7 +203,7 @@ impl Case {
     fn lively_event(&self, rng: &mut Rng, ledger: &Ledger) -> u16 {
         let held_after = |event: u16| {
             let mut after = ledger.clone();
-            let done = rules::event(&self.read, &mut after, event);
+            let done = rules::event(&self.read, &mut after, event, DAY);
             (done.is_ok() && !after.is_over()).then(|| after.total_held())
         };
         let mut events = journals::moving_events(&self.read, ledger, |_| true);
@@ -200,6 +213,14 @@ impl Case {
         let light: Vec<u16> = events.iter().copied().filter(light).collect();
         let light = rng.pick(&light).filter(|_| rng.chance(95));
         light.or_else(|| rng.pick(&events)).unwrap_or(1)
+    }
+}
+
+/// The record, an event on the day of all events.
+fn on_the_day(record: Record) -> Record {
+    match record {
+        Record::Event(event, _) => Record::Event(event, DAY),
+        other => other,
     }
 }
 

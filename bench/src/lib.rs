@@ -2,7 +2,7 @@
 //! same checks on each call.
 //!
 //! - [`fast`]: the second opponent, written for speed.
-//! - [`sides`]: a call by each of the three.
+//! - [`sides`]: a call by each of the three, or a conversion.
 //! - [`sum`]: the sum of a plan's bytes alone, by each of them.
 
 #![deny(unsafe_code)]

@@ -1,16 +1,17 @@
 //! Prints tables of times: the proved calls beside the second program's and
-//! the fast one's, the sum of a plan's bytes alone, whole runs, and how each
-//! call grows. The sides make the same checks on each call; rounds alternate
-//! between them, and each figure is a median.
+//! the fast one's, the sum of a plan's bytes alone, days and dates, whole runs,
+//! and how each call grows. The sides make the same checks on each call; rounds
+//! alternate between them, and each figure is a median.
 //!
-//! `bench calls | sums | scaling`, `bench runs PROVED SECOND FAST` with three
-//! programs `unwind`, `bench all PROVED SECOND FAST` print tables, and in the
-//! last line whether the machine was disturbed. For a profiler: `bench one PLAN
-//! CALL` makes one round of the proved calls alone, `bench write PLAN FOLDER`
-//! writes the plan and its journal.
+//! `bench calls | sums | days | scaling`, `bench runs PROVED SECOND FAST` with
+//! three programs `unwind`, `bench all PROVED SECOND FAST` print tables, and in
+//! the last line whether the machine was disturbed. For a profiler: `bench one
+//! PLAN CALL` makes one round of the proved calls alone, `bench write PLAN
+//! FOLDER` writes the plan and its journal.
 
 mod calls;
 mod cases;
+mod days;
 mod rounds;
 mod runs;
 mod scaling;
@@ -23,7 +24,7 @@ use std::path::Path;
 use cases::Case;
 use rounds::Rounds;
 
-const USAGE: &str = "usage: bench calls | sums | scaling | runs PROVED SECOND FAST | \
+const USAGE: &str = "usage: bench calls | sums | days | scaling | runs PROVED SECOND FAST | \
     all PROVED SECOND FAST | one PLAN CALL | write PLAN FOLDER";
 
 fn main() -> io::Result<()> {
@@ -34,6 +35,7 @@ fn main() -> io::Result<()> {
     match words[..] {
         ["calls"] => calls::print(&mut rounds, &cases),
         ["sums"] => sums::print(&mut rounds, &cases),
+        ["days"] => days::print(&mut rounds),
         ["scaling"] => scaling::print(&mut rounds),
         ["runs", proved, second, fast] => {
             runs::print(&mut rounds, &cases, [proved, second, fast])?;
@@ -42,6 +44,8 @@ fn main() -> io::Result<()> {
             calls::print(&mut rounds, &cases);
             println!();
             sums::print(&mut rounds, &cases);
+            println!();
+            days::print(&mut rounds);
             println!();
             runs::print(&mut rounds, &cases, [proved, second, fast])?;
             println!();

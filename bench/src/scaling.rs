@@ -29,7 +29,14 @@ struct Row {
 /// Prints all tables.
 pub fn print(rounds: &mut Rounds) {
     println!("## Growth\n\nNanoseconds a call, by the size named in the heading of the column.");
-    for table in [tracks(), states(), transitions(), steps(), entries()] {
+    for table in [
+        tracks(),
+        states(),
+        transitions(),
+        steps(),
+        windows(),
+        entries(),
+    ] {
         table.print(rounds);
     }
 }
@@ -96,12 +103,12 @@ fn rows(plans: &[(Records, usize)]) -> Vec<Row> {
 fn given(name: &str, plan: &Plan, events: usize) -> Given {
     let mut ledger = rules::begin(plan);
     for _ in 0..events {
-        let moved = rules::event(plan, &mut ledger, 1).map(|figures| figures.moved);
+        let moved = rules::event(plan, &mut ledger, 1, 0).map(|figures| figures.moved);
         assert!(moved != Ok(0), "an event that moves");
     }
     let call = match name {
         "begin" => Call::Begin,
-        "event" => Call::Event(1),
+        "event" => Call::Event(1, 0),
         "signal" => Call::Signal,
         "fire" => {
             rules::signal(plan, &mut ledger).expect("not over");
@@ -194,6 +201,40 @@ fn refused(plans: &[(Records, usize)], order: &str) -> Row {
     };
     Row {
         name: format!("begin, {order}, refused as 15"),
+        points: plans.iter().map(point).collect(),
+    }
+}
+
+/// All calls, and begin where the last window repeats the first one's
+/// transition.
+fn windows() -> Table {
+    let sizes = vec![8, 16, 32, 64, 128, 256];
+    let plan = |&windows: &usize| (shapes::windowed(shapes::tree(32, 128, 256), windows), 2);
+    let plans: Vec<_> = sizes.iter().map(plan).collect();
+    let mut rows = rows(&plans);
+    rows.push(repeated(&plans));
+    Table {
+        what: "Windows, in any order; 32 tracks, 128 states, 256 transitions",
+        unit: "a window",
+        sizes,
+        rows,
+    }
+}
+
+/// Begin on plans whose last window repeats the first one's transition.
+fn repeated(plans: &[(Records, usize)]) -> Row {
+    let point = |(records, _): &(Records, usize)| {
+        let mut records = records.clone();
+        let transition = records.windows[0].transition;
+        if let Some(last) = records.windows.last_mut() {
+            last.transition = transition;
+        }
+        let words = vec![0; track_start(records.tracks.len())];
+        let call = Call::Begin;
+        (records.encode(), Given { words, call })
+    };
+    Row {
+        name: "begin, refused as 25".to_string(),
         points: plans.iter().map(point).collect(),
     }
 }

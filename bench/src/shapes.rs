@@ -2,7 +2,7 @@
 
 use second::plan::{Records, Transition, NONE};
 use testing::generate::rng::Rng;
-use testing::samples::{state, step, track};
+use testing::samples::{state, step, track, window};
 
 /// In which order the steps out of one state stand in the plan.
 #[derive(Clone, Copy, Debug, PartialEq, Eq)]
@@ -65,7 +65,22 @@ pub fn fan(steps: usize, order: Order) -> Records {
         tracks: vec![track(NONE)],
         states: vec![state(0, 0, 0), state(0, 1, 0)],
         transitions,
+        windows: vec![],
     }
+}
+
+/// The plan with windows for so many of its transitions, in any order. Each has
+/// a term of its own, in which day 0 lies.
+pub fn windowed(mut plan: Records, windows: usize) -> Records {
+    let mut rng = Rng::new(2);
+    let mut numbers: Vec<u16> = (0..plan.transitions.len() as u16).collect();
+    rng.shuffle(&mut numbers);
+    let term = |number: u16| {
+        let days = 30 * (1 + i32::from(number));
+        window(number, -days, days)
+    };
+    plan.windows = numbers.into_iter().take(windows).map(term).collect();
+    plan
 }
 
 /// Two roots, whose link ends half withdrawn or not at all. Root 0 has no end.
@@ -94,5 +109,6 @@ pub fn two_roots() -> Records {
             step(3, 2, 0, 3),
             step(3, 4, 61, 4),
         ],
+        windows: vec![],
     }
 }

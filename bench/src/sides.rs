@@ -2,19 +2,23 @@
 //! each answer packed into one number, as the calls for C have it.
 
 use retraction::{raw, NONE};
+use second::days::Date;
 use second::manager::{self, Answer};
 
 use crate::fast::{self, Refused};
 
-/// A call on lent words.
+/// A call on lent words, or a conversion, which is given none.
 #[derive(Clone, Copy, Debug, PartialEq, Eq)]
 pub enum Call {
     Begin,
-    Event(u16),
+    /// An event and its day.
+    Event(u16, i32),
     Signal,
     Fire(u16),
     Ready,
     Entries(u16),
+    DateOfDay(i32),
+    DayOfDate(Date),
 }
 
 /// Who makes a call: on the plan's bytes and the words lent.
@@ -25,8 +29,8 @@ pub fn proved(plan: &[u8], words: &mut [u16], call: Call) -> u64 {
     let refused = |refusal: retraction::Refusal| refusal.number();
     match call {
         Call::Begin => number(raw::begin(plan, words).map_err(refused), |()| 0),
-        Call::Event(event) => {
-            let done = raw::event(plan, words, event).map_err(refused);
+        Call::Event(event, day) => {
+            let done = raw::event(plan, words, event, day).map_err(refused);
             number(done, |figures| pair(figures.moved, figures.closed))
         }
         Call::Signal => number(raw::signal(plan, words).map_err(refused), |n| pair(n, 0)),
@@ -36,6 +40,13 @@ pub fn proved(plan: &[u8], words: &mut [u16], call: Call) -> u64 {
         }
         Call::Ready => number(raw::ready(plan, words).map_err(refused), bits),
         Call::Entries(track) => part(words, raw::entries(plan, words, track)),
+        Call::DateOfDay(day) => number(raw::date_of_day(day).map_err(refused), |d| {
+            triple(d.year, d.month, d.day)
+        }),
+        Call::DayOfDate(Date { year, month, day }) => {
+            let date = retraction::Date { year, month, day };
+            number(raw::day_of_date(date).map_err(refused), signed)
+        }
     }
 }
 
@@ -43,8 +54,8 @@ pub fn proved(plan: &[u8], words: &mut [u16], call: Call) -> u64 {
 pub fn second(plan: &[u8], words: &mut [u16], call: Call) -> u64 {
     match call {
         Call::Begin => number(result(manager::begin(plan, words)), |()| 0),
-        Call::Event(event) => {
-            let done = result(manager::event(plan, words, event));
+        Call::Event(event, day) => {
+            let done = result(manager::event(plan, words, event, day));
             number(done, |figures| pair(figures.moved, figures.closed))
         }
         Call::Signal => number(result(manager::signal(plan, words)), |n| pair(n, 0)),
@@ -54,6 +65,10 @@ pub fn second(plan: &[u8], words: &mut [u16], call: Call) -> u64 {
         }
         Call::Ready => number(result(manager::ready(plan, words)), bits),
         Call::Entries(track) => part(words, manager::entries(plan, words, track)),
+        Call::DateOfDay(day) => number(result(manager::date_of_day(day)), |d| {
+            triple(d.year, d.month, d.day)
+        }),
+        Call::DayOfDate(date) => number(result(manager::day_of_date(date)), signed),
     }
 }
 
@@ -62,8 +77,8 @@ pub fn fast(plan: &[u8], words: &mut [u16], call: Call) -> u64 {
     let refused = |Refused(number)| number;
     match call {
         Call::Begin => number(fast::begin(plan, words).map_err(refused), |()| 0),
-        Call::Event(event) => {
-            let done = fast::event(plan, words, event).map_err(refused);
+        Call::Event(event, day) => {
+            let done = fast::event(plan, words, event, day).map_err(refused);
             number(done, |figures| pair(figures.moved, figures.closed))
         }
         Call::Signal => number(fast::signal(plan, words).map_err(refused), |n| pair(n, 0)),
@@ -73,6 +88,13 @@ pub fn fast(plan: &[u8], words: &mut [u16], call: Call) -> u64 {
         }
         Call::Ready => number(fast::ready(plan, words).map_err(refused), bits),
         Call::Entries(track) => part(words, fast::entries(plan, words, track)),
+        Call::DateOfDay(day) => number(fast::days::date_of_day(day).map_err(refused), |d| {
+            triple(d.year, d.month, d.day)
+        }),
+        Call::DayOfDate(Date { year, month, day }) => {
+            let date = fast::days::Date { year, month, day };
+            number(fast::days::day_of_date(date).map_err(refused), signed)
+        }
     }
 }
 
@@ -94,9 +116,19 @@ fn pair(first: u16, second: u16) -> u64 {
     u64::from(first) << 16 | u64::from(second) << 32
 }
 
+/// Bits 16 to 31, 32 to 47 and 48 to 63.
+fn triple(first: u16, second: u16, third: u16) -> u64 {
+    pair(first, second) | u64::from(third) << 48
+}
+
 /// Bits 32 to 63.
 fn bits(tracks: u32) -> u64 {
     u64::from(tracks) << 32
+}
+
+/// Bits 32 to 63, a day.
+fn signed(day: i32) -> u64 {
+    bits(day as u32)
 }
 
 /// Bits 0 to 15 the count of words, the others the index of the first one.

@@ -3,12 +3,13 @@
 
 use bench::fast::run;
 use bench::sides::{self, Call};
+use second::days::{Date, Term};
 use second::journal::{self, Record};
 use second::ledger::{track_start, Entry, Ledger, Mode, Track, LEADING_WORDS};
 use second::plan::{self, MAX_TRACKS, NONE};
 use testing::generate::rng::Rng;
-use testing::generate::{damage, journals, ledgers, neighbours, plans, singles};
-use testing::samples::{state, step, track};
+use testing::generate::{damage, days, journals, ledgers, neighbours, plans, singles};
+use testing::samples::{looping, state, step, track, window};
 
 /// Makes the call by both on copies of the words; the answer, and the words
 /// afterwards.
@@ -27,18 +28,21 @@ fn agreed(plan: &[u8], words: &[u16], call: Call, case: u64) -> (u64, Vec<u16>) 
 /// Every call with arguments that may do something, or nothing.
 fn calls(rng: &mut Rng, call: singles::Call) -> [Call; 7] {
     let own = match call {
-        singles::Call::Event(event) => Call::Event(event),
+        singles::Call::Event(event, day) => Call::Event(event, day),
         singles::Call::Signal => Call::Signal,
         singles::Call::Fire(track) => Call::Fire(track),
         singles::Call::Ready => Call::Ready,
         singles::Call::Entries(track) => Call::Entries(track),
+        singles::Call::DateOfDay(day) => Call::DateOfDay(day),
+        singles::Call::DayOfDate(date) => Call::DayOfDate(date),
     };
     let event = rng.between(1, 12) as u16;
+    let day = days::any_day(rng);
     let track = |rng: &mut Rng| rng.below(8) as u16;
     [
         own,
         Call::Begin,
-        Call::Event(event),
+        Call::Event(event, day),
         Call::Signal,
         Call::Fire(track(rng)),
         Call::Ready,
@@ -50,7 +54,7 @@ fn calls(rng: &mut Rng, call: singles::Call) -> [Call; 7] {
 /// of other plans. Each refusal of a call is among the answers.
 #[test]
 fn half_a_million_single_calls() {
-    let mut refused = [0; 25];
+    let mut refused = [0; 27];
     let mut made = 0;
     for index in 0..72_000 {
         let mut rng = Rng::for_case(31, 1, index);
@@ -64,7 +68,7 @@ fn half_a_million_single_calls() {
         }
     }
     assert!(made >= 500_000);
-    for number in (2..=22).chain([24]) {
+    for number in (2..=22).chain(24..=26) {
         assert!(refused[number] >= 100, "{number}: {}", refused[number]);
     }
     assert!(refused[24] >= 20_000, "24: {}", refused[24]);
@@ -86,7 +90,7 @@ fn calls_of_histories() {
         let (_, mut words) = agreed(&bytes, &words, Call::Begin, index);
         for record in journals::history(&mut rng, &plan).0 {
             let call = match record {
-                Record::Event(event) => Call::Event(event),
+                Record::Event(event, day) => Call::Event(event, day),
                 Record::Signal => Call::Signal,
                 Record::Fire(track) => Call::Fire(track),
                 Record::FireLowest => Call::Fire(lowest_ready(&bytes, &words)),
@@ -108,7 +112,7 @@ fn lowest_ready(plan: &[u8], words: &[u16]) -> u16 {
     (ready >> 32).trailing_zeros() as u16
 }
 
-/// Each refusal 2 to 16, several at once, and bytes gone astray.
+/// Each refusal 2 to 16 and 25, several at once, and bytes gone astray.
 #[test]
 fn damaged_plans() {
     for index in 0..20_000 {
@@ -133,7 +137,7 @@ fn repeated_events_of_a_wide_state() {
 
 /// A root with 256 steps out of its first state, mostly on events of its own.
 fn wide(rng: &mut Rng) -> plan::Records {
-    let mut records = testing::samples::looping();
+    let mut records = looping();
     records.transitions = (1..=256).map(|n| step(0, n * 255, 7, 0)).collect();
     rng.shuffle(&mut records.transitions);
     if rng.chance(50) {
@@ -141,6 +145,71 @@ fn wide(rng: &mut Rng) -> plan::Records {
         records.transitions[rng.below(256)].event = event;
     }
     records
+}
+
+/// More windows than a plan may have, by far: 25, but 8 to 16 come first.
+#[test]
+fn thousands_of_windows() {
+    let mut records = looping();
+    records.windows = vec![window(0, 0, 9); 70_000];
+    let words = vec![0; track_start(1)];
+    assert_eq!(agreed(&records.encode(), &words, Call::Begin, 0).0, 25);
+    records.transitions[1].event = 1;
+    assert_eq!(agreed(&records.encode(), &words, Call::Begin, 1).0, 15);
+}
+
+/// A root that loops by each of 256 events, all with windows, in any order: the
+/// days about each end of each window, and each event on the last accepted day.
+#[test]
+fn days_about_every_window() {
+    let mut rng = Rng::new(32);
+    let mut records = looping();
+    records.transitions = (1..=256).map(|event| step(0, event, 0, 0)).collect();
+    let windows = (0..256).map(|number| plan::Window {
+        transition: number,
+        term: days::term(&mut Rng::for_case(32, 1, u64::from(number)), 0),
+    });
+    records.windows = windows.collect();
+    rng.shuffle(&mut records.windows);
+    let bytes = records.encode();
+    let begun = agreed(&bytes, &vec![0; track_start(1)], Call::Begin, 0).1;
+    let (mut taken, mut ignored) = (0, 0);
+    for window in &records.windows {
+        let event = window.transition + 1;
+        let Term { first, last } = window.term;
+        for day in [first - 1, first, last, last + 1] {
+            let (answer, after) = agreed(&bytes, &begun, Call::Event(event, day), 0);
+            taken += usize::from(answer == 1 << 16);
+            ignored += usize::from(answer == 0);
+            agreed(&bytes, &after, Call::Event(event, day), 1);
+            agreed(&bytes, &after, Call::Event(event, day - 1), 2);
+        }
+    }
+    assert!(taken == 512 && ignored >= 300, "{taken} {ignored}");
+}
+
+/// Every day of the range and about it, there and back, and every date of its
+/// years and about them.
+#[test]
+fn days_and_dates() {
+    let agreed = |call: Call| {
+        let answer = sides::second(&[], &mut [], call);
+        assert_eq!(sides::fast(&[], &mut [], call), answer, "{call:?}");
+        usize::from(answer as u16 == 0)
+    };
+    let Term { first, last } = Term::RANGE;
+    let near = (first - 1_000..=last + 1_000).chain([i32::MIN, i32::MAX]);
+    let found: usize = near.map(|day| agreed(Call::DateOfDay(day))).sum();
+    assert_eq!(found, 292_194);
+    let mut found = 0;
+    for year in (1590..=2410).chain([0, 1, 400, 65_535]) {
+        for month in (0..=14).chain([65_535]) {
+            for day in (0..=33).chain([65_535]) {
+                found += agreed(Call::DayOfDate(Date { year, month, day }));
+            }
+        }
+    }
+    assert_eq!(found, 292_194);
 }
 
 /// Whole runs, text for text.
@@ -182,6 +251,7 @@ fn scoped_roots() -> plan::Records {
             step(5, 4, 51, 5),
             step(5, 5, 0, 6),
         ],
+        windows: vec![],
     }
 }
 
@@ -207,7 +277,12 @@ fn after(bytes: &[u8], calls: &[(Call, u16, u16)]) -> Vec<u16> {
 /// Every call that an over ledger refuses.
 fn is_over(bytes: &[u8], words: &[u16]) {
     assert!(are_over(words));
-    for call in [Call::Event(1), Call::Signal, Call::Fire(0), Call::Fire(1)] {
+    for call in [
+        Call::Event(1, 0),
+        Call::Signal,
+        Call::Fire(0),
+        Call::Fire(1),
+    ] {
         assert_eq!(agreed(bytes, words, call, 0).0, 20, "{call:?}");
     }
     assert_eq!(agreed(bytes, words, Call::Ready, 0).0, 0);
@@ -218,8 +293,8 @@ fn is_over(bytes: &[u8], words: &[u16]) {
 #[test]
 fn links_that_end_half_withdrawn() {
     let bytes = scoped_roots().encode();
-    let begun = [(Call::Event(1), 2, 0), (Call::Signal, 3, 0)];
-    let ended = [(Call::Fire(1), 60, 3), (Call::Event(6), 1, 0)];
+    let begun = [(Call::Event(1, 0), 2, 0), (Call::Signal, 3, 0)];
+    let ended = [(Call::Fire(1), 60, 3), (Call::Event(6, 0), 1, 0)];
     let taken_back = [(Call::Fire(0), 50, NONE)];
     is_over(
         &bytes,
@@ -230,9 +305,9 @@ fn links_that_end_half_withdrawn() {
         &after(&bytes, &[&begun[..], &taken_back, &ended].concat()),
     );
     let branch = [
-        (Call::Event(2), 1, 0),
-        (Call::Event(1), 1, 0),
-        (Call::Event(4), 1, 0),
+        (Call::Event(2, 0), 1, 0),
+        (Call::Event(1, 0), 1, 0),
+        (Call::Event(4, 0), 1, 0),
         (Call::Signal, 3, 0),
     ];
     let branch_taken_back = [(Call::Fire(2), 51, NONE)];
@@ -249,7 +324,7 @@ fn a_link_withdrawn_as_a_whole_is_not_over() {
     let words = after(
         &bytes,
         &[
-            (Call::Event(1), 2, 0),
+            (Call::Event(1, 0), 2, 0),
             (Call::Signal, 3, 0),
             (Call::Fire(0), 50, NONE),
             (Call::Fire(1), 60, 3),
@@ -299,7 +374,9 @@ fn every_small_ledger_of_scoped_roots() {
                     usize::from(answer as u16 == 0 && are_over(&after))
                 };
                 sound += usize::from(agreed(&bytes, &words, Call::Ready, 0).0 as u16 == 0);
-                events += (1..=6).map(|event| ends(Call::Event(event))).sum::<usize>();
+                events += (1..=6)
+                    .map(|event| ends(Call::Event(event, 0)))
+                    .sum::<usize>();
                 firings += (0..=3).map(|track| ends(Call::Fire(track))).sum::<usize>();
                 assert_eq!(ends(Call::Signal), 0);
             }

@@ -3,8 +3,10 @@
 
 use super::plan::{Plan, NONE};
 
-/// Words before those of the tracks: the plan's length and its sum.
-pub const LEADING_WORDS: usize = 2;
+/// Words by which a ledger is known: the plan's length and its sum.
+pub const PLAN_WORDS: usize = 2;
+/// Words before those of the tracks: the plan's, and the last accepted day's.
+pub const LEADING_WORDS: usize = 4;
 /// Words for each track: mode, state, count, and 32 pairs.
 pub const TRACK_WORDS: usize = 67;
 /// Where a track's pairs start among its words.
@@ -15,11 +17,24 @@ pub const CAPACITY: u16 = 32;
 pub const FORWARD: u16 = 1;
 pub const UNDOING: u16 = 2;
 
-/// The leading words of the ledgers of a plan that is accepted, so that its
+/// The first words of the ledgers of a plan that is accepted, so that its
 /// length fits a word.
 #[inline(always)]
-pub fn leading(plan: &[u8]) -> [u16; LEADING_WORDS] {
+pub fn plan_words(plan: &[u8]) -> [u16; PLAN_WORDS] {
     [plan.len() as u16, sum(plan)]
+}
+
+/// The last accepted day, as the leading words have it.
+#[inline(always)]
+pub fn day(leading: &[u16]) -> i32 {
+    (u32::from(leading[PLAN_WORDS + 1]) << 16 | u32::from(leading[PLAN_WORDS])) as i32
+}
+
+/// Writes the last accepted day into the leading words.
+#[inline(always)]
+pub fn set_day(leading: &mut [u16], day: i32) {
+    leading[PLAN_WORDS] = day as u16;
+    leading[PLAN_WORDS + 1] = (day >> 16) as u16;
 }
 
 /// The sum of an even number of bytes. It goes word by word, as many at once as

@@ -5,18 +5,21 @@
 //! and every word of the ledger are the second program's, as a test holds them
 //! to be.
 //!
-//! - [`plan`]: the plan reader, refusals 2 to 16.
+//! - [`plan`]: the plan reader, refusals 2 to 16 and 25.
 //! - [`ledger`]: the leading words, whether the tracks' words are sound, and
 //!   the tracks as sets.
+//! - [`days`]: days as dates, and dates as days.
 //! - [`steps`]: what the calls do, on an accepted plan and a sound ledger.
 //! - [`run`]: the program `unwind` as a function of bytes.
 
+pub mod days;
 pub mod ledger;
 pub mod plan;
 pub mod run;
 pub mod steps;
 
-use ledger::{Sets, LEADING_WORDS, PAIRS, TRACK_WORDS};
+use days::FIRST_DAY;
+use ledger::{Sets, LEADING_WORDS, PAIRS, PLAN_WORDS, TRACK_WORDS};
 use plan::Plan;
 
 /// The paper's number of a refusal.
@@ -41,16 +44,18 @@ pub struct Entry {
 pub fn begin(bytes: &[u8], words: &mut [u16]) -> Result<(), Refused> {
     let mut plan = Plan::unread();
     accept(&mut plan, bytes, words)?;
-    words[..LEADING_WORDS].copy_from_slice(&ledger::leading(bytes));
+    words[..PLAN_WORDS].copy_from_slice(&ledger::plan_words(bytes));
+    ledger::set_day(words, FIRST_DAY);
     steps::begin(&plan, &mut words[LEADING_WORDS..]);
     Ok(())
 }
 
-/// Event: tracks moved, scopes closed.
-pub fn event(bytes: &[u8], words: &mut [u16], event: u16) -> Result<Moved, Refused> {
+/// Event on a day: tracks moved, scopes closed.
+pub fn event(bytes: &[u8], words: &mut [u16], event: u16, day: i32) -> Result<Moved, Refused> {
     let mut plan = Plan::unread();
     let mut sets = check(&mut plan, bytes, words)?;
-    steps::event(&plan, &mut words[LEADING_WORDS..], &mut sets, event)
+    let (leading, tracks) = words.split_at_mut(LEADING_WORDS);
+    steps::event(&plan, leading, tracks, &mut sets, event, day)
 }
 
 /// Signal: tracks turned.
@@ -85,7 +90,7 @@ pub fn entries<'a>(bytes: &[u8], words: &'a [u16], track: u16) -> &'a [u16] {
     &own[PAIRS..][..2 * usize::from(own[2])]
 }
 
-/// 2 to 17: an accepted plan, and enough words for it.
+/// 2 to 16, 25 and 17: an accepted plan, and enough words for it.
 #[inline(always)]
 fn accept<'a>(plan: &mut Plan<'a>, bytes: &'a [u8], words: &[u16]) -> Result<(), Refused> {
     plan.read(bytes)?;
@@ -95,14 +100,17 @@ fn accept<'a>(plan: &mut Plan<'a>, bytes: &'a [u8], words: &[u16]) -> Result<(),
     }
 }
 
-/// 2 to 17, 24 and 18: an accepted plan and its own and sound ledger, whose
-/// sets are the answer.
+/// 2 to 16, 25, 17, 24 and 18: an accepted plan and its own and sound ledger,
+/// whose sets are the answer.
 #[inline(always)]
 fn check<'a>(plan: &mut Plan<'a>, bytes: &'a [u8], words: &[u16]) -> Result<Sets, Refused> {
     accept(plan, bytes, words)?;
     let (leading, tracks) = words.split_at(LEADING_WORDS);
-    if leading != ledger::leading(bytes) {
+    if leading[..PLAN_WORDS] != ledger::plan_words(bytes) {
         return Err(Refused(24));
+    }
+    if !days::in_range(ledger::day(leading)) {
+        return Err(Refused(18));
     }
     Sets::of(plan, tracks).ok_or(Refused(18))
 }

@@ -1,6 +1,7 @@
-//! Reading a plan: refusals 2 to 16. Each record is visited once. Numbers 8 to
-//! 16 are gathered as bits on the way, and the lowest one counts.
+//! Reading a plan: refusals 2 to 16 and 25. Each record is visited once. Numbers
+//! 8 to 16 and 25 are gathered as bits on the way, and the lowest one counts.
 
+use super::days::{FIRST_DAY, LAST_DAY};
 use super::Refused;
 
 /// A root's host, and a deviation that is none.
@@ -15,10 +16,11 @@ const MAX_HEIGHT: u8 = 8;
 const TRACK: u32 = 6 | 1 << 16;
 const STATE: u32 = 10 | 2 << 16;
 const TRANSITION: u32 = 14 | 3 << 16;
+const WINDOW: u32 = 14 | 5 << 16;
 const END: u32 = 4 | 4 << 16;
 
-/// The length of a transition's record.
-const TRANSITION_BYTES: usize = 14;
+/// The length of a transition's record, and of a window's.
+const STEP_BYTES: usize = 14;
 
 /// Places for transitions, at least half of them free.
 const PLACES: usize = 2 * MAX_TRANSITIONS;
@@ -44,6 +46,10 @@ pub struct Plan<'a> {
     pub states: usize,
     /// The records of the transitions.
     transitions: &'a [u8],
+    /// The records of the windows.
+    windows: &'a [u8],
+    /// Each transition's window by its number, one more; 0 for none.
+    window: [u16; MAX_TRANSITIONS],
     /// The tracks that have no host.
     pub roots: u32,
     /// Each track's hosting state, `NONE` for a root.
@@ -72,6 +78,8 @@ impl<'a> Plan<'a> {
             tracks: 0,
             states: 0,
             transitions: &[],
+            windows: &[],
+            window: [0; MAX_TRANSITIONS],
             roots: 0,
             host: [NONE; MAX_TRACKS],
             above: [0; MAX_TRACKS],
@@ -90,7 +98,7 @@ impl<'a> Plan<'a> {
         let rest = self.read_states(rest, &mut faults);
         self.place_tracks(&mut faults);
         self.judge_hosting(&mut faults);
-        match self.read_transitions(rest, &mut faults) {
+        match self.read_steps(rest, &mut faults) {
             true => faults.lowest(),
             false => Err(out_of_shape(bytes)),
         }
@@ -164,26 +172,57 @@ impl<'a> Plan<'a> {
         faults.add(12, wrong);
     }
 
-    /// The transitions and the end, which must be all that is left; 13, 14
-    /// and 15. Whether the bytes have that shape.
+    /// The transitions, the windows and the end, which must be all that is left.
+    /// Whether the bytes have that shape.
     #[inline(always)]
-    fn read_transitions(&mut self, bytes: &'a [u8], faults: &mut Faults) -> bool {
+    fn read_steps(&mut self, bytes: &'a [u8], faults: &mut Faults) -> bool {
         let length = bytes.len().saturating_sub(4);
-        let (transitions, end) = bytes.split_at(length);
-        let mut shape = end.len() == 4
-            && head(end) == END
-            && length % TRANSITION_BYTES == 0
-            && length <= MAX_TRANSITIONS * TRANSITION_BYTES;
-        if !shape {
+        let (steps, end) = bytes.split_at(length);
+        if end.len() != 4 || head(end) != END || length % STEP_BYTES != 0 {
             return false;
         }
-        self.transitions = transitions;
-        for (number, record) in transitions.chunks_exact(TRANSITION_BYTES).enumerate() {
-            shape &= head(record) == TRANSITION;
+        let windows = self.read_transitions(steps, faults);
+        self.read_windows(windows, faults)
+    }
+
+    /// The transitions at the front, and the bytes after them; 13, 14 and 15.
+    #[inline(always)]
+    fn read_transitions(&mut self, bytes: &'a [u8], faults: &mut Faults) -> &'a [u8] {
+        self.transitions = bytes;
+        let mut count = 0;
+        let records = bytes.chunks_exact(STEP_BYTES).take(MAX_TRANSITIONS);
+        for record in records.take_while(|record| head(record) == TRANSITION) {
             self.judge_transition(record, faults);
-            self.place_transition(number, record, faults);
+            self.place_transition(count, record, faults);
+            count += 1;
         }
-        shape
+        let (transitions, rest) = bytes.split_at(count * STEP_BYTES);
+        self.transitions = transitions;
+        rest
+    }
+
+    /// The windows, which must be all that is left; 25. Whether they are. The
+    /// branches are those that an accepted plan never takes.
+    #[inline(always)]
+    fn read_windows(&mut self, bytes: &'a [u8], faults: &mut Faults) -> bool {
+        self.windows = bytes;
+        let transitions = self.transition_count();
+        for (number, record) in bytes.chunks_exact(STEP_BYTES).enumerate() {
+            if head(record) != WINDOW {
+                return false;
+            }
+            let transition = usize::from(word(record, 4));
+            let (first, last) = (signed(record, 6), signed(record, 10));
+            let window = &mut self.window[transition % MAX_TRANSITIONS];
+            if transition >= transitions || *window != 0 {
+                faults.add(25, true);
+            }
+            if first < FIRST_DAY || last < first || LAST_DAY < last {
+                faults.add(25, true);
+            }
+            *window = (number as u16).wrapping_add(1);
+        }
+        true
     }
 
     /// 13 and 14.
@@ -220,12 +259,25 @@ impl<'a> Plan<'a> {
     /// The record of the transition whose number, one more, is given.
     #[inline(always)]
     fn record(&self, number: u16) -> &'a [u8] {
-        let at = (usize::from(number) - 1) * TRANSITION_BYTES;
-        &self.transitions[at..at + TRANSITION_BYTES]
+        let at = (usize::from(number) - 1) * STEP_BYTES;
+        &self.transitions[at..at + STEP_BYTES]
     }
 
+    /// Whether the transition whose number, one more, is given may be taken on
+    /// a day: it has no window, or one with that day.
+    #[inline(always)]
+    pub fn is_open(&self, number: u16, day: i32) -> bool {
+        let window = usize::from(self.window[(usize::from(number) - 1) % MAX_TRANSITIONS]);
+        if window == 0 {
+            return true;
+        }
+        let record = &self.windows[(window - 1) * STEP_BYTES..][..STEP_BYTES];
+        signed(record, 6) <= day && day <= signed(record, 10)
+    }
+
+    #[inline(always)]
     pub fn transition_count(&self) -> usize {
-        self.transitions.len() / TRANSITION_BYTES
+        self.transitions.len() / STEP_BYTES
     }
 
     #[inline(always)]
@@ -275,7 +327,7 @@ impl<'a> Plan<'a> {
     }
 }
 
-/// The numbers 8 to 16 that apply, a bit for each.
+/// The numbers 8 to 16 and 25 that apply, a bit for each.
 struct Faults(u32);
 
 impl Faults {
@@ -299,6 +351,12 @@ fn word(bytes: &[u8], at: usize) -> u16 {
     u16::from_le_bytes([bytes[at], bytes[at + 1]])
 }
 
+/// The signed number in the four bytes from `at` on.
+#[inline(always)]
+fn signed(bytes: &[u8], at: usize) -> i32 {
+    i32::from_le_bytes([bytes[at], bytes[at + 1], bytes[at + 2], bytes[at + 3]])
+}
+
 /// Length and kind of a record.
 #[inline(always)]
 fn head(record: &[u8]) -> u32 {
@@ -317,35 +375,38 @@ fn place(key: u32) -> usize {
     (key.wrapping_mul(0x9E37_79B1) >> (32 - PLACES.trailing_zeros())) as usize
 }
 
-/// The first of 2 to 7, for bytes that are not tracks, states, transitions and
-/// an end.
+/// The first of 2 to 7, for bytes that are not tracks, states, transitions,
+/// windows and an end.
 #[cold]
 fn out_of_shape(bytes: &[u8]) -> Refused {
-    let lengths = [0, 6, 10, 14, 4];
-    let mut left = [0, MAX_TRACKS, MAX_STATES, MAX_TRANSITIONS, 1];
-    let (mut rest, mut before) = (bytes, 1);
+    let kinds = [1, 2, 3, 5, 4];
+    let lengths = [6, 10, 14, 14, 4];
+    // Any number of windows.
+    let mut left = [MAX_TRACKS, MAX_STATES, MAX_TRANSITIONS, usize::MAX, 1];
+    let (mut rest, mut before) = (bytes, 0);
     loop {
         if rest.len() < 4 {
             return Refused(2);
         }
-        let (length, kind) = (usize::from(word(rest, 0)), usize::from(word(rest, 2)));
-        if kind < before || 4 < kind {
-            return Refused(3);
-        }
-        if length != lengths[kind] {
+        let (length, kind) = (usize::from(word(rest, 0)), word(rest, 2));
+        let place = match kinds.iter().position(|&known| known == kind) {
+            Some(place) if place >= before => place,
+            _ => return Refused(3),
+        };
+        if length != lengths[place] {
             return Refused(4);
         }
         if rest.len() < length {
             return Refused(5);
         }
-        if left[kind] == 0 {
+        if left[place] == 0 {
             return Refused(6);
         }
         if kind == 4 {
             return Refused(7);
         }
-        left[kind] -= 1;
-        before = kind;
+        left[place] -= 1;
+        before = place;
         rest = &rest[length..];
     }
 }

@@ -2,7 +2,8 @@
 //! plan is read once, and the sets go on from record to record. The ledger is
 //! its own, from a begin on, so that 17, 24 and 18 never apply.
 
-use super::ledger::{leading, Sets, LEADING_WORDS, TRACK_WORDS};
+use super::days::FIRST_DAY;
+use super::ledger::{plan_words, set_day, Sets, LEADING_WORDS, PLAN_WORDS, TRACK_WORDS};
 use super::plan::{Plan, NONE};
 use super::steps;
 use super::Refused;
@@ -11,10 +12,10 @@ use super::Refused;
 pub const MAX_BYTES: usize = 32_768;
 
 /// Record kinds of a journal.
-const EVENT: u16 = 16;
 const SIGNAL: u16 = 17;
 const FIRE: u16 = 18;
 const FIRE_LOWEST: u16 = 19;
+const EVENT: u16 = 20;
 
 /// The whole output of `unwind`.
 pub fn unwind(plan: &[u8], journal: &[u8]) -> Vec<u8> {
@@ -25,25 +26,26 @@ pub fn unwind(plan: &[u8], journal: &[u8]) -> Vec<u8> {
         false => Err(Refused(1)),
     };
     match accepted {
-        Ok(()) => run(&read, leading(plan), journal, &mut text),
+        Ok(()) => run(&read, plan_words(plan), journal, &mut text),
         Err(Refused(number)) => text.line("R", &[number]),
     }
     text.0
 }
 
 /// Begins, then does the records in order.
-fn run(plan: &Plan, leading: [u16; LEADING_WORDS], journal: &[u8], text: &mut Text) {
+fn run(plan: &Plan, plan_words: [u16; PLAN_WORDS], journal: &[u8], text: &mut Text) {
     let mut ledger = [0; LEADING_WORDS + 32 * TRACK_WORDS];
-    let (first, words) = ledger.split_at_mut(LEADING_WORDS);
-    first.copy_from_slice(&leading);
+    let (leading, words) = ledger.split_at_mut(LEADING_WORDS);
+    leading[..PLAN_WORDS].copy_from_slice(&plan_words);
+    set_day(leading, FIRST_DAY);
     let mut sets = steps::begin(plan, words);
     let mut firings = 0;
     let mut rest = journal;
     let [tracks, states, transitions] = [plan.tracks, plan.states, plan.transition_count()];
     text.line("PLAN", &[tracks as u16, states as u16, transitions as u16]);
     while !rest.is_empty() {
-        let done = next(&mut rest).and_then(|(kind, argument)| match kind {
-            EVENT => steps::event(plan, words, &mut sets, argument)
+        let done = next(&mut rest).and_then(|(kind, argument, day)| match kind {
+            EVENT => steps::event(plan, leading, words, &mut sets, argument, day)
                 .map(|figures| text.line("E", &[argument, figures.moved, figures.closed])),
             SIGNAL => steps::signal(plan, words, &mut sets).map(|turned| text.line("S", &[turned])),
             _ => {
@@ -70,9 +72,9 @@ fn fired(kind: u16, argument: u16, sets: &Sets) -> u16 {
     }
 }
 
-/// Takes a record from the front: its kind and its argument, if it has one. A
-/// broken one, 23, ends the reading.
-fn next(rest: &mut &[u8]) -> Result<(u16, u16), Refused> {
+/// Takes a record from the front: its kind, its argument, if it has one, and
+/// an event's day. A broken one, 23, ends the reading.
+fn next(rest: &mut &[u8]) -> Result<(u16, u16, i32), Refused> {
     let bytes = *rest;
     let word = |at: usize| match bytes.get(at..at + 2) {
         Some(bytes) => u16::from_le_bytes([bytes[0], bytes[1]]),
@@ -81,7 +83,8 @@ fn next(rest: &mut &[u8]) -> Result<(u16, u16), Refused> {
     *rest = &[];
     let (kind, argument) = (word(2), word(4));
     let length = match kind {
-        EVENT | FIRE => 6,
+        EVENT => 10,
+        FIRE => 6,
         SIGNAL | FIRE_LOWEST => 4,
         _ => return Err(Refused(23)),
     };
@@ -89,7 +92,8 @@ fn next(rest: &mut &[u8]) -> Result<(u16, u16), Refused> {
         return Err(Refused(23));
     }
     *rest = &bytes[length..];
-    Ok((kind, argument))
+    let day = (u32::from(word(8)) << 16 | u32::from(word(6))) as i32;
+    Ok((kind, argument, day))
 }
 
 /// Lines of text.

@@ -1,7 +1,8 @@
 //! What the calls do, on an accepted plan and the words of a sound ledger's
 //! tracks, whose sets they bring up to date with them.
 
-use super::ledger::{finishes, members, open_scope, Sets};
+use super::days::in_range;
+use super::ledger::{self, finishes, members, open_scope, Sets};
 use super::ledger::{CAPACITY, FORWARD, PAIRS, TRACK_WORDS, UNDOING};
 use super::plan::{Plan, NONE};
 use super::{Entry, Moved, Refused};
@@ -92,17 +93,23 @@ struct Chosen {
     closing: u32,
 }
 
-/// Event: tracks moved, scopes closed. It leaves undoing tracks as they are, so
-/// that those spent afterwards are those spent before.
+/// Event on a day, which it leaves in the leading words: tracks moved, scopes
+/// closed. It leaves undoing tracks as they are, so that those spent afterwards
+/// are those spent before.
 #[inline(always)]
 pub fn event(
     plan: &Plan,
+    leading: &mut [u16],
     words: &mut [u16],
     sets: &mut Sets,
     event: u16,
+    day: i32,
 ) -> Result<Moved, Refused> {
     if event == 0 {
         return Err(Refused(19));
+    }
+    if !in_range(day) || day < ledger::day(leading) {
+        return Err(Refused(26));
     }
     if sets.awake == 0 {
         return Err(Refused(20));
@@ -113,9 +120,10 @@ pub fn event(
         last: sets.last,
         closing: 0,
     };
-    chosen.choose_moves(plan, words, sets, event)?;
+    chosen.choose_moves(plan, words, sets, event, day)?;
     let done = sets.forward & chosen.last;
     chosen.choose_closing(plan, words, sets, done)?;
+    ledger::set_day(leading, day);
     if finishes(plan, done, sets.spent()) {
         finish(plan, words, sets);
     } else {
@@ -136,10 +144,11 @@ impl Chosen {
         words: &[u16],
         sets: &Sets,
         event: u16,
+        day: i32,
     ) -> Result<(), Refused> {
         for track in members(sets.may_move()) {
             let number = plan.transition_number(words[track * TRACK_WORDS + 1], event);
-            if number == 0 {
+            if number == 0 || !plan.is_open(number, day) {
                 continue;
             }
             let transition = plan.transition(number);
