@@ -161,7 +161,7 @@ static inline const char *retraction_refusal_text(uint16_t refusal)
     case RETRACTION_HEIGHT: return "a track's height is above 8";
     case RETRACTION_WINDOW: return "a window names no transition, repeats one, ends before it begins or leaves the day range";
     case RETRACTION_FEW_WORDS: return "the ledger has too few words for the plan";
-    case RETRACTION_OTHER_PLAN: return "the ledger's leading words are not those of this plan";
+    case RETRACTION_OTHER_PLAN: return "the ledger's first two words are not those of this plan";
     case RETRACTION_UNSOUND: return "the ledger is not sound under this plan";
     case RETRACTION_EVENT_ZERO: return "the event is 0";
     case RETRACTION_DAY: return "the day or the date is out of range, or the event's day is before the last accepted one";

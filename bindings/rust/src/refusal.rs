@@ -51,7 +51,7 @@ refusals! {
     Height = 16, "a track's height is above 8";
     Window = 25, "a window names no transition, repeats one, ends before it begins or leaves the day range";
     FewWords = 17, "the ledger has too few words for the plan";
-    OtherPlan = 24, "the ledger's leading words are not those of this plan";
+    OtherPlan = 24, "the ledger's first two words are not those of this plan";
     Unsound = 18, "the ledger is not sound under this plan";
     EventZero = 19, "the event is 0";
     Day = 26, "the day or the date is out of range, or the event's day is before the last accepted one";
