@@ -209,12 +209,12 @@ fn refused(plans: &[(Records, usize)], order: &str) -> Row {
 /// transition.
 fn windows() -> Table {
     let sizes = vec![8, 16, 32, 64, 128, 256];
-    let plan = |&windows: &usize| (shapes::windowed(shapes::tree(32, 128, 256), windows), 2);
+    let plan = |&windows: &usize| (shapes::windowed(shapes::roots(32, 128, 256), windows), 2);
     let plans: Vec<_> = sizes.iter().map(plan).collect();
     let mut rows = rows(&plans);
     rows.push(repeated(&plans));
     Table {
-        what: "Windows, in any order; 32 tracks, 128 states, 256 transitions",
+        what: "Windows, in any order; 32 tracks, all roots, 128 states, 256 transitions",
         unit: "a window",
         sizes,
         rows,
