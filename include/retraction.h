@@ -1,7 +1,7 @@
 /* The retraction manager's calls. Link with libretraction.a: `pkg-config --cflags --libs retraction`.
  *
- * Every call is given the plan's bytes, and all but read the lent ledger: four leading words, then 67 for each track of the plan; words
- * beyond are never touched. Only the two conversions are given neither. Any bytes and any words may be given. A refused call changes no word.
+ * Every call but the two conversions is given the plan's bytes, and all of these but read the lent ledger: four leading words, then 67 for
+ * each track of the plan; words beyond are never touched. Any bytes and any words may be given. A refused call changes no word.
  * docs/FORMATS.md says what the bytes and the words are, docs/REFUSALS.md what each refusal means.
  *
  *   word of a ledger   what it is
