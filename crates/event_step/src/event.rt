@@ -98,7 +98,8 @@ pub fn event(
         × (isOver (planOf (now plan) c) (ledgerOf c (now ledger)) ≡ false
         → Figures false (now opens) (c .tracks) (hasOpenScope (planOf (now plan) c) (ledgerOf c (now ledger))))
         × Figures 0 (now firsts) (c .tracks) (firstState (planOf (now plan) c)) ⌝ }
-    ensures { λ r. ⌜ Meets (eventOutcome entryLimit (now (plan .entry)) (now (ledger .entry)) (record { event = event; day = day })) (eventTold r) (now (ledger .exit)) ⌝ }
+    ensures { λ r. ⌜ Meets (eventOutcome entryLimit (now (plan .entry)) (now (ledger .entry)) (record { event = event; day = day }))
+        (eventTold r) (now (ledger .exit)) ⌝ }
 {
     let refusal = refusal_of(plan, c, &ledger[..], event, day);
     if refusal != 0 {
@@ -122,14 +123,14 @@ pub fn event_indexed(
 ) -> EventAnswer
     requires { ⌜ Checked (now plan) c (now ledger) × Figures 0 (now firsts) (c .tracks) (firstState (planOf (now plan) c))
         × Indexed (now plan) c (now head) (now next) ⌝ }
-    ensures { λ r. ⌜ Meets (eventOutcome entryLimit (now (plan .entry)) (now (ledger .entry)) (record { event = event; day = day })) (eventTold r) (now (ledger .exit)) ⌝ }
+    ensures { λ r. ⌜ Meets (eventOutcome entryLimit (now (plan .entry)) (now (ledger .entry)) (record { event = event; day = day }))
+        (eventTold r) (now (ledger .exit)) ⌝ }
 {
     let refusal = refusal_of(plan, c, &ledger[..], event, day);
     if refusal != 0 {
         return EventAnswer::Refused(refusal);
     }
     let opens = opens::open_scopes(plan, c, &ledger[..]);
-    let choice =
-        event_choice::choose_indexed(plan, c, &ledger[..], event, day, &opens, head, next);
+    let choice = event_choice::choose_indexed(plan, c, &ledger[..], event, day, &opens, head, next);
     go_on(plan, c, &mut ledger[..], choice, &opens, firsts)
 }

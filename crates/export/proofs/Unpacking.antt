@@ -1,15 +1,22 @@
 -- The bits of a packed answer give it back: the refusal, the figures, and where a part lies. By division. Assumes nothing.
 use mathlib.Core.Path.{_≡_, refl, sym, ap, _∙_}
+use mathlib.Core.Bool.{true}
 use mathlib.Core.List.{List, [], _∷_}
 use Prim.Native.Nat.{ℕ, _+_, _*_, _≤_, _<_, _/_, _%_}
 use native.Mathlib.Omega.{arith}
 use lib.ListN.{length, take, drop}
 use borrow.Author.Tests.{ne-eqb}
+use Rattle.rules.specs.Names.{Day}
+use Rattle.rules.specs.Signed.{signedOf, bitsOf}
+use Rattle.rules.specs.Day.{isDay}
 use Rattle.rules.specs.Layout.{entryLimit, entriesPlace}
 use Rattle.rules.specs.declared.Counts.{Counts}
+use Rattle.rules.specs.declared.Date.{Date}
 use Rattle.rules.specs.Acceptance.{turnedBack, accepted}
 use Rattle.rules.specs.Call.{refusal, done, entriesPart}
-use Rattle.export.specs.Packed.{bit16, bit32, bit48, packedReading, packed, packedReady, packedPart}
+use Rattle.rules.specs.Conversion as converted
+use Rattle.rules.proofs.SignedLaws.{signed-bits, day-fits}
+use Rattle.export.specs.Packed.{bit16, bit32, bit48, packedReading, packed, packedReady, packedPart, packedDate, packedDay}
 use Rattle.export.proofs.Packing.{held}
 
 pub refusal-read : (n : ℕ) → n < bit16 → packed (refusal n) % bit16 ≡ n
@@ -53,6 +60,41 @@ module _ (c : Counts) where
   pub transitions-read : c .tracks < bit16 → c .states < bit16 → packedReading (accepted c) / bit48 ≡ c .transitions
   unfolding packedReading bit16 bit32 bit48
   transitions-read h k = omega arith
+
+-- a date and a day, from the number alone
+module _ (D : Date) where
+  pub dated-read : packedDate (converted.found D) % bit16 ≡ 0
+  unfolding packedDate bit16 bit32 bit48
+  dated-read = omega arith
+
+  pub year-read : D .year < bit16 → (packedDate (converted.found D) / bit16) % bit16 ≡ D .year
+  unfolding packedDate bit16 bit32 bit48
+  year-read h = omega arith
+
+  pub month-read : D .year < bit16 → D .month < bit16 → (packedDate (converted.found D) / bit32) % bit16 ≡ D .month
+  unfolding packedDate bit16 bit32 bit48
+  month-read h k = omega arith
+
+  pub day-of-month-read : D .year < bit16 → D .month < bit16 → packedDate (converted.found D) / bit48 ≡ D .day
+  unfolding packedDate bit16 bit32 bit48
+  day-of-month-read h k = omega arith
+
+pub no-date-read : (n : ℕ) → n < bit16 → packedDate (converted.refusal n) % bit16 ≡ n
+unfolding packedDate bit16
+no-date-read n h = omega arith
+
+module _ (z : Day) where
+  pub found-read : packedDay (converted.found z) % bit16 ≡ 0
+  unfolding packedDay bit16 bit32
+  found-read = omega arith
+
+  pub day-read : isDay z ≡ true → signedOf (packedDay (converted.found z) / bit32) ≡ z
+  unfolding packedDay bit32
+  day-read h = let e : bitsOf z * bit32 / bit32 ≡ bitsOf z = omega arith in ap signedOf e ∙ signed-bits z (day-fits z h)
+
+pub no-day-read : (n : ℕ) → n < bit16 → packedDay (converted.refusal n) % bit16 ≡ n
+unfolding packedDay bit16
+no-day-read n h = omega arith
 
 -- the part that entries speaks of, from the number alone
 module _ (ws : List ℕ) (t : ℕ) where

@@ -94,7 +94,8 @@ pub extern "C" fn retraction_begin(plan: &[u8], ledger: &mut [u16]) -> u64
 
 #[no_mangle]
 pub extern "C" fn retraction_event(plan: &[u8], ledger: &mut [u16], event: u16, day: i32) -> u64
-    ensures { λ r. ⌜ Returns packed (eventOutcome entryLimit (now (plan .entry)) (now (ledger .entry)) (record { event = event; day = day })) r (now (ledger .exit)) ⌝ }
+    ensures { λ r. ⌜ Returns packed (eventOutcome entryLimit (now (plan .entry)) (now (ledger .entry)) (record { event = event; day = day }))
+        r (now (ledger .exit)) ⌝ }
 {
     let answer = manager::event(plan, &mut ledger[..], event, day);
     match answer {

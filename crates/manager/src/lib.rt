@@ -38,7 +38,8 @@ pub fn begin(plan: &[u8], ledger: &mut [u16]) -> BeginAnswer
 // Moves each forward track without an open scope that has a transition for the event on that day, then closes, replaces, and finishes where
 // that is due. The day is kept as the last accepted one. Answers how many tracks moved and how many scopes closed.
 pub fn event(plan: &[u8], ledger: &mut [u16], event: u16, day: i32) -> EventAnswer
-    ensures { λ r. ⌜ Meets (eventOutcome entryLimit (now (plan .entry)) (now (ledger .entry)) (record { event = event; day = day })) (eventTold r) (now (ledger .exit)) ⌝ }
+    ensures { λ r. ⌜ Meets (eventOutcome entryLimit (now (plan .entry)) (now (ledger .entry)) (record { event = event; day = day }))
+        (eventTold r) (now (ledger .exit)) ⌝ }
 {
     let mut opens = [false; 32];
     let mut firsts: [u16; 32] = [0; 32];

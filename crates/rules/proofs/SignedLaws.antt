@@ -31,7 +31,7 @@ unfolding bitsOf
 bits-small (pos n) f = omega (arith, f .sfits)
 bits-small (negsuc n) f = omega arith
 
-signed-bits : (z : ℤ) → SFits w32 z → signedOf (bitsOf z) ≡ z
+pub signed-bits : (z : ℤ) → SFits w32 z → signedOf (bitsOf z) ≡ z
 unfolding bitsOf
 signed-bits (pos n) f = signed-low n (omega (arith, f .sfits))
 signed-bits (negsuc n) f =

@@ -1,4 +1,4 @@
--- Days: the range of their numbers, and dates. Assumes nothing.
+-- Days: the range of their numbers. Assumes nothing.
 use mathlib.Core.Bool.{Bool, _&&_}
 use lib.IntN.{pos, negsuc}
 use lib.Signed.{leZ}

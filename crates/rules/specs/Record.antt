@@ -70,8 +70,9 @@ unfoldable pub noCounts : Counts
 noCounts = record { tracks = 0; states = 0; transitions = 0; windows = 0 }
 
 -- Refusals 2 to 7 of the record at a place, after a record of kind `last`, with `c` counted before it:
--- 2 "fewer than 4 bytes remain where a record must start", 3 "the kind is not 1 to 4, or falls", 5 being one too and kinds falling by rank, 4 "the length is not its kind's",
--- 5 "the record runs past the last byte", 6 "it is the 33rd track, 129th state or 257th transition", 7 "bytes follow the end record"
+-- 2 "fewer than 4 bytes remain where a record must start", 3 "the kind is not 1 to 4, or falls", kind 5 being one too and falling being by
+-- rank, 4 "the length is not its kind's", 5 "the record runs past the last byte",
+-- 6 "it is the 33rd track, 129th state or 257th transition", 7 "bytes follow the end record"
 unfoldable pub judgeRecord : Bytes → Place → Kind → Counts → Refusal
 judgeRecord bs at last c =
     firstRefusal

@@ -28,7 +28,7 @@ returns-2 c =
     let p = s .pre in
     let e = read-back _ (s .fits .day .sfits) in (
       chosen-all _ _ _ (p .0) _ (p .2) (c .before .before .before .before .before .before .before .moves .ensures .many) e
-      (c .before .before .before .closing-scopes .ensures) (c .before .judge .ensures),
+          (c .before .before .before .closing-scopes .ensures) (c .before .judge .ensures),
       same-arguments _ e,
     )
 

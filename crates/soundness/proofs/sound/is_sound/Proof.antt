@@ -28,7 +28,7 @@ returns-3 c =
     let over = c .before .all-asleep .ensures in
     let s = c .before .before .before .before .before in (
       sound-over _ _ _ (read-back _ (s .before .last-day .ok) ∙ s .before .last-day .ensures) (s .is-day .ensures) (c .before .before .before .before .if1 .left) (c .before .before .before .are-tidy .ensures)
-      (c .before .before .if2 .left) over (c .if3 .taken),
+          (c .before .before .if2 .left) over (c .if3 .taken),
       λ y o. clash (over-asked _ _ _ over (c .if3 .taken)) o,
     )
 
@@ -42,7 +42,7 @@ returns-4 c =
     let t = c .before .before .before .before .before .before in
     let s = t .before .before in (
       sound-live _ _ _ (read-back _ (s .before .last-day .ok) ∙ s .before .last-day .ensures) (s .is-day .ensures) (t .before .if1 .left) (t .are-tidy .ensures)
-      (c .before .before .before .before .before .if2 .left) (c .before .before .before .before .all-asleep .ensures) (c .before .before .before .if3 .left) (c .is-live .ensures),
+          (c .before .before .before .before .before .if2 .left) (c .before .before .before .before .all-asleep .ensures) (c .before .before .before .if3 .left) (c .is-live .ensures),
       λ y o. c .before .before .open-scopes .ensures,
     )
 
