@@ -58,7 +58,9 @@ pub fn day_at(bytes: &[u8], at: usize) -> i32
     requires { ⌜ at + 3 < length (now bytes) ⌝ }
     ensures { λ r. ⌜ r ≡ dayAt (now (bytes .entry)) at ⌝ }
 {
-    join(word_at(bytes, at), word_at(bytes, at + 2))
+    let low = word_at(bytes, at);
+    let high = word_at(bytes, at + 2);
+    join(low, high)
 }
 
 // A track's host: a state number, or 65535 for a root.
