@@ -2,7 +2,7 @@
 pub mod YearLaws
 pub mod MonthLaws
 pub mod DateLaws
-pub mod EraLaws
+pub mod CenturyLaws
 pub mod DayLaws
 pub mod Theorems
 pub mod Examples

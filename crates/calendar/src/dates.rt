@@ -16,6 +16,8 @@ const LAST_YEAR: u16 = 2399;
 
 const MONTHS: u16 = 12;
 
+const SHORTEST_MONTH: u16 = 28;
+
 pub fn is_day(day: i32) -> bool
     ensures { λ r. ⌜ r ≡ isDay day ⌝ }
 {
@@ -37,7 +39,7 @@ fn is_leap(year: u16) -> bool
     year % 400 == 0
 }
 
-pub fn month_length(year: u16, month: u16) -> u16
+fn month_length(year: u16, month: u16) -> u16
     requires { ⌜ (1 ≤ month) × (month ≤ 12) ⌝ }
     ensures { λ r. ⌜ r ≡ monthLength year month ⌝ }
 {
@@ -73,6 +75,9 @@ pub fn is_date(date: Date) -> bool
     }
     if day < 1 {
         return false;
+    }
+    if day <= SHORTEST_MONTH {
+        return true;
     }
     day <= month_length(year, month)
 }

@@ -1,95 +1,86 @@
-// From days to a date: the era of 400 years that a day lies in, the year in its era, and the month in its year.
-use crate::dates;
+// From days to a date: the century that a day lies in, the year in it, and the month in that. Centuries and years begin with March here, so that a leap
+// day is the last of its year.
 use rules::Date;
 ghost use mathlib.Core.Path.{_≡_};
 ghost use mathlib.Core.Bool.{true};
-ghost use Prim.Native.Nat.{_<_, min};
+ghost use Prim.Native.Nat.{_+_, _<_, _≤_};
 ghost use Rattle.rules.specs.Day.{isDay};
-ghost use Rattle.rules.specs.Calendar.{inMonths, dateAfter};
+ghost use Rattle.rules.specs.Calendar.{dateAfter};
 ghost use Rattle.rules.specs.Conversion.{daysSince};
-ghost use Rattle.calendar.specs.Parts.{EraIs, YearIs, MonthIs};
+ghost use Rattle.calendar.specs.Parts.{marchYear, CenturyIs, YearIs, MonthIs};
 
-// 1 January 2001, on which an era begins.
-const NEW_ERA: i32 = 36890;
+// 1 March 2000, on which a century begins.
+const NEW_CENTURY: i32 = 36584;
 
-const ERA_DAYS: i32 = 146097;
+// The year with whose March century 0 begins.
+const CENTURY_0: u32 = 1200;
 
-// The year in which era 0 begins.
-const ERA_0: u32 = 1201;
-
-const ERA_YEARS: u32 = 400;
-
-// The days of a hundred years, of four and of one that are not the last of theirs.
-const HUNDRED_YEARS: u32 = 36524;
+// The days of four centuries, of four years and of five months from March on: a century, a year or a month begins on its share of them, rounded.
+const FOUR_CENTURIES: i32 = 146097;
 
 const FOUR_YEARS: u32 = 1461;
 
-const YEAR: u32 = 365;
+const FIVE_MONTHS: u32 = 153;
 
-// An era, a year of it or a month, by number, and the days into it.
+// A century, a year of it or a month, by number, and the days into it.
 struct Place {
     unit: u32,
     days: u32,
 }
 
-// Days are counted from 1 January 2001, below zero before it.
-fn era_of(day: i32) -> Place
+// Days are counted from 1 March 2000, below zero before it.
+fn century_of(day: i32) -> Place
     requires { ⌜ isDay day ≡ true ⌝ }
-    ensures { λ r. ⌜ EraIs (daysSince day) (r .unit) (r .days) ⌝ }
+    ensures { λ r. ⌜ CenturyIs (daysSince day) (r .unit) (r .days) ⌝ }
 {
-    let s = signed::floor::split(day - NEW_ERA, ERA_DAYS);
+    let s = signed::floor::split(4 * (day - NEW_CENTURY) + 3, FOUR_CENTURIES);
     let times = s.times;
     let rest = s.rest;
     Place {
-        unit: (times + 2) as u32,
-        days: rest as u32,
+        unit: (times + 8) as u32,
+        days: rest as u32 / 4,
     }
 }
 
-fn least(a: u32, b: u32) -> u32
-    ensures { λ r. ⌜ r ≡ min a b ⌝ }
-{
-    if a < b { a } else { b }
-}
-
-// The hundred years, the four years in them and the year in these. The last hundred years of an era are a day longer, and so is the last of most four
-// years: that day lies in the fourth of them, number 3.
 fn year_of(days: u32) -> Place
-    requires { ⌜ days < 146097 ⌝ }
+    requires { ⌜ days < 36525 ⌝ }
     ensures { λ r. ⌜ YearIs days (r .unit) (r .days) ⌝ }
 {
-    let hundreds = least(days / HUNDRED_YEARS, 3);
-    let left = days - HUNDRED_YEARS * hundreds;
-    let fours = left / FOUR_YEARS;
-    let rest = left % FOUR_YEARS;
-    let ones = least(rest / YEAR, 3);
+    let quarters = 4 * days + 3;
     Place {
-        unit: 100 * hundreds + 4 * fours + ones,
-        days: rest - YEAR * ones,
+        unit: quarters / FOUR_YEARS,
+        days: quarters % FOUR_YEARS / 4,
     }
 }
 
-fn month_of(year: u16, days: u32) -> Place
-    requires { ⌜ days < inMonths year 12 ⌝ }
-    ensures { λ r. ⌜ MonthIs year days (r .unit) (r .days) ⌝ }
+fn month_of(days: u32) -> Place
+    requires { ⌜ days < 366 ⌝ }
+    ensures { λ r. ⌜ MonthIs days (r .unit) (r .days) ⌝ }
 {
-    let mut m: u16 = 1;
-    let mut left = days;
-    while m < 12 {
-        let n = dates::month_length(year, m) as u32;
-        if left < n {
-            return Place {
-                unit: m as u32,
-                days: left,
-            };
-        }
-        left -= n;
-        m += 1;
+    let fifths = 5 * days + 2;
+    let months = fifths / FIVE_MONTHS;
+    let rest = fifths % FIVE_MONTHS / 5;
+    if months < 10 {
+        return Place {
+            unit: months + 3,
+            days: rest,
+        };
     }
     Place {
-        unit: m as u32,
-        days: left,
+        unit: months - 9,
+        days: rest,
     }
+}
+
+// The year of a month, by the year with whose March its own began.
+fn year_at(began: u32, month: u32) -> u32
+    requires { ⌜ began ≤ 2399 ⌝ }
+    ensures { λ r. ⌜ marchYear r month ≡ began + 1 ⌝ }
+{
+    if month < 3 {
+        return began + 1;
+    }
+    began
 }
 
 // The date of a day.
@@ -97,12 +88,12 @@ pub fn date_of(day: i32) -> Date
     requires { ⌜ isDay day ≡ true ⌝ }
     ensures { λ r. ⌜ r ≡ dateAfter (daysSince day) ⌝ }
 {
-    let era = era_of(day);
-    let in_era = year_of(era.days);
-    let year = (ERA_0 + ERA_YEARS * era.unit + in_era.unit) as u16;
-    let month = month_of(year, in_era.days);
+    let century = century_of(day);
+    let in_century = year_of(century.days);
+    let month = month_of(in_century.days);
+    let year = year_at(CENTURY_0 + 100 * century.unit + in_century.unit, month.unit);
     Date {
-        year,
+        year: year as u16,
         month: month.unit as u16,
         day: (month.days + 1) as u16,
     }

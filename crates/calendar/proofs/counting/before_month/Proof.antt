@@ -1,53 +1,49 @@
--- The invariant: the days counted are those of the months before m. The measure is the months ahead. Assumes nothing.
-use mathlib.Core.Path.{_≡_, refl, ap, _∙_}
-use Prim.Native.Nat.{ℕ, _-_, _≤_}
+-- The days to the year from March on and of it before the month, but for those before its January. Assumes nothing.
 use native.Mathlib.Omega.{arith}
-use Rattle.rules.specs.Calendar.{inMonths}
-use Rattle.calendar.proofs.MonthLaws.{month-bounds, months-small, month-counted}
+use Rattle.calendar.proofs.MonthLaws.{march-bounds, from-march, days-fit}
+use borrow.Author.Needs.{needs}
 use Rattle.calendar.proofs.counting.before_month.Statement.{statement}
 use Rattle.calendar.proofs.counting.before_month.Tie as tie
 
-abbrev Inv-loop : tie.InvT-loop
-Inv-loop year month days₀ m₀ days m = (1 ≤ m) × (m ≤ month) × (days ≡ inMonths year (m - 1))
+before-year-requires : tie.Need-before-year-requires
+before-year-requires c κs =
+    let s = c .before in
+    let p = s .pre in
+    let b = march-bounds (s .args .year) (s .args .month) in
+    let e = c .march-year .ensures in
+    (omega (arith, p .0, b .0, e), omega (arith, p .1, b .1, e))
 
-abbrev μ-loop : tie.MeasureT-loop
-μ-loop year month days₀ m₀ days m = month - m
+add-result : tie.Need-add-result
+add-result c =
+    let b = c .before in
+    let m = b .before in
+    let s = m .before in
+    let w = from-march (s .args .year) (s .args .month) _ _ _ (s .pre .0) (m .march-year .ensures) (b .before-year .ensures) (c .since-march .ensures) in
+    omega (arith, w, days-fit (s .args .year) (s .args .month) (s .pre .1) (s .pre .3))
 
-loop-holds : tie.Need-loop-holds Inv-loop μ-loop
-unfolding inMonths
-loop-holds c = (omega arith, omega arith, refl)
+sub-result : tie.Need-sub-result
+sub-result c =
+    let b = c .before in
+    let m = b .before in
+    let s = m .before in
+    let w = from-march (s .args .year) (s .args .month) _ _ _ (s .pre .0) (m .march-year .ensures) (b .before-year .ensures) (c .since-march .ensures) in
+    omega (arith, w)
 
-cast-days : tie.Need-cast-days Inv-loop μ-loop
-cast-days c = let b = c .before .before in omega (arith, month-bounds (b .before .args .year) (b .loop .m) (omega arith) (omega arith))
-
-add-days : tie.Need-add-days Inv-loop μ-loop
-add-days c =
-    let b = c .before .before in
-    let y = b .before .args .year in
-    omega (arith, month-bounds y (b .loop .m) (omega arith) (omega arith), months-small y (b .loop .m - 1) (omega arith))
-
-loop-again : tie.Need-loop-again Inv-loop μ-loop
-loop-again c =
-    let i = c .before .before .loop .inv in
-    (omega arith, omega arith, rw (c .month-length .ensures) (month-counted _ _ _ (i .0) (i .2)))
-
-returns : tie.Need-returns Inv-loop μ-loop
+returns : tie.Need-returns
 returns c =
     let b = c .before in
-    let e : b .loop .m ≡ b .before .args .month = omega arith in
-    b .loop .inv .2 ∙ ap (λ (m : ℕ). inMonths (b .before .args .year) (m - 1)) e
+    let m = b .before in
+    let s = m .before in
+    let w = from-march (s .args .year) (s .args .month) _ _ _ (s .pre .0) (m .march-year .ensures) (b .before-year .ensures) (c .since-march .ensures) in
+    omega (arith, w)
 
 pub before-month-spec : {M : Type 1} → statement M
 before-month-spec =
     tie.close
     (tie.spec
-    Inv-loop
-    μ-loop
-    loop-holds
-    (λ c κs. omega arith)
-    cast-days
-    add-days
-    (λ c. omega arith)
-    (λ c. omega arith)
-    loop-again
+    (λ c κs. search needs)
+    before-year-requires
+    (λ c κs. search needs)
+    add-result
+    sub-result
     returns)

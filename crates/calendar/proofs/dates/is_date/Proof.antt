@@ -1,6 +1,7 @@
 -- The first test of the list that fails, or the last. Assumes nothing.
 use borrow.Author.Tests.{le-leb, lt-leb}
 use Rattle.rules.specs.Calendar.{isDate}
+use Rattle.calendar.proofs.MonthLaws.{no-longer}
 use borrow.Author.Needs.{needs}
 use Rattle.calendar.proofs.dates.is_date.Statement.{statement}
 use Rattle.calendar.proofs.dates.is_date.Tie as tie
@@ -41,6 +42,21 @@ unfolding isDate
 returns-6 c =
     let b = c .before in
     let m = b .before .before in
+    let s = m .before .before .before in
+    rw (
+      le-leb _ _ (m .before .before .if1 .left),
+      le-leb _ _ (m .before .if2 .left),
+      le-leb _ _ (m .if3 .left),
+      le-leb _ _ (b .before .if4 .left),
+      le-leb _ _ (b .if5 .left),
+      le-leb _ _ (no-longer (s .args .date .year) _ _ (m .if3 .left) (b .before .if4 .left) (c .if6 .taken)),
+    )
+
+returns-7 : tie.Need-returns-7
+unfolding isDate
+returns-7 c =
+    let b = c .before .before in
+    let m = b .before .before in
     rw (
       le-leb _ _ (m .before .before .if1 .left),
       le-leb _ _ (m .before .if2 .left),
@@ -51,4 +67,4 @@ returns-6 c =
     )
 
 pub is-date-spec : {M : Type 1} → statement M
-is-date-spec = tie.close (tie.spec returns returns-2 returns-3 returns-4 returns-5 (λ c κs. search needs) returns-6)
+is-date-spec = tie.close (tie.spec returns returns-2 returns-3 returns-4 returns-5 returns-6 (λ c κs. search needs) returns-7)
