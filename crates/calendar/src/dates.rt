@@ -6,7 +6,7 @@ ghost use Rattle.rules.specs.Day.{isDay};
 ghost use Rattle.rules.specs.Calendar.{isLeap, monthLength, isDate};
 
 // 1 January 1600 and 31 December 2399.
-const EARLIEST_DAY: i32 = -109573;
+pub const EARLIEST_DAY: i32 = -109573;
 
 const LATEST_DAY: i32 = 182620;
 

@@ -1,8 +1,8 @@
 // The Gregorian calendar from 1600 to 2399: the date of a day, and the day of a date. Neither call has a `requires`: any other day or date is turned
 // back as 26.
-pub mod counting;
+mod counting;
 pub mod dates;
-pub mod naming;
+mod naming;
 
 use rules::Date;
 use rules::DateAnswer;

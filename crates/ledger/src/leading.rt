@@ -4,15 +4,13 @@ use crate::layout::HIGH_DAY_WORD;
 use crate::layout::LENGTH_WORD;
 use crate::layout::LOW_DAY_WORD;
 use crate::layout::SUM_WORD;
+use calendar::dates::EARLIEST_DAY;
 use signed::words;
 ghost use mathlib.Core.Path.{_≡_};
 ghost use Prim.Native.Nat.{_≤_, _<_};
 ghost use lib.ListN.{length};
 ghost use Rattle.rules.specs.Layout.{leadingWords};
 ghost use Rattle.rules.specs.Leading.{lastDay, dated, stamped, otherPlan};
-
-// The day that begin writes.
-const EARLIEST_DAY: i32 = -109573;
 
 // Whether the length or the sum is not the plan's.
 pub fn is_other(plan: &[u8], ledger: &[u16]) -> bool
