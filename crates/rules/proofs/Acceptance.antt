@@ -12,13 +12,14 @@ use borrow.Author.Tests.{eqb-true, eqb-false, ltb-true, ltb-false, leb-false, no
 use Rattle.rules.specs.declared.Counts.{Counts}
 use Rattle.rules.specs.Fold.{someBelow, firstRefusal}
 use Rattle.rules.specs.Record.{Scan, refused, counted, scan}
-use Rattle.rules.specs.Plan.{Plan, planOf, trackCount, stateCount, transitionCount, windowCount, noState, optional, hostWord, host, owner, replacement, state, transition, mover, isRoot, isStateOf, isFinal, isIn, isHosting, first, firstState, transitionFor}
-use Rattle.rules.specs.Acceptance.{noTrack, badState, badHost, badFirst, badHosting, badTransition, badDeviation, repeatsEvent, tooHigh, badWindow, judgePlan, turnedBack, accepted, judged, readPlan}
+use Rattle.rules.specs.Plan.{Plan, planOf, trackCount, stateCount, transitionCount, windowCount, grantCount, noState, optional, hostWord, host, owner, replacement, state, transition, mover, isRoot, isStateOf, isFinal, isIn, isHosting, first, firstState, transitionFor}
+use Rattle.rules.specs.Acceptance.{noTrack, badState, badHost, badFirst, badHosting, badTransition, badDeviation, repeatsEvent, tooHigh, badWindow, badGrant, judgePlan, turnedBack, accepted, judged, readPlan}
 use Rattle.rules.proofs.Tests.{look, clash, and-holds, and-both, or-fails, passed}
 use Rattle.rules.proofs.Folds.{some-not, some-at, first-found}
 use Rattle.rules.proofs.Windows.{FitWindows, fit-windows}
+use Rattle.rules.proofs.Grants.{FitGrants, fit-grants}
 
--- 8 to 16 and 25, as each record passed them
+-- 8 to 16, 25 and 27, as each record passed them
 pub record Passed (p : Plan) : Type 0 where
   pub some-track : noTrack p ≡ false
   pub states : (s : ℕ) → s < stateCount p → badState p s ≡ false
@@ -30,6 +31,7 @@ pub record Passed (p : Plan) : Type 0 where
   pub events : (x : ℕ) → x < transitionCount p → repeatsEvent p x ≡ false
   pub heights : (t : ℕ) → t < trackCount p → tooHigh p t ≡ false
   pub windows : (w : ℕ) → w < windowCount p → badWindow p w ≡ false
+  pub grants : (g : ℕ) → g < grantCount p → badGrant p g ≡ false
 
 pub passed-all : (p : Plan) → judgePlan p ≡ 0 → Passed p
 unfolding judgePlan firstRefusal
@@ -44,6 +46,7 @@ passed-all p h =
     let a15 = passed (someBelow (transitionCount p) (repeatsEvent p)) 14 _ (a14 .1) in
     let a16 = passed (someBelow (trackCount p) (tooHigh p)) 15 _ (a15 .1) in
     let a25 = passed (someBelow (windowCount p) (badWindow p)) 24 _ (a16 .1) in
+    let a27 = passed (someBelow (grantCount p) (badGrant p)) 26 _ (a25 .1) in
     record {
       some-track = a8 .0;
       states = some-not _ _ (a9 .0);
@@ -55,9 +58,10 @@ passed-all p h =
       events = some-not _ _ (a15 .0);
       heights = some-not _ _ (a16 .0);
       windows = some-not _ _ (a25 .0);
+      grants = some-not _ _ (a27 .0);
     }
 
--- the reading accepted: no refusal 8 to 16, nor 25
+-- the reading accepted: no refusal 8 to 16, nor 25 or 27
 pub read-passed : (bs : List ℕ) (c : Counts) → readPlan bs ≡ accepted c → judgePlan (planOf bs c) ≡ 0
 unfolding readPlan judged
 read-passed bs c h = go (scan bs) refl
@@ -93,6 +97,7 @@ pub record Accepted (p : Plan) : Type 0 where
       → transition p x .event ≡ transition p y .event → x ≡ y
   pub unhosting : (s : ℕ) → s < stateCount p → isHosting p s ≡ false → replacement p s ≡ 0
   pub windows : FitWindows p
+  pub grants : FitGrants p
 
 -- 65535 is no state, any other word is
 pub optional-some : (w d : ℕ) → optional w ≡ some d → (w ≡ d) × (eqb w noState ≡ false)
@@ -248,6 +253,7 @@ module _ (p : Plan) (a : Passed p) where
         deterministic = deterministic;
         unhosting = unhosting;
         windows = fit-windows p (a .windows);
+        grants = fit-grants p (a .grants);
       }
 
 -- a plan that is read is accepted

@@ -4,8 +4,11 @@ pub mod Modes
 pub mod Folds
 pub mod Counting
 pub mod Windows
+pub mod Grants
 pub mod Acceptance
 pub mod Forest
+pub mod Roots
+pub mod RightsLaws
 pub mod Heights
 pub mod Scopes
 pub mod Opening
@@ -19,6 +22,7 @@ pub mod Stored
 pub mod LeadingLaws
 pub mod SignedLaws
 pub mod DayLaws
+pub mod Moves
 pub mod LedgerChecks
 pub mod Replaced
 pub mod Passes

@@ -1,16 +1,24 @@
--- Refusals 8 to 16 and 25, judged over the whole plan, and the reading of a plan. Assumes nothing.
+-- Refusals 8 to 16, 25 and 27, judged over the whole plan, and the reading of a plan. Assumes nothing.
 use mathlib.Core.Bool.{Bool, true, not, _&&_, _||_}
 use mathlib.Core.List.{[], _∷_}
 use mathlib.Core.Option.{none, some}
 use Prim.Native.Nat.{ℕ, zero, suc}
 use lib.Dec.{leb, ltb, eqb}
 use lib.Signed.{ltZ}
-use Rattle.rules.specs.Names.{Bytes, Refusal, TrackNumber, StateNumber, TransitionNumber, WindowNumber}
+use Rattle.rules.specs.Names.{Bytes, Refusal, TrackNumber, StateNumber, TransitionNumber, WindowNumber, GrantNumber}
 use Rattle.rules.specs.declared.Counts.{Counts}
 use Rattle.rules.specs.Fold.{someBelow, firstRefusal}
 use Rattle.rules.specs.Day.{isDay}
 use Rattle.rules.specs.Record.{refused, counted, scan}
-use Rattle.rules.specs.Plan.{Plan, trackCount, stateCount, transitionCount, windowCount, noState, hostWord, state, transition, window, owner, replacement, isRoot, isStateOf, isFinal, isHosting, first, mover, height, planOf}
+use Rattle.rules.specs.Plan.{Plan, trackCount, stateCount, transitionCount, windowCount, grantCount, noState, hostWord, state, transition, window, grant, owner, replacement, isRoot, isStateOf, isFinal, isHosting, first, mover, height, planOf}
+
+-- "at most 64 such records"
+abbrev pub mostGrants : ℕ
+mostGrants = 64
+
+-- "a sum outside 1 to 7"
+abbrev pub mostRights : ℕ
+mostRights = 7
 
 -- "A track's height exceeds 8."
 abbrev pub mostHeight : ℕ
@@ -77,7 +85,23 @@ module _ (p : Plan) where
       || not (isDay (window p w .first))
       || not (isDay (window p w .last))
 
-  -- the first number that applies anywhere in the plan, 25 coming "after 16"
+  -- 27 "a rights record names no root, a sum outside 1 to 7, a repeated pair, or is the 65th": an earlier one has the pair too
+  unfoldable pub namesNoRoot : GrantNumber → Bool
+  namesNoRoot g = leb (trackCount p) (grant p g .root) || not (isRoot p (grant p g .root))
+
+  unfoldable pub repeatsPair : GrantNumber → Bool
+  repeatsPair g =
+      someBelow g (λ f. eqb (grant p f .society) (grant p g .society) && eqb (grant p f .root) (grant p g .root))
+
+  unfoldable pub badGrant : GrantNumber → Bool
+  badGrant g =
+      namesNoRoot g
+      || eqb (grant p g .rights) 0
+      || ltb mostRights (grant p g .rights)
+      || repeatsPair g
+      || leb mostGrants g
+
+  -- the first number that applies anywhere in the plan, 25 coming "after 16", and 27 "after 25"
   unfoldable pub judgePlan : Refusal
   judgePlan =
       firstRefusal
@@ -91,6 +115,7 @@ module _ (p : Plan) where
       ∷ (15, someBelow (transitionCount p) repeatsEvent)
       ∷ (16, someBelow (trackCount p) tooHigh)
       ∷ (25, someBelow (windowCount p) badWindow)
+      ∷ (27, someBelow (grantCount p) badGrant)
       ∷ [])
 
 -- a refusal, or the plan's counts: its records stand at places that follow from them
@@ -101,6 +126,6 @@ pub data Reading : Type 0 where
 unfoldable pub judged : Bytes → Counts → Reading
 judged bs c = elim (judgePlan (planOf bs c)) [ zero ↦ accepted c | suc r ↦ turnedBack (suc r) ]
 
--- Refusals 2 to 16, and 25.
+-- Refusals 2 to 16, 25 and 27.
 unfoldable pub readPlan : Bytes → Reading
 readPlan bs = elim (scan bs) [ refused r ↦ turnedBack r | counted c ↦ judged bs c ]

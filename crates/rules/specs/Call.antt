@@ -6,10 +6,11 @@ use Prim.Native.Nat.{ℕ, zero, suc, _+_, _*_}
 use lib.ListN.{length, take, drop}
 use lib.Dec.{ltb, eqb}
 use lib.Signed.{ltZ}
-use Rattle.rules.specs.Names.{Bytes, Words, Place, Refusal, TrackNumber, Day}
+use Rattle.rules.specs.Names.{Bytes, Words, Place, Refusal, TrackNumber, Society, Day}
 use Rattle.rules.specs.Fold.{countBelow, firstRefusal}
 use Rattle.rules.specs.Day.{isDay}
 use Rattle.rules.specs.Plan.{Plan, trackCount, planOf}
+use Rattle.rules.specs.Rights.{moveRight, signalRight, fireRight, isPermitted, holdsSomewhere}
 use Rattle.rules.specs.Acceptance.{turnedBack, accepted, readPlan}
 use Rattle.rules.specs.Layout.{entryWidth, entriesPlace, wordCount}
 use Rattle.rules.specs.Leading.{lastDay, dated, stamped, otherPlan}
@@ -32,11 +33,12 @@ pub record Outcome : Type 0 where
   pub words : Words
 
 -- what each call is given beside the plan and the ledger; of an event, its arguments
-pub data SignalArguments : Type 0 where
-  nothing : SignalArguments
+pub record SignalArguments : Type 0 where
+  pub society : Society
 
 pub record FireArguments : Type 0 where
   pub track : TrackNumber
+  pub society : Society
 
 pub data Call : Type 0 where
   event : EventArguments → Call
@@ -48,7 +50,7 @@ unfoldable pub refusedOr : Words → Outcome → Refusal → Outcome
 refusedOr ws o zero = o
 refusedOr ws o (suc r) = record { answer = refusal (suc r); words = ws }
 
--- under its plan: 2 to 16 and 25, and then what the call does with the plan
+-- under its plan: 2 to 16, 25 and 27, and then what the call does with the plan
 unfoldable pub underPlan : Bytes → Words → (Plan → Outcome) → Outcome
 underPlan bs ws f =
     elim (readPlan bs) [ turnedBack r ↦ record { answer = refusal r; words = ws } | accepted c ↦ f (planOf bs c) ]
@@ -56,13 +58,13 @@ underPlan bs ws f =
 -- "Answer: tracks moved, scopes closed"; "how many turned"; "code and deviation"
 unfoldable pub figures : Plan → Ledger → Call → List ℕ
 figures p l (event a) = countBelow (trackCount p) (moves p l a) ∷ closings p (moved p l a) ∷ []
-figures p l (signal a) = turnings p l ∷ []
+figures p l (signal a) = turnings p (a .society) l ∷ []
 figures p l (fire a) = newest (l (a .track) .held) .code ∷ newest (l (a .track) .held) .deviation ∷ []
 
 -- the ledger after an accepted call
 unfoldable pub after : Plan → Ledger → Call → Ledger
 after p l (event a) = afterEvent p l a
-after p l (signal a) = afterSignal p l
+after p l (signal a) = afterSignal p l (a .society)
 after p l (fire a) = afterFire p l (a .track)
 
 -- the last accepted day after an accepted call, and the words with it: an event's own, and signals and firings carry none
@@ -80,6 +82,10 @@ datedBy (fire a) ws = ws
 unfoldable pub badDay : Day → Day → Bool
 badDay last day = not (isDay day) || ltZ day last
 
+-- 28 "the society lacks the fire right for the named track, which exists"
+unfoldable pub lacksFireRight : Plan → FireArguments → Bool
+lacksFireRight p a = ltb (a .track) (trackCount p) && not (isPermitted p fireRight (a .society) (a .track))
+
 -- `limit` is the most entries that a track holds
 module _ (limit : ℕ) where
   -- 17 "The ledger has too few words."
@@ -94,13 +100,15 @@ module _ (limit : ℕ) where
   unfoldable pub ledgerRefusal : Bytes → Plan → Words → Refusal
   ledgerRefusal bs p ws = firstRefusal (ledgerRefusals bs p ws)
 
-  -- 19 "The event given is 0." 26 "after 19". 20 "The ledger is over (event, signal, fire)." 21 as under `isFull`.
+  -- 19 "The event given is 0." 26 "after 19". 20 "The ledger is over (event, signal, fire)." 28 "after 20", and for events and signals
+  -- where the society "has the move or signal right nowhere for that call". 21 as under `isFull`.
   -- 22 "The track may not be fired, or does not exist." The day is the last accepted one
   unfoldable pub callRefusals : Plan → Day → Ledger → Call → List (Refusal × Bool)
   callRefusals p day l (event a) =
-      (19, eqb (a .event) 0) ∷ (26, badDay day (a .day)) ∷ (20, isOver p l) ∷ (21, isFull p limit l a) ∷ []
-  callRefusals p day l (signal a) = (20, isOver p l) ∷ []
-  callRefusals p day l (fire a) = (20, isOver p l) ∷ (22, not (mayFire p l (a .track))) ∷ []
+      (19, eqb (a .event) 0) ∷ (26, badDay day (a .day)) ∷ (20, isOver p l)
+      ∷ (28, not (holdsSomewhere p moveRight (a .society))) ∷ (21, isFull p limit l a) ∷ []
+  callRefusals p day l (signal a) = (20, isOver p l) ∷ (28, not (holdsSomewhere p signalRight (a .society))) ∷ []
+  callRefusals p day l (fire a) = (20, isOver p l) ∷ (28, lacksFireRight p a) ∷ (22, not (mayFire p l (a .track))) ∷ []
 
   -- the first of them that applies to the ledger, 0 where the call is accepted
   unfoldable pub callRefusal : Plan → Day → Ledger → Call → Refusal

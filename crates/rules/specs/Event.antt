@@ -5,18 +5,20 @@ use mathlib.Core.Option.{Option, none, some}
 use Prim.Native.Nat.{ℕ}
 use lib.ListN.{length}
 use lib.Dec.{leb, eqb}
-use Rattle.rules.specs.Names.{TrackNumber, StateNumber, TransitionNumber, EventNumber, Code, Day}
+use Rattle.rules.specs.Names.{TrackNumber, StateNumber, TransitionNumber, EventNumber, Code, Day, Society}
 use Rattle.rules.specs.Fold.{someBelow, countBelow}
 use Rattle.rules.specs.Plan.{Plan, trackCount, stateCount, noState, transition, replacement, host, everyIn, transitionFor, takenOn}
+use Rattle.rules.specs.Rights.{moveRight, isPermitted}
 use Rattle.rules.specs.Ledger.{Entry, Configuration, Ledger, isAwake, isForward, sleeping}
 use Rattle.rules.specs.Opening.{enter}
 use Rattle.rules.specs.Scope.{isOpen, hasOpenScope, isEnded}
 use Rattle.rules.specs.Finish.{finished}
 
--- what an event is given: "Each event carries a day"
+-- what an event is given: "Each event carries a day", and "Each event, signal and fire carries a society"
 pub record EventArguments : Type 0 where
   pub event : EventNumber
   pub day : Day
+  pub society : Society
 
 -- "A code other than 0 is installed as the newest entry, with its deviation."
 unfoldable pub install : Code → StateNumber → List Entry → List Entry
@@ -46,9 +48,13 @@ module _ (p : Plan) where
   hasCode (some x) = not (eqb (transition p x .code) 0)
 
   module _ (l : Ledger) where
-    -- "each forward track without an open scope takes its state's transition for that event, if it has one", on its days
+    -- "each forward track without an open scope", of those "under roots where it has that right"
+    unfoldable pub mayMove : EventArguments → TrackNumber → Bool
+    mayMove a t = isPermitted p moveRight (a .society) t && (isForward (l t .mode) && not (hasOpenScope p l t))
+
+    -- "takes its state's transition for that event, if it has one", on its days
     unfoldable pub move : EventArguments → TrackNumber → Option TransitionNumber
-    move a t = cond (isForward (l t .mode) && not (hasOpenScope p l t)) (takenOn p (a .day) (transitionFor p (l t .state) (a .event))) none
+    move a t = cond (mayMove a t) (takenOn p (a .day) (transitionFor p (l t .state) (a .event))) none
 
     unfoldable pub moves : EventArguments → TrackNumber → Bool
     moves a t = isMove (move a t)

@@ -8,6 +8,7 @@ use Prim.Native.Nat.{ℕ, zero, suc}
 use Rattle.rules.specs.Names.{TrackNumber, StateNumber, TransitionNumber, Day}
 use Rattle.rules.specs.Day.{earliestDay}
 use Rattle.rules.specs.Plan.{Plan, trackCount, isInside}
+use Rattle.rules.specs.Rights.{signalRight, isPermitted}
 use Rattle.rules.specs.Ledger.{Ledger, isForward}
 use Rattle.rules.specs.Opening.{begun}
 use Rattle.rules.specs.Scope.{isOpen}
@@ -44,7 +45,7 @@ module _ (p : Plan) where
           → isOpen p (next limit p d l (event a)) s ≡ true
           → Running s (nextDay limit p d l (event a)) (next limit p d l (event a)) (w ++ movesOf (isInside p s) l a)
       over-signal : {d : Day} {l : Ledger} {w : List ℕ} → Running s d l w → (a : SignalArguments) → callRefusal limit p d l (signal a) ≡ 0
-          → ((t : ℕ) → isInside p s t ≡ true → isForward (l t .mode) ≡ false)
+          → ((t : ℕ) → isInside p s t ≡ true → isPermitted p signalRight (a .society) t ≡ true → isForward (l t .mode) ≡ false)
           → isOpen p (next limit p d l (signal a)) s ≡ true
           → Running s (nextDay limit p d l (signal a)) (next limit p d l (signal a)) w
       over-fire : {d : Day} {l : Ledger} {w : List ℕ} → Running s d l w → (a : FireArguments) → callRefusal limit p d l (fire a) ≡ 0

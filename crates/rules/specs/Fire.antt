@@ -4,9 +4,10 @@ use mathlib.Core.List.{List, [], _∷_}
 use mathlib.Core.Option.{Option, none}
 use Prim.Native.Nat.{ℕ, _^_}
 use lib.Dec.{ltb, eqb}
-use Rattle.rules.specs.Names.{TrackNumber, StateNumber}
+use Rattle.rules.specs.Names.{TrackNumber, StateNumber, Society}
 use Rattle.rules.specs.Fold.{sumBelow, firstBelow}
 use Rattle.rules.specs.Plan.{Plan, trackCount, noState, optional}
+use Rattle.rules.specs.Rights.{fireRight, isPermitted}
 use Rattle.rules.specs.Ledger.{Entry, Ledger, isUndoing, isEmpty}
 use Rattle.rules.specs.Opening.{enter}
 use Rattle.rules.specs.Scope.{hasOpenScope}
@@ -42,9 +43,9 @@ module _ (p : Plan) (l : Ledger) where
   unfoldable pub ready : ℕ
   ready = sumBelow (trackCount p) (λ t. cond (mayFire t) (2 ^ t) 0)
 
-  -- the lowest track that may be fired
-  unfoldable pub lowestReady : Option TrackNumber
-  lowestReady = firstBelow (trackCount p) mayFire
+  -- the lowest "among tracks it may fire" that may be fired
+  unfoldable pub lowestReady : Society → Option TrackNumber
+  lowestReady society = firstBelow (trackCount p) (λ t. isPermitted p fireRight society t && mayFire t)
 
 -- a firing, its settlings done: "after any accepted call, abandoning done"
 unfoldable pub afterFire : Plan → Ledger → TrackNumber → Ledger

@@ -1,10 +1,11 @@
--- Document 01, as the requests amend it, as definitions in its order: the plan file, the ledger, what each call does, refusals, the program, property 3.
+-- Document 01, as the requests amend it, as definitions in its order: the plan file, the ledger, what each call does, refusals, the program, property 3, isolation.
 pub mod Names
 pub mod Fold
 pub mod Signed
 pub mod Day
 pub mod Record
 pub mod Plan
+pub mod Rights
 pub mod Acceptance
 pub mod Layout
 pub mod Leading
@@ -27,3 +28,4 @@ pub mod FinishedRun
 pub mod Books
 pub mod ReferenceRun
 pub mod History
+pub mod Isolation

@@ -36,6 +36,18 @@ TransitionNumber = ℕ
 abbrev pub WindowNumber : Type 0
 WindowNumber = ℕ
 
+-- the number of a rights record
+abbrev pub GrantNumber : Type 0
+GrantNumber = ℕ
+
+-- "Each event, signal and fire carries a society": any 16-bit number
+abbrev pub Society : Type 0
+Society = ℕ
+
+-- one of "1 move, 2 signal, 4 fire"
+abbrev pub Right : Type 0
+Right = ℕ
+
 -- "event (1 to 65535)"
 abbrev pub EventNumber : Type 0
 EventNumber = ℕ

@@ -1,5 +1,5 @@
--- The plan that the records hold: tracks (the report's automata), states, transitions and windows, each numbered from 0 in file order.
--- Assumes nothing.
+-- The plan that the records hold: tracks (the report's automata), states, transitions, windows and grants (the paper's rights records), each
+-- numbered from 0 in file order. Assumes nothing.
 use mathlib.Core.Bool.{Bool, true, false, cond, not, _&&_, _||_}
 use mathlib.Core.List.{List}
 use mathlib.Core.Option.{Option, none, some}
@@ -8,10 +8,10 @@ use lib.ListN.{length, getD}
 use lib.Dec.{ltb, eqb}
 use lib.IntN.{pos}
 use lib.Signed.{leZ}
-use Rattle.rules.specs.Names.{Bytes, Place, TrackNumber, StateNumber, TransitionNumber, WindowNumber, EventNumber, Code, Day}
+use Rattle.rules.specs.Names.{Bytes, Place, TrackNumber, StateNumber, TransitionNumber, WindowNumber, GrantNumber, Society, EventNumber, Code, Day}
 use Rattle.rules.specs.declared.Counts.{Counts}
 use Rattle.rules.specs.Fold.{someBelow, everyBelow, greatestBelow, firstBelow, tabulate}
-use Rattle.rules.specs.Record.{trackKind, stateKind, transitionKind, windowKind, word, dayAt, lengthOf}
+use Rattle.rules.specs.Record.{trackKind, stateKind, transitionKind, windowKind, grantKind, word, dayAt, lengthOf}
 
 -- 65535 stands for no state: a root has no host, an entry no deviation
 unfoldable pub noState : StateNumber
@@ -37,13 +37,20 @@ pub record Window : Type 0 where
   pub first : Day
   pub last : Day
 
+-- "gives rights over a root and everything under it", "rights as a sum of 1 move, 2 signal, 4 fire"
+pub record Grant : Type 0 where
+  pub society : Society
+  pub root : TrackNumber
+  pub rights : ℕ
+
 pub record Plan : Type 0 where
   pub hosts : List StateNumber
   pub states : List State
   pub transitions : List Transition
   pub windows : List Window
+  pub grants : List Grant
 
--- where the record of a track, a state, a transition and a window starts: kinds never fall, so each kind's records follow one another
+-- where the record of a track, a state, a transition, a window and a grant starts: kinds never fall, so each kind's records follow one another
 unfoldable pub trackRecord : TrackNumber → Place
 trackRecord t = lengthOf trackKind * t
 
@@ -55,6 +62,9 @@ transitionRecord c x = stateRecord c (c .states) + lengthOf transitionKind * x
 
 unfoldable pub windowRecord : Counts → WindowNumber → Place
 windowRecord c w = transitionRecord c (c .transitions) + lengthOf windowKind * w
+
+unfoldable pub grantRecord : Counts → GrantNumber → Place
+grantRecord c g = windowRecord c (c .windows) + lengthOf grantKind * g
 
 -- "track, final (0 or 1), replacement code (0 for none)"
 unfoldable pub stateAt : Bytes → Place → State
@@ -75,6 +85,10 @@ transitionAt bs at =
 unfoldable pub windowAt : Bytes → Place → Window
 windowAt bs at = record { transition = word bs (at + 4); first = dayAt bs (at + 6); last = dayAt bs (at + 10) }
 
+-- "society, root track, rights"
+unfoldable pub grantAt : Bytes → Place → Grant
+grantAt bs at = record { society = word bs (at + 4); root = word bs (at + 6); rights = word bs (at + 8) }
+
 -- "from first to last inclusive"
 unfoldable pub isWithin : Window → Day → Bool
 isWithin w day = leZ (w .first) day && leZ day (w .last)
@@ -87,6 +101,7 @@ planOf bs c =
       states = tabulate (c .states) (λ s. stateAt bs (stateRecord c s));
       transitions = tabulate (c .transitions) (λ x. transitionAt bs (transitionRecord c x));
       windows = tabulate (c .windows) (λ w. windowAt bs (windowRecord c w));
+      grants = tabulate (c .grants) (λ g. grantAt bs (grantRecord c g));
     }
 
 module _ (p : Plan) where
@@ -102,6 +117,9 @@ module _ (p : Plan) where
   unfoldable pub windowCount : ℕ
   windowCount = length (p .windows)
 
+  unfoldable pub grantCount : ℕ
+  grantCount = length (p .grants)
+
   -- the fields of a record by its number; beyond the last there is nothing
   unfoldable pub hostWord : TrackNumber → StateNumber
   hostWord t = getD (p .hosts) t noState
@@ -114,6 +132,9 @@ module _ (p : Plan) where
 
   unfoldable pub window : WindowNumber → Window
   window w = getD (p .windows) w (record { transition = noState; first = pos 0; last = pos 0 })
+
+  unfoldable pub grant : GrantNumber → Grant
+  grant g = getD (p .grants) g (record { society = 0; root = noState; rights = 0 })
 
   -- the state that hosts a track; a root has none
   unfoldable pub host : TrackNumber → Option StateNumber
@@ -208,3 +229,11 @@ module _ (p : Plan) where
   -- "A track hosts the tracks of its states' scopes, and at a remove those that these host": u hosts t, at any remove
   unfoldable pub isAbove : TrackNumber → TrackNumber → Bool
   isAbove u = climb (λ t h r. eqb (owner h) u || r)
+
+  -- the root that a track stands under, itself if it is one, by climbing from host to host as far as n levels show it
+  unfoldable pub rootTo : ℕ → TrackNumber → TrackNumber
+  rootTo zero t = t
+  rootTo (suc n) t = elim (host t) [ none ↦ t | some h ↦ rootTo n (owner h) ]
+
+  unfoldable pub rootOf : TrackNumber → TrackNumber
+  rootOf t = rootTo (suc t) t

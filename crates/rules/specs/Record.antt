@@ -24,7 +24,7 @@ sizeAt bs at = word bs at
 unfoldable pub kindAt : Bytes → Place → Kind
 kindAt bs at = word bs (at + 2)
 
--- "Kind 1, track"; "Kind 2, state"; "Kind 3, transition"; "Kind 4, end"; "A window record (kind 5, ..)"
+-- "Kind 1, track"; "Kind 2, state"; "Kind 3, transition"; "Kind 4, end"; "A window record (kind 5, ..)"; "A rights record (kind 6, ..)"
 abbrev pub trackKind : Kind
 trackKind = 1
 
@@ -40,21 +40,26 @@ endKind = 4
 abbrev pub windowKind : Kind
 windowKind = 5
 
--- 1 track, 2 state, 3 transition, 4 end, 5 window: the length of a kind's records, 0 where there is no such kind
+abbrev pub grantKind : Kind
+grantKind = 6
+
+-- 1 track, 2 state, 3 transition, 4 end, 5 window, 6 rights: the length of a kind's records, 0 where there is no such kind
 unfoldable pub lengthOf : Kind → ℕ
-lengthOf kind = getD (0 ∷ 6 ∷ 10 ∷ 14 ∷ 4 ∷ 14 ∷ []) kind 0
+lengthOf kind = getD (0 ∷ 6 ∷ 10 ∷ 14 ∷ 4 ∷ 14 ∷ 10 ∷ []) kind 0
 
--- where a kind stands in the order of kinds: windows are "between transitions and the end, which keeps kind 4 and stays last"
+-- where a kind stands in the order of kinds: windows are "between transitions and the end, which keeps kind 4 and stays last", and rights
+-- records "after windows, before the end, in refusal 3's order too"
 unfoldable pub rankOf : Kind → ℕ
-rankOf kind = getD (0 ∷ 1 ∷ 2 ∷ 3 ∷ 5 ∷ 4 ∷ []) kind 0
+rankOf kind = getD (0 ∷ 1 ∷ 2 ∷ 3 ∷ 6 ∷ 4 ∷ 5 ∷ []) kind 0
 
--- "At most 32 tracks, 128 states, 256 transitions": what refusal 6 counts. Of windows it counts none, and of ends 7 leaves one
+-- "At most 32 tracks, 128 states, 256 transitions": what refusal 6 counts. Of windows and rights records it counts none, and
+-- of ends 7 leaves one
 unfoldable pub mostOf : Kind → ℕ
-mostOf kind = getD (0 ∷ 32 ∷ 128 ∷ 256 ∷ 1 ∷ 1 ∷ []) kind 0
+mostOf kind = getD (0 ∷ 32 ∷ 128 ∷ 256 ∷ 1 ∷ 1 ∷ 1 ∷ []) kind 0
 
 -- how many records of a kind were counted for it
 unfoldable pub countOf : Counts → Kind → ℕ
-countOf c kind = getD (0 ∷ c .tracks ∷ c .states ∷ c .transitions ∷ 0 ∷ 0 ∷ []) kind 0
+countOf c kind = getD (0 ∷ c .tracks ∷ c .states ∷ c .transitions ∷ 0 ∷ 0 ∷ 0 ∷ []) kind 0
 
 -- with one more record of a kind
 unfoldable pub oneMore : Counts → Kind → Counts
@@ -64,13 +69,14 @@ oneMore c kind =
       states = c .states + cond (eqb kind stateKind) 1 0;
       transitions = c .transitions + cond (eqb kind transitionKind) 1 0;
       windows = c .windows + cond (eqb kind windowKind) 1 0;
+      grants = c .grants + cond (eqb kind grantKind) 1 0;
     }
 
 unfoldable pub noCounts : Counts
-noCounts = record { tracks = 0; states = 0; transitions = 0; windows = 0 }
+noCounts = record { tracks = 0; states = 0; transitions = 0; windows = 0; grants = 0 }
 
 -- Refusals 2 to 7 of the record at a place, after a record of kind `last`, with `c` counted before it:
--- 2 "fewer than 4 bytes remain where a record must start", 3 "the kind is not 1 to 4, or falls", kind 5 being one too and falling being by
+-- 2 "fewer than 4 bytes remain where a record must start", 3 "the kind is not 1 to 4, or falls", 5 and 6 being kinds too and falling being by
 -- rank, 4 "the length is not its kind's", 5 "the record runs past the last byte",
 -- 6 "it is the 33rd track, 129th state or 257th transition", 7 "bytes follow the end record"
 unfoldable pub judgeRecord : Bytes → Place → Kind → Counts → Refusal

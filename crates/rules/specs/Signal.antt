@@ -2,10 +2,11 @@
 use mathlib.Core.Bool.{Bool, true, false, cond, not, _&&_, _||_}
 use mathlib.Core.Option.{none, some}
 use Prim.Native.Nat.{ℕ, zero, suc}
-use Rattle.rules.specs.Names.{TrackNumber, StateNumber}
+use Rattle.rules.specs.Names.{TrackNumber, StateNumber, Society}
 use Rattle.rules.specs.declared.Mode.the-variants.{Undoing}
 use Rattle.rules.specs.Fold.{everyBelow, countBelow}
 use Rattle.rules.specs.Plan.{Plan, trackCount, host, isHostedBy, everyIn}
+use Rattle.rules.specs.Rights.{signalRight, isPermitted}
 use Rattle.rules.specs.Ledger.{Configuration, Ledger, isAwake, isForward, isUndoing, isEmpty, sleeping}
 use Rattle.rules.specs.Scope.{isOpen, isBare}
 use Rattle.rules.specs.Finish.{finished}
@@ -14,14 +15,16 @@ use Rattle.rules.specs.Finish.{finished}
 unfoldable pub turnedTrack : Configuration → Configuration
 turnedTrack c = cond (isForward (c .mode)) (record { mode = Undoing; state = c .state; held = c .held }) c
 
-unfoldable pub turned : Ledger → Ledger
-turned l t = turnedTrack (l t)
+module _ (p : Plan) (society : Society) (l : Ledger) where
+  -- "signals turn only tracks under roots where it has that right"
+  unfoldable pub turned : Ledger
+  turned t = cond (isPermitted p signalRight society t) (turnedTrack (l t)) (l t)
 
-module _ (p : Plan) (l : Ledger) where
   -- how many turn
   unfoldable pub turnings : ℕ
-  turnings = countBelow (trackCount p) (λ t. isForward (l t .mode))
+  turnings = countBelow (trackCount p) (λ t. isPermitted p signalRight society t && isForward (l t .mode))
 
+module _ (p : Plan) (l : Ledger) where
   -- "an open scope goes to sleep, with nothing installed, if its tracks are all undoing, hold nothing and have no open scope": abandoning
   -- is due to the scope of s
   unfoldable pub isAbandoning : StateNumber → Bool
@@ -52,5 +55,5 @@ module _ (p : Plan) (l : Ledger) where
   abandoned t = cond (isAbandoned t) sleeping (l t)
 
 -- a signal, its settlings done: "after any accepted call, abandoning done"
-unfoldable pub afterSignal : Plan → Ledger → Ledger
-afterSignal p l = finished p (abandoned p (turned l))
+unfoldable pub afterSignal : Plan → Ledger → Society → Ledger
+afterSignal p l society = finished p (abandoned p (turned p society l))

@@ -76,7 +76,7 @@ module _ (bs js : Bytes) (p : Plan) where
       elim (itemAt js at) [
         | ended ↦ lastLine p ws fired
         | broken ↦ refusalLine 23 ++ lastLine p ws fired
-        | fireLowest ↦ callText (replay n (at + sizeAt js at)) ws fired (fireLowestCall p (ledgerOf p ws))
+        | fireLowest society ↦ callText (replay n (at + sizeAt js at)) ws fired (fireLowestCall p (ledgerOf p ws) society)
         | called c ↦ callText (replay n (at + sizeAt js at)) ws fired c
       ]
 
@@ -89,7 +89,7 @@ unfoldable pub ownWords : Words
 ownWords = replicate (wordCount entryLimit (mostOf trackKind)) 0
 
 -- "It begins, then prints `PLAN` ..; a line for each record ..; last `H` .." "A refusal 1 to 16 prints its `R` line alone", and 25
--- is "printed alone as 16 is".
+-- and 27 are "printed alone" too.
 unfoldable pub transcript : Bytes → Bytes → Bytes
 transcript bs js =
     elim (ltb mostBytes (length bs) || ltb mostBytes (length js)) [

@@ -15,12 +15,13 @@ pub struct Track {
     pub count: u16,
 }
 
-// How many tracks, states, transitions and windows a plan has.
+// How many tracks, states, transitions, windows and rights records a plan has.
 pub struct Counts {
     pub tracks: usize,
     pub states: usize,
     pub transitions: usize,
     pub windows: usize,
+    pub grants: usize,
 }
 
 // What the plan reader answers: the counts, or the refusal.
