@@ -1,5 +1,6 @@
 -- The ladder of what code may rely on, each rung holding the one below it. Over words: one track's words, those of so many tracks, tidy ones. Over
--- bytes: a plan that is accepted. Over both: lent (checks 2 to 16, 25 and 17 are passed), checked (24 and 18 too), going (and not over). Assumes nothing.
+-- bytes: a plan that is accepted. Over both: lent (checks 2 to 16, 25, 27 and 17 are passed), checked (24 and 18 too), going (and not over).
+-- Assumes nothing.
 use mathlib.Core.Path.{_≡_}
 use mathlib.Core.Bool.{true, false}
 use Prim.Native.Nat.{ℕ, _+_, _<_, _≤_}
@@ -35,7 +36,7 @@ pub record Accepts (bs : Bytes) (c : Counts) : Type 0 where
   pub read : readPlan bs ≡ accepted c
   pub holds : Holds bs c
 
--- and the ledger has the words of its tracks: checks 2 to 16, 25 and 17 are passed
+-- and the ledger has the words of its tracks: checks 2 to 16, 25, 27 and 17 are passed
 pub record Lent (bs : Bytes) (c : Counts) (ws : Words) : Type 0 where
   pub accepts : Accepts bs c
   pub room : Room ws (c .tracks)

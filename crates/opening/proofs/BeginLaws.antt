@@ -49,7 +49,7 @@ pub stamped-room : (bs ws : List ℕ) {vs : List ℕ} {tracks : ℕ} → Room ws
 stamped-room bs ws r e = record { few = r .few; words = omega (arith, r .words, ap length e, length-stamped bs ws (leading-room r)) }
 
 pub length-word : {bs : List ℕ} {c : Counts} → Accepts bs c → length bs < 65536
-length-word {bs} {c} a = omega (arith, length-most bs c (plan-facts bs c a .windows) (a .holds))
+length-word {bs} {c} a = omega (arith, length-most bs c (plan-facts bs c a .windows) (plan-facts bs c a .grants) (a .holds))
 
 -- a ledger all asleep can be stored, and is read back
 abbrev asleep : Ledger

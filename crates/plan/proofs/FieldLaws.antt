@@ -2,11 +2,10 @@
 use mathlib.Core.Path.{_≡_, sym, ap, _∙_}
 use mathlib.Core.List.{List}
 use Prim.Native.Nat.{ℕ, _+_, _<_}
-use native.Mathlib.Omega.{arith}
 use Rattle.rules.specs.declared.Counts.{Counts}
 use Rattle.rules.specs.Signed.{joined}
 use Rattle.rules.specs.Record.{word, dayAt}
-use Rattle.rules.specs.Plan.{State, Transition, Window, planOf, trackCount, stateCount, transitionCount, windowCount, hostWord, state, transition, window, owner, replacement, trackRecord, stateRecord, transitionRecord, windowRecord, stateAt, transitionAt, windowAt}
+use Rattle.rules.specs.Plan.{State, Transition, Window, Grant, planOf, trackCount, stateCount, transitionCount, windowCount, grantCount, hostWord, state, transition, window, grant, owner, replacement, trackRecord, stateRecord, transitionRecord, windowRecord, grantRecord, stateAt, transitionAt, windowAt, grantAt}
 use Rattle.rules.proofs.Folds.{length-tabulate, getD-tabulate}
 
 -- a day by its two words
@@ -31,6 +30,10 @@ module _ (bs : List ℕ) (c : Counts) where
   unfolding windowCount planOf
   window-count = length-tabulate _ _
 
+  pub grant-count : grantCount (planOf bs c) ≡ c .grants
+  unfolding grantCount planOf
+  grant-count = length-tabulate _ _
+
   pub host-word : (t : ℕ) → t < c .tracks → hostWord (planOf bs c) t ≡ word bs (trackRecord t + 4)
   unfolding hostWord planOf
   host-word t l = getD-tabulate _ t _ _ l
@@ -46,6 +49,10 @@ module _ (bs : List ℕ) (c : Counts) where
   pub window-of : (w : ℕ) → w < c .windows → window (planOf bs c) w ≡ windowAt bs (windowRecord c w)
   unfolding window planOf
   window-of w l = getD-tabulate _ w _ _ l
+
+  pub grant-of : (g : ℕ) → g < c .grants → grant (planOf bs c) g ≡ grantAt bs (grantRecord c g)
+  unfolding grant planOf
+  grant-of g l = getD-tabulate _ g _ _ l
 
   -- the fields of a state
   pub owner-at : (s : ℕ) → s < c .states → owner (planOf bs c) s ≡ word bs (stateRecord c s + 4)
@@ -97,3 +104,20 @@ module _ (bs : List ℕ) (c : Counts) where
     pub last-day-at : dayAt bs (at + 10) ≡ window (planOf bs c) w .last
     unfolding windowAt
     last-day-at = ap (λ (r : Window). r .last) there
+
+  -- the fields of a grant whose record starts at a place
+  module _ (g : ℕ) (l : g < c .grants) {at : ℕ} (e : at ≡ grantRecord c g) where
+    stands : grantAt bs at ≡ grant (planOf bs c) g
+    stands = ap (grantAt bs) e ∙ sym (grant-of g l)
+
+    pub society-at : word bs (at + 4) ≡ grant (planOf bs c) g .society
+    unfolding grantAt
+    society-at = ap (λ (r : Grant). r .society) stands
+
+    pub root-at : word bs (at + 6) ≡ grant (planOf bs c) g .root
+    unfolding grantAt
+    root-at = ap (λ (r : Grant). r .root) stands
+
+    pub rights-at : word bs (at + 8) ≡ grant (planOf bs c) g .rights
+    unfolding grantAt
+    rights-at = ap (λ (r : Grant). r .rights) stands

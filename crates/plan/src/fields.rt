@@ -8,7 +8,7 @@ ghost use Rattle.rules.specs.Record.{word, dayAt};
 ghost use Rattle.rules.specs.Plan.{planOf, hostWord, owner, replacement, state, transition, stateRecord, transitionRecord, isRoot, isFinal, isStateOf};
 ghost use Rattle.plan.specs.Holds.{Holds};
 
-// A record's length in bytes, of a track, a state, a transition and a window.
+// A record's length in bytes, of a track, a state, a transition, a window and a grant.
 pub const TRACK_LENGTH: usize = 6;
 
 pub const STATE_LENGTH: usize = 10;
@@ -16,6 +16,8 @@ pub const STATE_LENGTH: usize = 10;
 pub const TRANSITION_LENGTH: usize = 14;
 
 pub const WINDOW_LENGTH: usize = 14;
+
+pub const GRANT_LENGTH: usize = 10;
 
 // Where a record's fields start in it, after the length and the kind: a track's, a state's and a transition's.
 const TRACK_HOST: usize = 4;

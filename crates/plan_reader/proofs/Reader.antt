@@ -1,4 +1,4 @@
--- The reading of a plan, in the reader's steps: the scan, then refusals 8 to 16 and 25 in order. An accepted plan stands in its bytes.
+-- The reading of a plan, in the reader's steps: the scan, then refusals 8 to 16, 25 and 27 in order. An accepted plan stands in its bytes.
 -- Assumes nothing.
 use mathlib.Core.Path.{_≡_, refl, ap, _∙_}
 use mathlib.Core.Bool.{cond}
@@ -9,18 +9,18 @@ use Rattle.rules.specs.declared.Counts.{Counts}
 use Rattle.rules.specs.Fold.{someBelow, firstRefusal}
 use Rattle.rules.specs.Record.{Scan, refused, counted, scan}
 use Rattle.rules.specs.Plan.{planOf}
-use Rattle.rules.specs.Acceptance.{noTrack, badState, badHost, badFirst, badHosting, badTransition, badDeviation, repeatsEvent, tooHigh, badWindow, judgePlan, turnedBack, accepted, judged, readPlan}
+use Rattle.rules.specs.Acceptance.{noTrack, badState, badHost, badFirst, badHosting, badTransition, badDeviation, repeatsEvent, tooHigh, badWindow, badGrant, judgePlan, turnedBack, accepted, judged, readPlan}
 use Rattle.plan.specs.Holds.{Holds}
 use Rattle.plan_reader.specs.TracksPass.{TracksPass}
-use Rattle.plan.proofs.FieldLaws.{track-count, state-count, transition-count, window-count}
-use Rattle.plan_reader.proofs.Scanning.{scan-holds}
+use Rattle.plan.proofs.FieldLaws.{track-count, state-count, transition-count, window-count, grant-count}
+use Rattle.plan_scan.proofs.Scanning.{scan-holds}
 
 pub scan-refused : (bs : List ℕ) (n : ℕ) → scan bs ≡ refused n → readPlan bs ≡ turnedBack n
 unfolding readPlan
 scan-refused bs n h = rw (h, readPlan)
 
 module _ (bs : List ℕ) (c : Counts) where
-  -- the table of refusals 8 to 16 and 25 of the plan that the bytes hold
+  -- the table of refusals 8 to 16, 25 and 27 of the plan that the bytes hold
   pub in-order : judgePlan (planOf bs c)
       ≡ cond (noTrack (planOf bs c)) 8
       (cond (someBelow (c .states) (badState (planOf bs c))) 9
@@ -31,9 +31,10 @@ module _ (bs : List ℕ) (c : Counts) where
       (cond (someBelow (c .transitions) (badDeviation (planOf bs c))) 14
       (cond (someBelow (c .transitions) (repeatsEvent (planOf bs c))) 15
       (cond (someBelow (c .tracks) (tooHigh (planOf bs c))) 16
-      (cond (someBelow (c .windows) (badWindow (planOf bs c))) 25 0)))))))))
+      (cond (someBelow (c .windows) (badWindow (planOf bs c))) 25
+      (cond (someBelow (c .grants) (badGrant (planOf bs c))) 27 0))))))))))
   unfolding judgePlan firstRefusal
-  in-order = rw (track-count bs c, state-count bs c, transition-count bs c, window-count bs c)
+  in-order = rw (track-count bs c, state-count bs c, transition-count bs c, window-count bs c, grant-count bs c)
 
   -- what is left of it where the tracks pass
   pub then-transitions : (scopes beside : List ℕ) → TracksPass bs c scopes beside
@@ -42,7 +43,8 @@ module _ (bs : List ℕ) (c : Counts) where
       (cond (someBelow (c .transitions) (badDeviation (planOf bs c))) 14
       (cond (someBelow (c .transitions) (repeatsEvent (planOf bs c))) 15
       (cond (someBelow (c .tracks) (tooHigh (planOf bs c))) 16
-      (cond (someBelow (c .windows) (badWindow (planOf bs c))) 25 0))))
+      (cond (someBelow (c .windows) (badWindow (planOf bs c))) 25
+      (cond (someBelow (c .grants) (badGrant (planOf bs c))) 27 0)))))
   then-transitions scopes beside a = in-order ∙ rw (a .some-track, a .states, a .hosts, a .firsts, a .hostings)
 
   pub plan-refused : (n : ℕ) → scan bs ≡ counted c → judgePlan (planOf bs c) ≡ n → (n ≡ 0 → ⊥) → readPlan bs ≡ turnedBack n

@@ -1,5 +1,3 @@
 -- What the reader's contracts speak of beside the rules and the plan's fields.
 pub mod TracksPass
-pub mod Scanned
-pub mod RecordRuns
 pub mod Keys

@@ -1,15 +1,10 @@
-// The plan reader: plan bytes to the counts of tracks, states, transitions and windows, or to the refusal 2 to 16 or 25. It takes any bytes.
+// The plan reader: plan bytes to the counts of each kind of record, or to the refusal 2 to 16, 25 or 27. It takes any bytes.
 pub mod events;
 pub mod heights;
-pub mod records;
 pub mod refusals;
-pub mod runs;
-pub mod windows;
 
 use crate::events::some_repeated_event;
 use crate::heights::some_too_high;
-use crate::records::Scanned;
-use crate::records::scan_records;
 use crate::refusals::no_track;
 use crate::refusals::some_bad_deviation;
 use crate::refusals::some_bad_first;
@@ -17,9 +12,12 @@ use crate::refusals::some_bad_host;
 use crate::refusals::some_bad_hosting;
 use crate::refusals::some_bad_state;
 use crate::refusals::some_bad_transition;
-use crate::windows::some_bad_window;
 use plan::passes::chain_tracks;
 use plan::passes::first_states;
+use plan_grants::some_bad_grant;
+use plan_scan::records::Scanned;
+use plan_scan::records::scan_records;
+use plan_windows::some_bad_window;
 use rules::Counts;
 use rules::PlanAnswer;
 ghost use mathlib.Core.Path.{_≡_};
@@ -30,7 +28,7 @@ ghost use Rattle.plan.specs.Holds.{Holds};
 ghost use Rattle.plan.specs.Passes.{firstMarks};
 ghost use Rattle.plan_reader.specs.TracksPass.{TracksPass};
 
-// The lowest refusal 13 to 16 or 25 that applies anywhere in a plan in which none of 8 to 12 does, 0 where none does. `scopes` and `beside` chain
+// The lowest refusal 13 to 16, 25 or 27 that applies anywhere in a plan in which none of 8 to 12 does, 0 where none does. `scopes` and `beside` chain
 // the tracks of each scope.
 fn judge_transitions(plan: &[u8], c: Counts, scopes: &[u8; 128], beside: &[u8; 32]) -> u8
     requires { ⌜ TracksPass (now plan) c (now scopes) (now beside) ⌝ }
@@ -51,10 +49,13 @@ fn judge_transitions(plan: &[u8], c: Counts, scopes: &[u8; 128], beside: &[u8; 3
     if some_bad_window(plan, c) {
         return 25;
     }
+    if some_bad_grant(plan, c) {
+        return 27;
+    }
     0
 }
 
-// The lowest refusal 8 to 16 or 25 that applies anywhere in the plan, 0 where none does: `firsts` then has each track's first state.
+// The lowest refusal 8 to 16, 25 or 27 that applies anywhere in the plan, 0 where none does: `firsts` then has each track's first state.
 fn judge_plan(plan: &[u8], c: Counts, firsts: &mut [u16; 32]) -> u8
     requires { ⌜ Holds (now plan) c ⌝ }
     ensures { λ r. ⌜ (r ≡ judgePlan (planOf (now (plan .entry)) c))
@@ -83,7 +84,7 @@ fn judge_plan(plan: &[u8], c: Counts, firsts: &mut [u16; 32]) -> u8
     judge_transitions(plan, c, &scopes, &beside)
 }
 
-// Reads a plan: its counts, or the first refusal 2 to 16 or 25. Where it is accepted, `firsts` has each track's first state.
+// Reads a plan: its counts, or the first refusal 2 to 16, 25 or 27. Where it is accepted, `firsts` has each track's first state.
 pub fn read_plan_with(plan: &[u8], firsts: &mut [u16; 32]) -> PlanAnswer
     ensures { λ r. ⌜ (planTold r ≡ readPlan (now (plan .entry)))
         × ((c : Counts) → planTold r ≡ accepted c → now (firsts .exit) ≡ firstMarks (planOf (now (plan .entry)) c) (c .states)) ⌝ }
@@ -101,7 +102,7 @@ pub fn read_plan_with(plan: &[u8], firsts: &mut [u16; 32]) -> PlanAnswer
     }
 }
 
-// Reads a plan: its counts, or the first refusal 2 to 16 or 25.
+// Reads a plan: its counts, or the first refusal 2 to 16, 25 or 27.
 pub fn read_plan(plan: &[u8]) -> PlanAnswer
     ensures { λ r. ⌜ planTold r ≡ readPlan (now (plan .entry)) ⌝ }
 {

@@ -52,12 +52,24 @@ returns-5 c =
 
 returns-6 : tie.Need-returns-6
 returns-6 c =
-    sym (then-transitions _ _ _ _ (c .before .before .before .before .before .before .before .before .before .before .before .pre) ∙ rw (
-      sym (c .before .before .before .before .before .before .before .before .before .some-bad-transition .ensures) ∙ c .before .before .before .before .before .before .before .before .if1 .left,
-      sym (c .before .before .before .before .before .before .before .some-bad-deviation .ensures) ∙ c .before .before .before .before .before .before .if2 .left,
-      sym (c .before .before .before .before .before .some-repeated-event .ensures) ∙ c .before .before .before .before .if3 .left,
-      sym (c .before .before .before .some-too-high .ensures) ∙ c .before .before .if4 .left,
-      sym (c .before .some-bad-window .ensures) ∙ c .if5 .left,
+    sym (then-transitions _ _ _ _ (c .before .before .before .before .before .before .before .before .before .before .before .before .before .pre) ∙ rw (
+      sym (c .before .before .before .before .before .before .before .before .before .before .before .some-bad-transition .ensures) ∙ c .before .before .before .before .before .before .before .before .before .before .if1 .left,
+      sym (c .before .before .before .before .before .before .before .before .before .some-bad-deviation .ensures) ∙ c .before .before .before .before .before .before .before .before .if2 .left,
+      sym (c .before .before .before .before .before .before .before .some-repeated-event .ensures) ∙ c .before .before .before .before .before .before .if3 .left,
+      sym (c .before .before .before .before .before .some-too-high .ensures) ∙ c .before .before .before .before .if4 .left,
+      sym (c .before .before .before .some-bad-window .ensures) ∙ c .before .before .if5 .left,
+      sym (c .before .some-bad-grant .ensures) ∙ c .if6 .taken,
+    ))
+
+returns-7 : tie.Need-returns-7
+returns-7 c =
+    sym (then-transitions _ _ _ _ (c .before .before .before .before .before .before .before .before .before .before .before .before .before .pre) ∙ rw (
+      sym (c .before .before .before .before .before .before .before .before .before .before .before .some-bad-transition .ensures) ∙ c .before .before .before .before .before .before .before .before .before .before .if1 .left,
+      sym (c .before .before .before .before .before .before .before .before .before .some-bad-deviation .ensures) ∙ c .before .before .before .before .before .before .before .before .if2 .left,
+      sym (c .before .before .before .before .before .before .before .some-repeated-event .ensures) ∙ c .before .before .before .before .before .before .if3 .left,
+      sym (c .before .before .before .before .before .some-too-high .ensures) ∙ c .before .before .before .before .if4 .left,
+      sym (c .before .before .before .some-bad-window .ensures) ∙ c .before .before .if5 .left,
+      sym (c .before .some-bad-grant .ensures) ∙ c .if6 .left,
     ))
 
 pub judge-transitions-spec : {M : Type 1} → statement M
@@ -74,4 +86,6 @@ judge-transitions-spec =
     returns-4
     (λ c κs. search needs)
     returns-5
-    returns-6)
+    (λ c κs. search needs)
+    returns-6
+    returns-7)

@@ -6,8 +6,8 @@ use native.Mathlib.Omega.{arith}
 use Rattle.rules.specs.declared.Counts.{Counts}
 use Rattle.rules.specs.Acceptance.{accepted}
 use Rattle.rules.specs.Answers.{planTold}
-use Rattle.plan_reader.specs.Scanned.{scanTold}
-use Rattle.plan_reader.proofs.Scanning.{scan-holds}
+use Rattle.plan_scan.specs.Scanned.{scanTold}
+use Rattle.plan_scan.proofs.Scanning.{scan-holds}
 use Rattle.plan_reader.proofs.Reader.{scan-refused, plan-refused, plan-accepted}
 use borrow.Author.Needs.{needs}
 use Rattle.plan_reader.proofs.read_plan_with.Statement.{statement}

@@ -1,0 +1,12 @@
+-- The field stands at its place in the grant's record. Assumes nothing.
+use mathlib.Core.Path.{_∙_}
+use Rattle.plan.proofs.FieldLaws.{rights-at}
+use borrow.Author.Needs.{needs}
+use Rattle.plan.proofs.grants.grant_rights.Statement.{statement}
+use Rattle.plan.proofs.grants.grant_rights.Tie as tie
+
+returns : tie.Need-returns
+returns c = c .word-at .ensures ∙ rights-at _ _ _ (search needs) (c .before .grant-place .ensures .0)
+
+pub grant-rights-spec : {M : Type 1} → statement M
+grant-rights-spec = tie.close (tie.spec (λ c κs. search needs) (λ c. search needs) (λ c κs. search needs) returns)

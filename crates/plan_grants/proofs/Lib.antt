@@ -1,0 +1,2 @@
+-- Laws of refusal 27.
+pub mod GrantTests

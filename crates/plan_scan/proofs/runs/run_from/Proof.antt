@@ -1,0 +1,53 @@
+-- The invariant: so many records of the kind stand from the place on, and the next place lies behind them. The measure is those left to look
+-- for. Assumes nothing.
+use mathlib.Core.Path.{_≡_, sym, _∙_}
+use Prim.Native.Nat.{_+_, _*_, _-_, _≤_}
+use lib.ListN.{length}
+use Rattle.plan_scan.specs.RecordRuns.{Run}
+use Rattle.plan_scan.proofs.RunLaws.{run-none, run-more, run-place, head-parts}
+use borrow.Author.Needs.{needs}
+use Rattle.plan_scan.proofs.runs.run_from.Statement.{statement}
+use Rattle.plan_scan.proofs.runs.run_from.Tie as tie
+
+abbrev Inv-loop : tie.InvT-loop
+Inv-loop plan at size kind most wanted n₀ here₀ n here = (n ≤ most) × (here ≡ at + size * n) × (here ≤ length plan) × Run plan kind at n
+
+abbrev μ-loop : tie.MeasureT-loop
+μ-loop plan at size kind most wanted n₀ here₀ n here = most - n
+
+loop-holds : tie.Need-loop-holds Inv-loop μ-loop
+loop-holds c = (search needs, search needs, search needs, run-none _ _ _)
+
+returns : tie.Need-returns Inv-loop μ-loop
+returns c = (search needs, search needs, c .before .before .loop .inv .3)
+
+returns-2 : tie.Need-returns-2 Inv-loop μ-loop
+returns-2 c = (search needs, search needs, c .before .before .before .before .loop .inv .3)
+
+loop-again : tie.Need-loop-again Inv-loop μ-loop
+loop-again c =
+    let x = c .before .before .before .before .before .before .before .pre in
+    let i = c .before .before .before .before .loop .inv in
+    let q = head-parts _ _ _ _ (search needs) (search needs) (sym (c .before .head-at .ensures .0) ∙ c .if2 .left ∙ c .before .before .before .before .before .head .ensures) in
+    (search needs, run-place _ _ _ _ (i .1), search needs, run-more _ _ _ _ _ (i .3) (i .1 ∙ rw (← x .1)) (record { long = q .0 ∙ x .1; sort = q .1; fits = search needs }))
+
+returns-3 : tie.Need-returns-3 Inv-loop μ-loop
+returns-3 c = (search needs, search needs, c .before .loop .inv .3)
+
+pub run-from-spec : {M : Type 1} → statement M
+run-from-spec =
+    tie.close
+    (tie.spec
+    Inv-loop
+    μ-loop
+    (λ c κs. search needs)
+    loop-holds
+    (λ c. search needs)
+    returns
+    (λ c κs. search needs)
+    returns-2
+    (λ c. search needs)
+    (λ c. search needs)
+    (λ c. search needs)
+    loop-again
+    returns-3)

@@ -1,0 +1,3 @@
+-- What the scan's contracts speak of beside the rules.
+pub mod Scanned
+pub mod RecordRuns

@@ -1,0 +1,2 @@
+-- Laws of refusal 25.
+pub mod WindowTests
