@@ -19,6 +19,7 @@ use Rattle.rules.specs.Event.{EventArguments, isMove, hasCode, move, moves, mov
 use Rattle.rules.proofs.Tests.{look, clash}
 use Rattle.rules.proofs.Folds.{some-not, some-same, count-same}
 use Rattle.rules.proofs.Acceptance.{Accepted, transition-for}
+use Rattle.rules.proofs.Moves.{move-idle}
 use Rattle.rules.proofs.Soundness.{Live}
 use Rattle.plan.specs.Passes.{slots}
 use Rattle.plan.proofs.FieldLaws.{track-count, transition-count}
@@ -38,8 +39,9 @@ is-move : (p : Plan) (w : ℕ) → not (eqb w noState) ≡ isMove (optional w)
 unfolding optional isMove
 is-move p w = elim (look (eqb w noState)) [ inl q ↦ rw (q, isMove) | inr q ↦ rw (q, isMove) ]
 
-pub same-arguments : (e : ℕ) {d z : ℤ} → d ≡ z → _≡_ {A = EventArguments} (record { event = e; day = d }) (record { event = e; day = z })
-same-arguments e q = ap (λ d. record { event = e; day = d }) q
+pub same-arguments : (e o : ℕ) {d z : ℤ} → d ≡ z
+    → _≡_ {A = EventArguments} (record { event = e; day = d; society = o }) (record { event = e; day = z; society = o })
+same-arguments e o q = ap (λ d. record { event = e; day = d; society = o }) q
 
 module _ (bs : List ℕ) (c : Counts) (ws : List ℕ) (g : Going bs c ws) (event : EventArguments) {ts : List ℕ}
     (took : Numbers ts (c .tracks) (move (planOf bs c) (ledgerOf c ws) event)) where
@@ -74,7 +76,7 @@ module _ (bs : List ℕ) (c : Counts) (ws : List ℕ) (g : Going bs c ws) (event
       ])
     where
       idle : (t : ℕ) → l t ≡ sleeping → move p l event t ≡ none
-      idle t s = unfold move isForward sleeping in rw s
+      idle t s = move-idle p l event t (unfold isForward sleeping in rw s)
 
   taken-all : Numbers ts (trackCount p) (move p l event)
   taken-all = subst (λ n. Numbers ts n (move p l event)) (sym (track-count bs c)) took
@@ -87,14 +89,14 @@ module _ (bs : List ℕ) (c : Counts) (ws : List ℕ) (g : Going bs c ws) (event
 
   -- the day, as the choice keeps it
   dayed : {d : ℤ} → d ≡ event .day → {ms : List Bool} {n k : ℕ} {f : Bool}
-      → Chosen p l (record { event = event .event; day = event .day; taken = ts; closing = ms; moved = n; closed = k; full = f })
-      → Chosen p l (record { event = event .event; day = d; taken = ts; closing = ms; moved = n; closed = k; full = f })
+      → Chosen p l (record { event = event .event; day = event .day; society = event .society; taken = ts; closing = ms; moved = n; closed = k; full = f })
+      → Chosen p l (record { event = event .event; day = d; society = event .society; taken = ts; closing = ms; moved = n; closed = k; full = f })
   dayed e {ms} {n} {k} {f} h =
-      subst (λ d. Chosen p l (record { event = event .event; day = d; taken = ts; closing = ms; moved = n; closed = k; full = f })) (sym e) h
+      subst (λ d. Chosen p l (record { event = event .event; day = d; society = event .society; taken = ts; closing = ms; moved = n; closed = k; full = f })) (sym e) h
 
   -- no move leads to a final state
   pub chosen-early : {d : ℤ} → d ≡ event .day → {v : Survey} → Surveyed p l ts (c .tracks) v → v .ends ≡ false
-      → Chosen p l (record { event = event .event; day = d; taken = ts; closing = replicate slots false; moved = v .moved; closed = 0; full = v .full })
+      → Chosen p l (record { event = event .event; day = d; society = event .society; taken = ts; closing = replicate slots false; moved = v .moved; closed = 0; full = v .full })
   unfolding isLast sleeping isForward
   chosen-early on {v} s z =
       dayed on
@@ -125,7 +127,7 @@ module _ (bs : List ℕ) (c : Counts) (ws : List ℕ) (g : Going bs c ws) (event
   module _ {n : ℕ} (count : n ≡ countBelow (c .tracks) (λ t. not (eqb (getD ts t 0) noState))) where
     pub chosen-all : {d : ℤ} → d ≡ event .day → {ms : List Bool} {v : Verdict} → Figures false ms (c .tracks) (closesNext p l (movesOf ts (c .tracks)))
         → Judged p l (movesOf ts (c .tracks)) (c .tracks) v
-        → Chosen p l (record { event = event .event; day = d; taken = ts; closing = ms; moved = n; closed = v .closed; full = v .full })
+        → Chosen p l (record { event = event .event; day = d; society = event .society; taken = ts; closing = ms; moved = n; closed = v .closed; full = v .full })
     chosen-all on {ms} {v} f j =
         let q = sym (track-count bs c) in
         let h = subst (λ n. Judged p l (move p l event) n v) q (subst (λ goes. Judged p l goes (c .tracks) v) moves-are j) in

@@ -2,7 +2,7 @@
 -- Assumes nothing.
 use mathlib.Core.Path.{_≡_, refl, sym, ap, _∙_, subst}
 use mathlib.Core.Logic.{inl, inr}
-use mathlib.Core.Bool.{Bool, true, false, not, _&&_, _||_, and-false, or-false}
+use mathlib.Core.Bool.{Bool, true, false, cond, not, _&&_, _||_, and-false, or-false}
 use mathlib.Core.List.{List}
 use mathlib.Core.Option.{Option, none, some}
 use Prim.Native.Nat.{ℕ, zero, suc, _+_, _<_}
@@ -15,24 +15,30 @@ use Rattle.rules.specs.Names.{Day}
 use Rattle.rules.specs.declared.Counts.{Counts}
 use Rattle.rules.specs.Fold.{someBelow, everyBelow}
 use Rattle.rules.specs.Plan.{Plan, planOf, noState, optional, windowCount, window, isWithin, mayTake, takenOn, transitionFor}
+use Rattle.rules.specs.Rights.{moveRight, isPermitted}
 use Rattle.rules.specs.Ledger.{Ledger, isForward}
 use Rattle.rules.specs.Scope.{hasOpenScope}
 use Rattle.rules.specs.Event.{EventArguments, move}
 use Rattle.rules.proofs.Tests.{look, or-right, none-some}
 use Rattle.rules.proofs.Folds.{some-more}
 use Rattle.rules.proofs.Acceptance.{transition-for}
+use Rattle.rules.proofs.Moves.{move-permitted}
 use Rattle.plan.specs.Passes.{slots}
 use Rattle.plan.proofs.FieldLaws.{transition-count, window-count}
 use Rattle.ledger.specs.Ladder.{Accepts}
-use Rattle.lookup.specs.Figures.{Numbers}
+use Rattle.lookup.specs.Figures.{Figures, Numbers}
 use Rattle.lookup.proofs.Facts.{plan-facts}
 use Rattle.event_choice.specs.Next.{InRange, Shut, anyDayMove, movesOf}
 use Rattle.event_choice.proofs.Visits.{word-none, word-some, moves-at}
 
--- a day's move is the one of any day, unless it is shut
-pub move-on : (p : Plan) (l : Ledger) (a : EventArguments) (t : ℕ) → move p l a t ≡ takenOn p (a .day) (anyDayMove p l (a .event) t)
-unfolding move anyDayMove takenOn
-move-on p l a t = elim (look (isForward (l t .mode) && not (hasOpenScope p l t))) [ inl q ↦ rw q | inr q ↦ rw (q, takenOn) ]
+-- a day's move is the one of any day, unless it is shut, and a society's the one of any, where it has the right
+pub move-on : (p : Plan) (l : Ledger) (a : EventArguments) (t : ℕ)
+    → move p l a t ≡ cond (isPermitted p moveRight (a .society) t) (takenOn p (a .day) (anyDayMove p l (a .event) t)) none
+unfolding anyDayMove takenOn
+move-on p l a t =
+    move-permitted p l a t
+    ∙ ap (λ o. cond (isPermitted p moveRight (a .society) t) o none)
+    (elim (look (isForward (l t .mode) && not (hasOpenScope p l t))) [ inl q ↦ rw q | inr q ↦ rw (q, takenOn) ])
 
 module _ (p : Plan) (day : Day) where
   abbrev shuts : ℕ → ℕ → Bool
@@ -127,11 +133,19 @@ any-range bs c l e {ts} took =
           omega (arith, transition-count bs c);
     }
 
--- the moves of the day
-pub day-moves : (p : Plan) (l : Ledger) (a : EventArguments) (n : ℕ) {any taken : List ℕ} → Numbers any n (anyDayMove p l (a .event))
-    → Numbers taken n (λ t. takenOn p (a .day) (movesOf any n t)) → Numbers taken n (move p l a)
-day-moves p l a n {any} v w =
-    record { size = w .size; at = λ t b. w .at t b ∙ ap (takenOn p (a .day)) (moves-at any n t b ∙ v .at t b) ∙ sym (move-on p l a t) }
+-- the moves of the day and the society
+pub day-moves : (p : Plan) (l : Ledger) (a : EventArguments) (n : ℕ) {any all taken : List ℕ} → Numbers any n (anyDayMove p l (a .event))
+    → Numbers all n (λ t. takenOn p (a .day) (movesOf any n t))
+    → Numbers taken n (λ t. cond (isPermitted p moveRight (a .society) t) (movesOf all n t) none) → Numbers taken n (move p l a)
+day-moves p l a n {any} {all} v w u =
+    record {
+      size = u .size;
+      at = λ t b.
+          u .at t b
+          ∙ ap (λ o. cond (isPermitted p moveRight (a .society) t) o none)
+          (moves-at all n t b ∙ w .at t b ∙ ap (takenOn p (a .day)) (moves-at any n t b ∙ v .at t b))
+          ∙ sym (move-on p l a t);
+    }
 
 -- a window names a transition of the plan, of which there are at most 256
 pub named-low : (bs : List ℕ) (c : Counts) → Accepts bs c → {w x : ℕ} → w < c .windows → x ≡ window (planOf bs c) w .transition → x < 256
@@ -159,3 +173,13 @@ all-left bs c day any e s =
 pub left-at : (p : Plan) (day : Day) (any : List ℕ) (n t r : ℕ) → t < n → optional r ≡ takenOn p day (optional (getD any t 0))
     → optional r ≡ takenOn p day (movesOf any n t)
 left-at p day any n t r b e = e ∙ ap (takenOn p day) (sym (moves-at any n t b))
+
+-- one track more, by the mark of its right
+pub marked-at : (may : List Bool) (all : List ℕ) (n t r : ℕ) → t < n → optional r ≡ cond (getD may t false) (optional (getD all t 0)) none
+    → optional r ≡ cond (getD may t false) (movesOf all n t) none
+marked-at may all n t r b e = e ∙ ap (λ o. cond (getD may t false) o none) (sym (moves-at all n t b))
+
+pub by-marks : (p : Plan) (society : ℕ) (all : List ℕ) {may : List Bool} {n : ℕ} {ms : List ℕ} → Figures false may n (isPermitted p moveRight society)
+    → Numbers ms n (λ t. cond (getD may t false) (movesOf all n t) none)
+    → Numbers ms n (λ t. cond (isPermitted p moveRight society t) (movesOf all n t) none)
+by-marks p society all {n = n} f m = record { size = m .size; at = λ t b. m .at t b ∙ ap (λ k. cond k (movesOf all n t) none) (f .at t b) }

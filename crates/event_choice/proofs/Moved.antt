@@ -7,20 +7,20 @@ use mathlib.Core.Option.{Option, none, some}
 use Prim.Native.Nat.{ℕ, _<_}
 use lib.Dec.{eqb, leb}
 use lib.ListN.{length}
-use borrow.Author.Tests.{eq-eqb, eqb-true, not-true}
+use borrow.Author.Tests.{eq-eqb, eqb-true}
 use Rattle.rules.specs.declared.Mode.the-variants.{Forward}
 use Rattle.rules.specs.Fold.{someBelow, everyBelow, countBelow}
-use Rattle.rules.specs.Plan.{Plan, trackCount, stateCount, host, owner, transition, mover, replacement, isFinal, isStateOf, isHostedBy, everyIn, firstState, transitionFor}
+use Rattle.rules.specs.Plan.{Plan, trackCount, stateCount, host, owner, transition, mover, replacement, isFinal, isStateOf, isHostedBy, everyIn, firstState}
 use Rattle.rules.specs.Ledger.{Configuration, Ledger, isAwake, isForward}
 use Rattle.rules.specs.Scope.{isOpen, hasOpenScope}
 use Rattle.rules.specs.Opening.{fresh, wakes}
 use Rattle.rules.specs.Event.{EventArguments, install, installed, destinationOf, installedBy, hasCode, move, moved, isClosing, closesScope, closings, isReplaced, isFull}
 use Rattle.rules.proofs.Modes.{forward-awake, forward-is}
-use Rattle.rules.proofs.Tests.{look, look-option, clash, none-some, refuted, and-holds, and-both, implies, implied, strong, same-test}
+use Rattle.rules.proofs.Tests.{look, look-option, clash, refuted, and-holds, and-both, implies, implied, strong, same-test}
 use Rattle.rules.proofs.Folds.{every-at, every-of, some-same, count-same}
 use Rattle.rules.proofs.Counting.{count-pairs}
 use Rattle.rules.proofs.Acceptance.{Accepted, transition-for}
-use Rattle.rules.proofs.DayLaws.{taken-on}
+use Rattle.rules.proofs.Moves.{Mover, mover-is}
 use Rattle.rules.proofs.Scopes.{in-host, host-in, by-host, host-by, every-in-at, every-in-of, open-at, open-find, shut-at, busy-at, busy-find, free-at}
 use Rattle.rules.proofs.Opening.{wakes-root, wakes-entered, wakes-woken, enter-to, enter-woken, enter-kept}
 use Rattle.rules.proofs.Soundness.{Live}
@@ -35,21 +35,8 @@ module _ (p : Plan) (ok : Accepted p) (l : Ledger) (live : Live p l) (event : Ev
   abbrev m : Ledger
   m = moved p l event
 
-  -- a mover is forward and without an open scope
-  pub record Moves (t x : ℕ) : Type 0 where
-    pub ahead : isForward (l t .mode) ≡ true
-    pub free : hasOpenScope p l t ≡ false
-    pub taken : transitionFor p (l t .state) (event .event) ≡ some x
-
-  pub mover-facts : (t x : ℕ) → move p l event t ≡ some x → Moves t x
-  unfolding move
-  mover-facts t x h =
-      elim (look (isForward (l t .mode) && not (hasOpenScope p l t))) [
-        | inl g ↦
-            let (a, b) = and-holds (isForward (l t .mode)) (not (hasOpenScope p l t)) g in
-            record { ahead = a; free = not-true _ b; taken = taken-on p (event .day) _ x (rw g at h) .0 }
-        | inr g ↦ let q : none ≡ some x = rw g at h in none-some refl q
-      ]
+  pub mover-facts : (t x : ℕ) → move p l event t ≡ some x → Mover p l event t x
+  mover-facts = mover-is p l event
 
   -- what wakes was asleep
   pub woken-asleep : (t : ℕ) → wakes p to t ≡ true → isAwake (l t .mode) ≡ false

@@ -17,6 +17,7 @@ use Rattle.rules.specs.Event.{EventArguments, destinationOf, installedBy, isMov
 use Rattle.rules.specs.Finish.{finished}
 use Rattle.rules.proofs.Tests.{look, clash, refuted, and-holds}
 use Rattle.rules.proofs.Acceptance.{Accepted}
+use Rattle.rules.proofs.Moves.{move-idle}
 use Rattle.rules.proofs.Scopes.{open-find}
 use Rattle.rules.proofs.Opening.{enter-none}
 use Rattle.rules.proofs.Closing.{closed-steady}
@@ -80,7 +81,7 @@ module _ (p : Plan) (l : Ledger) (e : EventArguments) where
       ]
     where
       beyond : l t ≡ sleeping → move p l e t ≡ none
-      beyond s = unfold move isForward sleeping in rw s
+      beyond s = move-idle p l e t (unfold isForward sleeping in rw s)
 
   module _ (ok : Accepted p) (live : Live p l) (still : (t : ℕ) → move p l e t ≡ none) where
     goes : (t : ℕ) → destinationOf p (move p l e t) ≡ none

@@ -30,7 +30,7 @@ pub record Judged (p : Plan) (l : Ledger) (goes : ℕ → Option ℕ) (n : ℕ) 
 
 -- what the event was given
 abbrev pub argumentsOf : Choice → EventArguments
-argumentsOf r = record { event = r .event; day = r .day }
+argumentsOf r = record { event = r .event; day = r .day; society = r .society }
 
 -- the whole choice
 pub record Chosen (p : Plan) (l : Ledger) (r : Choice) : Type 0 where

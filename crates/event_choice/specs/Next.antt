@@ -27,7 +27,7 @@ unfoldable pub isTaken : Plan → Ledger → EventNumber → TransitionNumber �
 isTaken p l event x t =
     isForward (l t .mode) && not (hasOpenScope p l t) && (eqb (transition p x .source) (l t .state) && eqb (transition p x .event) event)
 
--- the transition that a track takes for an event on any day, windows left aside
+-- the transition that a track takes for an event on any day and for any society, windows and rights left aside
 unfoldable pub anyDayMove : Plan → Ledger → EventNumber → TrackNumber → Option TransitionNumber
 anyDayMove p l event t = cond (isForward (l t .mode) && not (hasOpenScope p l t)) (transitionFor p (l t .state) event) none
 

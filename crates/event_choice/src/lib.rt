@@ -1,8 +1,10 @@
-// What an event will do, read off the ledger before a word is written: the moves, those of its day, the scopes that close, 21 and the figures.
+// What an event will do, read off the ledger before a word is written: the moves, those of its day and its society, the scopes that close, 21 and
+// the figures.
 pub mod closing;
 pub mod indexed;
 pub mod judging;
 pub mod moving;
+pub mod societies;
 pub mod windows;
 
 use rules::Counts;
@@ -21,6 +23,7 @@ ghost use Rattle.event_choice.specs.Chosen.{argumentsOf, Chosen};
 pub struct Choice {
     pub event: u16,
     pub day: i32,
+    pub society: u16,
     pub taken: [u16; 32],
     pub closing: [bool; 32],
     pub moved: u16,
@@ -35,18 +38,21 @@ fn choose_by(
     ledger: &[u16],
     event: u16,
     day: i32,
+    society: u16,
     opens: &[bool; 32],
     taken: &[u16; 32],
 ) -> Choice
     requires { ⌜ Going (now plan) c (now ledger) × Figures false (now opens) (c .tracks) (hasOpenScope (planOf (now plan) c) (ledgerOf c (now ledger)))
-        × Numbers (now taken) (c .tracks) (move (planOf (now plan) c) (ledgerOf c (now ledger)) (record { event = event; day = day })) ⌝ }
-    ensures { λ r. ⌜ Chosen (planOf (now (plan .entry)) c) (ledgerOf c (now (ledger .entry))) r × (argumentsOf r ≡ record { event = event; day = day }) ⌝ }
+        × Numbers (now taken) (c .tracks) (move (planOf (now plan) c) (ledgerOf c (now ledger)) (record { event = event; day = day; society = society })) ⌝ }
+    ensures { λ r. ⌜ Chosen (planOf (now (plan .entry)) c) (ledgerOf c (now (ledger .entry))) r
+        × (argumentsOf r ≡ record { event = event; day = day; society = society }) ⌝ }
 {
     let m = judging::moves(plan, c, ledger, taken);
     if !m.ends {
         return Choice {
             event: event,
             day: day,
+            society: society,
             taken: *taken,
             closing: [false; 32],
             moved: m.moved,
@@ -59,6 +65,7 @@ fn choose_by(
     Choice {
         event: event,
         day: day,
+        society: society,
         taken: *taken,
         closing: closing,
         moved: m.moved,
@@ -74,14 +81,17 @@ pub fn choose(
     ledger: &[u16],
     event: u16,
     day: i32,
+    society: u16,
     opens: &[bool; 32],
 ) -> Choice
     requires { ⌜ Going (now plan) c (now ledger) × Figures false (now opens) (c .tracks) (hasOpenScope (planOf (now plan) c) (ledgerOf c (now ledger))) ⌝ }
-    ensures { λ r. ⌜ Chosen (planOf (now (plan .entry)) c) (ledgerOf c (now (ledger .entry))) r × (argumentsOf r ≡ record { event = event; day = day }) ⌝ }
+    ensures { λ r. ⌜ Chosen (planOf (now (plan .entry)) c) (ledgerOf c (now (ledger .entry))) r
+        × (argumentsOf r ≡ record { event = event; day = day; society = society }) ⌝ }
 {
     let any = moving::taken_by(plan, c, ledger, event, opens);
-    let taken = windows::taken_on(plan, c, day, any);
-    choose_by(plan, c, ledger, event, day, opens, &taken)
+    let all = windows::taken_on(plan, c, day, any);
+    let taken = societies::taken_of(plan, c, society, all);
+    choose_by(plan, c, ledger, event, day, society, opens, &taken)
 }
 
 // The same by an index of the transitions.
@@ -91,15 +101,18 @@ pub fn choose_indexed(
     ledger: &[u16],
     event: u16,
     day: i32,
+    society: u16,
     opens: &[bool; 32],
     head: &[u16; 256],
     next: &[u16; 256],
 ) -> Choice
     requires { ⌜ Going (now plan) c (now ledger) × Figures false (now opens) (c .tracks) (hasOpenScope (planOf (now plan) c) (ledgerOf c (now ledger)))
         × Indexed (now plan) c (now head) (now next) ⌝ }
-    ensures { λ r. ⌜ Chosen (planOf (now (plan .entry)) c) (ledgerOf c (now (ledger .entry))) r × (argumentsOf r ≡ record { event = event; day = day }) ⌝ }
+    ensures { λ r. ⌜ Chosen (planOf (now (plan .entry)) c) (ledgerOf c (now (ledger .entry))) r
+        × (argumentsOf r ≡ record { event = event; day = day; society = society }) ⌝ }
 {
     let any = indexed::taken_from(plan, c, ledger, event, opens, head, next);
-    let taken = windows::taken_on(plan, c, day, any);
-    choose_by(plan, c, ledger, event, day, opens, &taken)
+    let all = windows::taken_on(plan, c, day, any);
+    let taken = societies::taken_of(plan, c, society, all);
+    choose_by(plan, c, ledger, event, day, society, opens, &taken)
 }

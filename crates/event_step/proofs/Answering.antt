@@ -1,4 +1,4 @@
--- From the choice to the call's outcome: 21 or the step where the ledger is going, and before that 19, 26 and 20. Assumes nothing.
+-- From the choice to the call's outcome: 21 or the step where the ledger is going, and before that 19, 26, 20 and 28. Assumes nothing.
 use mathlib.Core.Path.{_≡_, refl, sym, ap, ap₂, _∙_, subst}
 use mathlib.Core.Bool.{Bool, true, false, cond, not}
 use mathlib.Core.List.{List, [], _∷_}
@@ -13,6 +13,7 @@ use Rattle.rules.specs.declared.EventAnswer.the-variants.{Moved, Refused}
 use Rattle.rules.specs.Fold.{countBelow, firstRefusal}
 use Rattle.rules.specs.Layout.{entryLimit}
 use Rattle.rules.specs.Plan.{Plan, planOf, trackCount}
+use Rattle.rules.specs.Rights.{moveRight, holdsSomewhere}
 use Rattle.rules.specs.Leading.{lastDay, dated}
 use Rattle.rules.specs.Ledger.{Ledger, ledgerAt, written}
 use Rattle.rules.specs.Scope.{isOver}
@@ -126,9 +127,14 @@ module _ (p : Plan) (last : Day) (l : Ledger) (e : EventArguments) where
       unfolding earlyRefusal firstRefusal
       early-over z = rw (ne-eqb (e .event) 0 n, sym d ∙ on, sym q ∙ z)
 
-      pub early-none : r ≡ false → 0 ≡ earlyRefusal p last l e
-      unfolding earlyRefusal firstRefusal
-      early-none z = rw (ne-eqb (e .event) 0 n, sym d ∙ on, sym q ∙ z)
+      module _ (going : r ≡ false) {h : Bool} (k : h ≡ holdsSomewhere p moveRight (e .society)) where
+        pub early-lacks : not h ≡ true → 28 ≡ earlyRefusal p last l e
+        unfolding earlyRefusal firstRefusal
+        early-lacks z = rw (ne-eqb (e .event) 0 n, sym d ∙ on, sym q ∙ going, ← k, z)
+
+        pub early-none : not h ≡ false → 0 ≡ earlyRefusal p last l e
+        unfolding earlyRefusal firstRefusal
+        early-none z = rw (ne-eqb (e .event) 0 n, sym d ∙ on, sym q ∙ going, ← k, z)
 
   -- where none applies the day is in range, and the ledger is not over
   pub early-passed : earlyRefusal p last l e ≡ 0 → (isDay (e .day) ≡ true) × (isOver p l ≡ false)
@@ -142,9 +148,10 @@ pub day-asked : (last : Day) {x y : Day} → x ≡ y → {b : Bool} → b ≡ ba
 day-asked last e q = q ∙ ap (badDay last) e
 
 -- an event as it was given, where the machine reads its day back
-pub asked-of : (p : Plan) (last : Day) (l : Ledger) (e : ℕ) {x y : Day} → x ≡ y → {r : ℕ} → r ≡ earlyRefusal p last l (record { event = e; day = x })
-    → r ≡ earlyRefusal p last l (record { event = e; day = y })
-asked-of p last l e q f = f ∙ ap (λ d. earlyRefusal p last l (record { event = e; day = d })) q
+pub asked-of : (p : Plan) (last : Day) (l : Ledger) (e o : ℕ) {x y : Day} → x ≡ y
+    → {r : ℕ} → r ≡ earlyRefusal p last l (record { event = e; day = x; society = o })
+    → r ≡ earlyRefusal p last l (record { event = e; day = y; society = o })
+asked-of p last l e o q f = f ∙ ap (λ d. earlyRefusal p last l (record { event = e; day = d; society = o })) q
 
 -- the choice is of a day in range
 pub choice-day : (r : Choice) {e : EventArguments} → argumentsOf r ≡ e → isDay (e .day) ≡ true → isDay (r .day) ≡ true
@@ -155,12 +162,16 @@ module _ (bs : List ℕ) (c : Counts) (ws : List ℕ) (h : Checked bs c ws) (e :
   abbrev early : ℕ
   early = earlyRefusal (planOf bs c) (lastDay ws) (ledgerOf c ws) e
 
-  three : (a b o : Bool) (n : ℕ) → cond a 19 (cond b 26 (cond o 20 n)) ≡ unlessRefused (cond a 19 (cond b 26 (cond o 20 0))) n
+  four : (a b o h : Bool) (n : ℕ) → cond a 19 (cond b 26 (cond o 20 (cond h 28 n))) ≡ unlessRefused (cond a 19 (cond b 26 (cond o 20 (cond h 28 0)))) n
   unfolding unlessRefused
-  three true b o n = refl
-  three false true o n = refl
-  three false false true n = refl
-  three false false false n = refl
+  four true b o h n = refl
+  four false true o h n = refl
+  four false false true h n = refl
+  four false false false true n = refl
+  four false false false false n = refl
+
+  abbrev lacks : Bool
+  lacks = not (holdsSomewhere (planOf bs c) moveRight (e .society))
 
   abbrev read : Ledger
   read = ledgerAt entryLimit ws (trackCount (planOf bs c))
@@ -177,7 +188,7 @@ module _ (bs : List ℕ) (c : Counts) (ws : List ℕ) (h : Checked bs c ws) (e :
       })
 
   plain : eventOutcome entryLimit bs ws e
-      ≡ answered (cond (eqb (e .event) 0) 19 (cond (badDay (lastDay ws) (e .day)) 26 (cond (isOver (planOf bs c) read) 20 later)))
+      ≡ answered (cond (eqb (e .event) 0) 19 (cond (badDay (lastDay ws) (e .day)) 26 (cond (isOver (planOf bs c) read) 20 (cond lacks 28 later))))
   unfolding eventOutcome callOutcome underPlan callRefusals firstRefusal after datedBy
   plain = rw (h .lent .accepts .read, underPlan, passes-first entryLimit bs (planOf bs c) ws (checked-passes bs c ws h))
 
@@ -190,7 +201,7 @@ module _ (bs : List ℕ) (c : Counts) (ws : List ℕ) (h : Checked bs c ws) (e :
   checked =
       plain
       ∙ ap answered
-      (three (eqb (e .event) 0) (badDay (lastDay ws) (e .day)) (isOver (planOf bs c) read) later ∙ ap (λ n. unlessRefused n later) by-counts)
+      (four (eqb (e .event) 0) (badDay (lastDay ws) (e .day)) (isOver (planOf bs c) read) lacks later ∙ ap (λ n. unlessRefused n later) by-counts)
 
   pub event-refused : (r : ℕ) → r ≡ early → (r ≡ 0 → ⊥) → Meets (eventOutcome entryLimit bs ws e) (eventTold (Refused r)) ws
   unfolding refusedOr eventTold unlessRefused

@@ -1,21 +1,25 @@
 -- What turns an event back before its moves are chosen, and what it answers and leaves after that. Assumes nothing.
+use mathlib.Core.Bool.{not}
 use mathlib.Core.List.{[], _∷_}
 use lib.Dec.{eqb}
 use Rattle.rules.specs.Names.{Words, Refusal, Day}
 use Rattle.rules.specs.Fold.{firstRefusal}
 use Rattle.rules.specs.Layout.{entryLimit}
 use Rattle.rules.specs.Plan.{Plan, trackCount}
+use Rattle.rules.specs.Rights.{moveRight, holdsSomewhere}
 use Rattle.rules.specs.Leading.{dated}
 use Rattle.rules.specs.Ledger.{Ledger, ledgerAt, written}
 use Rattle.rules.specs.Scope.{isOver}
 use Rattle.rules.specs.Event.{EventArguments, isFull, afterEvent}
 use Rattle.rules.specs.Call.{Outcome, event, done, figures, badDay, refusedOr}
 
--- 19, 26 and 20 in this order: the first that applies, 0 where none does. The day is the last accepted one
+-- 19, 26, 20 and 28 in this order: the first that applies, 0 where none does. The day is the last accepted one
 unfoldable pub earlyRefusal : Plan → Day → Ledger → EventArguments → Refusal
-earlyRefusal p day l a = firstRefusal ((19, eqb (a .event) 0) ∷ (26, badDay day (a .day)) ∷ (20, isOver p l) ∷ [])
+earlyRefusal p day l a =
+    firstRefusal
+    ((19, eqb (a .event) 0) ∷ (26, badDay day (a .day)) ∷ (20, isOver p l) ∷ (28, not (holdsSomewhere p moveRight (a .society))) ∷ [])
 
--- An event other than 0 on its day on a ledger that is not over: 21, or the step.
+-- An event that none of them turns back: 21, or the step.
 unfoldable pub goingOutcome : Plan → Words → EventArguments → Outcome
 goingOutcome p ws a =
     refusedOr ws

@@ -5,6 +5,7 @@ use finish::finishing;
 use ledger::leading;
 use lookup::opens;
 use lookup::reading;
+use rights::MOVE;
 use rules::Counts;
 use rules::EventAnswer;
 ghost use mathlib.Core.Path.{_≡_};
@@ -35,11 +36,11 @@ fn is_bad_day(ledger: &[u16], day: i32) -> bool
     day < leading::last_day(ledger)
 }
 
-// The refusal 19, 26 or 20 that turns an event back, the first of them that applies; 0 where none does.
-fn refusal_of(plan: &[u8], c: Counts, ledger: &[u16], event: u16, day: i32) -> u8
+// The refusal 19, 26, 20 or 28 that turns an event back, the first of them that applies; 0 where none does.
+fn refusal_of(plan: &[u8], c: Counts, ledger: &[u16], event: u16, day: i32, society: u16) -> u8
     requires { ⌜ Checked (now plan) c (now ledger) ⌝ }
     ensures { λ r. ⌜ r ≡ earlyRefusal (planOf (now (plan .entry)) c) (lastDay (now (ledger .entry))) (ledgerOf c (now (ledger .entry)))
-        (record { event = event; day = day }) ⌝ }
+        (record { event = event; day = day; society = society }) ⌝ }
 {
     if event == 0 {
         return 19;
@@ -50,10 +51,13 @@ fn refusal_of(plan: &[u8], c: Counts, ledger: &[u16], event: u16, day: i32) -> u
     if reading::is_over(plan, c, ledger) {
         return 20;
     }
+    if !rights::holds_somewhere(plan, c, MOVE, society) {
+        return 28;
+    }
     0
 }
 
-// An event other than 0 on its day on a ledger that is not over, its choice made, given which tracks have an open scope and the first state of
+// An event that none of these turns back, its choice made, given which tracks have an open scope and the first state of
 // each. Where no track moves nothing changes but the day.
 fn go_on(
     plan: &[u8],
@@ -91,6 +95,7 @@ pub fn event(
     ledger: &mut [u16],
     event: u16,
     day: i32,
+    society: u16,
     opens: &[bool; 32],
     firsts: &[u16; 32],
 ) -> EventAnswer
@@ -98,14 +103,14 @@ pub fn event(
         × (isOver (planOf (now plan) c) (ledgerOf c (now ledger)) ≡ false
         → Figures false (now opens) (c .tracks) (hasOpenScope (planOf (now plan) c) (ledgerOf c (now ledger))))
         × Figures 0 (now firsts) (c .tracks) (firstState (planOf (now plan) c)) ⌝ }
-    ensures { λ r. ⌜ Meets (eventOutcome entryLimit (now (plan .entry)) (now (ledger .entry)) (record { event = event; day = day }))
-        (eventTold r) (now (ledger .exit)) ⌝ }
+    ensures { λ r. ⌜ Meets (eventOutcome entryLimit (now (plan .entry)) (now (ledger .entry))
+        (record { event = event; day = day; society = society })) (eventTold r) (now (ledger .exit)) ⌝ }
 {
-    let refusal = refusal_of(plan, c, &ledger[..], event, day);
+    let refusal = refusal_of(plan, c, &ledger[..], event, day, society);
     if refusal != 0 {
         return EventAnswer::Refused(refusal);
     }
-    let choice = event_choice::choose(plan, c, &ledger[..], event, day, opens);
+    let choice = event_choice::choose(plan, c, &ledger[..], event, day, society, opens);
     go_on(plan, c, &mut ledger[..], choice, opens, firsts)
 }
 
@@ -117,20 +122,31 @@ pub fn event_indexed(
     ledger: &mut [u16],
     event: u16,
     day: i32,
+    society: u16,
     firsts: &[u16; 32],
     head: &[u16; 256],
     next: &[u16; 256],
 ) -> EventAnswer
     requires { ⌜ Checked (now plan) c (now ledger) × Figures 0 (now firsts) (c .tracks) (firstState (planOf (now plan) c))
         × Indexed (now plan) c (now head) (now next) ⌝ }
-    ensures { λ r. ⌜ Meets (eventOutcome entryLimit (now (plan .entry)) (now (ledger .entry)) (record { event = event; day = day }))
-        (eventTold r) (now (ledger .exit)) ⌝ }
+    ensures { λ r. ⌜ Meets (eventOutcome entryLimit (now (plan .entry)) (now (ledger .entry))
+        (record { event = event; day = day; society = society })) (eventTold r) (now (ledger .exit)) ⌝ }
 {
-    let refusal = refusal_of(plan, c, &ledger[..], event, day);
+    let refusal = refusal_of(plan, c, &ledger[..], event, day, society);
     if refusal != 0 {
         return EventAnswer::Refused(refusal);
     }
     let opens = opens::open_scopes(plan, c, &ledger[..]);
-    let choice = event_choice::choose_indexed(plan, c, &ledger[..], event, day, &opens, head, next);
+    let choice = event_choice::choose_indexed(
+        plan,
+        c,
+        &ledger[..],
+        event,
+        day,
+        society,
+        &opens,
+        head,
+        next,
+    );
     go_on(plan, c, &mut ledger[..], choice, &opens, firsts)
 }

@@ -16,7 +16,7 @@ ghost use Prim.Native.Nat.{_+_, _*_, _<_};
 ghost use Rattle.rules.specs.Layout.{entryLimit};
 ghost use Rattle.rules.specs.Acceptance.{readPlan};
 ghost use Rattle.rules.specs.Conversion.{dateOfDay, dayOfDate};
-ghost use Rattle.rules.specs.Call.{nothing, beginOutcome, eventOutcome, signalOutcome, fireOutcome, readyOutcome, entriesPart};
+ghost use Rattle.rules.specs.Call.{beginOutcome, eventOutcome, signalOutcome, fireOutcome, readyOutcome, entriesPart};
 ghost use Rattle.plan.specs.Holds.{Holds};
 ghost use Rattle.export.specs.Packed.{bit16, bit32, bit48, packedReading, packed, packedReady, packedPart, packedDate, packedDay, Returns};
 
@@ -93,11 +93,17 @@ pub extern "C" fn retraction_begin(plan: &[u8], ledger: &mut [u16]) -> u64
 }
 
 #[no_mangle]
-pub extern "C" fn retraction_event(plan: &[u8], ledger: &mut [u16], event: u16, day: i32) -> u64
-    ensures { λ r. ⌜ Returns packed (eventOutcome entryLimit (now (plan .entry)) (now (ledger .entry)) (record { event = event; day = day }))
-        r (now (ledger .exit)) ⌝ }
+pub extern "C" fn retraction_event(
+    plan: &[u8],
+    ledger: &mut [u16],
+    event: u16,
+    day: i32,
+    society: u16,
+) -> u64
+    ensures { λ r. ⌜ Returns packed (eventOutcome entryLimit (now (plan .entry)) (now (ledger .entry))
+        (record { event = event; day = day; society = society })) r (now (ledger .exit)) ⌝ }
 {
-    let answer = manager::event(plan, &mut ledger[..], event, day);
+    let answer = manager::event(plan, &mut ledger[..], event, day, society);
     match answer {
         EventAnswer::Refused(n) => at_bit0(n),
         EventAnswer::Moved(moved, closed) => pair(moved, closed),
@@ -105,10 +111,11 @@ pub extern "C" fn retraction_event(plan: &[u8], ledger: &mut [u16], event: u16, 
 }
 
 #[no_mangle]
-pub extern "C" fn retraction_signal(plan: &[u8], ledger: &mut [u16]) -> u64
-    ensures { λ r. ⌜ Returns packed (signalOutcome entryLimit (now (plan .entry)) (now (ledger .entry)) nothing) r (now (ledger .exit)) ⌝ }
+pub extern "C" fn retraction_signal(plan: &[u8], ledger: &mut [u16], society: u16) -> u64
+    ensures { λ r. ⌜ Returns packed (signalOutcome entryLimit (now (plan .entry)) (now (ledger .entry)) (record { society = society }))
+        r (now (ledger .exit)) ⌝ }
 {
-    let answer = manager::signal(plan, &mut ledger[..]);
+    let answer = manager::signal(plan, &mut ledger[..], society);
     match answer {
         SignalAnswer::Refused(n) => at_bit0(n),
         SignalAnswer::Turned(turned) => at_bit16(turned),
@@ -116,10 +123,11 @@ pub extern "C" fn retraction_signal(plan: &[u8], ledger: &mut [u16]) -> u64
 }
 
 #[no_mangle]
-pub extern "C" fn retraction_fire(plan: &[u8], ledger: &mut [u16], track: u16) -> u64
-    ensures { λ r. ⌜ Returns packed (fireOutcome entryLimit (now (plan .entry)) (now (ledger .entry)) (record { track = track })) r (now (ledger .exit)) ⌝ }
+pub extern "C" fn retraction_fire(plan: &[u8], ledger: &mut [u16], track: u16, society: u16) -> u64
+    ensures { λ r. ⌜ Returns packed (fireOutcome entryLimit (now (plan .entry)) (now (ledger .entry))
+        (record { track = track; society = society })) r (now (ledger .exit)) ⌝ }
 {
-    let answer = manager::fire(plan, &mut ledger[..], track);
+    let answer = manager::fire(plan, &mut ledger[..], track, society);
     match answer {
         FireAnswer::Refused(n) => at_bit0(n),
         FireAnswer::Fired(code, deviation) => pair(code, deviation),

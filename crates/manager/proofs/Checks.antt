@@ -25,7 +25,7 @@ use Rattle.rules.specs.Call.{Answer, refusal, done, Outcome, Call, refusedOr, t
 use Rattle.plan.proofs.FieldLaws.{track-count}
 use Rattle.ledger.specs.Ladder.{Accepts, Lent, Checked, ledgerOf}
 use Rattle.plan_reader.proofs.Reader.{accepted-holds}
-use Rattle.rules.proofs.Tests.{look, and-holds, passed, if-refused}
+use Rattle.rules.proofs.Tests.{look, passed, if-refused}
 use Rattle.rules.proofs.Soundness.{sound-words}
 use Rattle.rules.proofs.LedgerChecks.{Passes, unless-none, checked-first, passes-none, none-passes, short-refused, other-refused, unsound-refused}
 use Rattle.lookup.specs.Figures.{Figures}
@@ -225,6 +225,7 @@ opens-found bs ws {c} {d} {opens} e f =
     subst (λ k. isOver (planOf bs k) (ledgerOf k ws) ≡ false → Figures false opens (k .tracks) (hasOpenScope (planOf bs k) (ledgerOf k ws))) q f
 
 -- an event's day as it was given
-pub on-day : (bs ws : List ℕ) (e : ℕ) {x y : ℤ} → x ≡ y → {a : Answer} {vs : List ℕ}
-    → Meets (eventOutcome entryLimit bs ws (record { event = e; day = x })) a vs → Meets (eventOutcome entryLimit bs ws (record { event = e; day = y })) a vs
-on-day bs ws e q {a} {vs} m = subst (λ d. Meets (eventOutcome entryLimit bs ws (record { event = e; day = d })) a vs) q m
+pub on-day : (bs ws : List ℕ) (e o : ℕ) {x y : ℤ} → x ≡ y → {a : Answer} {vs : List ℕ}
+    → Meets (eventOutcome entryLimit bs ws (record { event = e; day = x; society = o })) a vs
+    → Meets (eventOutcome entryLimit bs ws (record { event = e; day = y; society = o })) a vs
+on-day bs ws e o q {a} {vs} m = subst (λ d. Meets (eventOutcome entryLimit bs ws (record { event = e; day = d; society = o })) a vs) q m

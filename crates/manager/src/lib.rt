@@ -16,7 +16,7 @@ use rules::SignalAnswer;
 ghost use mathlib.Core.Path.{_≡_};
 ghost use Prim.Native.Nat.{_<_};
 ghost use Rattle.rules.specs.Layout.{entryLimit};
-ghost use Rattle.rules.specs.Call.{nothing, beginOutcome, eventOutcome, signalOutcome, fireOutcome, readyOutcome, HandsBack, Meets};
+ghost use Rattle.rules.specs.Call.{beginOutcome, eventOutcome, signalOutcome, fireOutcome, readyOutcome, HandsBack, Meets};
 ghost use Rattle.rules.specs.Answers.{beginTold, eventTold, signalTold, fireTold, readyTold};
 ghost use Rattle.manager.specs.Checked.{Span};
 
@@ -35,11 +35,11 @@ pub fn begin(plan: &[u8], ledger: &mut [u16]) -> BeginAnswer
     }
 }
 
-// Moves each forward track without an open scope that has a transition for the event on that day, then closes, replaces, and finishes where
-// that is due. The day is kept as the last accepted one. Answers how many tracks moved and how many scopes closed.
-pub fn event(plan: &[u8], ledger: &mut [u16], event: u16, day: i32) -> EventAnswer
-    ensures { λ r. ⌜ Meets (eventOutcome entryLimit (now (plan .entry)) (now (ledger .entry)) (record { event = event; day = day }))
-        (eventTold r) (now (ledger .exit)) ⌝ }
+// Moves each forward track without an open scope that the society may move and that has a transition for the event on that day, then closes,
+// replaces, and finishes where that is due. The day is kept as the last accepted one. Answers how many tracks moved and how many scopes closed.
+pub fn event(plan: &[u8], ledger: &mut [u16], event: u16, day: i32, society: u16) -> EventAnswer
+    ensures { λ r. ⌜ Meets (eventOutcome entryLimit (now (plan .entry)) (now (ledger .entry))
+        (record { event = event; day = day; society = society })) (eventTold r) (now (ledger .exit)) ⌝ }
 {
     let mut opens = [false; 32];
     let mut firsts: [u16; 32] = [0; 32];
@@ -47,29 +47,40 @@ pub fn event(plan: &[u8], ledger: &mut [u16], event: u16, day: i32) -> EventAnsw
     match answer {
         PlanAnswer::Refused(n) => EventAnswer::Refused(n),
         PlanAnswer::Accepted(c) => {
-            event_step::event::event(plan, c, &mut ledger[..], event, day, &opens, &firsts)
+            event_step::event::event(
+                plan,
+                c,
+                &mut ledger[..],
+                event,
+                day,
+                society,
+                &opens,
+                &firsts,
+            )
         }
     }
 }
 
-// Turns every forward track to undoing, puts to sleep the scopes that then have nothing to take back, and finishes where that is due.
-// Answers how many turned.
-pub fn signal(plan: &[u8], ledger: &mut [u16]) -> SignalAnswer
-    ensures { λ r. ⌜ Meets (signalOutcome entryLimit (now (plan .entry)) (now (ledger .entry)) nothing) (signalTold r) (now (ledger .exit)) ⌝ }
+// Turns every forward track that the society may turn to undoing, puts to sleep the scopes that then have nothing to take back, and finishes
+// where that is due. Answers how many turned.
+pub fn signal(plan: &[u8], ledger: &mut [u16], society: u16) -> SignalAnswer
+    ensures { λ r. ⌜ Meets (signalOutcome entryLimit (now (plan .entry)) (now (ledger .entry)) (record { society = society }))
+        (signalTold r) (now (ledger .exit)) ⌝ }
 {
     let mut opens = [false; 32];
     let mut firsts: [u16; 32] = [0; 32];
     let answer = verify::verify(plan, &ledger[..], &mut opens, &mut firsts);
     match answer {
         PlanAnswer::Refused(n) => SignalAnswer::Refused(n),
-        PlanAnswer::Accepted(c) => withdrawal::signal::signal(plan, c, &mut ledger[..]),
+        PlanAnswer::Accepted(c) => withdrawal::signal::signal(plan, c, &mut ledger[..], society),
     }
 }
 
-// Fires a named track: its newest entry is removed, a deviation is entered, scopes with nothing left are put to sleep, and it finishes where
-// that is due. Answers the code and the deviation.
-pub fn fire(plan: &[u8], ledger: &mut [u16], track: u16) -> FireAnswer
-    ensures { λ r. ⌜ Meets (fireOutcome entryLimit (now (plan .entry)) (now (ledger .entry)) (record { track = track })) (fireTold r) (now (ledger .exit)) ⌝ }
+// Fires a named track that the society may fire: its newest entry is removed, a deviation is entered, scopes with nothing left are put to sleep,
+// and it finishes where that is due. Answers the code and the deviation.
+pub fn fire(plan: &[u8], ledger: &mut [u16], track: u16, society: u16) -> FireAnswer
+    ensures { λ r. ⌜ Meets (fireOutcome entryLimit (now (plan .entry)) (now (ledger .entry))
+        (record { track = track; society = society })) (fireTold r) (now (ledger .exit)) ⌝ }
 {
     let mut opens = [false; 32];
     let mut firsts: [u16; 32] = [0; 32];
@@ -77,7 +88,7 @@ pub fn fire(plan: &[u8], ledger: &mut [u16], track: u16) -> FireAnswer
     match answer {
         PlanAnswer::Refused(n) => FireAnswer::Refused(n),
         PlanAnswer::Accepted(c) => {
-            withdrawal::fire::fire(plan, c, &mut ledger[..], track, &opens, &firsts)
+            withdrawal::fire::fire(plan, c, &mut ledger[..], track, society, &opens, &firsts)
         }
     }
 }

@@ -1,5 +1,5 @@
-// The checks that a call makes first: 2 to 16 and 25, 17, 24 and 18. What they find beside their answer is lent out, so that no step works it out again: the
-// first state of each track of an accepted plan, and who has an open scope in a ledger that is not over.
+// The checks that a call makes first: 2 to 16, 25, 27, 17, 24 and 18. What they find beside their answer is lent out, so that no step works it out
+// again: the first state of each track of an accepted plan, and who has an open scope in a ledger that is not over.
 use ledger::layout;
 use ledger::leading;
 use rules::PlanAnswer;
@@ -8,7 +8,7 @@ ghost use mathlib.Core.Path.{_≡_};
 ghost use Rattle.rules.specs.Answers.{planTold};
 ghost use Rattle.manager.specs.Checked.{lent, checked, FirstsFound, ScopesFound};
 
-// 2 to 16, 25 and 17: the plan is accepted, and the ledger has room for its tracks.
+// 2 to 16, 25, 27 and 17: the plan is accepted, and the ledger has room for its tracks.
 pub fn read_lent(plan: &[u8], ledger: &[u16], firsts: &mut [u16; 32]) -> PlanAnswer
     ensures { λ r. ⌜ (planTold r ≡ lent (now (plan .entry)) (now (ledger .entry))) × FirstsFound (now (plan .entry)) (now (firsts .exit)) ⌝ }
 {

@@ -8,19 +8,20 @@ use Prim.Native.Nat.{ℕ, suc, _+_, _*_, _-_, _<_, _≤_}
 use native.Mathlib.Omega.{arith}
 use lib.Dec.{eqb, ltb}
 use lib.ListN.{length, getD}
-use borrow.Author.Tests.{eqb-true, eqb-false, eq-eqb, le-ltb, not-true, not-false}
+use borrow.Author.Tests.{eqb-true, eqb-false, eq-eqb, lt-ltb, le-ltb, not-true, not-false}
 use Rattle.rules.specs.declared.Counts.{Counts}
 use Rattle.rules.specs.declared.Track.{Track}
 use Rattle.rules.specs.Fold.{firstRefusal}
 use Rattle.rules.specs.Layout.{entryLimit, headWords, entryWidth, trackPlace, entriesPlace}
 use Rattle.rules.specs.Plan.{Plan, planOf, trackCount, host}
+use Rattle.rules.specs.Rights.{fireRight, isPermitted}
 use Rattle.rules.specs.Ledger.{Entry, Configuration, Ledger, isAwake, sleeping, entryAt, heldAt, configurationAt, ledgerAt, written}
 use Rattle.rules.specs.Scope.{isOver}
 use Rattle.rules.specs.Opening.{wakes, enter}
 use Rattle.rules.specs.Finish.{finished}
 use Rattle.rules.specs.Signal.{abandoned}
 use Rattle.rules.specs.Fire.{newest, older, mayFire, removed, deviatesTo, fired, afterFire}
-use Rattle.rules.specs.Call.{refusal, done, fire, callRefusal, callRefusals, figures, after, datedBy, fireOutcome, Meets}
+use Rattle.rules.specs.Call.{refusal, done, FireArguments, fire, lacksFireRight, callRefusal, callRefusals, figures, after, datedBy, fireOutcome, Meets}
 use Rattle.rules.proofs.Tests.{look, look-option, clash}
 use Rattle.rules.proofs.Acceptance.{Accepted}
 use Rattle.rules.proofs.Opening.{wakes-root, enter-kept}
@@ -106,35 +107,56 @@ module _ (p : Plan) (l : Ledger) (t : ℕ) where
       rootless : (u : ℕ) → n ≤ u → host p u ≡ none
       rootless u h = elim (look-option (host p u)) [ inl e ↦ e | inr e ↦ let k = ok .hosted u (e .0) (e .1) in absurd (omega arith) ]
 
--- What the code found when it goes on to fire a track.
-pub record Fireable (bs : List ℕ) (c : Counts) (ws : List ℕ) (t : ℕ) : Type 0 where
+-- What the code found when it goes on to fire a track for a society.
+pub record Fireable (bs : List ℕ) (c : Counts) (ws : List ℕ) (t society : ℕ) : Type 0 where
   pub checked : Checked bs c ws
   pub not-over : isOver (planOf bs c) (ledgerOf c ws) ≡ false
+  pub by-right : lacksFireRight (planOf bs c) (record { track = t; society = society }) ≡ false
   pub may : mayFire (planOf bs c) (ledgerOf c ws) t ≡ true
 
--- the two refusals, and what holds after them
+-- the three refusals, and what holds after them
 module _ {bs : List ℕ} {c : Counts} {ws : List ℕ} (g : Checked bs c ws) {r : Bool} (e : r ≡ isOver (planOf bs c) (ledgerOf c ws)) where
-  pub fire-over : (t : ℕ) → r ≡ true → Meets (fireOutcome entryLimit bs ws (record { track = t })) (refusal 20) ws
-  unfolding fireOutcome callRefusal callRefusals firstRefusal
-  fire-over t h =
-      let o : isOver (planOf bs c) (ledgerOf c ws) ≡ true = sym e ∙ h in
-      refused-call bs c ws g (fire (record { track = t })) 19 (rw o)
-
   pub going-on : r ≡ false → isOver (planOf bs c) (ledgerOf c ws) ≡ false
   going-on h = sym e ∙ h
 
-  module _ (h : r ≡ false) (t : ℕ) {q : Bool} (f : q ≡ mayFire (planOf bs c) (ledgerOf c ws) t) where
-    pub fire-not : not q ≡ true → Meets (fireOutcome entryLimit bs ws (record { track = t })) (refusal 22) ws
-    unfolding fireOutcome callRefusal callRefusals firstRefusal
-    fire-not n =
-        let m : mayFire (planOf bs c) (ledgerOf c ws) t ≡ false = sym f ∙ not-true q n in
-        refused-call bs c ws g (fire (record { track = t })) 21 (rw (going-on h, m))
+  module _ (t society : ℕ) where
+    abbrev asked : FireArguments
+    asked = record { track = t; society = society }
 
-    pub fireable : not q ≡ false → Fireable bs c ws t
-    fireable n = record { checked = g; not-over = going-on h; may = sym f ∙ not-false q n }
+    pub fire-over : r ≡ true → Meets (fireOutcome entryLimit bs ws asked) (refusal 20) ws
+    unfolding fireOutcome callRefusal callRefusals firstRefusal
+    fire-over h =
+        let o : isOver (planOf bs c) (ledgerOf c ws) ≡ true = sym e ∙ h in
+        refused-call bs c ws g (fire asked) 19 (rw o)
+
+    module _ (h : r ≡ false) {k : Bool} (l : k ≡ lacksFireRight (planOf bs c) asked) where
+      pub fire-lacks : k ≡ true → Meets (fireOutcome entryLimit bs ws asked) (refusal 28) ws
+      unfolding fireOutcome callRefusal callRefusals firstRefusal
+      fire-lacks n = refused-call bs c ws g (fire asked) 27 (rw (going-on h, sym l ∙ n))
+
+      module _ (i : k ≡ false) {q : Bool} (f : q ≡ mayFire (planOf bs c) (ledgerOf c ws) t) where
+        pub fire-not : not q ≡ true → Meets (fireOutcome entryLimit bs ws asked) (refusal 22) ws
+        unfolding fireOutcome callRefusal callRefusals firstRefusal
+        fire-not n =
+            let m : mayFire (planOf bs c) (ledgerOf c ws) t ≡ false = sym f ∙ not-true q n in
+            refused-call bs c ws g (fire asked) 21 (rw (going-on h, sym l ∙ i, m))
+
+        pub fireable : not q ≡ false → Fireable bs c ws t society
+        fireable n = record { checked = g; not-over = going-on h; by-right = sym l ∙ i; may = sym f ∙ not-false q n }
+
+-- 28, as the code asks it: of a track beyond the plan's it is not asked
+module _ (bs : List ℕ) (c : Counts) (t society : ℕ) where
+  pub lacks-beyond : c .tracks ≤ t → false ≡ lacksFireRight (planOf bs c) (record { track = t; society = society })
+  unfolding lacksFireRight
+  lacks-beyond h = sym (rw (le-ltb t (trackCount (planOf bs c)) (omega (arith, h, track-count bs c))))
+
+  pub lacks-at : t < c .tracks → {b : Bool} → b ≡ isPermitted (planOf bs c) fireRight society t
+      → not b ≡ lacksFireRight (planOf bs c) (record { track = t; society = society })
+  unfolding lacksFireRight
+  lacks-at h e = sym (rw (lt-ltb t (trackCount (planOf bs c)) (omega (arith, h, track-count bs c)), ← e))
 
 -- A firing step by step: vs are the words with the entry removed, us those with the deviation entered.
-module _ {bs : List ℕ} {c : Counts} {ws : List ℕ} {t : ℕ} (a : Fireable bs c ws t) where
+module _ {bs : List ℕ} {c : Counts} {ws : List ℕ} {t society : ℕ} (a : Fireable bs c ws t society) where
   abbrev p : Plan
   p = planOf bs c
 
@@ -238,8 +260,8 @@ module _ {bs : List ℕ} {c : Counts} {ws : List ℕ} {t : ℕ} (a : Fireable bs
 
       pub fire-done : {code : ℕ} → code ≡ newest (l t .held) .code → {xs : List ℕ}
           → xs ≡ written entryLimit (c .tracks) (finished p (abandoned p (ledgerOf c us))) us
-          → Meets (fireOutcome entryLimit bs ws (record { track = t })) (done (code ∷ dev ∷ [])) xs
+          → Meets (fireOutcome entryLimit bs ws (record { track = t; society = society })) (done (code ∷ dev ∷ [])) xs
       unfolding fireOutcome callRefusal callRefusals firstRefusal figures after datedBy afterFire
       fire-done k h =
-          done-call bs c ws (a .checked) (fire (record { track = t })) (rw (a .not-over, a .may)) (rw (k, e))
+          done-call bs c ws (a .checked) (fire (record { track = t; society = society })) (rw (a .not-over, a .by-right, a .may)) (rw (k, e))
           (then c ws in-order (fired p l t) stored-fired fired-words (λ m. finished p (abandoned p m)) h)

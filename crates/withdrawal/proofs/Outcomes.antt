@@ -1,20 +1,22 @@
 -- What a call answers once the checks of plan and ledger are passed: the first of its own refusals, or its figures and the ledger after it.
 -- Assumes nothing.
 use mathlib.Core.Path.{_≡_, sym, ap, _∙_, subst}
-use mathlib.Core.Bool.{true, false}
+use mathlib.Core.Bool.{Bool, true, false, not, _&&_}
 use mathlib.Core.List.{List, [], _∷_, _++_}
 use Prim.Native.Nat.{ℕ, suc}
 use Rattle.rules.specs.declared.Counts.{Counts}
 use Rattle.rules.specs.Fold.{countBelow, firstRefusal}
 use Rattle.rules.specs.Plan.{Plan, trackCount, planOf}
 use Rattle.rules.specs.Layout.{entryLimit}
+use Rattle.rules.specs.Rights.{signalRight, isPermitted, holdsSomewhere}
 use Rattle.rules.specs.Leading.{lastDay}
 use Rattle.rules.specs.Ledger.{Ledger, isForward, ledgerAt, written}
 use Rattle.rules.specs.Scope.{isOver}
 use Rattle.rules.specs.Finish.{finished}
 use Rattle.rules.specs.Signal.{turned, turnings, abandoned, afterSignal}
-use Rattle.rules.specs.Call.{refusal, done, Outcome, nothing, Call, signal, refusedOr, underPlan, ledgerRefusals, callRefusals, callRefusal, figures, after, datedBy, callOutcome, signalOutcome, Meets}
+use Rattle.rules.specs.Call.{refusal, done, Outcome, SignalArguments, Call, signal, refusedOr, underPlan, ledgerRefusals, callRefusals, callRefusal, figures, after, datedBy, callOutcome, signalOutcome, Meets}
 use Rattle.rules.proofs.LedgerChecks.{passes-first}
+use Rattle.rules.proofs.Stored.{Storable}
 use Rattle.plan.proofs.FieldLaws.{track-count}
 use Rattle.ledger.specs.Ladder.{Tidy, Checked, Going, ledgerOf}
 use Rattle.lookup.proofs.Facts.{checked-passes, tidy-words, live-of-going}
@@ -69,29 +71,42 @@ module _ (bs : List ℕ) (c : Counts) (ws : List ℕ) (g : Checked bs c ws) wher
       let e = outcome k ∙ ap (answered k (c .tracks)) q in
       record { answered = ap done f ∙ sym (ap (λ (x : Outcome). x .answer) e); left = w ∙ sym (ap (λ (x : Outcome). x .words) e) }
 
-  -- A signal: over, or turned.
-  pub signal-over : isOver p (ledgerOf c ws) ≡ true → Meets (signalOutcome entryLimit bs ws nothing) (refusal 20) ws
-  unfolding signalOutcome callRefusal callRefusals firstRefusal
-  signal-over o = refused-call (signal nothing) 19 (rw o)
+  -- A signal: over, by a society that may turn no track, or turned.
+  module _ (society : ℕ) where
+    abbrev asked : SignalArguments
+    asked = record { society = society }
 
-  pub turned-orderly : {vs : List ℕ} → vs ≡ written entryLimit (c .tracks) (turned (ledgerOf c ws)) ws → Tidy vs (c .tracks)
-  turned-orderly d =
-      orderly-after c ws orderly (turned (ledgerOf c ws)) (storable-turned entryLimit (c .tracks) (ledgerOf c ws) (holds c ws orderly)) d
+    abbrev turnedAll : Ledger
+    turnedAll = turned p society (ledgerOf c ws)
 
-  pub turned-nested : isOver p (ledgerOf c ws) ≡ false → {vs : List ℕ} → vs ≡ written entryLimit (c .tracks) (turned (ledgerOf c ws)) ws
-      → Nested p (ledgerOf c vs)
-  turned-nested n d =
-      subst (Nested p)
-      (sym (read-back c ws orderly (turned (ledgerOf c ws)) (storable-turned entryLimit (c .tracks) (ledgerOf c ws) (holds c ws orderly)) d))
-      (nested-turned p (ledgerOf c ws) (live-of-going bs c ws (going n)))
+    stored : Storable entryLimit (c .tracks) turnedAll
+    stored = storable-turned entryLimit (c .tracks) p society (ledgerOf c ws) (holds c ws orderly)
 
-  pub signal-done : {n : ℕ} {vs us : List ℕ} → isOver p (ledgerOf c ws) ≡ false
-      → n ≡ countBelow (c .tracks) (λ t. isForward (ledgerOf c ws t .mode)) → vs ≡ written entryLimit (c .tracks) (turned (ledgerOf c ws)) ws
-      → us ≡ written entryLimit (c .tracks) (finished p (abandoned p (ledgerOf c vs))) vs
-      → Meets (signalOutcome entryLimit bs ws nothing) (done (n ∷ [])) us
-  unfolding signalOutcome callRefusal callRefusals firstRefusal figures after datedBy turnings afterSignal
-  signal-done o f v w =
-      let l : Ledger = ledgerOf c ws in
-      done-call (signal nothing) (rw o)
-      (ap (λ (n : ℕ). n ∷ []) (f ∙ ap (λ (m : ℕ). countBelow m (λ t. isForward (l t .mode))) (sym (track-count bs c))))
-      (then c ws orderly (turned l) (storable-turned entryLimit (c .tracks) l (holds c ws orderly)) v (λ m. finished p (abandoned p m)) w)
+    pub signal-over : isOver p (ledgerOf c ws) ≡ true → Meets (signalOutcome entryLimit bs ws asked) (refusal 20) ws
+    unfolding signalOutcome callRefusal callRefusals firstRefusal
+    signal-over o = refused-call (signal asked) 19 (rw o)
+
+    pub signal-lacks : isOver p (ledgerOf c ws) ≡ false → {h : Bool} → h ≡ holdsSomewhere p signalRight society → not h ≡ true
+        → Meets (signalOutcome entryLimit bs ws asked) (refusal 28) ws
+    unfolding signalOutcome callRefusal callRefusals firstRefusal
+    signal-lacks o k n = refused-call (signal asked) 27 (rw (o, ← k, n))
+
+    pub turned-orderly : {vs : List ℕ} → vs ≡ written entryLimit (c .tracks) turnedAll ws → Tidy vs (c .tracks)
+    turned-orderly d = orderly-after c ws orderly turnedAll stored d
+
+    pub turned-nested : isOver p (ledgerOf c ws) ≡ false → {vs : List ℕ} → vs ≡ written entryLimit (c .tracks) turnedAll ws → Nested p (ledgerOf c vs)
+    turned-nested n d =
+        subst (Nested p) (sym (read-back c ws orderly turnedAll stored d)) (nested-turned p (ledgerOf c ws) (live-of-going bs c ws (going n)) society)
+
+    pub signal-done : {n : ℕ} {vs us : List ℕ} → isOver p (ledgerOf c ws) ≡ false → {h : Bool} → h ≡ holdsSomewhere p signalRight society → not h ≡ false
+        → n ≡ countBelow (c .tracks) (λ t. isPermitted p signalRight society t && isForward (ledgerOf c ws t .mode))
+        → vs ≡ written entryLimit (c .tracks) turnedAll ws
+        → us ≡ written entryLimit (c .tracks) (finished p (abandoned p (ledgerOf c vs))) vs
+        → Meets (signalOutcome entryLimit bs ws asked) (done (n ∷ [])) us
+    unfolding signalOutcome callRefusal callRefusals firstRefusal figures after datedBy turnings afterSignal
+    signal-done o k q f v w =
+        let l : Ledger = ledgerOf c ws in
+        done-call (signal asked) (rw (o, ← k, q))
+        (ap (λ (n : ℕ). n ∷ [])
+        (f ∙ ap (λ (m : ℕ). countBelow m (λ t. isPermitted p signalRight society t && isForward (l t .mode))) (sym (track-count bs c))))
+        (then c ws orderly turnedAll stored v (λ m. finished p (abandoned p m)) w)

@@ -3,12 +3,13 @@
 -- Assumes nothing.
 use mathlib.Core.Path.{_≡_, sym, ap, _∙_, subst}
 use mathlib.Core.Logic.{_⊎_, inl, inr, ⊎-elim}
-use mathlib.Core.Bool.{true, false}
+use mathlib.Core.Bool.{Bool, true, false}
 use mathlib.Core.Option.{Option, none, some}
 use Prim.Native.Nat.{ℕ}
 use lib.Dec.{eqb}
 use borrow.Author.Tests.{eqb-true, eqb-false}
 use Rattle.rules.specs.Plan.{Plan, host, owner, firstState, isHostedBy}
+use Rattle.rules.specs.Rights.{signalRight, isPermitted}
 use Rattle.rules.specs.Ledger.{Configuration, Ledger, isAwake}
 use Rattle.rules.specs.Opening.{fresh, wakes}
 use Rattle.rules.specs.Signal.{turned}
@@ -24,15 +25,16 @@ use Rattle.withdrawal.proofs.SignalLaws.{turned-awake, turned-state}
 use Rattle.withdrawal.proofs.FireLaws.{Fires, to-other, removed-other, woken-asleep}
 
 module _ (p : Plan) (l : Ledger) (live : Live p l) where
-  pub nested-turned : Nested p (turned l)
+  pub nested-turned : (society : ℕ) → Nested p (turned p society l)
   unfolding turned
-  nested-turned =
+  nested-turned society =
+      let may : ℕ → Bool = isPermitted p signalRight society in
       record {
-        whole = λ s t u e f a. turned-awake (l u) ∙ live .whole s t u e f (sym (turned-awake (l t)) ∙ a);
+        whole = λ s t u e f a. turned-awake (may u) (l u) ∙ live .whole s t u e f (sym (turned-awake (may t) (l t)) ∙ a);
         hosting = λ t h e a.
-            let b = sym (turned-awake (l t)) ∙ a in
+            let b = sym (turned-awake (may t) (l t)) ∙ a in
             let (s, m) = live .up t h e b in
-            (turned-state (l (owner p h)) ∙ s, turned-awake (l (owner p h)) ∙ ap isAwake m ∙ b);
+            (turned-state (may (owner p h)) (l (owner p h)) ∙ s, turned-awake (may (owner p h)) (l (owner p h)) ∙ ap isAwake m ∙ b);
       }
 
   module _ (ok : Accepted p) (t : ℕ) (may : Fires p l t) where

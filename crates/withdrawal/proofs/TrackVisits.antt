@@ -1,8 +1,8 @@
 -- One track's visit in a pass, as the code takes it: each branch is a case of the definition. Assumes nothing.
-use mathlib.Core.Path.{_≡_, sym, ap, _∙_}
-use mathlib.Core.Bool.{Bool, true, false, cond, not}
+use mathlib.Core.Path.{_≡_, refl, sym, ap, _∙_}
+use mathlib.Core.Bool.{Bool, true, false, cond, not, _&&_}
 use mathlib.Core.List.{List}
-use Prim.Native.Nat.{ℕ, _+_, _<_, _≤_}
+use Prim.Native.Nat.{ℕ, _+_, _≤_}
 use native.Mathlib.Omega.{arith}
 use lib.ListN.{length}
 use borrow.Author.Tests.{not-true, not-false}
@@ -11,7 +11,9 @@ use Rattle.rules.specs.declared.Mode.the-variants.{Undoing}
 use Rattle.rules.specs.declared.Track.{Track}
 use Rattle.rules.specs.Fold.{countBelow}
 use Rattle.rules.specs.Layout.{entryLimit}
-use Rattle.rules.specs.Ledger.{Configuration, isForward, written}
+use Rattle.rules.specs.Plan.{Plan}
+use Rattle.rules.specs.Rights.{signalRight, isPermitted}
+use Rattle.rules.specs.Ledger.{Configuration, Ledger, isForward, written}
 use Rattle.rules.specs.Signal.{turnedTrack, turned}
 use Rattle.rules.proofs.Folds.{count-more}
 use Rattle.rules.proofs.Passes.{upTo}
@@ -20,6 +22,7 @@ use Rattle.ledger.specs.Words.{trackOf}
 use Rattle.lookup.specs.OneTrack.{withConfiguration, withMode}
 use Rattle.lookup.proofs.OneTrackLaws.{holds, kept-track, Fitting, pass-start, pass-orderly, pass-length, pass-old, pass-more, pass-end}
 use Rattle.lookup.proofs.OneTrackLaws.{Stores, stores-at}
+use Rattle.withdrawal.specs.Turning.{turnedIf}
 use Rattle.withdrawal.proofs.Storing.{stores-turned}
 
 module _ (c : Counts) (ws : List ℕ) (o : Tidy ws (c .tracks)) (t : ℕ) where
@@ -44,46 +47,65 @@ module _ (c : Counts) (ws : List ℕ) (o : Tidy ws (c .tracks)) (t : ℕ) where
         let s : k .state ≡ ledgerOf c ws t .state = ap (λ (x : Track). x .state) e in
         (rw a, d ∙ ap (λ (z : ℕ). withConfiguration c ws t (record { mode = Undoing; state = z; held = ledgerOf c ws t .held })) s ∙ (rw a))
 
+  -- one that may not be turned, and one that may
+  pub turn-barred : (may : Bool) → not may ≡ true
+      → (_≡_ {A = ℕ} 0 (cond (may && isForward (ledgerOf c ws t .mode)) 1 0)) × (ws ≡ withConfiguration c ws t (turnedIf may (ledgerOf c ws t)))
+  turn-barred may n = rw (not-true may n) (refl, kept-track c ws o t (ledgerOf c ws t) refl)
+
+  pub turn-may : (may : Bool) → not may ≡ false → {n : ℕ} {vs : List ℕ}
+      → (n ≡ cond (isForward (ledgerOf c ws t .mode)) 1 0) × (vs ≡ withConfiguration c ws t (turnedTrack (ledgerOf c ws t)))
+      → (n ≡ cond (may && isForward (ledgerOf c ws t .mode)) 1 0) × (vs ≡ withConfiguration c ws t (turnedIf may (ledgerOf c ws t)))
+  turn-may may n h = rw (not-false may n) h
+
 -- one track turns at most once
 pub one-most : (b : Bool) → cond b 1 0 ≤ 1
 one-most true = omega arith
 one-most false = omega arith
 
 -- the passes write what the words can hold
-module _ (c : Counts) (ws : List ℕ) (o : Tidy ws (c .tracks)) where
-  pub turning-fits : Fitting c ws o (λ t x. turnedTrack x)
+module _ (p : Plan) (society : ℕ) (c : Counts) (ws : List ℕ) (o : Tidy ws (c .tracks)) where
+  abbrev may : ℕ → Bool
+  may = isPermitted p signalRight society
+
+  abbrev l : Ledger
+  l = ledgerOf c ws
+
+  abbrev turns : ℕ → Bool
+  turns t = may t && isForward (l t .mode)
+
+  pub turning-fits : Fitting c ws o (λ t x. turnedIf (may t) x)
   turning-fits =
-      let s : (t : ℕ) → Stores entryLimit (turnedTrack (ledgerOf c ws t)) = λ t. stores-turned entryLimit (c .tracks) (ledgerOf c ws t) (stores-at entryLimit (c .tracks) (ledgerOf c ws) (holds c ws o) t) in
+      let s : (t : ℕ) → Stores entryLimit (turnedIf (may t) (l t)) = λ t. stores-turned entryLimit (c .tracks) (may t) (l t) (stores-at entryLimit (c .tracks) l (holds c ws o) t) in
       record { fits = λ t b. s t .fits; blank = λ t b. s t .blank }
 
-  pub turning-start : ws ≡ written entryLimit (c .tracks) (upTo (turned (ledgerOf c ws)) (ledgerOf c ws) 0) ws
+  pub turning-start : ws ≡ written entryLimit (c .tracks) (upTo (turned p society l) l 0) ws
   unfolding turned
-  turning-start = pass-start c ws o (λ t x. turnedTrack x)
+  turning-start = pass-start c ws o (λ t x. turnedIf (may t) x)
 
-  module _ (i : ℕ) (b : i ≤ c .tracks) {vs : List ℕ} (e : vs ≡ written entryLimit (c .tracks) (upTo (turned (ledgerOf c ws)) (ledgerOf c ws) i) ws) where
+  module _ (i : ℕ) (b : i ≤ c .tracks) {vs : List ℕ} (e : vs ≡ written entryLimit (c .tracks) (upTo (turned p society l) l i) ws) where
     pub turning-orderly : Tidy vs (c .tracks)
     unfolding turned
-    turning-orderly = pass-orderly c ws o (λ t x. turnedTrack x) turning-fits i b e
+    turning-orderly = pass-orderly c ws o (λ t x. turnedIf (may t) x) turning-fits i b e
 
     pub turning-length : length vs ≡ length ws
     unfolding turned
-    turning-length = pass-length c ws o (λ t x. turnedTrack x) turning-fits i b e
+    turning-length = pass-length c ws o (λ t x. turnedIf (may t) x) turning-fits i b e
 
-    pub turning-old : ledgerOf c vs i ≡ ledgerOf c ws i
+    pub turning-old : ledgerOf c vs i ≡ l i
     unfolding turned
-    turning-old = pass-old c ws o (λ t x. turnedTrack x) turning-fits i b e i (omega arith)
+    turning-old = pass-old c ws o (λ t x. turnedIf (may t) x) turning-fits i b e i (omega arith)
 
-    pub turning-more : {us : List ℕ} → us ≡ withConfiguration c vs i (turnedTrack (ledgerOf c vs i))
-        → us ≡ written entryLimit (c .tracks) (upTo (turned (ledgerOf c ws)) (ledgerOf c ws) (i + 1)) ws
+    pub turning-more : {q : Bool} → q ≡ may i → {us : List ℕ} → us ≡ withConfiguration c vs i (turnedIf q (ledgerOf c vs i))
+        → us ≡ written entryLimit (c .tracks) (upTo (turned p society l) l (i + 1)) ws
     unfolding turned
-    turning-more d = pass-more c ws o (λ t x. turnedTrack x) turning-fits i b e d
+    turning-more q d =
+        pass-more c ws o (λ t x. turnedIf (may t) x) turning-fits i b e (d ∙ ap (λ k. withConfiguration c vs i (turnedIf k (ledgerOf c vs i))) q)
 
-    pub turning-end : c .tracks ≤ i → vs ≡ written entryLimit (c .tracks) (turned (ledgerOf c ws)) ws
+    pub turning-end : c .tracks ≤ i → vs ≡ written entryLimit (c .tracks) (turned p society l) ws
     unfolding turned
-    turning-end h = pass-end c ws o (λ t x. turnedTrack x) turning-fits i b e h
+    turning-end h = pass-end c ws o (λ t x. turnedIf (may t) x) turning-fits i b e h
 
   -- one more track counted
-  pub turn-count : (t : ℕ) {n r : ℕ} {x : Configuration} → x ≡ ledgerOf c ws t → n ≡ countBelow t (λ t. isForward (ledgerOf c ws t .mode))
-      → r ≡ cond (isForward (x .mode)) 1 0 → n + r ≡ countBelow (t + 1) (λ t. isForward (ledgerOf c ws t .mode))
-  turn-count t {n} {r} {x} e f g =
-      rw (f, g, e) (sym (count-more t (λ t. isForward (ledgerOf c ws t .mode))))
+  pub turn-count : (t : ℕ) {q : Bool} → q ≡ may t → {n r : ℕ} {x : Configuration} → x ≡ l t → n ≡ countBelow t turns
+      → r ≡ cond (q && isForward (x .mode)) 1 0 → n + r ≡ countBelow (t + 1) turns
+  turn-count t {q} k {n} {r} {x} e f g = rw (f, g, e, k) (sym (count-more t turns))

@@ -6,6 +6,7 @@ use lookup::reading;
 use lookup::ready;
 use opening::entering;
 use plan::fields::NO_STATE;
+use rights::FIRE;
 use rules::Counts;
 use rules::FireAnswer;
 ghost use mathlib.Core.Path.{_≡_};
@@ -17,7 +18,7 @@ ghost use Rattle.rules.specs.Ledger.{written};
 ghost use Rattle.rules.specs.Scope.{hasOpenScope, isOver};
 ghost use Rattle.rules.specs.Opening.{enter};
 ghost use Rattle.rules.specs.Fire.{mayFire};
-ghost use Rattle.rules.specs.Call.{fireOutcome, Meets};
+ghost use Rattle.rules.specs.Call.{lacksFireRight, fireOutcome, Meets};
 ghost use Rattle.rules.specs.Answers.{fireTold};
 ghost use Rattle.ledger.specs.Ladder.{Tidy, Accepts, Lent, Checked, ledgerOf};
 ghost use Rattle.lookup.specs.Figures.{Figures};
@@ -33,6 +34,18 @@ fn may_fire(plan: &[u8], c: Counts, ledger: &[u16], opens: &[bool; 32], t: usize
         return false;
     }
     ready::is_ready(plan, c, ledger, opens, t)
+}
+
+// 28: whether a track that exists may not be fired by a society.
+fn lacks_right(plan: &[u8], c: Counts, track: u16, society: u16) -> bool
+    requires { ⌜ Accepts (now plan) c ⌝ }
+    ensures { λ r. ⌜ r ≡ lacksFireRight (planOf (now (plan .entry)) c) (record { track = track; society = society }) ⌝ }
+{
+    if c.tracks <= track as usize {
+        return false;
+    }
+    let may = rights::permitted(plan, c, FIRE, society);
+    !may[track as usize]
 }
 
 // A track goes forward in a state, 65535 for none, and the scopes that it enters open, given the first state of each track.
@@ -51,12 +64,14 @@ fn deviate(plan: &[u8], c: Counts, ledger: &mut [u16], firsts: &[u16; 32], t: us
 }
 
 // A firing on a checked plan and ledger, given the first state of each track and, unless it is over, which have an open scope: the code
-// and the deviation of the entry fired, 20 where the ledger is over, or 22 where the track may not be fired or does not exist.
+// and the deviation of the entry fired, 20 where the ledger is over, 28 where the society has no right to it, or 22 where the track may not be
+// fired or does not exist.
 pub fn fire(
     plan: &[u8],
     c: Counts,
     ledger: &mut [u16],
     track: u16,
+    society: u16,
     opens: &[bool; 32],
     firsts: &[u16; 32],
 ) -> FireAnswer
@@ -64,10 +79,14 @@ pub fn fire(
         × (isOver (planOf (now plan) c) (ledgerOf c (now ledger)) ≡ false
         → Figures false (now opens) (c .tracks) (hasOpenScope (planOf (now plan) c) (ledgerOf c (now ledger))))
         × Figures 0 (now firsts) (c .tracks) (firstState (planOf (now plan) c)) ⌝ }
-    ensures { λ r. ⌜ Meets (fireOutcome entryLimit (now (plan .entry)) (now (ledger .entry)) (record { track = track })) (fireTold r) (now (ledger .exit)) ⌝ }
+    ensures { λ r. ⌜ Meets (fireOutcome entryLimit (now (plan .entry)) (now (ledger .entry))
+        (record { track = track; society = society })) (fireTold r) (now (ledger .exit)) ⌝ }
 {
     if reading::is_over(plan, c, &ledger[..]) {
         return FireAnswer::Refused(20);
+    }
+    if lacks_right(plan, c, track, society) {
+        return FireAnswer::Refused(28);
     }
     let t = track as usize;
     if !may_fire(plan, c, &ledger[..], opens, t) {

@@ -1,30 +1,38 @@
-// A signal: every forward track turns to undoing, then abandoning, then finish.
+// A signal: every forward track that its society may turn is undoing then; abandoning follows, then finish.
 use crate::abandoning;
 use finish::finishing;
 use ledger::track;
 use lookup::reading;
 use opening::writing;
+use rights::SIGNAL;
 use rules::Counts;
 use rules::Mode;
 use rules::SignalAnswer;
 ghost use mathlib.Core.Path.{_≡_};
-ghost use mathlib.Core.Bool.{cond};
+ghost use mathlib.Core.Bool.{false, cond, _&&_};
 ghost use Prim.Native.Nat.{_<_};
 ghost use Rattle.rules.specs.Fold.{countBelow};
 ghost use Rattle.rules.specs.Layout.{entryLimit};
 ghost use Rattle.rules.specs.Ledger.{isForward, written};
-ghost use Rattle.rules.specs.Signal.{turnedTrack, turned};
-ghost use Rattle.rules.specs.Call.{nothing, signalOutcome, Meets};
+ghost use Rattle.rules.specs.Plan.{planOf};
+ghost use Rattle.rules.specs.Rights.{signalRight, isPermitted};
+ghost use Rattle.rules.specs.Signal.{turned};
+ghost use Rattle.rules.specs.Call.{signalOutcome, Meets};
 ghost use Rattle.rules.specs.Answers.{signalTold};
 ghost use Rattle.ledger.specs.Ladder.{Tidy, Checked, ledgerOf};
+ghost use Rattle.lookup.specs.Figures.{Figures};
 ghost use Rattle.lookup.specs.OneTrack.{withConfiguration};
+ghost use Rattle.withdrawal.specs.Turning.{turnedIf};
 
-// Turns a track if it is forward, and tells how many turned: 1 or 0.
-fn turn_track(c: Counts, ledger: &mut [u16], t: usize) -> u16
+// Turns a track if it may be turned and is forward, and tells how many turned: 1 or 0.
+fn turn_track(c: Counts, ledger: &mut [u16], may: bool, t: usize) -> u16
     requires { ⌜ Tidy (now ledger) (c .tracks) × (t < c .tracks) ⌝ }
-    ensures { λ r. ⌜ (r ≡ cond (isForward (ledgerOf c (now (ledger .entry)) t .mode)) 1 0)
-        × (now (ledger .exit) ≡ withConfiguration c (now (ledger .entry)) t (turnedTrack (ledgerOf c (now (ledger .entry)) t))) ⌝ }
+    ensures { λ r. ⌜ (r ≡ cond (may && isForward (ledgerOf c (now (ledger .entry)) t .mode)) 1 0)
+        × (now (ledger .exit) ≡ withConfiguration c (now (ledger .entry)) t (turnedIf may (ledgerOf c (now (ledger .entry)) t))) ⌝ }
 {
+    if !may {
+        return 0;
+    }
     let k = reading::track(c, &ledger[..], t);
     let m = k.mode;
     if !track::is_forward(m) {
@@ -34,32 +42,39 @@ fn turn_track(c: Counts, ledger: &mut [u16], t: usize) -> u16
     1
 }
 
-// Turns every forward track, and tells how many turned.
-fn turn_all(c: Counts, ledger: &mut [u16]) -> u16
-    requires { ⌜ Tidy (now ledger) (c .tracks) ⌝ }
-    ensures { λ r. ⌜ (r ≡ countBelow (c .tracks) (λ t. isForward (ledgerOf c (now (ledger .entry)) t .mode)))
-        × (now (ledger .exit) ≡ written entryLimit (c .tracks) (turned (ledgerOf c (now (ledger .entry)))) (now (ledger .entry))) ⌝ }
+// Turns every forward track that is permitted, and tells how many turned.
+fn turn_all(plan: &[u8], c: Counts, ledger: &mut [u16], may: &[bool; 32], society: u16) -> u16
+    requires { ⌜ Tidy (now ledger) (c .tracks) × Figures false (now may) (c .tracks) (isPermitted (planOf (now plan) c) signalRight society) ⌝ }
+    ensures { λ r. ⌜ (r ≡ countBelow (c .tracks)
+        (λ t. isPermitted (planOf (now (plan .entry)) c) signalRight society t && isForward (ledgerOf c (now (ledger .entry)) t .mode)))
+        × (now (ledger .exit)
+        ≡ written entryLimit (c .tracks) (turned (planOf (now (plan .entry)) c) society (ledgerOf c (now (ledger .entry)))) (now (ledger .entry))) ⌝ }
 {
     let tracks = c.tracks;
     let mut count: u16 = 0;
     let mut t: usize = 0;
     while t < tracks {
-        let one = turn_track(c, &mut ledger[..], t);
+        let one = turn_track(c, &mut ledger[..], may[t], t);
         count += one;
         t += 1;
     }
     count
 }
 
-// A signal on a checked plan and ledger: how many tracks turned, or 20 where the ledger is over.
-pub fn signal(plan: &[u8], c: Counts, ledger: &mut [u16]) -> SignalAnswer
+// A signal on a checked plan and ledger: how many tracks turned, 20 where the ledger is over, or 28 where the society may turn none.
+pub fn signal(plan: &[u8], c: Counts, ledger: &mut [u16], society: u16) -> SignalAnswer
     requires { ⌜ Checked (now plan) c (now ledger) ⌝ }
-    ensures { λ r. ⌜ Meets (signalOutcome entryLimit (now (plan .entry)) (now (ledger .entry)) nothing) (signalTold r) (now (ledger .exit)) ⌝ }
+    ensures { λ r. ⌜ Meets (signalOutcome entryLimit (now (plan .entry)) (now (ledger .entry)) (record { society = society }))
+        (signalTold r) (now (ledger .exit)) ⌝ }
 {
     if reading::is_over(plan, c, &ledger[..]) {
         return SignalAnswer::Refused(20);
     }
-    let count = turn_all(c, &mut ledger[..]);
+    if !rights::holds_somewhere(plan, c, SIGNAL, society) {
+        return SignalAnswer::Refused(28);
+    }
+    let may = rights::permitted(plan, c, SIGNAL, society);
+    let count = turn_all(plan, c, &mut ledger[..], &may, society);
     let left = abandoning::abandon(plan, c, &mut ledger[..]);
     finishing::finish(plan, c, &mut ledger[..], &left);
     SignalAnswer::Turned(count)

@@ -1,4 +1,4 @@
--- What is taken on any day, what is left of it on this one, and the choice. Assumes nothing.
+-- What is taken on any day, what is left of it on this one and for this society, and the choice. Assumes nothing.
 use mathlib.Core.Path.{_∙_}
 use Rattle.signed.proofs.Integers.{read-back}
 use Rattle.event_choice.proofs.DayMoves.{any-range, day-moves}
@@ -12,15 +12,18 @@ taken-on-requires c κs =
     let m = c .taken-from .ensures in
     (c .before .before .before .pre .0 .checked .lent .accepts, any-range _ _ _ _ m, m .size)
 
+taken-of-requires : tie.Need-taken-of-requires
+taken-of-requires c κs = (c .before .before .before .before .pre .0 .checked .lent .accepts, c .taken-on .ensures .size)
+
 choose-by-requires : tie.Need-choose-by-requires
 choose-by-requires c κs =
-    let p = c .before .before .before .before .before .pre in
-    (p .0, p .1, day-moves _ _ _ _ (c .before .before .taken-from .ensures) (c .before .taken-on .ensures))
+    let p = c .before .before .before .before .before .before .pre in
+    (p .0, p .1, day-moves _ _ _ _ (c .before .before .before .taken-from .ensures) (c .before .before .taken-on .ensures) (c .before .taken-of .ensures))
 
 returns : tie.Need-returns
 returns c =
     let r = c .choose-by .ensures in
-    (r .0, r .1 ∙ same-arguments _ (read-back _ (c .before .before .before .before .before .before .fits .day .sfits)))
+    (r .0, r .1 ∙ same-arguments _ _ (read-back _ (c .before .before .before .before .before .before .before .fits .day .sfits)))
 
 pub choose-indexed-spec : {M : Type 1} → statement M
-choose-indexed-spec = tie.close (tie.spec (λ c κs. search needs) taken-on-requires choose-by-requires returns)
+choose-indexed-spec = tie.close (tie.spec (λ c κs. search needs) taken-on-requires taken-of-requires choose-by-requires returns)

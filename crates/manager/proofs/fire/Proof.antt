@@ -17,7 +17,7 @@ fire-requires c κs =
 
 returns : tie.Need-returns
 unfolding planTold fireTold fireOutcome
-returns c = meets _ _ _ _ (call-refused _ _ (fire (record { track = _ })) _ (sym (ap planTold (c .before .answer .given .1)) ∙ c .before .before .before .verify .ensures .0)) refl
+returns c = meets _ _ _ _ (call-refused _ _ (fire (record { track = _; society = _ })) _ (sym (ap planTold (c .before .answer .given .1)) ∙ c .before .before .before .verify .ensures .0)) refl
 
 pub fire-spec : {M : Type 1} → statement M
 fire-spec =

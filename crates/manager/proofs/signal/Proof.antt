@@ -1,6 +1,6 @@
 -- By the checks: their refusal, or the step's own promise. Assumes nothing.
 use mathlib.Core.Path.{sym, ap, _∙_, refl}
-use Rattle.rules.specs.Call.{signal, nothing, signalOutcome}
+use Rattle.rules.specs.Call.{signal, signalOutcome}
 use Rattle.rules.specs.Answers.{planTold, signalTold}
 use Rattle.manager.proofs.Checks.{meets, call-refused, call-checked}
 use borrow.Author.Needs.{needs}
@@ -13,7 +13,7 @@ signal-requires c κs = call-checked _ _ _ (sym (ap planTold (c .before .before 
 
 returns : tie.Need-returns
 unfolding planTold signalTold signalOutcome
-returns c = meets _ _ _ _ (call-refused _ _ (signal nothing) _ (sym (ap planTold (c .before .answer .given .1)) ∙ c .before .before .before .verify .ensures .0)) refl
+returns c = meets _ _ _ _ (call-refused _ _ (signal (record { society = _ })) _ (sym (ap planTold (c .before .answer .given .1)) ∙ c .before .before .before .verify .ensures .0)) refl
 
 pub signal-spec : {M : Type 1} → statement M
 signal-spec =

@@ -8,7 +8,7 @@ use Rattle.event_step.proofs.event.event.Statement.{statement}
 use Rattle.event_step.proofs.event.event.Tie as tie
 
 returns : tie.Need-returns
-returns c = event-refused _ _ _ (c .before .before .before .before .before .pre .0) _ _ (asked-of _ _ _ (c .before .before .before .before .before .args .event) (read-back _ (c .before .before .before .before .before .fits .day .sfits)) (c .before .refusal-of .ensures)) (c .if1 .taken)
+returns c = event-refused _ _ _ (c .before .before .before .before .before .pre .0) _ _ (asked-of _ _ _ (c .before .before .before .before .before .args .event) (c .before .before .before .before .before .args .society) (read-back _ (c .before .before .before .before .before .fits .day .sfits)) (c .before .refusal-of .ensures)) (c .if1 .taken)
 
 choose-requires : tie.Need-choose-requires
 choose-requires c κs =
@@ -26,8 +26,8 @@ go-on-requires c κs =
 
 returns-2 : tie.Need-returns-2
 returns-2 c =
-    event-going _ _ _ (c .before .before .before .before .before .before .before .before .before .before .before .pre .0) _ (sym (asked-of _ _ _ (c .before .before .before .before .before .before .before .before .before .before .before .args .event) (read-back _ (c .before .before .before .before .before .before .before .before .before .before .before .fits .day .sfits)) (c .before .before .before .before .before .before .before .refusal-of .ensures)) ∙ c .before .before .before .before .before .before .if1 .left) _ _ _
-    (c .before .before .before .before .choose .ensures .1 ∙ same-arguments (c .before .before .before .before .before .before .before .before .before .before .before .args .event) (read-back _ (c .before .before .before .before .before .before .before .before .before .before .before .fits .day .sfits))) (c .before .before .go-on .ensures)
+    event-going _ _ _ (c .before .before .before .before .before .before .before .before .before .before .before .pre .0) _ (sym (asked-of _ _ _ (c .before .before .before .before .before .before .before .before .before .before .before .args .event) (c .before .before .before .before .before .before .before .before .before .before .before .args .society) (read-back _ (c .before .before .before .before .before .before .before .before .before .before .before .fits .day .sfits)) (c .before .before .before .before .before .before .before .refusal-of .ensures)) ∙ c .before .before .before .before .before .before .if1 .left) _ _ _
+    (c .before .before .before .before .choose .ensures .1 ∙ same-arguments (c .before .before .before .before .before .before .before .before .before .before .before .args .event) (c .before .before .before .before .before .before .before .before .before .before .before .args .society) (read-back _ (c .before .before .before .before .before .before .before .before .before .before .before .fits .day .sfits))) (c .before .before .go-on .ensures)
 
 pub event-spec : {M : Type 1} → statement M
 event-spec =

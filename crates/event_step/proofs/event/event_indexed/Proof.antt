@@ -8,7 +8,7 @@ use Rattle.event_step.proofs.event.event_indexed.Statement.{statement}
 use Rattle.event_step.proofs.event.event_indexed.Tie as tie
 
 returns : tie.Need-returns
-returns c = event-refused _ _ _ (c .before .before .before .before .before .pre .0) _ _ (asked-of _ _ _ (c .before .before .before .before .before .args .event) (read-back _ (c .before .before .before .before .before .fits .day .sfits)) (c .before .refusal-of .ensures)) (c .if1 .taken)
+returns c = event-refused _ _ _ (c .before .before .before .before .before .pre .0) _ _ (asked-of _ _ _ (c .before .before .before .before .before .args .event) (c .before .before .before .before .before .args .society) (read-back _ (c .before .before .before .before .before .fits .day .sfits)) (c .before .refusal-of .ensures)) (c .if1 .taken)
 
 choose-indexed-requires : tie.Need-choose-indexed-requires
 choose-indexed-requires c κs =
@@ -24,8 +24,8 @@ go-on-requires c κs =
 
 returns-2 : tie.Need-returns-2
 returns-2 c =
-    event-going _ _ _ (c .before .before .before .before .before .before .before .before .before .before .before .before .before .before .before .pre .0) _ (sym (asked-of _ _ _ (c .before .before .before .before .before .before .before .before .before .before .before .before .before .before .before .args .event) (read-back _ (c .before .before .before .before .before .before .before .before .before .before .before .before .before .before .before .fits .day .sfits)) (c .before .before .before .before .before .before .before .before .before .before .before .refusal-of .ensures)) ∙ c .before .before .before .before .before .before .before .before .before .before .if1 .left) _ _ _
-    (c .before .before .before .before .before .choose-indexed .ensures .1 ∙ same-arguments (c .before .before .before .before .before .before .before .before .before .before .before .before .before .before .before .args .event) (read-back _ (c .before .before .before .before .before .before .before .before .before .before .before .before .before .before .before .fits .day .sfits))) (c .before .before .go-on .ensures)
+    event-going _ _ _ (c .before .before .before .before .before .before .before .before .before .before .before .before .before .before .before .pre .0) _ (sym (asked-of _ _ _ (c .before .before .before .before .before .before .before .before .before .before .before .before .before .before .before .args .event) (c .before .before .before .before .before .before .before .before .before .before .before .before .before .before .before .args .society) (read-back _ (c .before .before .before .before .before .before .before .before .before .before .before .before .before .before .before .fits .day .sfits)) (c .before .before .before .before .before .before .before .before .before .before .before .refusal-of .ensures)) ∙ c .before .before .before .before .before .before .before .before .before .before .if1 .left) _ _ _
+    (c .before .before .before .before .before .choose-indexed .ensures .1 ∙ same-arguments (c .before .before .before .before .before .before .before .before .before .before .before .before .before .before .before .args .event) (c .before .before .before .before .before .before .before .before .before .before .before .before .before .before .before .args .society) (read-back _ (c .before .before .before .before .before .before .before .before .before .before .before .before .before .before .before .fits .day .sfits))) (c .before .before .go-on .ensures)
 
 pub event-indexed-spec : {M : Type 1} → statement M
 event-indexed-spec =
