@@ -11,7 +11,7 @@ use lib.IntN.{ℤ}
 use lib.ListN.{length, List·getD-eq-default}
 use borrow.Author.Tests.{le-leb, lt-leb, lt-ltb, le-ltb, eq-eqb, ne-eqb, leb-true, leb-false, ltb-false, eqb-true, eqb-false, not-false}
 use Rattle.rules.specs.Record.{word, dayAt, sizeAt, kindAt}
-use Rattle.rules.specs.Journal.{Item, ended, broken, journalLength, isBroken, recordOf, itemAt}
+use Rattle.rules.specs.Journal.{Item, ended, broken, journalLength, societyAt, isBroken, recordOf, itemAt}
 use Rattle.rules.proofs.Tests.{look, or-fails}
 use Rattle.journal.specs.Records.{sizeOf}
 
@@ -20,8 +20,31 @@ unfolding journalLength
 length-none k a b c d =
     elim (look (ltb k 17)) [
       | inl e ↦ rw e
-      | inr e ↦ let l : 17 ≤ k = ltb-false k 17 e in rw e (List·getD-eq-default (4 ∷ 6 ∷ 4 ∷ 10 ∷ []) 0 {n = k - 17} (omega arith))
+      | inr e ↦ let l : 17 ≤ k = ltb-false k 17 e in rw e (List·getD-eq-default (6 ∷ 8 ∷ 6 ∷ 12 ∷ []) 0 {n = k - 17} (omega arith))
     ]
+
+-- a kind that there is: an event's, a signal's, a firing's or else that of the lowest one
+module _ (k : ℕ) (known : journalLength k ≡ 0 → ⊥) where
+  pub lowest-kind : (k ≡ 20 → ⊥) → (k ≡ 17 → ⊥) → (k ≡ 18 → ⊥) → k ≡ 19
+  lowest-kind a b c = elim (look (eqb k 19)) [ inl e ↦ eqb-true k 19 e | inr e ↦ absurd (known (length-none k b c (eqb-false k 19 e) a)) ]
+
+  -- every record has a first field
+  pub first-field : 6 ≤ journalLength k
+  unfolding journalLength
+  first-field =
+      elim (look (eqb k 20)) [
+        | inl e ↦ let z : journalLength k ≡ 12 = rw (eqb-true k 20 e) in omega arith
+        | inr a ↦
+            elim (look (eqb k 17)) [
+              | inl e ↦ let z : journalLength k ≡ 6 = rw (eqb-true k 17 e) in omega arith
+              | inr b ↦
+                  elim (look (eqb k 18)) [
+                    | inl e ↦ let z : journalLength k ≡ 8 = rw (eqb-true k 18 e) in omega arith
+                    | inr d ↦
+                        let z : journalLength k ≡ 6 = rw (lowest-kind (eqb-false k 20 a) (eqb-false k 17 b) (eqb-false k 18 d)) in omega arith
+                  ]
+            ]
+      ]
 
 module _ (js : List ℕ) (at : ℕ) where
   pub at-end : length js ≤ at → itemAt js at ≡ ended
@@ -32,7 +55,7 @@ module _ (js : List ℕ) (at : ℕ) where
   unfolding itemAt
   at-broken h e = rw (lt-leb (length js) at h, e)
 
-  at-whole : at < length js → isBroken js at ≡ false → itemAt js at ≡ recordOf (kindAt js at) (word js (at + 4)) (dayAt js (at + 6))
+  at-whole : at < length js → isBroken js at ≡ false → itemAt js at ≡ recordOf (kindAt js at) (word js (at + 4)) (dayAt js (at + 6)) (societyAt js at (kindAt js at))
   unfolding itemAt
   at-whole h e = rw (lt-leb (length js) at h, e)
 
@@ -59,16 +82,16 @@ module _ (js : List ℕ) (at : ℕ) where
       pub cut : s ≡ n → length js - at < n → itemAt js at ≡ broken
       cut e l = at-broken (omega arith) (sym tests ∙ rw (fits, ne-eqb n 0 known, eq-eqb s n e, lt-ltb (length js) (at + s) (omega arith)))
 
-      pub whole : s ≡ n → n ≤ length js - at → itemAt js at ≡ recordOf k (word js (at + 4)) (dayAt js (at + 6))
+      pub whole : s ≡ n → n ≤ length js - at → itemAt js at ≡ recordOf k (word js (at + 4)) (dayAt js (at + 6)) (societyAt js at k)
       unfolding kindAt
       whole e l =
           at-whole (omega arith) (sym tests ∙ rw (fits, ne-eqb n 0 known, eq-eqb s n e, le-ltb (length js) (at + s) (omega arith)))
-          ∙ ap (λ (x : ℕ). recordOf x (word js (at + 4)) (dayAt js (at + 6))) (sym kind)
+          ∙ ap (λ (x : ℕ). recordOf x (word js (at + 4)) (dayAt js (at + 6)) (societyAt js at x)) (sym kind)
 
 -- what stands whole at a place has the size that it tells, and ends within the bytes
-size-of-kind : (k field : ℕ) (day : ℤ) → (journalLength k ≡ 0 → ⊥) → sizeOf (recordOf k field day) ≡ journalLength k
+size-of-kind : (k field : ℕ) (day : ℤ) (society : ℕ) → (journalLength k ≡ 0 → ⊥) → sizeOf (recordOf k field day society) ≡ journalLength k
 unfolding journalLength recordOf
-size-of-kind k field day h =
+size-of-kind k field day society h =
     elim (look (eqb k 20)) [
       | inl a ↦ rw (eqb-true k 20 a)
       | inr a ↦
@@ -100,13 +123,13 @@ module _ (js : List ℕ) (at : ℕ) where
   abbrev size : ℕ
   size = sizeAt js at
 
-  unbroken : isBroken js at ≡ false → Stands js at (recordOf kind (word js (at + 4)) (dayAt js (at + 6)))
+  unbroken : isBroken js at ≡ false → Stands js at (recordOf kind (word js (at + 4)) (dayAt js (at + 6)) (societyAt js at kind))
   unfolding isBroken
   unbroken e =
       let (p, d) = or-fails (ltb (length js) (at + 4) || eqb (journalLength kind) 0 || not (eqb size (journalLength kind))) (ltb (length js) (at + size)) e in
       let (q, c) = or-fails (ltb (length js) (at + 4) || eqb (journalLength kind) 0) (not (eqb size (journalLength kind))) p in
       let (a, b) = or-fails (ltb (length js) (at + 4)) (eqb (journalLength kind) 0) q in
-      let s : sizeOf (recordOf kind (word js (at + 4)) (dayAt js (at + 6))) ≡ journalLength kind = size-of-kind kind (word js (at + 4)) (dayAt js (at + 6)) (eqb-false (journalLength kind) 0 b) in
+      let s = size-of-kind kind (word js (at + 4)) (dayAt js (at + 6)) (societyAt js at kind) (eqb-false (journalLength kind) 0 b) in
       let t : size ≡ journalLength kind = eqb-true size (journalLength kind) (not-false _ c) in
       let u : at + size ≤ length js = ltb-false (length js) (at + size) d in
       record { size = s ∙ sym t; within = omega arith }

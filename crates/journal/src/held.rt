@@ -1,15 +1,21 @@
-// What the text tells of a ledger: the entries that it holds, and the lowest track that may be fired.
+// What the text tells of a ledger: the entries that it holds, and the lowest track that may be fired and that a society may fire.
 use lookup::opens;
 use lookup::reading;
 use lookup::ready;
+use rights::FIRE;
 use rules::Counts;
 ghost use mathlib.Core.Path.{_≡_};
+ghost use mathlib.Core.Bool.{false, _&&_};
+ghost use Prim.Native.Nat.{_<_};
 ghost use lib.ListN.{length};
 ghost use Rattle.rules.specs.Fold.{sumBelow};
 ghost use Rattle.rules.specs.Plan.{planOf};
+ghost use Rattle.rules.specs.Scope.{hasOpenScope};
+ghost use Rattle.rules.specs.Fire.{mayFire};
 ghost use Rattle.rules.specs.Journal.{fireLowestCall};
 ghost use Rattle.rules.specs.Call.{fire};
 ghost use Rattle.ledger.specs.Ladder.{Room, Lent, ledgerOf};
+ghost use Rattle.lookup.specs.Figures.{Figures};
 
 // The entries that all tracks hold.
 pub fn held_total(c: Counts, ledger: &[u16]) -> u32
@@ -27,16 +33,36 @@ pub fn held_total(c: Counts, ledger: &[u16]) -> u32
     sum
 }
 
-// The lowest track that may be fired, or a number that no track has.
-pub fn lowest_ready(plan: &[u8], c: Counts, ledger: &[u16]) -> u16
+// Whether a track may be fired, given whether the society may fire it and which tracks have an open scope.
+fn is_ready_for(
+    plan: &[u8],
+    c: Counts,
+    ledger: &[u16],
+    opens: &[bool; 32],
+    may: bool,
+    t: usize,
+) -> bool
+    requires { ⌜ Lent (now plan) c (now ledger) × (t < c .tracks)
+        × Figures false (now opens) (c .tracks) (hasOpenScope (planOf (now plan) c) (ledgerOf c (now ledger))) ⌝ }
+    ensures { λ r. ⌜ r ≡ (may && mayFire (planOf (now (plan .entry)) c) (ledgerOf c (now (ledger .entry))) t) ⌝ }
+{
+    if !may {
+        return false;
+    }
+    ready::is_ready(plan, c, ledger, opens, t)
+}
+
+// The lowest track that may be fired and that the society may fire, or a number that no track has.
+pub fn lowest_ready(plan: &[u8], c: Counts, ledger: &[u16], society: u16) -> u16
     requires { ⌜ Lent (now plan) c (now ledger) ⌝ }
-    ensures { λ r. ⌜ fire (record { track = r }) ≡ fireLowestCall (planOf (now (plan .entry)) c) (ledgerOf c (now (ledger .entry))) ⌝ }
+    ensures { λ r. ⌜ fire (record { track = r; society = society }) ≡ fireLowestCall (planOf (now (plan .entry)) c) (ledgerOf c (now (ledger .entry))) society ⌝ }
 {
     let opens = opens::open_scopes(plan, c, ledger);
+    let may = rights::permitted(plan, c, FIRE, society);
     let tracks = c.tracks;
     let mut t: usize = 0;
     while t < tracks {
-        if ready::is_ready(plan, c, ledger, &opens, t) {
+        if is_ready_for(plan, c, ledger, &opens, may[t], t) {
             return t as u16;
         }
         t += 1;

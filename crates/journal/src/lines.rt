@@ -11,11 +11,11 @@ use rules::SignalAnswer;
 ghost use mathlib.Core.List.{[], _∷_, _++_};
 ghost use Prim.Native.Nat.{_+_, _<_, _≤_};
 ghost use lib.ListN.{length};
-ghost use Rattle.rules.specs.Names.{Day};
+ghost use Rattle.rules.specs.Names.{Society, Day};
 ghost use Rattle.rules.specs.Text.{ascii, decimal, line};
 ghost use Rattle.rules.specs.Transcript.{refusalLine, planLine, tallyLine, deviationText, callLine, doneLine};
 ghost use Rattle.rules.specs.Answers.{eventTold, signalTold, fireTold};
-ghost use Rattle.rules.specs.Call.{event, signal, fire, nothing};
+ghost use Rattle.rules.specs.Call.{event, signal, fire};
 ghost use Rattle.journal.specs.Writing.{lineRoom, Wrote, Lined};
 
 pub const LINE_ROOM: usize = 24;
@@ -96,7 +96,7 @@ pub fn refusal_line(out: &mut [u8], at: usize, number: u8) -> usize
 // `F` track code deviation.
 fn fired_line(out: &mut [u8], at: usize, track: u16, code: u16, deviation: u16) -> usize
     requires { ⌜ at + lineRoom ≤ length (now out) ⌝ }
-    ensures { λ r. ⌜ Lined (now (out .entry)) at (doneLine (fire (record { track = track })) (code ∷ deviation ∷ [])) (now (out .exit)) r ⌝ }
+    ensures { λ r. ⌜ Lined (now (out .entry)) at (doneLine (fire (record { track = track; society = 0 })) (code ∷ deviation ∷ [])) (now (out .exit)) r ⌝ }
 {
     let second = put_head(&mut out[..], at, b"F", track as u64);
     let third = put_field(&mut out[..], second, code as u64);
@@ -104,10 +104,11 @@ fn fired_line(out: &mut [u8], at: usize, track: u16, code: u16, deviation: u16) 
     put_byte(out, end, NEWLINE)
 }
 
-// The line of an event, `E` event moved closed, or its refusal's: the same on any day.
+// The line of an event, `E` event moved closed, or its refusal's: the same on any day, for any society.
 pub fn event_line(out: &mut [u8], at: usize, name: u16, answer: EventAnswer) -> usize
     requires { ⌜ at + lineRoom ≤ length (now out) ⌝ }
-    ensures { λ r. ⌜ ((day : Day) → Lined (now (out .entry)) at (callLine (event (record { event = name; day = day })) (eventTold answer)) (now (out .exit)) r) ⌝ }
+    ensures { λ r. ⌜ ((day : Day) (society : Society)
+        → Lined (now (out .entry)) at (callLine (event (record { event = name; day = day; society = society })) (eventTold answer)) (now (out .exit)) r) ⌝ }
 {
     match answer {
         EventAnswer::Moved(moved, closed) => put_three(
@@ -125,7 +126,8 @@ pub fn event_line(out: &mut [u8], at: usize, name: u16, answer: EventAnswer) -> 
 // The line of a signal, `S` turned, or its refusal's.
 pub fn signal_line(out: &mut [u8], at: usize, answer: SignalAnswer) -> usize
     requires { ⌜ at + lineRoom ≤ length (now out) ⌝ }
-    ensures { λ r. ⌜ Lined (now (out .entry)) at (callLine (signal nothing) (signalTold answer)) (now (out .exit)) r ⌝ }
+    ensures { λ r. ⌜ ((society : Society)
+        → Lined (now (out .entry)) at (callLine (signal (record { society = society })) (signalTold answer)) (now (out .exit)) r) ⌝ }
 {
     match answer {
         SignalAnswer::Turned(turned) => put_one(out, at, b"S", turned as u64),
@@ -136,7 +138,8 @@ pub fn signal_line(out: &mut [u8], at: usize, answer: SignalAnswer) -> usize
 // The line of a firing, or its refusal's.
 pub fn fire_line(out: &mut [u8], at: usize, track: u16, answer: FireAnswer) -> usize
     requires { ⌜ at + lineRoom ≤ length (now out) ⌝ }
-    ensures { λ r. ⌜ Lined (now (out .entry)) at (callLine (fire (record { track = track })) (fireTold answer)) (now (out .exit)) r ⌝ }
+    ensures { λ r. ⌜ ((society : Society)
+        → Lined (now (out .entry)) at (callLine (fire (record { track = track; society = society })) (fireTold answer)) (now (out .exit)) r) ⌝ }
 {
     match answer {
         FireAnswer::Fired(code, deviation) => fired_line(out, at, track, code, deviation),

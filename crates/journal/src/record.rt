@@ -4,7 +4,7 @@ ghost use mathlib.Core.Path.{_≡_};
 ghost use Prim.Native.Nat.{_+_, _≤_};
 ghost use lib.ListN.{length};
 ghost use Rattle.rules.specs.Record.{word, dayAt};
-ghost use Rattle.rules.specs.Journal.{journalLength, recordOf, itemAt};
+ghost use Rattle.rules.specs.Journal.{journalLength, societyAt, recordOf, itemAt};
 ghost use Rattle.journal.specs.Records.{recordTold, sizeOf};
 
 // The journal's kinds.
@@ -16,28 +16,32 @@ const FIRE_LOWEST: u16 = 19;
 
 const EVENT: u16 = 20;
 
-// The length of a record without a field, which is where a field starts; of one with a field, which is where a day starts; of one with both.
-const BARE: usize = 4;
-
-const WITH_FIELD: usize = 6;
-
-const WITH_DAY: usize = 10;
-
-// Where the day's high word starts.
-const HIGH_PLACE: usize = 8;
-
-// Where the kind starts.
+// Where the kind starts, and the fields: those of an event are its number, its day's two words and the society, that of a signal the society, those
+// of a firing the track and the society. A record has as many bytes as its last field ends at.
 const KIND_PLACE: usize = 2;
 
-// What stands at a place of the journal: its end, a broken record, or what is asked for, with its field, and an event with its day's two words,
-// the low one first.
+const FIRST_FIELD: usize = 4;
+
+const SECOND_FIELD: usize = 6;
+
+const THIRD_FIELD: usize = 8;
+
+const FOURTH_FIELD: usize = 10;
+
+const EVENT_LENGTH: usize = 12;
+
+const SIGNAL_LENGTH: usize = 6;
+
+const FIRE_LENGTH: usize = 8;
+
+// What stands at a place of the journal: its end, a broken record, or what is asked for, with its fields, of an event's day the low word first.
 pub enum Record {
     Ended,
     Broken,
-    Event(u16, u16, u16),
-    Signal,
-    Fire(u16),
-    FireLowest,
+    Event(u16, u16, u16, u16),
+    Signal(u16),
+    Fire(u16, u16),
+    FireLowest(u16),
 }
 
 fn wide(x: u16) -> usize
@@ -51,39 +55,42 @@ fn length_of(kind: u16) -> usize
     ensures { λ r. ⌜ r ≡ journalLength kind ⌝ }
 {
     if kind == EVENT {
-        return WITH_DAY;
+        return EVENT_LENGTH;
     }
     if kind == SIGNAL {
-        return BARE;
+        return SIGNAL_LENGTH;
     }
     if kind == FIRE {
-        return WITH_FIELD;
+        return FIRE_LENGTH;
     }
     if kind == FIRE_LOWEST {
-        return BARE;
+        return SIGNAL_LENGTH;
     }
     0
 }
 
 // The record at a place where one of a known kind stands whole.
 fn whole_at(journal: &[u8], at: usize, kind: u16) -> Record
-    requires { ⌜ at + journalLength kind ≤ length (now journal) ⌝ }
-    ensures { λ r. ⌜ recordTold r ≡ recordOf kind (word (now (journal .entry)) (at + 4)) (dayAt (now (journal .entry)) (at + 6)) ⌝ }
+    requires { ⌜ (at + journalLength kind ≤ length (now journal)) × (journalLength kind ≡ 0 → ⊥) ⌝ }
+    ensures { λ r. ⌜ recordTold r
+        ≡ recordOf kind (word (now (journal .entry)) (at + 4)) (dayAt (now (journal .entry)) (at + 6)) (societyAt (now (journal .entry)) at kind) ⌝ }
 {
     if kind == EVENT {
         return Record::Event(
-            word_at(journal, at + BARE),
-            word_at(journal, at + WITH_FIELD),
-            word_at(journal, at + HIGH_PLACE),
+            word_at(journal, at + FIRST_FIELD),
+            word_at(journal, at + SECOND_FIELD),
+            word_at(journal, at + THIRD_FIELD),
+            word_at(journal, at + FOURTH_FIELD),
         );
     }
+    let first = word_at(journal, at + FIRST_FIELD);
     if kind == SIGNAL {
-        return Record::Signal;
+        return Record::Signal(first);
     }
     if kind == FIRE {
-        return Record::Fire(word_at(journal, at + BARE));
+        return Record::Fire(first, word_at(journal, at + SECOND_FIELD));
     }
-    Record::FireLowest
+    Record::FireLowest(first)
 }
 
 // What stands at a place of the journal.
@@ -94,7 +101,7 @@ pub fn record_at(journal: &[u8], at: usize) -> Record
         return Record::Ended;
     }
     let left = journal.len() - at;
-    if left < BARE {
+    if left < FIRST_FIELD {
         return Record::Broken;
     }
     let kind = word_at(journal, at + KIND_PLACE);
@@ -119,9 +126,9 @@ pub fn size_of(found: Record) -> usize
     match found {
         Record::Ended => 0,
         Record::Broken => 0,
-        Record::Event(_, _, _) => WITH_DAY,
-        Record::Signal => BARE,
-        Record::Fire(_) => WITH_FIELD,
-        Record::FireLowest => BARE,
+        Record::Event(_, _, _, _) => EVENT_LENGTH,
+        Record::Signal(_) => SIGNAL_LENGTH,
+        Record::Fire(_, _) => FIRE_LENGTH,
+        Record::FireLowest(_) => SIGNAL_LENGTH,
     }
 }

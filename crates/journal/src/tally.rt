@@ -34,7 +34,7 @@ pub fn advanced(tally: Tally, held: u32, fired: u32) -> Tally
 
 // The firings that an answered firing did: a refused one did none.
 pub fn firings_of(answer: FireAnswer) -> u32
-    ensures { λ r. ⌜ ((t : ℕ) → r ≡ firingsOf (fire (record { track = t })) (fireTold answer)) ⌝ }
+    ensures { λ r. ⌜ ((t society : ℕ) → r ≡ firingsOf (fire (record { track = t; society = society })) (fireTold answer)) ⌝ }
 {
     match answer {
         FireAnswer::Fired(_, _) => 1,

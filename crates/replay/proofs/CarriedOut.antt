@@ -59,11 +59,11 @@ carried-out bs c d ws out from ws′ out′ place told fired next m l f e =
     }
 
 -- an event's day as it was given
-pub carried-on : (e : ℕ) {x y : ℤ} → x ≡ y → {bs : List ℕ} {c : Counts} {ws out : List ℕ} {from : Progress} {ws′ out′ : List ℕ} {next : Progress}
-    → CarriedOut bs c (event (record { event = e; day = x })) ws out from ws′ out′ next
-    → CarriedOut bs c (event (record { event = e; day = y })) ws out from ws′ out′ next
-carried-on e q {bs} {c} {ws} {out} {from} {ws′} {out′} {next} h =
-    subst (λ d. CarriedOut bs c (event (record { event = e; day = d })) ws out from ws′ out′ next) q h
+pub carried-on : (e o : ℕ) {x y : ℤ} → x ≡ y → {bs : List ℕ} {c : Counts} {ws out : List ℕ} {from : Progress} {ws′ out′ : List ℕ} {next : Progress}
+    → CarriedOut bs c (event (record { event = e; day = x; society = o })) ws out from ws′ out′ next
+    → CarriedOut bs c (event (record { event = e; day = y; society = o })) ws out from ws′ out′ next
+carried-on e o q {bs} {c} {ws} {out} {from} {ws′} {out′} {next} h =
+    subst (λ d. CarriedOut bs c (event (record { event = e; day = d; society = o })) ws out from ws′ out′ next) q h
 
 -- where the reading ends no record is left to do
 pub ended-none : (x : Record) → x ≡ Ended → 0 < sizeOf (recordTold x) → ⊥

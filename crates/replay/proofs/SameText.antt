@@ -71,9 +71,9 @@ module _ (bs js : List ℕ) (c : Counts) (read : readPlan bs ≡ accepted c) whe
           → (x : Item) → itemAt js at ≡ x → replay bs js (planOf bs c) (suc n) at ws fired ≡ replay bs js (planOf bs c) (suc n) at ws′ fired
       go again ended e = rw (e, replay) (last-same ws ws′ b l h h′ fired)
       go again broken e = rw (e, replay) (ap (λ (t : List ℕ). refusalLine 23 ++ t) (last-same ws ws′ b l h h′ fired))
-      go again fireLowest e =
+      go again (fireLowest o) e =
           rw (e, replay)
-          (rest again (fireLowestCall (planOf bs c) (ledgerOf (planOf bs c) ws))
-          ∙ ap (λ (x : Ledger). callText bs js (planOf bs c) (replay bs js (planOf bs c) n (at + sizeAt js at)) ws′ fired (fireLowestCall (planOf bs c) x))
+          (rest again (fireLowestCall (planOf bs c) (ledgerOf (planOf bs c) ws) o)
+          ∙ ap (λ (x : Ledger). callText bs js (planOf bs c) (replay bs js (planOf bs c) n (at + sizeAt js at)) ws′ fired (fireLowestCall (planOf bs c) x o))
           (ledger-same ws ws′ b l h h′))
       go again (called d) e = rw (e, replay) (rest again d)

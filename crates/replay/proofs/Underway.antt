@@ -38,7 +38,7 @@ ledgers bs js c ws = ap (ledgerAt entryLimit ws) (sym (track-count bs c))
 size-least : (x : Item) → 0 < sizeOf x → 4 ≤ sizeOf x
 size-least ended l = absurd (omega arith)
 size-least broken l = absurd (omega arith)
-size-least fireLowest l = omega arith
+size-least (fireLowest o) l = omega arith
 size-least (called (event a)) l = omega arith
 size-least (called (signal a)) l = omega arith
 size-least (called (fire a)) l = omega arith
@@ -56,7 +56,7 @@ module _ (bs js : List ℕ) (p : Plan) (n at : ℕ) (ws : List ℕ) where
   unfolding wordsFrom
   words-stopped ended e z = rw (e, wordsFrom)
   words-stopped broken e z = rw (e, wordsFrom)
-  words-stopped fireLowest e z = absurd (omega arith)
+  words-stopped (fireLowest o) e z = absurd (omega arith)
   words-stopped (called (event a)) e z = absurd (omega arith)
   words-stopped (called (signal a)) e z = absurd (omega arith)
   words-stopped (called (fire a)) e z = absurd (omega arith)
@@ -66,7 +66,7 @@ module _ (bs js : List ℕ) (p : Plan) (n at : ℕ) (ws : List ℕ) where
   unfolding wordsFrom
   words-call ended e l = absurd (omega arith)
   words-call broken e l = absurd (omega arith)
-  words-call fireLowest e l = rw (e, wordsFrom)
+  words-call (fireLowest o) e l = rw (e, wordsFrom)
   words-call (called d) e l = rw (e, wordsFrom)
 
   text-stopped : (fired : ℕ) (last : List ℕ) → last ≡ lastLine p ws fired → (x : Item) → itemAt js at ≡ x → sizeOf x ≡ 0
@@ -74,7 +74,7 @@ module _ (bs js : List ℕ) (p : Plan) (n at : ℕ) (ws : List ℕ) where
   unfolding replay
   text-stopped fired last f ended e z = rw (e, replay, f)
   text-stopped fired last f broken e z = rw (e, replay, f)
-  text-stopped fired last f fireLowest e z = absurd (omega arith)
+  text-stopped fired last f (fireLowest o) e z = absurd (omega arith)
   text-stopped fired last f (called (event a)) e z = absurd (omega arith)
   text-stopped fired last f (called (signal a)) e z = absurd (omega arith)
   text-stopped fired last f (called (fire a)) e z = absurd (omega arith)
@@ -84,7 +84,7 @@ module _ (bs js : List ℕ) (p : Plan) (n at : ℕ) (ws : List ℕ) where
   unfolding replay
   text-call fired ended e l = absurd (omega arith)
   text-call fired broken e l = absurd (omega arith)
-  text-call fired fireLowest e l = rw (e, replay)
+  text-call fired (fireLowest o) e l = rw (e, replay)
   text-call fired (called d) e l = rw (e, replay)
 
 -- `whole` is to be written into `out` from `start` on, and `words` to be left in the ledger.

@@ -51,7 +51,7 @@ pub record CarriedOut (bs : Bytes) (c : Counts) (d : Call) (ws : Words) (out : B
 abbrev pub isBrokenRecord : Item → Bool
 isBrokenRecord ended = false
 isBrokenRecord broken = true
-isBrokenRecord fireLowest = false
+isBrokenRecord (fireLowest o) = false
 isBrokenRecord (called c) = false
 
 -- The last lines were written.

@@ -9,7 +9,7 @@ use rules::Counts;
 use signed::words::join;
 ghost use Prim.Native.Nat.{_+_, _<_, _^_};
 ghost use Rattle.rules.specs.Plan.{planOf, firstState};
-ghost use Rattle.rules.specs.Call.{event, signal, fire, nothing};
+ghost use Rattle.rules.specs.Call.{event, signal, fire};
 ghost use Rattle.rules.specs.Journal.{fireLowest};
 ghost use Rattle.ledger.specs.Ladder.{Room};
 ghost use Rattle.lookup.specs.Figures.{Figures};
@@ -44,12 +44,13 @@ fn carry_out_event(
     from: Progress,
     name: u16,
     day: i32,
+    society: u16,
     firsts: &[u16; 32],
     head: &[u16; 256],
     next: &[u16; 256],
 ) -> Progress
     requires { ⌜ Prepared (now plan) c (now ledger) (now output) from × Tables (now plan) c (now firsts) (now head) (now next) ⌝ }
-    ensures { λ r. ⌜ CarriedOut (now (plan .entry)) c (event (record { event = name; day = day }))
+    ensures { λ r. ⌜ CarriedOut (now (plan .entry)) c (event (record { event = name; day = day; society = society }))
         (now (ledger .entry)) (now (output .entry)) from (now (ledger .exit)) (now (output .exit)) r ⌝ }
 {
     let answer = event_step::event::event_indexed(
@@ -58,6 +59,7 @@ fn carry_out_event(
         &mut ledger[..],
         name,
         day,
+        society,
         firsts,
         head,
         next,
@@ -72,12 +74,13 @@ fn carry_out_signal(
     ledger: &mut [u16],
     output: &mut [u8],
     from: Progress,
+    society: u16,
 ) -> Progress
     requires { ⌜ Prepared (now plan) c (now ledger) (now output) from ⌝ }
-    ensures { λ r. ⌜ CarriedOut (now (plan .entry)) c (signal nothing)
+    ensures { λ r. ⌜ CarriedOut (now (plan .entry)) c (signal (record { society = society }))
         (now (ledger .entry)) (now (output .entry)) from (now (ledger .exit)) (now (output .exit)) r ⌝ }
 {
-    let answer = withdrawal::signal::signal(plan, c, &mut ledger[..]);
+    let answer = withdrawal::signal::signal(plan, c, &mut ledger[..], society);
     let place = lines::signal_line(&mut output[..], from.place, answer);
     come_to(c, &ledger[..], from, place, 0)
 }
@@ -89,33 +92,35 @@ fn carry_out_fire(
     output: &mut [u8],
     from: Progress,
     track: u16,
+    society: u16,
     firsts: &[u16; 32],
 ) -> Progress
     requires { ⌜ Prepared (now plan) c (now ledger) (now output) from × Figures 0 (now firsts) (c .tracks) (firstState (planOf (now plan) c)) ⌝ }
-    ensures { λ r. ⌜ CarriedOut (now (plan .entry)) c (fire (record { track = track }))
+    ensures { λ r. ⌜ CarriedOut (now (plan .entry)) c (fire (record { track = track; society = society }))
         (now (ledger .entry)) (now (output .entry)) from (now (ledger .exit)) (now (output .exit)) r ⌝ }
 {
     let opens = opens::open_scopes(plan, c, &ledger[..]);
-    let answer = withdrawal::fire::fire(plan, c, &mut ledger[..], track, &opens, firsts);
+    let answer = withdrawal::fire::fire(plan, c, &mut ledger[..], track, society, &opens, firsts);
     let place = lines::fire_line(&mut output[..], from.place, track, answer);
     let fired = tally::firings_of(answer);
     come_to(c, &ledger[..], from, place, fired)
 }
 
-// Fires the lowest ready track, or a track that does not exist.
+// Fires the lowest ready track that the society may fire, or a track that does not exist.
 fn carry_out_lowest(
     plan: &[u8],
     c: Counts,
     ledger: &mut [u16],
     output: &mut [u8],
     from: Progress,
+    society: u16,
     firsts: &[u16; 32],
 ) -> Progress
     requires { ⌜ Prepared (now plan) c (now ledger) (now output) from × Figures 0 (now firsts) (c .tracks) (firstState (planOf (now plan) c)) ⌝ }
-    ensures { λ r. ⌜ CarriedOut (now (plan .entry)) c (callAt (now (plan .entry)) c (now (ledger .entry)) fireLowest)
+    ensures { λ r. ⌜ CarriedOut (now (plan .entry)) c (callAt (now (plan .entry)) c (now (ledger .entry)) (fireLowest society))
         (now (ledger .entry)) (now (output .entry)) from (now (ledger .exit)) (now (output .exit)) r ⌝ }
 {
-    let lowest = held::lowest_ready(plan, c, &ledger[..]);
+    let lowest = held::lowest_ready(plan, c, &ledger[..], society);
     carry_out_fire(
         plan,
         c,
@@ -123,6 +128,7 @@ fn carry_out_lowest(
         &mut output[..],
         from,
         lowest,
+        society,
         firsts,
     )
 }
@@ -147,7 +153,7 @@ pub fn carry_out(
     match found {
         Record::Ended => from,
         Record::Broken => from,
-        Record::Event(event, low, high) => carry_out_event(
+        Record::Event(event, low, high, society) => carry_out_event(
             plan,
             c,
             &mut ledger[..],
@@ -155,22 +161,32 @@ pub fn carry_out(
             from,
             event,
             join(low, high),
+            society,
             firsts,
             head,
             next,
         ),
-        Record::Signal => carry_out_signal(plan, c, &mut ledger[..], &mut output[..], from),
-        Record::Fire(track) => carry_out_fire(
+        Record::Signal(society) => {
+            carry_out_signal(plan, c, &mut ledger[..], &mut output[..], from, society)
+        }
+        Record::Fire(track, society) => carry_out_fire(
             plan,
             c,
             &mut ledger[..],
             &mut output[..],
             from,
             track,
+            society,
             firsts,
         ),
-        Record::FireLowest => {
-            carry_out_lowest(plan, c, &mut ledger[..], &mut output[..], from, firsts)
-        }
+        Record::FireLowest(society) => carry_out_lowest(
+            plan,
+            c,
+            &mut ledger[..],
+            &mut output[..],
+            from,
+            society,
+            firsts,
+        ),
     }
 }

@@ -27,10 +27,10 @@ fn is_broken(found: Record) -> bool
     match found {
         Record::Ended => false,
         Record::Broken => true,
-        Record::Event(_, _, _) => false,
-        Record::Signal => false,
-        Record::Fire(_) => false,
-        Record::FireLowest => false,
+        Record::Event(_, _, _, _) => false,
+        Record::Signal(_) => false,
+        Record::Fire(_, _) => false,
+        Record::FireLowest(_) => false,
     }
 }
 

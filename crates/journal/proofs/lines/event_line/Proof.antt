@@ -13,11 +13,11 @@ put-three-requires c κs = omega (arith, digits-word (c .before .before .before 
 
 returns : tie.Need-returns
 unfolding callLine eventTold doneLine ascii
-returns c day = rw (c .before .before .before .before .before .before .answer .given .1) (lined-three (ascii "E") (decimal (c .before .before .before .before .before .before .before .before .before .args .name)) (decimal (c .before .before .before .before .before .before .answer .given .0 .0)) (decimal (c .before .before .before .before .before .before .answer .given .0 .1 .0)) (c .before .before .put-three .ensures) (omega (arith, digits-word (c .before .before .before .before .before .before .before .before .before .args .name) (c .before .before .before .before .before .before .before .before .before .fits .name .fits), digits-word (c .before .before .before .before .before .before .answer .given .0 .0) (search needs), digits-word (c .before .before .before .before .before .before .answer .given .0 .1 .0) (search needs))))
+returns c day society = rw (c .before .before .before .before .before .before .answer .given .1) (lined-three (ascii "E") (decimal (c .before .before .before .before .before .before .before .before .before .args .name)) (decimal (c .before .before .before .before .before .before .answer .given .0 .0)) (decimal (c .before .before .before .before .before .before .answer .given .0 .1 .0)) (c .before .before .put-three .ensures) (omega (arith, digits-word (c .before .before .before .before .before .before .before .before .before .args .name) (c .before .before .before .before .before .before .before .before .before .fits .name .fits), digits-word (c .before .before .before .before .before .before .answer .given .0 .0) (search needs), digits-word (c .before .before .before .before .before .before .answer .given .0 .1 .0) (search needs))))
 
 returns-2 : tie.Need-returns-2
 unfolding callLine eventTold
-returns-2 c day = rw (c .before .before .before .before .before .answer2 .given .1) (c .before .before .refusal-line .ensures)
+returns-2 c day society = rw (c .before .before .before .before .before .answer2 .given .1) (c .before .before .refusal-line .ensures)
 
 pub event-line-spec : {M : Type 1} → statement M
 event-line-spec =

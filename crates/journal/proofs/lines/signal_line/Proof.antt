@@ -13,11 +13,11 @@ put-one-requires c κs = omega (arith, digits-word (c .before .before .before .a
 
 returns : tie.Need-returns
 unfolding callLine signalTold doneLine ascii
-returns c = rw (c .before .before .before .before .before .before .answer .given .1) (lined-one (ascii "S") (decimal (c .before .before .before .before .before .before .answer .given .0 .0)) (c .before .before .put-one .ensures) (omega (arith, digits-word (c .before .before .before .before .before .before .answer .given .0 .0) (search needs))))
+returns c society = rw (c .before .before .before .before .before .before .answer .given .1) (lined-one (ascii "S") (decimal (c .before .before .before .before .before .before .answer .given .0 .0)) (c .before .before .put-one .ensures) (omega (arith, digits-word (c .before .before .before .before .before .before .answer .given .0 .0) (search needs))))
 
 returns-2 : tie.Need-returns-2
 unfolding callLine signalTold
-returns-2 c = rw (c .before .before .before .before .before .answer2 .given .1) (c .before .before .refusal-line .ensures)
+returns-2 c society = rw (c .before .before .before .before .before .answer2 .given .1) (c .before .before .refusal-line .ensures)
 
 pub signal-line-spec : {M : Type 1} → statement M
 signal-line-spec =

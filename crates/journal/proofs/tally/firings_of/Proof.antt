@@ -7,11 +7,11 @@ use Rattle.journal.proofs.tally.firings_of.Tie as tie
 
 returns : tie.Need-returns
 unfolding fireTold firingsOf
-returns c = λ t. rw (c .enum-told .given .1)
+returns c = λ t o. rw (c .enum-told .given .1)
 
 returns-2 : tie.Need-returns-2
 unfolding fireTold firingsOf
-returns-2 c = λ t. rw (c .enum-told2 .given .1)
+returns-2 c = λ t o. rw (c .enum-told2 .given .1)
 
 pub firings-of-spec : {M : Type 1} → statement M
 firings-of-spec = tie.close (tie.spec (λ c. search needs) (λ c. search needs) returns returns-2)
