@@ -9,13 +9,14 @@ use Prim.Native.Nat.{ℕ, zero, suc, _+_, _<_, _≤_}
 use native.Mathlib.Omega.{arith}
 use lib.Dec.{eqb}
 use borrow.Author.Tests.{eqb-true, eqb-false}
-use Rattle.rules.specs.Names.{Day}
+use Rattle.rules.specs.Names.{Day, Society}
 use Rattle.rules.specs.Plan.{Plan, trackCount, optional}
+use Rattle.rules.specs.Rights.{signalRight, isPermitted}
 use Rattle.rules.specs.Ledger.{Ledger}
 use Rattle.rules.specs.Event.{EventArguments, moves, moved, closesScope, closed}
 use Rattle.rules.specs.Signal.{turned, abandoned}
 use Rattle.rules.specs.Fire.{newest, fired}
-use Rattle.rules.specs.Call.{SignalArguments, FireArguments, nothing, Call, event, signal, fire, callRefusal, after}
+use Rattle.rules.specs.Call.{SignalArguments, FireArguments, Call, event, signal, fire, callRefusal, after}
 use Rattle.rules.proofs.Tests.{look, clash, refuted, and-holds, and-both, or-holds, or-right}
 use Rattle.rules.proofs.Acceptance.{Accepted}
 use Rattle.rules.proofs.Closing.{closed-done}
@@ -24,8 +25,8 @@ use Rattle.restoration.proofs.Theorems01.{fire-accepted, moved-nested, closed-n
 use Rattle.automaton.specs.Listing.{listedFrom, listed, listedDown, everyOf}
 use Rattle.automaton.specs.Configuration.{Conf}
 use Rattle.automaton.specs.Semantics.{FailReading, basicAlone, nestedToo, Act, sucAt, failAt, compAt, devAt, nestsucAt, nestfailAt, nestcompAt, trace, VStep, Run, stop, step}
-use Rattle.automaton.specs.View.{view, leavesScope, isGoing, leaveAt, abandonings, deviationStep, movings, closers, turners}
-use Rattle.automaton.specs.StepTests.{isFail, isMute, isSilent}
+use Rattle.automaton.specs.View.{view, leavesScope, isTurning, leaveAt, abandonings, deviationStep, movings, closers, turners}
+use Rattle.automaton.specs.StepTests.{isFailFor, isMute, isSilent}
 use Rattle.automaton.specs.BigSteps.{afterFinish, actsIn, has, isOnceEach, sucs, Exhausted, Exhausts, OnEvent, OnSignal, OnFiring, Big, Ends}
 use Rattle.automaton.proofs.Listings.{alike, from-every}
 use Rattle.automaton.proofs.Settled.{view-settled}
@@ -95,14 +96,14 @@ module _ (f : ℕ → Bool) where
       go true r = ap (λ w. sucAt i e ∷ w) r
       go false r = r
 
-down-every : {A : Type 0} (test : A → Bool) (n : ℕ) (f : ℕ → Bool) (g : ℕ → A) → ((k : ℕ) → test (g k) ≡ true) → everyOf test (listedDown n f g) ≡ true
+down-every : {A : Type 0} (test : A → Bool) (n : ℕ) (f : ℕ → Bool) (g : ℕ → A) → ((k : ℕ) → f k ≡ true → test (g k) ≡ true) → everyOf test (listedDown n f g) ≡ true
 unfolding listedDown everyOf
 down-every test zero f g h = refl
-down-every test (suc n) f g h = go (f n) (down-every test n f g h)
+down-every test (suc n) f g h = go (f n) refl (down-every test n f g h)
   where
-    go : (x : Bool) → everyOf test (listedDown n f g) ≡ true → everyOf test (cond x (g n ∷ listedDown n f g) (listedDown n f g)) ≡ true
-    go true r = and-both (test (g n)) (everyOf test (listedDown n f g)) (h n) r
-    go false r = r
+    go : (x : Bool) → f n ≡ x → everyOf test (listedDown n f g) ≡ true → everyOf test (cond x (g n ∷ listedDown n f g) (listedDown n f g)) ≡ true
+    go true e r = and-both (test (g n)) (everyOf test (listedDown n f g)) (h n e) r
+    go false e r = r
 
 every-join : {A : Type 0} (test : A → Bool) (v w : List A) → everyOf test v ≡ true → everyOf test w ≡ true → everyOf test (v ++ w) ≡ true
 unfolding everyOf
@@ -123,7 +124,7 @@ deviation-silent t (some d) = refl
 module _ (p : Plan) (ρ : FailReading) where
   abandonings-silent : (l : Ledger) → everyOf isSilent (abandonings p ρ l) ≡ true
   unfolding abandonings
-  abandonings-silent l = down-every isSilent (trackCount p) (leavesScope p l) (leaveAt ρ) (leave-silent ρ)
+  abandonings-silent l = down-every isSilent (trackCount p) (leavesScope p l) (leaveAt ρ) (λ k y. leave-silent ρ k)
 
   closers-silent : (l : Ledger) → everyOf isSilent (closers p l) ≡ true
   unfolding closers listed isSilent isMute trace
@@ -133,9 +134,10 @@ module _ (p : Plan) (ρ : FailReading) where
   unfolding everyOf isSilent isMute trace
   back-silent t w h = h
 
-  pub turners-fail : (l : Ledger) → everyOf isFail (turners p ρ l) ≡ true
-  unfolding turners isFail
-  turners-fail l = down-every isFail (trackCount p) (isGoing p ρ l) failAt (λ k. refl)
+  pub turners-fail : (society : Society) (l : Ledger) → everyOf (isFailFor p society) (turners p ρ society l) ≡ true
+  unfolding turners isFailFor isTurning
+  turners-fail society l =
+      down-every (isFailFor p society) (trackCount p) (isTurning p ρ society l) failAt (λ k y. and-holds (isPermitted p signalRight society k) _ y .0)
 
   first-of : {c d : Conf} {w : List Act} → Run p ρ c w d → (a : Act) (v : List Act) → w ≡ a ∷ v → (b : Conf) × VStep p ρ c a b × Run p ρ b v d
   first-of stop a v e = let z : _≡_ {A = ℕ} 0 1 = cc in absurd (omega arith)
@@ -143,17 +145,19 @@ module _ (p : Plan) (ρ : FailReading) where
       let x : a′ ≡ a = cc in let y : w ≡ v = cc in (b, subst (λ z. VStep p ρ c z b) x s, subst (λ z. Run p ρ b z d) y r)
 
 module _ (p : Plan) (ρ : FailReading) (ok : Accepted p) (l : Ledger) (n : Nested p l) where
-  -- after a signal nothing is forward
-  pub none-going : Exhausted p ρ isFail (view p ρ (turned l))
-  unfolding isFail
-  none-going = go
+  -- after a signal nothing is forward that its society may turn
+  pub none-going : (a : SignalArguments) → Exhausted p ρ (isFailFor p (a .society)) (view p ρ (turned p (a .society) l))
+  unfolding isFailFor
+  none-going a = go
     where
-      nt : Nested p (turned l)
-      nt = turned-nested p ok l n nothing
+      m : Ledger
+      m = turned p (a .society) l
 
-      go : (a : Act) (d : Conf) → VStep p ρ (view p ρ (turned l)) a d → isFail a ≡ true → ⊥
-      go (failAt A) d r h =
-          clash (going-forward p (turned l) ρ A (fail-enabled p ρ (turned l) ok nt A .0 (d, r))) (turned-forward p ok nothing l A)
+      nt : Nested p m
+      nt = turned-nested p ok l n a
+
+      go : (b : Act) (d : Conf) → VStep p ρ (view p ρ m) b d → isFailFor p (a .society) b ≡ true → ⊥
+      go (failAt A) d r h = clash (going-forward p m ρ A (fail-enabled p ρ m ok nt A .0 (d, r))) (turned-forward p ok a l A h)
       go (sucAt A i) d r h = clash h refl
       go (compAt A c) d r h = clash h refl
       go (devAt A q) d r h = clash h refl
@@ -224,22 +228,22 @@ module _ (p : Plan) (ρ : FailReading) (ok : Accepted p) (limit : ℕ) (day : Da
       (subst (λ z. Exhausts p ρ isSilent z c) (event-between e c x ∙ sym (event-between e d y)) (x .settling)) (y .settling)
 
   -- A signal.
-  signal-big : (a : SignalArguments) → callRefusal limit p day l (signal a) ≡ 0 → OnSignal p ρ (view p ρ l) (view p ρ (abandoned p (turned l)))
+  signal-big : (a : SignalArguments) → callRefusal limit p day l (signal a) ≡ 0 → OnSignal p ρ (a .society) (view p ρ l) (view p ρ (abandoned p (turned p (a .society) l)))
   signal-big a h =
       let k = worked limit p ok l s day (signal a) h in
+      let m = turned p (a .society) l in
       record {
-        between = view p ρ (turned l);
-        turning = (run-steps p ρ isFail (turning-run p ρ ok l n) (turners-fail p ρ l), none-going p ρ ok l n);
+        between = view p ρ m;
+        turning = (run-steps p ρ (isFailFor p (a .society)) (turning-run p ρ ok l n a) (turners-fail p ρ (a .society) l), none-going p ρ ok l n a);
         settling = (
-          run-steps p ρ isSilent (abandoning-run p ρ ok (turned l) (turned-nested p ok l n nothing)) (abandonings-silent p ρ (turned l)),
-          settled-exhausted p ρ (view p ρ (abandoned p (turned l)))
-              (view-settled p ρ ok (abandoned p (turned l)) (k .nested) (k .closing) (k .abandoning)),
+          run-steps p ρ isSilent (abandoning-run p ρ ok m (turned-nested p ok l n a)) (abandonings-silent p ρ m),
+          settled-exhausted p ρ (view p ρ (abandoned p m)) (view-settled p ρ ok (abandoned p m) (k .nested) (k .closing) (k .abandoning)),
         );
       }
 
-  signal-one : (c d e : Conf) → OnSignal p ρ c d → OnSignal p ρ c e → d ≡ e
-  signal-one c d e x y =
-      let same = fail-unique p ρ c (x .between) (y .between) (x .turning) (y .turning) in
+  signal-one : (society : Society) (c d e : Conf) → OnSignal p ρ society c d → OnSignal p ρ society c e → d ≡ e
+  signal-one society c d e x y =
+      let same = fail-unique p ρ society c (x .between) (y .between) (x .turning) (y .turning) in
       silent-unique p ρ ok (y .between) d e (subst (λ z. Exhausts p ρ isSilent z d) same (x .settling)) (y .settling)
 
   -- A firing.
@@ -295,7 +299,7 @@ module _ (p : Plan) (ρ : FailReading) (ok : Accepted p) (limit : ℕ) (day : Da
   pub one-only : (c : Call) (d e : Conf) → Big p ρ c (view p ρ l) d → Big p ρ c (view p ρ l) e → d ≡ e
   unfolding Big
   one-only (event a) d e x y = event-one a d e x y
-  one-only (signal a) d e x y = signal-one (view p ρ l) d e x y
+  one-only (signal a) d e x y = signal-one (a .society) (view p ρ l) d e x y
   one-only (fire a) d e x y = fire-one (a .track) (x .0) (y .0) d e (x .1) (y .1)
 
   -- an accepted call leads exactly where the automaton's big steps end

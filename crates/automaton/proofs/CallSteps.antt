@@ -64,7 +64,7 @@ module _ (p : Plan) (ρ : FailReading) (ok : Accepted p) where
     unfolding actsOf
     work-run (event a) h =
         run-then p ρ (moving-run p l a ρ ok n) (closing-run p ρ ok (moved p l a) (moved-nested p l a ok n))
-    work-run (signal a) h = signal-run p ρ ok l n
+    work-run (signal a) h = signal-run p ρ ok l n a
     work-run (fire a) h = fire-run p ρ ok l n (a .track) (s .formed .good (a .track)) (fire-accepted limit p day l a h .1)
 
     -- and then finish

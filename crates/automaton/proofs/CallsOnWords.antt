@@ -1,9 +1,9 @@
 -- The calls on words, as their contracts speak of them: what is said of ledgers, of the ledger that the words hold. For a call with
 -- `Meets (callOutcome limit bs ws c) told words`, `told` is the answer and `words` the words below. Assumes nothing.
 use mathlib.Core.Path.{_≡_, refl, sym, ap, _∙_, subst}
-use mathlib.Core.Logic.{_↔_, inl, inr}
+use mathlib.Core.Logic.{_⊎_, _↔_, inl, inr}
 use mathlib.Core.List.{List, [], _++_}
-use Prim.Native.Nat.{ℕ, zero, suc, _<_}
+use Prim.Native.Nat.{ℕ, zero, suc}
 use native.Mathlib.Omega.{arith}
 use Rattle.rules.specs.declared.Counts.{Counts}
 use Rattle.rules.specs.Fold.{firstRefusal}
@@ -36,6 +36,16 @@ refusal-same r s e = cc
 
 not-both : (u : List ℕ) (r : ℕ) → done u ≡ refusal r → ⊥
 not-both u r e = let z : _≡_ {A = ℕ} 0 1 = cc in absurd (omega arith)
+
+-- 19, 20, 22 and 28: the refusals of a call for which the automaton has no step
+abbrev pub Stepless : ℕ → Type 0
+Stepless r = ((r ≡ 19) ⊎ (r ≡ 20)) ⊎ ((r ≡ 22) ⊎ (r ≡ 28))
+
+stepless : (r : ℕ) → Stepless r → (r ≡ 17 → ⊥) × (r ≡ 24 → ⊥) × (r ≡ 18 → ⊥) × (r ≡ 21 → ⊥) × (r ≡ 26 → ⊥)
+stepless r (inl (inl e)) = (λ z. omega arith, λ z. omega arith, λ z. omega arith, λ z. omega arith, λ z. omega arith)
+stepless r (inl (inr e)) = (λ z. omega arith, λ z. omega arith, λ z. omega arith, λ z. omega arith, λ z. omega arith)
+stepless r (inr (inl e)) = (λ z. omega arith, λ z. omega arith, λ z. omega arith, λ z. omega arith, λ z. omega arith)
+stepless r (inr (inr e)) = (λ z. omega arith, λ z. omega arith, λ z. omega arith, λ z. omega arith, λ z. omega arith)
 
 module _ (ρ : FailReading) (limit : ℕ) (bs : List ℕ) (k : Counts) (read : readPlan bs ≡ accepted k) where
   abbrev p : Plan
@@ -116,21 +126,24 @@ module _ (ρ : FailReading) (limit : ℕ) (bs : List ℕ) (k : Counts) (read : r
       go zero e = absurd (not-both _ r (sym (ap (λ o. o .answer) (outcome limit bs k read ws c 0 e)) ∙ h))
       go (suc x) e = ap (λ o. o .words) (outcome limit bs k read ws c (suc x) e)
 
-  -- one refused as 19, 20 or 22: no step that it asks for applies
-  pub words-refused : (ws : List ℕ) (c : Call) (r : ℕ) → callOutcome limit bs ws c .answer ≡ refusal r → 18 < r → r < 23 → (r ≡ 21 → ⊥)
+  -- no step that a call asks for applies where it is refused so
+  pub words-refused : (ws : List ℕ) (c : Call) (r : ℕ) → callOutcome limit bs ws c .answer ≡ refusal r → Stepless r
       → StepFor p ρ c (view p ρ (theLedger ws)) → ⊥
   unfolding refusedOr
-  words-refused ws c r h above below full v = checks (ledgerRefusal limit bs p ws) refl
+  words-refused ws c r h among v = checks (ledgerRefusal limit bs p ws) refl
     where
+      others : (r ≡ 17 → ⊥) × (r ≡ 24 → ⊥) × (r ≡ 18 → ⊥) × (r ≡ 21 → ⊥) × (r ≡ 26 → ⊥)
+      others = stepless r among
+
       go : Holds limit bs k read ws (lastDay ws) (theLedger ws) → (x : ℕ) → callRefusal limit p (lastDay ws) (theLedger ws) c ≡ x → ⊥
       go w zero e = not-both _ r (sym (ap (λ o. o .answer) (call-accepted limit bs k read ws (lastDay ws) (theLedger ws) w c e)) ∙ h)
       go w (suc x) e =
           let q : r ≡ suc x = refusal-same r (suc x) (sym h ∙ ap (λ o. o .answer) (call-refused limit bs k read ws (lastDay ws) (theLedger ws) w c x e)) in
-          refused-none p (passed-all p (read-passed bs k read)) ρ limit (lastDay ws) (theLedger ws) (w .kept) c x e (λ z. full (q ∙ z)) (λ z. omega arith) v
+          refused-none p (passed-all p (read-passed bs k read)) ρ limit (lastDay ws) (theLedger ws) (w .kept) c x e (λ z. others .3 (q ∙ z)) (λ z. others .4 (q ∙ z)) v
 
       checks : (x : ℕ) → ledgerRefusal limit bs p ws ≡ x → ⊥
       checks zero e = go (passes-holds limit bs k read ws (none-passes limit bs p ws e)) (callRefusal limit p (lastDay ws) (theLedger ws) c) refl
       checks (suc x) e =
           let q : r ≡ suc x =
           refusal-same r (suc x) (sym h ∙ ap (λ o. o .answer) (outcome limit bs k read ws c (suc x) (refused-first limit bs p ws x e _))) in
-          elim (ledger-numbers limit bs p ws x e) [ inl z ↦ omega arith | inr y ↦ elim y [ inl z ↦ omega arith | inr z ↦ omega arith ] ]
+          elim (ledger-numbers limit bs p ws x e) [ inl z ↦ others .0 (q ∙ z) | inr y ↦ elim y [ inl z ↦ others .1 (q ∙ z) | inr z ↦ others .2 (q ∙ z) ] ]

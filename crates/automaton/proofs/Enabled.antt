@@ -18,7 +18,8 @@ use Rattle.rules.specs.Fold.{everyBelow, firstRefusal}
 use Rattle.rules.specs.Plan.{Plan, trackCount, host, transitionCount, transition, mayTake, takenOn}
 use Rattle.rules.specs.Ledger.{Entry, Ledger, isAwake, isForward, isUndoing, isEmpty}
 use Rattle.rules.specs.Scope.{hasOpenScope, isOver}
-use Rattle.rules.specs.Event.{EventArguments, isMove, move, moves, isFull}
+use Rattle.rules.specs.Rights.{moveRight, signalRight, isPermitted}
+use Rattle.rules.specs.Event.{EventArguments, isMove, mayMove, move, moves, isFull}
 use Rattle.rules.specs.Fire.{newest, mayFire}
 use Rattle.rules.specs.Call.{FireArguments, Call, event, signal, fire, badDay, callRefusals, callRefusal}
 use Rattle.rules.proofs.Tests.{look, look-option, clash, refuted}
@@ -26,13 +27,16 @@ use Rattle.rules.proofs.Folds.{every-at}
 use Rattle.rules.proofs.Acceptance.{Passed, Accepted, accepted-facts, sane}
 use Rattle.rules.proofs.Abandoning.{hosts-higher}
 use Rattle.rules.proofs.Modes.{forward-awake}
+use Rattle.rules.proofs.RightsLaws.{permitted-somewhere}
 use Rattle.theory.proofs.Nesting.{Awake, Nested}
 use Rattle.theory.proofs.Entries.{Good}
 use Rattle.automaton.specs.Listing.{listedFrom, listed}
 use Rattle.automaton.specs.Configuration.{forward, backward, Comp, Stack, NConf, Basic, Nest, Conf, end, next, Vect, isForwards, pushComp}
 use Rattle.automaton.specs.Semantics.{FailReading, basicAlone, nestedToo, Act, sucAt, failAt, compAt, devAt, nestsucAt, nestfailAt, nestcompAt, Step, SUC, FAIL, FAILNEST, COMP, DEV, NESTSUC, NESTFAIL, NESTCOMP, NEST, VStep, VECT}
 use Rattle.automaton.specs.View.{stackOf, directionOf, facing, isWithin, basic, nested, shown, viewOf, isOnTop, view, isGoing}
-use Rattle.restoration.proofs.Theorems01.{move-takes, mover-awake, fire-accepted, Sound, Over, Kept}
+use Rattle.restoration.proofs.Theorems01.{move-takes, move-permitted, mover-awake, fire-accepted, Sound, Over, Kept}
+use Rattle.restoration.proofs.Allowed.{fire-allowed}
+use Rattle.restoration.proofs.Rights.{fire-permitted}
 use Rattle.automaton.specs.Enabled.{Allows, StepFor}
 use Rattle.automaton.proofs.Settled.{view-settled}
 use Rattle.automaton.proofs.Frames.{down, frame, frames, instead-some, within-parts, top-parts, shown-free, shown-busy, view-frame, view-frames, view-law, frame-law, replaced}
@@ -91,16 +95,16 @@ module _ (p : Plan) (ρ : FailReading) (l : Ledger) where
   member-shows (x ∷ α) β n h = member-shows α β n (h .1)
 
   moves-of : Accepted p → (A : ℕ) (i : EventArguments) (x : ℕ) → isForward (l A .mode) ≡ true → hasOpenScope p l A ≡ false → x < transitionCount p
-      → transition p x .source ≡ l A .state → transition p x .event ≡ i .event → mayTake p (i .day) x ≡ true → moves p l i A ≡ true
-  unfolding moves move isMove takenOn
-  moves-of ok A i x f b c s e m = rw (f, b, takes-it p ok (i .event) (l A .state) x c s e, takenOn, m, isMove)
+      → transition p x .source ≡ l A .state → transition p x .event ≡ i .event → mayTake p (i .day) x ≡ true → isPermitted p moveRight (i .society) A ≡ true → moves p l i A ≡ true
+  unfolding moves move mayMove isMove takenOn
+  moves-of ok A i x f b c s e m y = rw (y, f, b, takes-it p ok (i .event) (l A .state) x c s e, takenOn, m, isMove)
 
   step-allowed : (ok : Accepted p) (n : Nested p l) {c d : Conf} {a : Act} → VStep p ρ c a d → ShowsAll c → Allowed a
   unfolding Shows ShowsAll Allowed mayFire
   step-allowed ok n s =
       elim s as (λ n a m x. Shows n → Allowed a) (λ c a d x. ShowsAll c → Allowed a) [
-        | SUC A q i x S b e f g m ↦
-            λ h. let (w, free, st, r, hd) = h in moves-of ok A i x (way-forward (l A .mode) r) free b (f ∙ st) g m
+        | SUC A q i x S b e f g m y ↦
+            λ h. let (w, free, st, r, hd) = h in moves-of ok A i x (way-forward (l A .mode) r) free b (f ∙ st) g m y
         | FAIL A q S ↦ λ h. let (w, free, st, r, hd) = h in going-of p l ρ A (way-forward (l A .mode) r) free
         | FAILNEST A q S c w ↦ λ h. facing-going p l ρ A w (h .0)
         | COMP A q c S ↦
@@ -232,7 +236,7 @@ module _ (p : Plan) (ρ : FailReading) (ok : Accepted p) (limit : ℕ) (l : Ledg
         silent = view-settled p ρ ok l n′ (s .closing) (s .abandoning);
       }
 
--- Refusals 19, 20 and 22: no step that the call asks for applies. 21 and 26 alone refuse one that would.
+-- Refusals 19, 20, 22 and 28: no step that the call asks for applies. 21 and 26 alone refuse one that would.
 module _ (p : Plan) (passed : Passed p) (ρ : FailReading) where
   ok : Accepted p
   ok = accepted-facts p passed
@@ -261,16 +265,23 @@ module _ (p : Plan) (passed : Passed p) (ρ : FailReading) where
   sound-none limit day l s (event a) r e f g v =
       elim (look (eqb (a .event) 0)) [
         | inl z ↦ let (A, d, w) = v in zero-none l (s .formed .nested) A a (eqb-true (a .event) 0 z) d w
-        | inr z ↦ rest (badDay day (a .day)) (isFull p limit l a) (rw (z, not-over p ok limit l s) at e)
+        | inr z ↦
+            let (A, d, w) = v in
+            let (x, q) = moves-some p l a A (suc-enabled p ρ l ok (s .formed .nested) A a .0 (d, w)) in
+            let y = permitted-somewhere p moveRight (a .society) A (move-permitted p l a A x q) in
+            rest (badDay day (a .day)) (isFull p limit l a) (rw (z, not-over p ok limit l s, y) at e)
       ]
     where
       rest : (b c : Bool) → _≡_ {A = ℕ} (cond b 26 (cond c 21 0)) (suc r) → ⊥
       rest true c e = g (sym e)
       rest false true e = f (sym e)
       rest false false e = omega arith
-  sound-none limit day l s (signal a) r e f g v = let q : 0 ≡ suc r = rw (not-over p ok limit l s) at e in omega arith
+  sound-none limit day l s (signal a) r e f g v =
+      let y = permitted-somewhere p signalRight (a .society) (v .0) (v .1) in let q : 0 ≡ suc r = rw (not-over p ok limit l s, y) at e in omega arith
   sound-none limit day l s (fire a) r e f g v =
-      let may = allows p ρ ok limit l s .comp (a .track) .0 v in let q : 0 ≡ suc r = rw (not-over p ok limit l s, may) at e in omega arith
+      let (y, k, d, w) = v in
+      let may = allows p ρ ok limit l s .comp (a .track) .0 (k, d, w) in
+      let q : 0 ≡ suc r = sym (fire-allowed limit p day l a may y) ∙ e in omega arith
 
   -- of every sound ledger, over ones too
   pub refused-none : (limit : ℕ) (day : Day) (l : Ledger) → Kept limit p l → (c : Call) (r : ℕ) → callRefusal limit p day l c ≡ suc r
@@ -278,17 +289,14 @@ module _ (p : Plan) (passed : Passed p) (ρ : FailReading) where
   unfolding StepFor
   refused-none limit day l (inr s) c r e f g v = sound-none limit day l s c r e f g v
   refused-none limit day l (inl o) (event a) r e f g v = let (A, d, w) = v in over-none l o (sucAt A a) d w
-  refused-none limit day l (inl o) (signal a) r e f g v = let (A, d, w) = v in over-none l o (failAt A) d w
-  refused-none limit day l (inl o) (fire a) r e f g v = let (k, d, w) = v in over-none l o (compAt (a .track) k) d w
+  refused-none limit day l (inl o) (signal a) r e f g v = let (A, y, d, w) = v in over-none l o (failAt A) d w
+  refused-none limit day l (inl o) (fire a) r e f g v = let (y, k, d, w) = v in over-none l o (compAt (a .track) k) d w
 
   -- and a firing is accepted wherever its COMP applies
   pub fire-accepted-if : (limit : ℕ) (day : Day) (l : Ledger) → Sound limit p l → (a : FireArguments)
       → StepFor p ρ (fire a) (view p ρ l) ↔ (callRefusal limit p day l (fire a) ≡ 0)
   unfolding StepFor
   fire-accepted-if limit day l s a = (
-    λ v. accepting (allows p ρ ok limit l s .comp (a .track) .0 v),
-    λ h. allows p ρ ok limit l s .comp (a .track) .1 (fire-accepted limit p day l a h .1),
+    λ v. let (y, k, d, w) = v in fire-allowed limit p day l a (allows p ρ ok limit l s .comp (a .track) .0 (k, d, w)) y,
+    λ h. let (k, d, w) = allows p ρ ok limit l s .comp (a .track) .1 (fire-accepted limit p day l a h .1) in (fire-permitted limit p day l a h, k, d, w),
   )
-    where
-      accepting : mayFire p l (a .track) ≡ true → callRefusal limit p day l (fire a) ≡ 0
-      accepting may = unfold callRefusal callRefusals firstRefusal in rw (not-over p ok limit l s, may)

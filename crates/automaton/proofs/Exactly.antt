@@ -2,10 +2,9 @@
 -- move are those that the event moves, FAIL and the settling are the same steps in whatever order, COMP is of the newest code. Assumes
 -- nothing.
 use mathlib.Core.Path.{_≡_, refl, sym, ap, ap₂, _∙_}
-use mathlib.Core.Logic.{_⊎_, inl, inr}
-use mathlib.Core.Bool.{Bool, true, false, cond, not, _&&_, _||_}
+use mathlib.Core.Logic.{inl, inr}
+use mathlib.Core.Bool.{Bool, true, false, cond, not, _||_}
 use mathlib.Core.List.{List, [], _∷_, _++_}
-use mathlib.Core.Option.{Option, none, some}
 use Prim.Native.Nat.{ℕ, zero, suc, _+_, _<_}
 use native.Mathlib.Omega.{arith}
 use lib.ListN.{length}
@@ -15,20 +14,20 @@ use Rattle.rules.specs.Fold.{countBelow}
 use Rattle.rules.specs.Names.{Day}
 use Rattle.rules.specs.Plan.{Plan, trackCount, noState, optional}
 use Rattle.rules.specs.Ledger.{Ledger}
-use Rattle.rules.specs.Event.{EventArguments, moves, moved, closesScope, closings}
+use Rattle.rules.specs.Event.{EventArguments, moves, moved, closesScope}
 use Rattle.rules.specs.Fire.{newest, fired}
-use Rattle.rules.specs.Call.{SignalArguments, FireArguments, Call, event, signal, fire, callRefusal, figures}
-use Rattle.rules.proofs.Tests.{look, clash, and-holds, or-right}
+use Rattle.rules.specs.Call.{FireArguments, Call, event, signal, fire, callRefusal, figures}
+use Rattle.rules.proofs.Tests.{look, and-holds, or-right}
 use Rattle.rules.proofs.Folds.{count-same}
 use Rattle.rules.proofs.Acceptance.{Accepted}
 use Rattle.theory.proofs.Nesting.{Nested}
 use Rattle.restoration.proofs.Theorems01.{Sound, mover-awake, moved-nested}
-use Rattle.automaton.specs.Listing.{listed, listedDown}
+use Rattle.automaton.specs.Listing.{listedDown}
 use Rattle.automaton.specs.Configuration.{Conf}
 use Rattle.automaton.specs.Semantics.{FailReading, basicAlone, nestedToo, Act, sucAt, failAt, compAt, devAt, nestsucAt, nestfailAt, nestcompAt}
 use Rattle.automaton.specs.View.{view, leavesScope, leaveAt, abandonings, deviationStep, closers}
-use Rattle.automaton.specs.StepTests.{isNestsuc, isFail, numberOf, deviationIn, isSilent}
-use Rattle.automaton.specs.BigSteps.{has, isOnceEach, actsIn, OnEvent, OnSignal, OnFiring, Big}
+use Rattle.automaton.specs.StepTests.{isNestsuc, numberOf, deviationIn}
+use Rattle.automaton.specs.BigSteps.{has, isOnceEach, actsIn, OnEvent, OnFiring, Big}
 use Rattle.automaton.specs.Exactly.{toldBy, Exactly}
 use Rattle.automaton.proofs.Listings.{listed-length}
 use Rattle.automaton.proofs.MovingSteps.{moves-some}
@@ -39,7 +38,7 @@ use Rattle.automaton.proofs.Enabled.{comp-newest}
 use Rattle.automaton.proofs.OnePlace.{comp-unique, view-once}
 use Rattle.automaton.proofs.SettlingSteps.{same-steps}
 use Rattle.automaton.proofs.FailNumber.{turned-counted}
-use Rattle.automaton.proofs.BigSteps.{order-moves, event-between, event-settling, event-settling-acts, firingActs, Fired, fire-fired, exactly-big}
+use Rattle.automaton.proofs.BigSteps.{order-moves, event-between, event-settling, event-settling-acts, firingActs, fire-fired, exactly-big}
 
 -- A list without repetitions is as long as there are numbers in it.
 count-nothing : (n : ℕ) → countBelow n (λ u. false) ≡ 0
@@ -192,7 +191,7 @@ module _ (p : Plan) (ρ : FailReading) (ok : Accepted p) (limit : ℕ) (day : Da
   tells : (c : Call) → callRefusal limit p day l c ≡ 0 → (d : Conf) (x : Big p ρ c (view p ρ l) d) → figures p l c ≡ toldBy p ρ l c (view p ρ l) d x
   unfolding Big toldBy
   tells (event a) h d x = event-told a d x
-  tells (signal a) h d x = turned-counted p ρ ok l n (x .between) (x .turning .0) (x .turning .1) limit a
+  tells (signal a) h d x = turned-counted p ρ ok l n a (x .between) (x .turning .0) (x .turning .1)
   tells (fire a) h d x = fire-told a h (x .0) d (x .1)
 
   -- every accepted call

@@ -10,20 +10,22 @@ use native.Mathlib.Omega.{arith}
 use lib.ListN.{length}
 use lib.Dec.{eqb}
 use borrow.Author.Tests.{eqb-true}
+use Rattle.rules.specs.Names.{Society}
 use Rattle.rules.specs.Fold.{countBelow}
 use Rattle.rules.specs.Plan.{Plan, trackCount, noState, optional}
+use Rattle.rules.specs.Rights.{signalRight, isPermitted}
 use Rattle.rules.specs.Ledger.{Ledger, isForward}
 use Rattle.rules.specs.Event.{moves, moved, closesScope}
 use Rattle.rules.specs.Signal.{turned, turnings}
 use Rattle.rules.specs.Fire.{newest, fired}
 use Rattle.rules.specs.Call.{Call, event, signal, fire, figures}
-use Rattle.rules.proofs.Tests.{look, clash}
+use Rattle.rules.proofs.Tests.{look, clash, and-holds, and-both}
 use Rattle.rules.proofs.Acceptance.{Accepted}
 use Rattle.theory.proofs.Nesting.{Nested}
 use Rattle.restoration.proofs.Theorems01.{moved-nested}
 use Rattle.automaton.specs.Listing.{listedFrom, listed, listedDown}
 use Rattle.automaton.specs.Semantics.{FailReading, basicAlone, nestedToo, Act, sucAt, failAt, nestsucAt, trace}
-use Rattle.automaton.specs.View.{leavesScope, isGoing, leaveAt, abandonings, deviationStep, movings, closers, turners, actsOf}
+use Rattle.automaton.specs.View.{leavesScope, isGoing, isTurning, leaveAt, abandonings, deviationStep, movings, closers, turners, actsOf}
 use Rattle.automaton.specs.CountedSteps.{isTurnedEarly, countedSteps}
 use Rattle.automaton.specs.StepTests.{isSuc, isNestsuc, isFail, numberOf, codeIn, codesIn, deviationIn}
 use Rattle.automaton.proofs.Listings.{listed-length}
@@ -139,9 +141,14 @@ count-split (suc n) f g h =
     ap₂ (λ x y. x + y) i j ∙ (let e : (a + b) + (c + d) ≡ (a + c) + (b + d) = omega arith in e)
 
 -- a signal turns the tracks that FAIL turns, and the hosts that turn early
-pub forward-split : (p : Plan) (l : Ledger) (ρ : FailReading) → turnings p l ≡ countBelow (trackCount p) (isGoing p ρ l) + countBelow (trackCount p) (isTurnedEarly p ρ l)
-unfolding turnings isTurnedEarly
-forward-split p l ρ = count-split (trackCount p) (λ t. isForward (l t .mode)) (isGoing p ρ l) (λ t h. going-forward p l ρ t h)
+pub forward-split : (p : Plan) (l : Ledger) (ρ : FailReading) (society : Society)
+    → turnings p society l ≡ countBelow (trackCount p) (isTurning p ρ society l) + countBelow (trackCount p) (isTurnedEarly p ρ l society)
+unfolding turnings isTurnedEarly isTurning
+forward-split p l ρ society =
+    count-split (trackCount p) (λ t. isPermitted p signalRight society t && isForward (l t .mode)) (isTurning p ρ society l)
+    (λ t h.
+    let (y, i) = and-holds (isPermitted p signalRight society t) (isGoing p ρ l t) h in
+    and-both (isPermitted p signalRight society t) (isForward (l t .mode)) y (going-forward p l ρ t i))
 
 module _ (p : Plan) (ρ : FailReading) (ok : Accepted p) (l : Ledger) (n : Nested p l) where
   right-none : (a b c : ℕ) → a ≡ c → b ≡ 0 → a + b ≡ c
@@ -166,10 +173,10 @@ module _ (p : Plan) (ρ : FailReading) (ok : Accepted p) (l : Ledger) (n : Neste
   figures-counted limit (signal a) =
       let T = trackCount p in
       ap (λ x. x ∷ [])
-      (forward-split p l ρ
-      ∙ ap (λ x. x + countBelow T (isTurnedEarly p ρ l))
-      (sym (number-joined isFail (listedDown T (isGoing p ρ l) failAt) (listedDown T (leavesScope p (turned l)) (leaveAt ρ))
-      ∙ right-none _ _ _ (all-down isFail (isGoing p ρ l) failAt (λ k. unfold isFail in refl) T) (none-down isFail (leavesScope p (turned l)) (leaveAt ρ) (leave-fail ρ) T))))
+      (forward-split p l ρ (a .society)
+      ∙ ap (λ x. x + countBelow T (isTurnedEarly p ρ l (a .society)))
+      (sym (number-joined isFail (listedDown T (isTurning p ρ (a .society) l) failAt) (listedDown T (leavesScope p (turned p (a .society) l)) (leaveAt ρ))
+      ∙ right-none _ _ _ (all-down isFail (isTurning p ρ (a .society) l) failAt (λ k. unfold isFail in refl) T) (none-down isFail (leavesScope p (turned p (a .society) l)) (leaveAt ρ) (leave-fail ρ) T))))
   figures-counted limit (fire a) =
       let t = a .track in
       let e = newest (l t .held) in

@@ -10,7 +10,7 @@ use native.Mathlib.Omega.{arith}
 use lib.Dec.{eqb}
 use borrow.Author.Tests.{eqb-true, eqb-false, eq-eqb, ne-eqb}
 use Rattle.rules.specs.declared.Counts.{Counts}
-use Rattle.rules.specs.Names.{Day}
+use Rattle.rules.specs.Names.{Day, Society}
 use Rattle.rules.specs.Day.{earliestDay}
 use Rattle.rules.specs.Plan.{Plan, trackCount, planOf, optional, isRoot}
 use Rattle.rules.specs.Acceptance.{accepted, readPlan}
@@ -32,7 +32,7 @@ use Rattle.restoration.proofs.SoundWords.{Holds, begin-holds, call-holds, call-
 use Rattle.restoration.proofs.Restoration.{restored}
 use Rattle.automaton.specs.Listing.{listedFrom, listed, listedDown}
 use Rattle.automaton.specs.Semantics.{FailReading, basicAlone, nestedToo, Act, sucAt, failAt, compAt, nestsucAt, nestcompAt, trace}
-use Rattle.automaton.specs.View.{leavesScope, isGoing, leaveAt, abandonings, deviationStep, movings, closers, turners, actsOf}
+use Rattle.automaton.specs.View.{leavesScope, isTurning, leaveAt, abandonings, deviationStep, movings, closers, turners, actsOf}
 use Rattle.automaton.specs.Along.{made, actsFrom, actsAfter}
 use Rattle.automaton.specs.SelfCancelling.{Symbol, activity, symbol, projected, leftAfter, leftOf, onto, cancOut, Perfect, Tagged}
 use Rattle.automaton.proofs.CancOut.{left-joined}
@@ -158,12 +158,12 @@ module _ (limit : ℕ) (p : Plan) (ρ : FailReading) (ok : Accepted p) (comp : �
         one-left : (v : List Symbol) → leftOf comp v (cond (moves p l e A) (activity (e .event) ∷ []) [] ++ []) ≡ added l e v
         one-left v = unfold leftOf added in elim (look (moves p l e A)) [ inl h ↦ rw h | inr h ↦ rw h ]
 
-  no-turns : (l : Ledger) → projected A (turners p ρ l ++ abandonings p ρ (turned l)) ≡ []
+  no-turns : (society : Society) (l : Ledger) → projected A (turners p ρ society l ++ abandonings p ρ (turned p society l)) ≡ []
   unfolding turners abandonings
-  no-turns l =
-      projected-joined A (listedDown (trackCount p) (isGoing p ρ l) failAt) (listedDown (trackCount p) (leavesScope p (turned l)) (leaveAt ρ))
-      ∙ ap₂ (λ x y. x ++ y) (no-symbols-down A (trackCount p) (isGoing p ρ l) failAt (λ k. unfold symbol trace in refl))
-      (no-symbols-down A (trackCount p) (leavesScope p (turned l)) (leaveAt ρ) (leave-symbol A ρ))
+  no-turns society l =
+      projected-joined A (listedDown (trackCount p) (isTurning p ρ society l) failAt) (listedDown (trackCount p) (leavesScope p (turned p society l)) (leaveAt ρ))
+      ∙ ap₂ (λ x y. x ++ y) (no-symbols-down A (trackCount p) (isTurning p ρ society l) failAt (λ k. unfold symbol trace in refl))
+      (no-symbols-down A (trackCount p) (leavesScope p (turned p society l)) (leaveAt ρ) (leave-symbol A ρ))
 
   no-deviation : (l : Ledger) (t : ℕ) (o : Option ℕ) → projected A (deviationStep t o ++ abandonings p ρ l) ≡ []
   unfolding deviationStep abandonings projected symbol trace
@@ -188,7 +188,7 @@ module _ (limit : ℕ) (p : Plan) (ρ : FailReading) (ok : Accepted p) (comp : �
       → bookedCall limit bs p books l c v ≡ leftOf comp v (projected A (actsOf p ρ l c))
   unfolding bookedCall actsOf
   call-string d l r s (event a) h v = event-string l (s .formed .nested) a v
-  call-string d l r s (signal a) h v = sym (ap (leftOf comp v) (no-turns l) ∙ (unfold leftOf in refl))
+  call-string d l r s (signal a) h v = sym (ap (leftOf comp v) (no-turns (a .society) l) ∙ (unfold leftOf in refl))
   call-string d l r s (fire a) h v =
       let t = a .track in
       let (b, u, e, f) = may-fire limit p l t (fire-accepted limit p d l a h .1) in

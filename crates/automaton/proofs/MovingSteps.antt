@@ -8,6 +8,7 @@ use mathlib.Core.Option.{Option, none, some}
 use Prim.Native.Nat.{ℕ, _<_}
 use lib.Dec.{eqb}
 use Rattle.rules.specs.Plan.{Plan, trackCount, transition, mover, optional, host, isHostedBy, isAbove, mayTake, transitionCount, transitionFor}
+use Rattle.rules.specs.Rights.{moveRight, isPermitted}
 use Rattle.rules.specs.Ledger.{Entry, Configuration, Ledger, isAwake}
 use Rattle.rules.specs.Opening.{enter}
 use Rattle.rules.specs.Event.{EventArguments, install, isMove, move, moves, moved}
@@ -18,7 +19,7 @@ use Rattle.rules.proofs.Acceptance.{Accepted, transition-for}
 use Rattle.rules.proofs.Opening.{wakes-root}
 use Rattle.theory.proofs.Nesting.{Awake, Nested, free-below}
 use Rattle.theory.proofs.EnteringNested.{Fate, enters, wakens, stays, fate, arrived-awake}
-use Rattle.restoration.proofs.Theorems01.{move-takes, move-for, move-day, by-some, to-none, to-some, to-destination, recorded, goes, moved-is, recorded-awake, mover-awake, mover-is, recorded-nested, goes-free, moved-still}
+use Rattle.restoration.proofs.Theorems01.{move-takes, move-for, move-day, move-permitted, by-some, to-none, to-some, to-destination, recorded, goes, moved-is, recorded-awake, mover-awake, mover-is, recorded-nested, goes-free, moved-still}
 use Rattle.automaton.specs.Configuration.{forward, NConf, Basic, push, goto}
 use Rattle.automaton.specs.Semantics.{FailReading, sucAt, Step, SUC, Run}
 use Rattle.automaton.specs.View.{stackOf, directionOf, isWithin, basic, viewOf, isOnTop, view, movings}
@@ -99,12 +100,13 @@ module _ (p : Plan) (l : Ledger) (e : EventArguments) where
         let from : transition p x .source ≡ l t .state = w .from in
         let on : transition p x .event ≡ e .event = on-event t x q in
         let day : mayTake p (e .day) x ≡ true = move-day p l e t x q in
+        let right : isPermitted p moveRight (e .society) t ≡ true = move-permitted p l e t x q in
         let one : viewOf p ρ l t ≡ Basic t (l t .state) forward (stackOf (l t .held)) =
         view-law p ρ l ok t (n .below t (awake t h)) ∙ shown-free p ρ l t (viewOf p ρ l) (w .free)
         ∙ ap (λ z. Basic t (l t .state) (directionOf z) (stackOf (l t .held))) (w .forward) in
         subst (λ z. Step p ρ z (sucAt t e) (arrival t)) (sym one)
         (subst (λ z. Step p ρ (Basic t (l t .state) forward (stackOf (l t .held))) (sucAt t e) z) (sym (arrival-is t x q))
-        (SUC t (l t .state) e x (stackOf (l t .held)) (w .real) (cc) (cc) (cc) (cc)))
+        (SUC t (l t .state) e x (stackOf (l t .held)) (w .real) (cc) (cc) (cc) (cc) (cc)))
 
     root-awake : (t : ℕ) → host p t ≡ none → isAwake (m t .mode) ≡ isAwake (l t .mode)
     root-awake t h = ap (λ (k : Ledger). isAwake (k t .mode)) (moved-is p l e) ∙ go (fate p ok (recorded p l e) (goes p l e) t)

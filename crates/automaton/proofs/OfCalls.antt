@@ -2,7 +2,7 @@
 -- says that it answers and leaves what `callOutcome` says. Weaken a contract there, and this file is refused. Assumes nothing.
 use mathlib.Core.Path.{_≡_, sym, subst, _∙_}
 use mathlib.Core.List.{List}
-use Prim.Native.Nat.{ℕ, _<_}
+use Prim.Native.Nat.{ℕ}
 use contract.Lifetimes.{Lfts}
 use denote.Ref.{now}
 use denote.Triple.Clauses.{AtExit}
@@ -13,7 +13,7 @@ use Rattle.rules.specs.Plan.{planOf, trackCount}
 use Rattle.rules.specs.Acceptance.{accepted, readPlan}
 use Rattle.rules.specs.Layout.{entryLimit}
 use Rattle.rules.specs.Ledger.{ledgerAt}
-use Rattle.rules.specs.Call.{Answer, refusal, done, Call, nothing, callOutcome, Meets}
+use Rattle.rules.specs.Call.{Answer, refusal, done, Call, callOutcome, Meets}
 use Rattle.rules.specs.Call as paper
 use Rattle.rules.specs.Answers.{eventTold, signalTold, fireTold}
 use Rattle.manager.proofs.event as event
@@ -29,15 +29,15 @@ use Rattle.property3.proofs.Readings.{event-meets, signal-meets, fire-meets}
 use Rattle.automaton.specs.Semantics.{FailReading}
 use Rattle.automaton.specs.View.{view}
 use Rattle.automaton.specs.Enabled.{StepFor}
-use Rattle.automaton.proofs.CallsOnWords.{ExactlyWords, words-exactly, refused-still, words-refused}
+use Rattle.automaton.proofs.CallsOnWords.{Stepless, ExactlyWords, words-exactly, refused-still, words-refused}
 
 -- What is said of a call that was made: accepted, it is exactly the automaton's; refused, it leaves every word, and where the refusal is
--- 19, 20 or 22 the automaton has no step for it.
+-- 19, 20, 22 or 28 the automaton has no step for it.
 pub record AsAutomaton (ρ : FailReading) (bs : List ℕ) (k : Counts) (read : readPlan bs ≡ accepted k) (ws : List ℕ) (c : Call) (told : Answer)
     (left : List ℕ) : Type 0 where
   pub accepted-exactly : (figures : List ℕ) → told ≡ done figures → ExactlyWords ρ entryLimit bs k read ws c figures left
   pub refused-still : (r : ℕ) → told ≡ refusal r → left ≡ ws
-  pub refused-none : (r : ℕ) → told ≡ refusal r → 18 < r → r < 23 → (r ≡ 21 → ⊥)
+  pub refused-none : (r : ℕ) → told ≡ refusal r → Stepless r
       → StepFor (planOf bs k) ρ c (view (planOf bs k) ρ (ledgerAt entryLimit ws (trackCount (planOf bs k)))) → ⊥
 
 module _ (ρ : FailReading) (bs : List ℕ) (k : Counts) (read : readPlan bs ≡ accepted k) where
@@ -57,17 +57,17 @@ module _ (ρ : FailReading) (bs : List ℕ) (k : Counts) (read : readPlan bs ≡
 pub event-exactly : (ρ : FailReading) (κs : Lfts 2) (a : ArgsD event.signature κs) (r : ResD event.signature κs)
     (s : AtExit (endedOf 2 event-kinds.ps event-kinds.r) κs) → event-reads.Post κs a r s
     → (k : Counts) (read : readPlan (now (a .0)) ≡ accepted k)
-    → AsAutomaton ρ (now (a .0)) k read (now (a .1 .0)) (paper.event (record { event = a .1 .1 .0; day = a .1 .1 .1 .0 })) (eventTold r) (now (s .1 .0))
+    → AsAutomaton ρ (now (a .0)) k read (now (a .1 .0)) (paper.event (record { event = a .1 .1 .0; day = a .1 .1 .1 .0; society = a .1 .1 .1 .1 .0 })) (eventTold r) (now (s .1 .0))
 event-exactly ρ κs a r s p k read = as-automaton ρ (now (a .0)) k read (now (a .1 .0)) _ (event-meets κs a r s p)
 
 pub signal-exactly : (ρ : FailReading) (κs : Lfts 2) (a : ArgsD signal.signature κs) (r : ResD signal.signature κs)
     (s : AtExit (endedOf 2 signal-kinds.ps signal-kinds.r) κs) → signal-reads.Post κs a r s
     → (k : Counts) (read : readPlan (now (a .0)) ≡ accepted k)
-    → AsAutomaton ρ (now (a .0)) k read (now (a .1 .0)) (paper.signal nothing) (signalTold r) (now (s .1 .0))
+    → AsAutomaton ρ (now (a .0)) k read (now (a .1 .0)) (paper.signal (record { society = a .1 .1 .0 })) (signalTold r) (now (s .1 .0))
 signal-exactly ρ κs a r s p k read = as-automaton ρ (now (a .0)) k read (now (a .1 .0)) _ (signal-meets κs a r s p)
 
 pub fire-exactly : (ρ : FailReading) (κs : Lfts 2) (a : ArgsD fire.signature κs) (r : ResD fire.signature κs)
     (s : AtExit (endedOf 2 fire-kinds.ps fire-kinds.r) κs) → fire-reads.Post κs a r s
     → (k : Counts) (read : readPlan (now (a .0)) ≡ accepted k)
-    → AsAutomaton ρ (now (a .0)) k read (now (a .1 .0)) (paper.fire (record { track = a .1 .1 .0 })) (fireTold r) (now (s .1 .0))
+    → AsAutomaton ρ (now (a .0)) k read (now (a .1 .0)) (paper.fire (record { track = a .1 .1 .0; society = a .1 .1 .1 .0 })) (fireTold r) (now (s .1 .0))
 fire-exactly ρ κs a r s p k read = as-automaton ρ (now (a .0)) k read (now (a .1 .0)) _ (fire-meets κs a r s p)

@@ -102,7 +102,7 @@ module _ (p : Plan) (ρ : FailReading) where
   unfolding count countAll cut cutAll isComp
   comp-cut A k s =
       elim s as (λ n a m x. a ≡ compAt A k → (1 ≤ count A n) × (count A n ≤ 1 → cut A n ≡ m)) (λ c a d x. a ≡ compAt A k → (1 ≤ countAll A c) × (countAll A c ≤ 1 → cutAll A c ≡ d)) [
-        | SUC B q i x S b e f g m ↦ λ h. clash (ap isComp h) refl
+        | SUC B q i x S b e f g m y ↦ λ h. clash (ap isComp h) refl
         | FAIL B q S ↦ λ h. clash (ap isComp h) refl
         | FAILNEST B q S c w ↦ λ h. clash (ap isComp h) refl
         | COMP B q c S ↦ λ h. let z : B ≡ A = cc in rw (eq-eqb B A z) (omega arith, λ w. refl)
@@ -270,7 +270,7 @@ module _ (p : Plan) (ρ : FailReading) (ok : Accepted p) where
     unfolding count countAll went wentAll isSuc
     suc-went s =
         elim s as (λ n a m x. a ≡ sucAt A i → Went n m) (λ c a d x. a ≡ sucAt A i → WentAll c d) [
-          | SUC B q j x S b e k v y ↦
+          | SUC B q j x S b e k v y o ↦
               λ h.
               let z : A ≡ B = cc in
               let w : i ≡ j = cc in

@@ -116,7 +116,7 @@ module _ (p : Plan) where
 
       work-own : (l : Ledger) → Nested p l → (c : Call) → ((t : ℕ) → own t (l t .held) ≡ true) → (t : ℕ) → own t (work p l c t .held) ≡ true
       work-own l n (event a) h = closed-own (moved p l a) (moved-own l n a h)
-      work-own l n (signal a) h = left-own (turned l) (λ t. ap (own t) (turned-held p ok a l t) ∙ h t)
+      work-own l n (signal a) h = left-own (turned p (a .society) l) (λ t. ap (own t) (turned-held p ok a l t) ∙ h t)
       work-own l n (fire a) h =
           left-own (fired p l (a .track))
           (λ u. ap (λ m. own u (m u .held)) (fired-is p l (a .track)) ∙ enter-own (removed l (a .track)) (deviatesTo l (a .track)) (removed-own l (a .track) h) u)

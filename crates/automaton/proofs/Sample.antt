@@ -7,26 +7,26 @@ use lib.IntN.{pos}
 use Rattle.rules.specs.Plan.{Plan, planOf, isRoot}
 use Rattle.rules.specs.Layout.{entryLimit}
 use Rattle.rules.specs.Ledger.{Ledger}
-use Rattle.rules.specs.Call.{Call, event, signal, fire, nothing, figures}
+use Rattle.rules.specs.Call.{Call, event, signal, fire, figures}
 use Rattle.rules.specs.ReferenceRun.{ledgerAfter}
 use Rattle.starred.specs.SamplePlan.{planP, lentFor}
 use Rattle.starred.specs.Computing.{computing}
 use Rattle.automaton.specs.Listing.{listedFrom, listed, listedDown}
 use Rattle.automaton.specs.Configuration.{forward, backward, Comp, Basic, Nest, Vect, pushComp, pushDev, initBy, gotoTo, goto, init}
 use Rattle.automaton.specs.Semantics.{basicAlone, nestedToo, sucAt, failAt, compAt, nestsucAt, nestfailAt, nestcompAt}
-use Rattle.automaton.specs.View.{stackOf, directionOf, facing, isWithin, basic, nested, shown, viewTo, viewOf, isOnTop, view, leavesScope, isGoing, leaveAt, abandonings, deviationStep, movings, closers, turners, actsOf}
+use Rattle.automaton.specs.View.{stackOf, directionOf, facing, isWithin, basic, nested, shown, viewTo, viewOf, isOnTop, view, leavesScope, isGoing, isTurning, leaveAt, abandonings, deviationStep, movings, closers, turners, actsOf}
 
 abbrev P : Plan
-P = planOf planP (record { tracks = 3; states = 8; transitions = 5; windows = 0 })
+P = planOf planP (record { tracks = 3; states = 8; transitions = 5; windows = 0; grants = 1 })
 
 abbrev e : ℕ → Call
-e n = event (record { event = n; day = pos 0 })
+e n = event (record { event = n; day = pos 0; society = 1 })
 
 abbrev f : ℕ → Call
-f t = fire (record { track = t })
+f t = fire (record { track = t; society = 1 })
 
 abbrev s : Call
-s = signal nothing
+s = signal (record { society = 1 })
 
 -- the ledger after begin and a list of calls
 abbrev ledger : List Call → Ledger
@@ -63,7 +63,7 @@ unfolding computing listedFrom listed Vect pushComp pushDev stackOf directionOf 
 turned-view = refl
 
 pub turned-acts : actsOf P basicAlone (ledger (e 10 ∷ e 11 ∷ e 12 ∷ [])) s ≡ failAt 2 ∷ failAt 1 ∷ []
-unfolding computing listedFrom listed listedDown isWithin leavesScope isGoing leaveAt abandonings turners actsOf
+unfolding computing listedFrom listed listedDown isWithin leavesScope isGoing isTurning leaveAt abandonings turners actsOf
 turned-acts = refl
 
 -- but three tracks turn: the root too, which has no step of its own yet. So turned is not the number of FAIL
@@ -73,7 +73,7 @@ turned-told = refl
 
 -- Where FAIL turns nested configurations too, there are three, and the root is shown turned.
 pub turned-acts-too : actsOf P nestedToo (ledger (e 10 ∷ e 11 ∷ e 12 ∷ [])) s ≡ failAt 2 ∷ failAt 1 ∷ failAt 0 ∷ []
-unfolding computing listedFrom listed listedDown isWithin leavesScope isGoing leaveAt abandonings turners actsOf
+unfolding computing listedFrom listed listedDown isWithin leavesScope isGoing isTurning leaveAt abandonings turners actsOf
 turned-acts-too = refl
 
 pub turned-view-too :
@@ -84,11 +84,11 @@ turned-view-too = refl
 
 -- The second firing: COMP, and the vector has compensated: NESTFAIL.
 pub left-acts : actsOf P basicAlone (ledger (e 10 ∷ e 11 ∷ e 12 ∷ s ∷ f 1 ∷ [])) (f 2) ≡ compAt 2 52 ∷ nestcompAt 2 ∷ nestfailAt 0 ∷ []
-unfolding computing listedFrom listed listedDown isWithin leavesScope isGoing leaveAt abandonings deviationStep actsOf
+unfolding computing listedFrom listed listedDown isWithin leavesScope isGoing isTurning leaveAt abandonings deviationStep actsOf
 left-acts = refl
 
 pub left-acts-too : actsOf P nestedToo (ledger (e 10 ∷ e 11 ∷ e 12 ∷ s ∷ f 1 ∷ [])) (f 2) ≡ compAt 2 52 ∷ nestcompAt 2 ∷ nestcompAt 0 ∷ []
-unfolding computing listedFrom listed listedDown isWithin leavesScope isGoing leaveAt abandonings deviationStep actsOf
+unfolding computing listedFrom listed listedDown isWithin leavesScope isGoing isTurning leaveAt abandonings deviationStep actsOf
 left-acts-too = refl
 
 pub left-view : view P basicAlone (ledger (e 10 ∷ e 11 ∷ e 12 ∷ s ∷ f 1 ∷ f 2 ∷ [])) ≡ Vect (Basic 0 1 backward (Comp 50 ∷ []) ∷ [])
@@ -96,7 +96,7 @@ unfolding computing listedFrom listed Vect pushComp pushDev stackOf directionOf 
 left-view = refl
 
 -- Event 14 instead: the vector has terminated, and NESTSUC installs the replacement.
-pub closed-acts : actsOf P basicAlone (ledger (e 10 ∷ e 11 ∷ e 12 ∷ [])) (e 14) ≡ sucAt 2 (record { event = 14; day = pos 0 }) ∷ nestsucAt 0 ∷ []
+pub closed-acts : actsOf P basicAlone (ledger (e 10 ∷ e 11 ∷ e 12 ∷ [])) (e 14) ≡ sucAt 2 (record { event = 14; day = pos 0; society = 1 }) ∷ nestsucAt 0 ∷ []
 unfolding computing listedFrom listed listedDown isWithin movings closers actsOf
 closed-acts = refl
 

@@ -13,14 +13,14 @@ use borrow.Author.Tests.{eqb-true, eq-eqb, ltb-true, ltb-false}
 use Rattle.rules.specs.Fold.{everyBelow}
 use Rattle.rules.specs.Plan.{Plan, State, planOf, stateCount, transitionCount, state, transition, replacement, mover, noState}
 use Rattle.rules.specs.Layout.{entryLimit}
-use Rattle.rules.specs.Call.{Call, event, signal, fire, nothing}
+use Rattle.rules.specs.Call.{Call, event, signal, fire}
 use Rattle.rules.proofs.Tests.{look, implies}
 use Rattle.rules.proofs.Folds.{every-at}
 use Rattle.starred.specs.SamplePlan.{bytesOf, lentFor}
 use Rattle.starred.specs.Computing.{computing}
 use Rattle.automaton.specs.Listing.{listedFrom, listed, listedDown}
 use Rattle.automaton.specs.Semantics.{basicAlone, trace}
-use Rattle.automaton.specs.View.{isWithin, leavesScope, isGoing, leaveAt, abandonings, deviationStep, movings, closers, turners, actsOf}
+use Rattle.automaton.specs.View.{isWithin, leavesScope, isGoing, isTurning, leaveAt, abandonings, deviationStep, movings, closers, turners, actsOf}
 use Rattle.automaton.specs.Along.{made, actsFrom, actsAfter}
 use Rattle.automaton.specs.SelfCancelling.{activity, action, symbol, projected, isPair, leftAfter, leftOf, onto, cancOut, Perfect, Tagged}
 
@@ -43,11 +43,12 @@ planQ =
     ∷ 14 ∷ 3 ∷ 3 ∷ 11 ∷ 51 ∷ 65535 ∷ 4
     ∷ 14 ∷ 3 ∷ 5 ∷ 12 ∷ 52 ∷ 65535 ∷ 6
     ∷ 14 ∷ 3 ∷ 6 ∷ 14 ∷ 54 ∷ 65535 ∷ 7
+    ∷ 10 ∷ 6 ∷ 1 ∷ 0 ∷ 7
     ∷ 4 ∷ 4
     ∷ [])
 
 abbrev Q : Plan
-Q = planOf planQ (record { tracks = 3; states = 8; transitions = 5; windows = 0 })
+Q = planOf planQ (record { tracks = 3; states = 8; transitions = 5; windows = 0; grants = 1 })
 
 -- the compensation of an activity
 abbrev comp : ℕ → ℕ
@@ -102,17 +103,17 @@ taggedQ =
     }
 
 abbrev e : ℕ → Call
-e n = event (record { event = n; day = pos 0 })
+e n = event (record { event = n; day = pos 0; society = 1 })
 
 abbrev f : ℕ → Call
-f t = fire (record { track = t })
+f t = fire (record { track = t; society = 1 })
 
 -- events 10, 11, 12, signal, and a firing of each track
 abbrev calls : List Call
-calls = e 10 ∷ e 11 ∷ e 12 ∷ signal nothing ∷ f 1 ∷ f 2 ∷ f 0 ∷ []
+calls = e 10 ∷ e 11 ∷ e 12 ∷ signal (record { society = 1 }) ∷ f 1 ∷ f 2 ∷ f 0 ∷ []
 
 pub stringQ : projected 0 (actsAfter entryLimit planQ Q basicAlone (lentFor 3) calls) ≡ activity 10 ∷ action 50 ∷ []
-unfolding computing listedFrom listed listedDown isWithin leavesScope isGoing leaveAt abandonings deviationStep movings closers turners actsOf made actsFrom actsAfter trace symbol projected
+unfolding computing listedFrom listed listedDown isWithin leavesScope isGoing isTurning leaveAt abandonings deviationStep movings closers turners actsOf made actsFrom actsAfter trace symbol projected
 stringQ = refl
 
 pub cancelledQ : cancOut comp (projected 0 (actsAfter entryLimit planQ Q basicAlone (lentFor 3) calls)) ≡ []

@@ -69,7 +69,7 @@ module _ (p : Plan) (ρ : FailReading) where
   unfolding calm deviates trace isMute
   no-step s =
       elim s as (λ n a m x. calm n ≡ true → trace a ≡ τ → ⊥) (λ c a d x. calms c ≡ true → trace a ≡ τ → ⊥) [
-        | SUC A q i x S b e f g m ↦ λ k h. clash (ap isMute h) refl
+        | SUC A q i x S b e f g m y ↦ λ k h. clash (ap isMute h) refl
         | FAIL A q S ↦ λ k h. clash (ap isMute h) refl
         | FAILNEST A q S c w ↦ λ k h. clash (ap isMute h) refl
         | COMP A q c S ↦ λ k h. clash (ap isMute h) refl

@@ -1,8 +1,8 @@
 -- Settling takes the same steps in whatever order: how many of them pass a test is told by the configuration, from whose number each silent step
 -- that passes it takes one away, and where none applies it is 0. Assumes nothing.
-use mathlib.Core.Path.{_≡_, refl, sym, ap, ap₂, _∙_}
+use mathlib.Core.Path.{_≡_, refl, sym, ap, _∙_}
 use mathlib.Core.Logic.{inl, inr}
-use mathlib.Core.Bool.{Bool, true, false, cond, and-false, _&&_, _||_}
+use mathlib.Core.Bool.{Bool, true, false, cond, and-false, _||_}
 use mathlib.Core.List.{List, [], _∷_, _++_}
 use Prim.Native.Nat.{ℕ, zero, suc, _+_}
 use native.Mathlib.Omega.{arith}
@@ -133,7 +133,7 @@ module _ (p : Plan) (ρ : FailReading) (f : Act → Bool) where
     unfolding settlingOf basicSteps devSteps isSilent isMute trace
     silent-less s =
         elim s as (λ n a m x. isSilent a ≡ true → settlingOf n ≡ one a + settlingOf m) (λ c a d x. isSilent a ≡ true → settlingOfAll c ≡ one a + settlingOfAll d) [
-          | SUC A q i x S b e f g m ↦ λ h. clash h refl
+          | SUC A q i x S b e f g m y ↦ λ h. clash h refl
           | FAIL A q S ↦ λ h. clash h refl
           | FAILNEST A q S c w ↦ λ h. clash h refl
           | COMP A q c S ↦ λ h. clash h refl

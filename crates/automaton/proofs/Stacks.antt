@@ -200,7 +200,7 @@ module _ (p : Plan) where
       unfolding automatonOf stackIn actor tidy ownDevs symbol trace
       step-facts s =
           elim s as (λ n a m x. tidy n ≡ true → Facts n a m) (λ c a d x. Within c a d) [
-            | SUC A q i x S b e f g m ↦
+            | SUC A q i x S b e f g m y ↦
                 λ h.
                 let c = transition p x .code in
                 let d = optional (transition p x .deviation) in

@@ -21,7 +21,7 @@ use Rattle.automaton.specs.BigSteps.{afterFinish, actsIn, Big, Ends}
 unfoldable pub toldBy : (p : Plan) (ρ : FailReading) (l : Ledger) (call : Call) (c d : Conf) → Big p ρ call c d → List ℕ
 unfolding Big
 toldBy p ρ l (event a) c d x = length (x .order) ∷ numberOf isNestsuc (actsIn p ρ (x .settling .0)) ∷ []
-toldBy p ρ l (signal a) c d x = (numberOf isFail (actsIn p ρ (x .turning .0)) + countBelow (trackCount p) (isTurnedEarly p ρ l)) ∷ []
+toldBy p ρ l (signal a) c d x = (numberOf isFail (actsIn p ρ (x .turning .0)) + countBelow (trackCount p) (isTurnedEarly p ρ l (a .society))) ∷ []
 toldBy p ρ l (fire a) c d x = x .0 ∷ deviationIn (actsIn p ρ (x .1 .settling .0)) ∷ []
 
 module _ (p : Plan) (ρ : FailReading) (limit : ℕ) (l : Ledger) (c : Call) where

@@ -2,7 +2,9 @@
 use mathlib.Core.Bool.{Bool, true, false, cond}
 use mathlib.Core.List.{List, [], _∷_, _++_}
 use Prim.Native.Nat.{ℕ, _+_}
-use Rattle.rules.specs.Plan.{noState}
+use Rattle.rules.specs.Names.{Society}
+use Rattle.rules.specs.Plan.{Plan, noState}
+use Rattle.rules.specs.Rights.{signalRight, isPermitted}
 use Rattle.automaton.specs.Semantics.{Trace, Forw, Back, γ, τ, Act, sucAt, failAt, compAt, devAt, nestsucAt, nestfailAt, nestcompAt, trace}
 
 unfoldable pub isSuc : Act → Bool
@@ -31,6 +33,16 @@ isFail (devAt A d) = false
 isFail (nestsucAt A) = false
 isFail (nestfailAt A) = false
 isFail (nestcompAt A) = false
+
+-- FAIL at an automaton that the society may turn
+unfoldable pub isFailFor : Plan → Society → Act → Bool
+isFailFor p society (sucAt A i) = false
+isFailFor p society (failAt A) = isPermitted p signalRight society A
+isFailFor p society (compAt A c) = false
+isFailFor p society (devAt A d) = false
+isFailFor p society (nestsucAt A) = false
+isFailFor p society (nestfailAt A) = false
+isFailFor p society (nestcompAt A) = false
 
 -- how many steps pass the test
 unfoldable pub numberOf : (Act → Bool) → List Act → ℕ

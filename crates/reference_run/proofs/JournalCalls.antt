@@ -50,7 +50,7 @@ module _ (bs js : List ℕ) (p : Plan) where
           → left.wordsFrom bs js p (suc n) at ws ≡ clerk.wordsFrom entryLimit bs ws (callsFrom bs js p (suc n) at ws)
       go ended e rest = rw (e, left.wordsFrom, callsFrom)
       go broken e rest = rw (e, left.wordsFrom, callsFrom)
-      go fireLowest e rest = rw (e, left.wordsFrom, callsFrom) (rest (fireLowestCall p (ledgerOf p ws)))
+      go (fireLowest o) e rest = rw (e, left.wordsFrom, callsFrom) (rest (fireLowestCall p (ledgerOf p ws) o))
       go (called c) e rest = rw (e, left.wordsFrom, callsFrom) (rest c)
 
   -- the lines of calls and of their answers from the words ws on, with the firings done so far, and the last lines
@@ -100,6 +100,6 @@ module _ (bs js : List ℕ) (p : Plan) where
           → replay bs js p (suc n) at ws fired ≡ textOf (callsFrom bs js p (suc n) at ws) (endsBroken js (suc n) at) ws fired
       go ended e rest = rw (e, replay, callsFrom, endsBroken) (sym (text-end false ws fired))
       go broken e rest = rw (e, replay, callsFrom, endsBroken) (sym (text-end true ws fired))
-      go fireLowest e rest =
-          rw (e, replay, callsFrom, endsBroken) (one n at ws fired k rest fireLowest e (omega arith) (fireLowestCall p (ledgerOf p ws)))
+      go (fireLowest o) e rest =
+          rw (e, replay, callsFrom, endsBroken) (one n at ws fired k rest (fireLowest o) e (omega arith) (fireLowestCall p (ledgerOf p ws) o))
       go (called c) e rest = rw (e, replay, callsFrom, endsBroken) (one n at ws fired k rest (called c) e (size-some c) c)

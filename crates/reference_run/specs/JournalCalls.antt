@@ -28,7 +28,7 @@ module _ (js : Bytes) where
       elim (itemAt js at) [
         | ended ↦ false
         | broken ↦ true
-        | fireLowest ↦ endsBroken n (at + sizeAt js at)
+        | fireLowest o ↦ endsBroken n (at + sizeAt js at)
         | called c ↦ endsBroken n (at + sizeAt js at)
       ]
 
@@ -40,8 +40,8 @@ module _ (bs js : Bytes) (p : Plan) where
       elim (itemAt js at) [
         | ended ↦ []
         | broken ↦ []
-        | fireLowest ↦
-            fireLowestCall p (ledgerOf p ws)
-            ∷ callsFrom n (at + sizeAt js at) (callOutcome entryLimit bs ws (fireLowestCall p (ledgerOf p ws)) .words)
+        | fireLowest o ↦
+            fireLowestCall p (ledgerOf p ws) o
+            ∷ callsFrom n (at + sizeAt js at) (callOutcome entryLimit bs ws (fireLowestCall p (ledgerOf p ws) o) .words)
         | called c ↦ c ∷ callsFrom n (at + sizeAt js at) (callOutcome entryLimit bs ws c .words)
       ]

@@ -1,23 +1,25 @@
--- What calls on words that pass the checks are answered: a firing that is allowed is done, and no call of a list from an accepted begin is
--- refused for the ledger that it got. The words hold the day and the ledger of the rules, and these refuse by 19 to 22 and 26 alone. Assumes nothing.
+-- What calls on words that pass the checks are answered: a firing that is allowed is done for every society with the right, and no call of a list
+-- from an accepted begin is refused for the ledger that it got. The words hold the day and the ledger of the rules, and these refuse by 19 to 22, 26
+-- and 28 alone. Assumes nothing.
 use mathlib.Core.Path.{_≡_, refl, sym, ap, subst}
 use mathlib.Core.Logic.{_⊎_, inl, inr}
-use mathlib.Core.Bool.{Bool, true, false, cond, not}
+use mathlib.Core.Bool.{Bool, true, false, cond, not, and-false}
 use mathlib.Core.List.{List, [], _∷_}
 use Prim.Native.Nat.{ℕ, zero, suc, _≤_}
 use native.Mathlib.Omega.{arith}
-use lib.Dec.{eqb}
+use lib.Dec.{ltb, eqb}
 use Rattle.rules.specs.declared.Counts.{Counts}
 use Rattle.rules.specs.declared.Mode.the-variants.{Undoing}
 use Rattle.rules.specs.Names.{Day}
 use Rattle.rules.specs.Fold.{firstRefusal}
-use Rattle.rules.specs.Plan.{Plan, planOf}
+use Rattle.rules.specs.Plan.{Plan, trackCount, planOf}
 use Rattle.rules.specs.Acceptance.{accepted, readPlan}
+use Rattle.rules.specs.Rights.{moveRight, signalRight, fireRight, isPermitted, holdsSomewhere}
 use Rattle.rules.specs.Ledger.{Ledger, isEmpty}
 use Rattle.rules.specs.Scope.{isOver}
 use Rattle.rules.specs.Event.{isFull}
 use Rattle.rules.specs.Fire.{newest, mayFire}
-use Rattle.rules.specs.Call.{refusal, done, Call, event, signal, fire, nothing, badDay, callRefusals, callRefusal, figures, callOutcome, beginOutcome}
+use Rattle.rules.specs.Call.{refusal, done, SignalArguments, FireArguments, Call, event, signal, fire, badDay, lacksFireRight, callRefusals, callRefusal, figures, callOutcome, beginOutcome}
 use Rattle.rules.specs.Leading.{lastDay}
 use Rattle.rules.specs.ReferenceRun.{wordsAfter, ledgerAfter}
 use Rattle.rules.proofs.LedgerChecks.{Passes}
@@ -25,9 +27,9 @@ use Rattle.rules.proofs.Ready.{fireable-not-over}
 use Rattle.restoration.proofs.SoundWords.{theLedger, Holds, passes-holds, call-accepted, call-refused}
 use Rattle.restoration.proofs.Restoration.{history-holds, goes-on}
 
--- the numbers by which a ledger that passes the checks refuses: 19 to 22, and 26
+-- the numbers by which a ledger that passes the checks refuses: 19 to 22, 26 and 28
 abbrev pub CallNumber : ℕ → Type 0
-CallNumber m = ((19 ≤ m) × (m ≤ 22)) ⊎ (m ≡ 26)
+CallNumber m = ((19 ≤ m) × (m ≤ 22)) ⊎ ((m ≡ 26) ⊎ (m ≡ 28))
 
 -- a table of them, its head taken off
 head : (b : Bool) (n r m : ℕ) → CallNumber n → cond b n r ≡ m → (r ≡ m → (m ≡ 0) ⊎ CallNumber m) → (m ≡ 0) ⊎ CallNumber m
@@ -35,49 +37,60 @@ head true n r m h e f = inr (subst CallNumber e h)
 head false n r m h e f = f e
 
 module _ (limit : ℕ) (p : Plan) (d : Day) (l : Ledger) where
-  -- what is accepted: a signal where the ledger is not over, a firing where the track may be fired
-  pub signal-allowed : isOver p l ≡ false → callRefusal limit p d l (signal nothing) ≡ 0
+  -- what is accepted: a signal where the ledger is not over, a firing where the track may be fired, each of a society with the right
+  pub signal-allowed : (a : SignalArguments) → isOver p l ≡ false → holdsSomewhere p signalRight (a .society) ≡ true → callRefusal limit p d l (signal a) ≡ 0
   unfolding callRefusal callRefusals firstRefusal
-  signal-allowed o = rw o
+  signal-allowed a o r = rw (o, r)
 
-  pub fire-allowed : (t : ℕ) → mayFire p l t ≡ true → callRefusal limit p d l (fire (record { track = t })) ≡ 0
-  unfolding callRefusal callRefusals firstRefusal
-  fire-allowed t h = rw (fireable-not-over p l t h, h)
+  pub fire-allowed : (a : FireArguments) → mayFire p l (a .track) ≡ true → isPermitted p fireRight (a .society) (a .track) ≡ true
+      → callRefusal limit p d l (fire a) ≡ 0
+  unfolding callRefusal callRefusals firstRefusal lacksFireRight
+  fire-allowed a h r = rw (fireable-not-over p l (a .track) h, r, and-false (ltb (a .track) (trackCount p)), h)
 
   pub refused-by-call : (c : Call) (m : ℕ) → callRefusal limit p d l c ≡ m → (m ≡ 0) ⊎ CallNumber m
   unfolding callRefusal callRefusals firstRefusal
   refused-by-call (event a) m e =
       head (eqb (a .event) 0) 19 _ m (inl (omega arith, omega arith)) e
-      (λ f. head (badDay d (a .day)) 26 _ m (inr refl) f
+      (λ f. head (badDay d (a .day)) 26 _ m (inr (inl refl)) f
       (λ g. head (isOver p l) 20 _ m (inl (omega arith, omega arith)) g
-      (λ h. head (isFull p limit l a) 21 0 m (inl (omega arith, omega arith)) h (λ i. inl (sym i)))))
-  refused-by-call (signal a) m e = head (isOver p l) 20 0 m (inl (omega arith, omega arith)) e (λ h. inl (sym h))
+      (λ h. head (not (holdsSomewhere p moveRight (a .society))) 28 _ m (inr (inr refl)) h
+      (λ i. head (isFull p limit l a) 21 0 m (inl (omega arith, omega arith)) i (λ j. inl (sym j))))))
+  refused-by-call (signal a) m e =
+      head (isOver p l) 20 _ m (inl (omega arith, omega arith)) e
+      (λ f. head (not (holdsSomewhere p signalRight (a .society))) 28 0 m (inr (inr refl)) f (λ h. inl (sym h)))
   refused-by-call (fire a) m e =
       head (isOver p l) 20 _ m (inl (omega arith, omega arith)) e
-      (λ f. head (not (mayFire p l (a .track))) 22 0 m (inl (omega arith, omega arith)) f (λ h. inl (sym h)))
+      (λ f. head (lacksFireRight p a) 28 _ m (inr (inr refl)) f
+      (λ g. head (not (mayFire p l (a .track))) 22 0 m (inl (omega arith, omega arith)) g (λ h. inl (sym h))))
 
 module _ (limit : ℕ) (bs : List ℕ) (k : Counts) (read : readPlan bs ≡ accepted k) where
   abbrev p : Plan
   p = planOf bs k
 
   -- "Answer: code and deviation." of the newest entry
-  abbrev pub Done : List ℕ → Ledger → ℕ → Type 0
-  Done ws l t =
-      callOutcome limit bs ws (fire (record { track = t })) .answer ≡ done (newest (l t .held) .code ∷ newest (l t .held) .deviation ∷ [])
+  abbrev pub Done : List ℕ → Ledger → FireArguments → Type 0
+  Done ws l a =
+      callOutcome limit bs ws (fire a) .answer ≡ done (newest (l (a .track) .held) .code ∷ newest (l (a .track) .held) .deviation ∷ [])
 
-  pub fire-done : (ws : List ℕ) (d : Day) (l : Ledger) → Holds limit bs k read ws d l → (t : ℕ) → mayFire p l t ≡ true → Done ws l t
+  -- done for each society that has the fire right for the track
+  abbrev pub DoneForAll : List ℕ → Ledger → ℕ → Type 0
+  DoneForAll ws l t = (society : ℕ) → isPermitted p fireRight society t ≡ true → Done ws l (record { track = t; society = society })
+
+  pub fire-done : (ws : List ℕ) (d : Day) (l : Ledger) → Holds limit bs k read ws d l → (t : ℕ) → mayFire p l t ≡ true → DoneForAll ws l t
   unfolding figures
-  fire-done ws d l h t m = ap (λ o. o .answer) (call-accepted limit bs k read ws d l h (fire (record { track = t })) (fire-allowed limit p d l t m))
+  fire-done ws d l h t m society r =
+      let a : FireArguments = record { track = t; society = society } in
+      ap (λ o. o .answer) (call-accepted limit bs k read ws d l h (fire a) (fire-allowed limit p d l a m r))
 
   -- "a firing is allowed where the rule under Fire lets that track be fired": on words that pass the checks such a call is done
   pub allowed-done : (ws : List ℕ) → Passes limit bs p ws
-      → (t : ℕ) → mayFire p (theLedger limit bs k read ws) t ≡ true → Done ws (theLedger limit bs k read ws) t
+      → (t : ℕ) → mayFire p (theLedger limit bs k read ws) t ≡ true → DoneForAll ws (theLedger limit bs k read ws) t
   allowed-done ws h = fire-done ws (lastDay ws) (theLedger limit bs k read ws) (passes-holds limit bs k read ws h)
 
-  -- so in a list from an accepted begin, "if any track is undoing and holds an entry", some firing would be done
+  -- so in a list from an accepted begin, "if any track is undoing and holds an entry", some firing would be done, by whoever has the right
   pub goes-on-done : (lent : List ℕ) → beginOutcome limit bs lent .answer ≡ done [] → (cs : List Call)
       → (t : ℕ) → ledgerAfter limit bs p lent cs t .mode ≡ Undoing → isEmpty (ledgerAfter limit bs p lent cs t .held) ≡ false
-      → (u : ℕ) × Done (wordsAfter limit bs lent cs) (ledgerAfter limit bs p lent cs) u
+      → (u : ℕ) × DoneForAll (wordsAfter limit bs lent cs) (ledgerAfter limit bs p lent cs) u
   goes-on-done lent h cs t d e =
       let (u, m) = goes-on limit bs k read lent cs h t d e in
       (u, fire-done (wordsAfter limit bs lent cs) _ (ledgerAfter limit bs p lent cs) (history-holds limit bs k read lent cs h) u m)

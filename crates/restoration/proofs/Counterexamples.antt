@@ -13,7 +13,7 @@ use lib.Dec.{eqb}
 use Rattle.rules.specs.declared.Counts.{Counts}
 use Rattle.rules.specs.Plan.{Plan, planOf, transition, host, owner, replacement, mover, isAbove}
 use Rattle.rules.specs.Layout.{entryLimit}
-use Rattle.rules.specs.Call.{Call, event, signal, fire, nothing}
+use Rattle.rules.specs.Call.{Call, event, signal, fire}
 use Rattle.rules.specs.Books.{Apart, Deed, change, retraction, replacing, act}
 use Rattle.rules.specs.ReferenceRun.{ledgerAfter, AllWithdrawn}
 use Rattle.rules.proofs.Tests.{clash, none-some}
@@ -56,17 +56,17 @@ asked-of-all bs c read k =
 
 -- one event, a signal and a firing, which is refused where nothing was installed
 abbrev calls : List Call
-calls = event (record { event = 1; day = pos 0 }) ∷ signal nothing ∷ fire (record { track = 0 }) ∷ []
+calls = event (record { event = 1; day = pos 0; society = 1 }) ∷ signal (record { society = 1 }) ∷ fire (record { track = 0; society = 1 }) ∷ []
 
 contrary : {A : Type 0} → false ≡ true → A
 contrary h = clash h refl
 
 -- A root with one state and a transition from it to itself, with a code: the event changes the books, and installs a code other than 0.
 planC : ℕ → List ℕ
-planC code = bytesOf (6 ∷ 1 ∷ 65535 ∷ 10 ∷ 2 ∷ 0 ∷ 0 ∷ 0 ∷ 14 ∷ 3 ∷ 0 ∷ 1 ∷ code ∷ 65535 ∷ 0 ∷ 4 ∷ 4 ∷ [])
+planC code = bytesOf (6 ∷ 1 ∷ 65535 ∷ 10 ∷ 2 ∷ 0 ∷ 0 ∷ 0 ∷ 14 ∷ 3 ∷ 0 ∷ 1 ∷ code ∷ 65535 ∷ 0 ∷ 10 ∷ 6 ∷ 1 ∷ 0 ∷ 7 ∷ 4 ∷ 4 ∷ [])
 
 abbrev countsC : Counts
-countsC = record { tracks = 1; states = 1; transitions = 1; windows = 0 }
+countsC = record { tracks = 1; states = 1; transitions = 1; windows = 0; grants = 1 }
 
 abbrev C : ℕ → Plan
 C code = planOf (planC code) countsC
@@ -162,10 +162,11 @@ planR code =
     (6 ∷ 1 ∷ 65535 ∷ 6 ∷ 1 ∷ 0
     ∷ 10 ∷ 2 ∷ 0 ∷ 0 ∷ code ∷ 10 ∷ 2 ∷ 1 ∷ 0 ∷ 0 ∷ 10 ∷ 2 ∷ 1 ∷ 1 ∷ 0
     ∷ 14 ∷ 3 ∷ 1 ∷ 1 ∷ 5 ∷ 65535 ∷ 2
+    ∷ 10 ∷ 6 ∷ 1 ∷ 0 ∷ 7
     ∷ 4 ∷ 4 ∷ [])
 
 abbrev countsR : Counts
-countsR = record { tracks = 2; states = 3; transitions = 1; windows = 0 }
+countsR = record { tracks = 2; states = 3; transitions = 1; windows = 0; grants = 1 }
 
 abbrev R : ℕ → Plan
 R code = planOf (planR code) countsR
@@ -247,10 +248,12 @@ planW =
     (6 ∷ 1 ∷ 65535 ∷ 6 ∷ 1 ∷ 65535
     ∷ 10 ∷ 2 ∷ 0 ∷ 0 ∷ 0 ∷ 10 ∷ 2 ∷ 1 ∷ 0 ∷ 0
     ∷ 14 ∷ 3 ∷ 0 ∷ 1 ∷ 5 ∷ 65535 ∷ 0 ∷ 14 ∷ 3 ∷ 1 ∷ 1 ∷ 6 ∷ 65535 ∷ 1
+    ∷ 10 ∷ 6 ∷ 1 ∷ 0 ∷ 7
+    ∷ 10 ∷ 6 ∷ 1 ∷ 1 ∷ 7
     ∷ 4 ∷ 4 ∷ [])
 
 abbrev countsW : Counts
-countsW = record { tracks = 2; states = 2; transitions = 2; windows = 0 }
+countsW = record { tracks = 2; states = 2; transitions = 2; windows = 0; grants = 2 }
 
 abbrev W : Plan
 W = planOf planW countsW
@@ -290,7 +293,7 @@ commute-needed claim =
     let y : _≡_ {A = ℕ} 1 0 = ap length z in omega arith
   where
     made : List Call
-    made = event (record { event = 1; day = pos 0 }) ∷ signal nothing ∷ fire (record { track = 0 }) ∷ fire (record { track = 1 }) ∷ []
+    made = event (record { event = 1; day = pos 0; society = 1 }) ∷ signal (record { society = 1 }) ∷ fire (record { track = 0; society = 1 }) ∷ fire (record { track = 1; society = 1 }) ∷ []
 
     withdrawn : AllWithdrawn W (ledgerAfter entryLimit planW W (lentFor 2) made)
     withdrawn zero l r = record { undoing = refl; empty = refl; shut = refl }

@@ -1,7 +1,7 @@
 -- Days, for every plan: along any list of calls the last accepted day never falls, and after an accepted begin it is in range; an accepted event
 -- leaves its own day, signals, firings and refused calls leave the day as it was; and a track takes a transition exactly on the days of every
 -- window that names it. 26 lets no day fall, and the words follow the rules' day call by call. Assumes nothing.
-use mathlib.Core.Path.{_≡_, refl, sym, ap, _∙_}
+use mathlib.Core.Path.{_≡_, refl, sym, ap, _∙_, subst}
 use mathlib.Core.Logic.{_⊎_, inl, inr}
 use mathlib.Core.Bool.{true, false, not, _||_}
 use mathlib.Core.List.{List, [], _∷_, _++_}
@@ -16,19 +16,20 @@ use Rattle.rules.specs.Names.{Day}
 use Rattle.rules.specs.Day.{isDay}
 use Rattle.rules.specs.Fold.{firstRefusal}
 use Rattle.rules.specs.Plan.{Plan, planOf, windowCount, window, isWithin, mayTake, takenOn, transitionFor}
+use Rattle.rules.specs.Rights.{moveRight, isPermitted}
 use Rattle.rules.specs.Acceptance.{accepted, readPlan}
 use Rattle.rules.specs.Leading.{lastDay}
 use Rattle.rules.specs.Ledger.{Ledger, isForward}
 use Rattle.rules.specs.Scope.{hasOpenScope}
-use Rattle.rules.specs.Event.{EventArguments, move}
+use Rattle.rules.specs.Event.{EventArguments, mayMove, move}
 use Rattle.rules.specs.Call.{refusal, done, SignalArguments, FireArguments, Call, event, signal, fire, refusedOr, ledgerRefusals, callRefusals, callRefusal, figures, dayAfter, nextDay, callOutcome, beginOutcome}
 use Rattle.rules.specs.FinishedRun.{Reached, start, then}
 use Rattle.rules.specs.ReferenceRun.{wordsFrom, wordsAfter}
-use Rattle.rules.proofs.Tests.{look, clash, implied}
+use Rattle.rules.proofs.Tests.{look-option, clash, implied}
 use Rattle.rules.proofs.Folds.{every-of}
 use Rattle.rules.proofs.LedgerChecks.{Passes, first-passes}
 use Rattle.rules.proofs.DayLaws.{day-same, day-after, earliest-is, good-day, within, may-take-at}
-use Rattle.restoration.proofs.Document01.{move-day, day-accepted, day-refused, event-day}
+use Rattle.restoration.proofs.Document01.{move-for, move-day, day-accepted, day-refused, event-day}
 use Rattle.restoration.proofs.SoundWords.{theLedger, holds-day, passes-holds, refusals, outcome, call-holds}
 use Rattle.restoration.proofs.Restoration.{history-holds}
 use Rattle.restoration.proofs.Continuation.{words-append}
@@ -156,21 +157,25 @@ module _ (p : Plan) (l : Ledger) (a : EventArguments) (t : ℕ) where
       → (leZ (window p w .first) (a .day) ≡ true) × (leZ (a .day) (window p w .last) ≡ true)
   taken-within x h w b e = within p w (a .day) (may-take-at p (a .day) x w (move-day p l a t x h) b e)
 
-  module _ (x : ℕ) (f : isForward (l t .mode) ≡ true) (o : hasOpenScope p l t ≡ false) (q : transitionFor p (l t .state) (a .event) ≡ some x) where
-    -- and it is taken where there is one for the event, on a day of every such window;
-    pub within-taken : ((w : ℕ) → w < windowCount p → window p w .transition ≡ x → isWithin (window p w) (a .day) ≡ true) → move p l a t ≡ some x
-    unfolding move takenOn mayTake
-    within-taken h =
+  module _ (x : ℕ) (q : transitionFor p (l t .state) (a .event) ≡ some x) where
+    -- and it is taken where there is one for the event, on a day of every such window, of a society with the right;
+    pub within-taken : isPermitted p moveRight (a .society) t ≡ true → isForward (l t .mode) ≡ true → hasOpenScope p l t ≡ false
+        → ((w : ℕ) → w < windowCount p → window p w .transition ≡ x → isWithin (window p w) (a .day) ≡ true) → move p l a t ≡ some x
+    unfolding move mayMove takenOn mayTake
+    within-taken r f o h =
         let m : mayTake p (a .day) x ≡ true =
         every-of (windowCount p) (λ w. not (eqb (window p w .transition) x) || isWithin (window p w) (a .day))
         (λ w b. implied (eqb (window p w .transition) x) (isWithin (window p w) (a .day)) (λ e. h w b (eqb-true _ _ e))) in
-        rw (f, o, q, takenOn, m)
+        rw (r, f, o, q, takenOn, m)
 
     -- on any other day the track ignores the event
     pub outside-ignored : (w : ℕ) → w < windowCount p → window p w .transition ≡ x → isWithin (window p w) (a .day) ≡ false → move p l a t ≡ none
-    unfolding move takenOn
     outside-ignored w b e n =
-        elim (look (mayTake p (a .day) x)) [
-          | inl m ↦ clash (may-take-at p (a .day) x w m b e) n
-          | inr m ↦ rw (f, o, q, takenOn, m)
+        elim (look-option (move p l a t)) [
+          | inl i ↦ i
+          | inr i ↦
+              let (y, j) = i in
+              let same : some y ≡ some x = sym (move-for p l a t y j) ∙ q in
+              let z : y ≡ x = cc in
+              clash (may-take-at p (a .day) x w (subst (λ v. mayTake p (a .day) v ≡ true) z (move-day p l a t y j)) b e) n
         ]

@@ -8,13 +8,14 @@ use mathlib.Core.Option.{Option, none, some}
 use Prim.Native.Nat.{ℕ, zero, suc}
 use lib.ListN.{length}
 use lib.Dec.{eqb, leb}
-use borrow.Author.Tests.{ne-eqb, not-true, not-false, leb-false}
+use borrow.Author.Tests.{ne-eqb, not-false, leb-false}
 use Rattle.rules.specs.Names.{Day}
 use Rattle.rules.specs.Day.{earliestDay}
 use Rattle.rules.specs.Fold.{firstRefusal}
-use Rattle.rules.specs.Plan.{Plan, trackCount, noState, replacement, transitionFor, mayTake, takenOn}
-use Rattle.rules.specs.Ledger.{Configuration, Ledger, isForward}
-use Rattle.rules.specs.Scope.{hasOpenScope, isOver}
+use Rattle.rules.specs.Plan.{Plan, trackCount, noState, replacement, transitionFor, mayTake}
+use Rattle.rules.specs.Rights.{moveRight, signalRight, isPermitted, holdsSomewhere}
+use Rattle.rules.specs.Ledger.{Configuration, Ledger}
+use Rattle.rules.specs.Scope.{isOver}
 use Rattle.rules.specs.Opening.{enter}
 use Rattle.rules.specs.Event as rule-event
 use Rattle.rules.specs.Event.{EventArguments, hasCode, move, moved, closed, isReplaced, isFull, afterEvent}
@@ -23,12 +24,13 @@ use Rattle.rules.specs.Signal as rule-signal
 use Rattle.rules.specs.Signal.{abandoned, afterSignal}
 use Rattle.rules.specs.Fire.{mayFire, fired, afterFire}
 use Rattle.rules.specs.Call as call
-use Rattle.rules.specs.Call.{SignalArguments, FireArguments, badDay, callRefusals, callRefusal, after, dayAfter, next, nextDay}
+use Rattle.rules.specs.Call.{SignalArguments, FireArguments, badDay, lacksFireRight, callRefusals, callRefusal, after, dayAfter, next, nextDay}
 use Rattle.rules.specs.FinishedRun.{taken, movesBelow, movesOf}
-use Rattle.rules.proofs.Tests.{clash, none-some, and-holds, passed}
+use Rattle.rules.proofs.Tests.{clash, passed}
 use Rattle.rules.proofs.Folds.{some-not}
 use Rattle.rules.proofs.Acceptance.{transition-for}
-use Rattle.rules.proofs.DayLaws.{taken-on}
+use Rattle.rules.proofs.Moves.{mover-is}
+use Rattle.rules.proofs.RightsLaws.{permitted-up}
 use Rattle.rules.proofs.Closing as closing
 use Rattle.rules.proofs.Finishing.{goes-on, finish-cases}
 use Rattle.theory.specs.Seams.{Seams, CallOf, event, signal, fire, installed, installedBy, install, recorded, goes, changeOf, turned, work}
@@ -54,8 +56,8 @@ there-and-back (call.event a) = refl
 there-and-back (call.signal a) = refl
 there-and-back (call.fire a) = refl
 
--- A change is named by its transition, a retraction by its code; a signal turns every forward track; finish is looked for after every call;
--- the leading words hold the last accepted day.
+-- A change is named by its transition, a retraction by its code; a signal turns the forward tracks for which its society has the right; finish
+-- is looked for after every call; the leading words hold the last accepted day.
 abbrev pub document01 : Seams
 document01 =
     record {
@@ -72,7 +74,7 @@ document01 =
       movesOf = movesOf;
       Retraction = ℕ;
       retraction = λ e. e .code;
-      isTurned = λ p a t. true;
+      isTurned = λ p a t. isPermitted p signalRight (a .society) t;
       isFinishing = isFinishing;
       looksForFinish = λ c. true;
       Head = Day;
@@ -84,33 +86,21 @@ document01 =
 
 -- Moves.
 module _ (p : Plan) (l : Ledger) (a : EventArguments) where
-  -- a forward track without an open scope takes its state's transition for the event, and may take it on the day
-  move-is : (t x : ℕ) → move p l a t ≡ some x
-      → (isForward (l t .mode) ≡ true) × (hasOpenScope p l t ≡ false) × (transitionFor p (l t .state) (a .event) ≡ some x) × (mayTake p (a .day) x ≡ true)
-  unfolding move
-  move-is t x h = go (isForward (l t .mode) && not (hasOpenScope p l t)) refl
-    where
-      go : (b : Bool) → (isForward (l t .mode) && not (hasOpenScope p l t)) ≡ b
-          → (isForward (l t .mode) ≡ true) × (hasOpenScope p l t ≡ false) × (transitionFor p (l t .state) (a .event) ≡ some x) × (mayTake p (a .day) x ≡ true)
-      go true k =
-          let (f, n) = and-holds (isForward (l t .mode)) (not (hasOpenScope p l t)) k in
-          let q : takenOn p (a .day) (transitionFor p (l t .state) (a .event)) ≡ some x = rw k at h in
-          let (r, m) = taken-on p (a .day) (transitionFor p (l t .state) (a .event)) x q in
-          (f, not-true (hasOpenScope p l t) n, r, m)
-      go false k = let q : none ≡ some x = rw k at h in none-some refl q
-
   pub move-takes : (t x : ℕ) → move p l a t ≡ some x → Takes p l t x
   move-takes t x h =
-      let (f, n, q, m) = move-is t x h in
-      let (r, s, v) = transition-for p (l t .state) (a .event) x q in
-      record { forward = f; free = n; real = r; from = s }
+      let m = mover-is p l a t x h in
+      let (r, s, v) = transition-for p (l t .state) (a .event) x (m .taken) in
+      record { forward = m .ahead; free = m .free; real = r; from = s }
 
-  -- the transition is the state's for the event, and the day is one of every window that names it
+  -- the transition is the state's for the event, and the day is one of every window that names it; the society has the right
   pub move-for : (t x : ℕ) → move p l a t ≡ some x → transitionFor p (l t .state) (a .event) ≡ some x
-  move-for t x h = move-is t x h .2
+  move-for t x h = mover-is p l a t x h .taken
 
   pub move-day : (t x : ℕ) → move p l a t ≡ some x → mayTake p (a .day) x ≡ true
-  move-day t x h = move-is t x h .3
+  move-day t x h = mover-is p l a t x h .on-day
+
+  pub move-permitted : (t x : ℕ) → move p l a t ≡ some x → isPermitted p moveRight (a .society) t ≡ true
+  move-permitted t x h = mover-is p l a t x h .permitted
 
 -- Entries are those of the rules.
 same-installed : (a : EventArguments) (c d : ℕ) (k : Configuration) → rule-event.installed c d k ≡ installed (document01 .entry a) c d k
@@ -147,7 +137,7 @@ moves-are p S l a =
 
 -- Settling: every call ends with finish.
 module _ (p : Plan) (l : Ledger) where
-  pub turned-is : (a : SignalArguments) → rule-signal.turned l ≡ turned document01 p l a
+  pub turned-is : (a : SignalArguments) → rule-signal.turned p (a .society) l ≡ turned document01 p l a
   unfolding rule-signal.turned
   turned-is a = refl
 
@@ -189,32 +179,57 @@ module _ (limit : ℕ) (p : Plan) (d : Day) (l : Ledger) where
       let y : leb limit (length (l t .held)) ≡ false = rw h at q in
       leb-false limit (length (l t .held)) y
 
-  event-passed : (a : EventArguments) → callRefusal limit p d l (call.event a) ≡ 0
-      → (badDay d (a .day) ≡ false) × (isOver p l ≡ false) × (isFull p limit l a ≡ false)
+  pub record EventPassed (a : EventArguments) : Type 0 where
+    pub day : badDay d (a .day) ≡ false
+    pub going : isOver p l ≡ false
+    pub somewhere : holdsSomewhere p moveRight (a .society) ≡ true
+    pub room : isFull p limit l a ≡ false
+
+  pub event-passed : (a : EventArguments) → callRefusal limit p d l (call.event a) ≡ 0 → EventPassed a
   unfolding callRefusal callRefusals firstRefusal
   event-passed a h =
       let (x, y) = passed (eqb (a .event) 0) 18 _ h in
       let (b, w) = passed (badDay d (a .day)) 25 _ y in
       let (o, z) = passed (isOver p l) 19 _ w in
-      (b, o, passed (isFull p limit l a) 20 _ z .0)
+      let (r, v) = passed (not (holdsSomewhere p moveRight (a .society))) 27 _ z in
+      record { day = b; going = o; somewhere = not-false _ r; room = passed (isFull p limit l a) 20 _ v .0 }
 
   pub event-accepted : (a : EventArguments) → callRefusal limit p d l (call.event a) ≡ 0
       → (isOver p l ≡ false) × (isFull p limit l a ≡ false)
-  event-accepted a h = let (b, o, r) = event-passed a h in (o, r)
+  event-accepted a h = let q = event-passed a h in (q .going, q .room)
 
   -- 26 refused no accepted event
   pub event-day : (a : EventArguments) → callRefusal limit p d l (call.event a) ≡ 0 → badDay d (a .day) ≡ false
-  event-day a h = event-passed a h .0
+  event-day a h = event-passed a h .day
+
+  signal-passed : (a : SignalArguments) → callRefusal limit p d l (call.signal a) ≡ 0
+      → (isOver p l ≡ false) × (holdsSomewhere p signalRight (a .society) ≡ true)
+  unfolding callRefusal callRefusals firstRefusal
+  signal-passed a h =
+      let (o, z) = passed (isOver p l) 19 _ h in
+      (o, not-false _ (passed (not (holdsSomewhere p signalRight (a .society))) 27 _ z .0))
 
   pub signal-accepted : (a : SignalArguments) → callRefusal limit p d l (call.signal a) ≡ 0 → isOver p l ≡ false
+  signal-accepted a h = signal-passed a h .0
+
+  -- 28 refused no accepted signal
+  pub signal-somewhere : (a : SignalArguments) → callRefusal limit p d l (call.signal a) ≡ 0 → holdsSomewhere p signalRight (a .society) ≡ true
+  signal-somewhere a h = signal-passed a h .1
+
+  pub record FirePassed (a : FireArguments) : Type 0 where
+    pub going : isOver p l ≡ false
+    pub permitted : lacksFireRight p a ≡ false
+    pub may : mayFire p l (a .track) ≡ true
+
+  pub fire-passed : (a : FireArguments) → callRefusal limit p d l (call.fire a) ≡ 0 → FirePassed a
   unfolding callRefusal callRefusals firstRefusal
-  signal-accepted a h = passed (isOver p l) 19 _ h .0
+  fire-passed a h =
+      let (o, w) = passed (isOver p l) 19 _ h in
+      let (r, z) = passed (lacksFireRight p a) 27 _ w in
+      record { going = o; permitted = r; may = not-false (mayFire p l (a .track)) (passed (not (mayFire p l (a .track))) 21 _ z .0) }
 
   pub fire-accepted : (a : FireArguments) → callRefusal limit p d l (call.fire a) ≡ 0 → (isOver p l ≡ false) × (mayFire p l (a .track) ≡ true)
-  unfolding callRefusal callRefusals firstRefusal
-  fire-accepted a h =
-      let (o, z) = passed (isOver p l) 19 _ h in
-      (o, not-false (mayFire p l (a .track)) (passed (not (mayFire p l (a .track))) 21 _ z .0))
+  fire-accepted a h = let q = fire-passed a h in (q .going, q .may)
 
 pub laws01 : Laws document01
 laws01 =
@@ -227,7 +242,7 @@ laws01 =
       closed-replaced = λ p l a t c o. closing.closed-replaced p l t c o ∙ same-installed a (replacement p (l t .state)) noState (l t);
       closed-kept = λ p l a. closing.closed-kept p l;
       moves-are = moves-are;
-      turned-up = λ p ok a t h e. refl;
+      turned-up = λ p ok a t h e. permitted-up p ok signalRight (a .society) t h e;
       goes-on = goes-on;
       settled = settled;
       refused = λ limit p d l c n. (next-refused limit p d l (asRules c) n, day-refused limit p d l (asRules c) n);

@@ -1,28 +1,34 @@
 -- How a link ends. Where finish is due only roots are awake: a scope would be open below one, and an ended root is in a final state, which hosts
--- nothing. So all that is dropped is held by ended roots. No signal finishes, no event that closes a scope, and no firing that deviates: each
--- leaves a root that neither has ended nor is bare. Assumes nothing.
-use mathlib.Core.Path.{_≡_, ap, _∙_}
+-- nothing. So all that is dropped is held by ended roots. A signal finishes only where a root that it leaves has ended before and every root that
+-- it turns holds nothing; no event that closes a scope finishes, and no firing that deviates: each leaves a root that neither has ended nor is bare.
+-- Assumes nothing.
+use mathlib.Core.Path.{_≡_, sym, ap, _∙_, subst, fun-ext}
 use mathlib.Core.Logic.{inl, inr}
-use mathlib.Core.Bool.{true, false, not, and-false, _&&_, _||_}
+use mathlib.Core.Bool.{Bool, true, false, not, and-false, _&&_}
 use mathlib.Core.Option.{none, some}
 use Prim.Native.Nat.{ℕ, _<_}
 use lib.Dec.{eqb}
 use borrow.Author.Tests.{eqb-true}
 use Rattle.rules.specs.declared.Mode.the-variants.{Forward}
-use Rattle.rules.specs.Plan.{Plan, trackCount, noState, optional, host, owner, isFinal}
+use Rattle.rules.specs.Fold.{someBelow}
+use Rattle.rules.specs.Plan.{Plan, trackCount, noState, optional, host, owner, isRoot, isFinal}
+use Rattle.rules.specs.Rights.{signalRight, isPermitted}
 use Rattle.rules.specs.Ledger.{Configuration, Ledger, isAwake, isForward, isUndoing, isEmpty, sleeping}
 use Rattle.rules.specs.Scope.{hasOpenScope, isEnded, isBare}
 use Rattle.rules.specs.Finish.{isFinishing}
 use Rattle.rules.specs.Event.{EventArguments, moved, isClosing, isClosed, closed}
-use Rattle.rules.specs.Signal.{abandoned}
+use Rattle.rules.specs.Signal.{turnedTrack, turned, abandoned}
+use Rattle.rules.specs.Call.{SignalArguments}
 use Rattle.rules.specs.Fire.{newest, mayFire, removed, deviatesTo, fired}
-use Rattle.rules.proofs.Tests.{look, look-option, clash, refuted, and-holds, or-holds, strong}
-use Rattle.rules.proofs.Modes.{undoing-forward}
+use Rattle.rules.proofs.Tests.{look, look-option, clash, refuted, and-holds, and-both, or-holds, strong}
+use Rattle.rules.proofs.Folds.{some-find, some-not}
+use Rattle.rules.proofs.Modes.{undoing-forward, forward-awake}
 use Rattle.rules.proofs.Acceptance.{Accepted}
-use Rattle.rules.proofs.Scopes.{open-find, busy-at}
+use Rattle.rules.proofs.Scopes.{open-find, busy-at, root-of, root-none}
 use Rattle.rules.proofs.Opening.{enter-to}
 use Rattle.rules.proofs.Closing.{closing-final, closed-host, closed-root, closed-alike}
-use Rattle.rules.proofs.Abandoning.{bare-parts}
+use Rattle.rules.proofs.Abandoning.{bare-parts, left-kept, abandoned-root, abandoned-steady}
+use Rattle.rules.proofs.RightsLaws.{permitted-up}
 use Rattle.rules.proofs.Finishing.{Done, finishing-done, goes-on}
 use Rattle.rules.proofs.Ready.{may-fire}
 use Rattle.theory.proofs.Nesting.{Nested}
@@ -31,7 +37,7 @@ use Rattle.theory.proofs.FiringNested.{fired-is, deviates-here}
 use Rattle.theory.proofs.ClosingNested.{closing-open, final-free}
 use Rattle.theory.proofs.SoundRetraction.{fired-root}
 use Rattle.restoration.proofs.Document01.{laws01}
-use Rattle.restoration.proofs.Theorems01.{Sound, moved-nested, closed-nested}
+use Rattle.restoration.proofs.Theorems01.{Sound, moved-nested, closed-nested, turned-held, signal-forward}
 
 module _ (p : Plan) (ok : Accepted p) (m : Ledger) (n : Nested p m) (f : isFinishing p m ≡ true) where
   done : Done p m
@@ -104,6 +110,88 @@ module _ (limit : ℕ) (p : Plan) (ok : Accepted p) (l : Ledger) (s : Sound limi
                   (undoing-forward (closed p M o .mode) (bare-parts p ok (closed p M) o x .0))
             ]
       ])
+
+  module _ (a : SignalArguments) where
+    abbrev S : Ledger
+    S = abandoned p (turned p (a .society) l)
+
+    -- a signal that finishes: the society has no right over a root that had ended, and turned one; every forward root that is its to turn held nothing
+    pub record SignalEnds : Type 0 where
+      pub left : ℕ
+      pub left-root : (left < trackCount p) × (host p left ≡ none)
+      pub left-kept : isPermitted p signalRight (a .society) left ≡ false
+      pub left-ended : isEnded p l left ≡ true
+      pub taken : ℕ
+      pub taken-root : (taken < trackCount p) × (host p taken ≡ none)
+      pub taken-turned : (isPermitted p signalRight (a .society) taken ≡ true) × (isForward (l taken .mode) ≡ true)
+      pub empty : (t : ℕ) → t < trackCount p → host p t ≡ none → isPermitted p signalRight (a .society) t ≡ true → isEmpty (l t .held) ≡ true
+
+    root-stays : (t : ℕ) → host p t ≡ none → S t ≡ turned p (a .society) l t
+    root-stays t e = left-kept p ok (turned p (a .society) l) t (abandoned-root p ok (turned p (a .society) l) t e)
+
+    -- where no forward root is the society's to turn, nothing is turned: a hosted track has the mode of its host's track
+    none-turned : ((t : ℕ) → t < trackCount p → host p t ≡ none → isPermitted p signalRight (a .society) t ≡ true → isForward (l t .mode) ≡ false)
+        → turned p (a .society) l ≡ l
+    unfolding turned turnedTrack
+    none-turned n =
+        fun-ext
+        (λ t.
+        elim (look (isPermitted p signalRight (a .society) t)) [
+          | inr y ↦ rw y
+          | inl y ↦ rw (y, unforward t y)
+        ])
+      where
+        unforward : (t : ℕ) → isPermitted p signalRight (a .society) t ≡ true → isForward (l t .mode) ≡ false
+        unforward =
+            strong (λ t. isPermitted p signalRight (a .society) t ≡ true → isForward (l t .mode) ≡ false)
+            (λ t ih y.
+            refuted (isForward (l t .mode))
+            (λ w.
+            let k = s .formed .nested in
+            let v = forward-awake (l t .mode) w in
+            elim (look-option (host p t)) [
+              | inl e ↦ clash w (n t (k .below t v) e y)
+              | inr e ↦
+                  let (h, q) = e in
+                  clash (ap isForward (k .hosted t h v q .1) ∙ w) (ih (owner p h) (ok .lower t h q) (sym (permitted-up p ok signalRight (a .society) t h q) ∙ y))
+            ]))
+
+    pub signal-ends : isFinishing p S ≡ true → SignalEnds
+    signal-ends f =
+        let d = finishing-done p S f in
+        let (kept, q) = signal-forward p ok a l (d .root) (and-holds (isForward (S (d .root) .mode)) _ (d .ended) .0) in
+        let test : ℕ → Bool = λ t. isRoot p t && (isPermitted p signalRight (a .society) t && isForward (l t .mode)) in
+        elim (look (someBelow (trackCount p) test)) [
+          | inl x ↦
+              let (r, c, y) = some-find (trackCount p) test x in
+              let (i, j) = and-holds (isRoot p r) _ y in
+              record {
+                left = d .root;
+                left-root = (d .low, d .unhosted);
+                left-kept = kept;
+                left-ended = subst (λ (c : Configuration). (isForward (c .mode) && isFinal p (c .state)) ≡ true) q (d .ended);
+                taken = r;
+                taken-root = (c, root-none p r i);
+                taken-turned = and-holds (isPermitted p signalRight (a .society) r) (isForward (l r .mode)) j;
+                empty = λ t b e y.
+                    elim (or-holds (isEnded p S t) (isBare p S t) (d .every t b e)) [
+                      | inl z ↦ clash y (signal-forward p ok a l t (and-holds (isForward (S t .mode)) _ z .0) .0)
+                      | inr z ↦
+                          ap isEmpty (sym (turned-held p ok a l t)) ∙ ap (λ (c : Configuration). isEmpty (c .held)) (sym (root-stays t e)) ∙ bare-parts p ok S t z .1
+                    ];
+              }
+          | inr x ↦
+              let same : S ≡ l =
+              ap (abandoned p)
+              (none-turned
+              (λ t b e y.
+              refuted (isForward (l t .mode))
+              (λ w.
+              clash (and-both (isRoot p t) _ (root-of p t e) (and-both (isPermitted p signalRight (a .society) t) (isForward (l t .mode)) y w))
+              (some-not (trackCount p) test x t b))))
+              ∙ abandoned-steady p ok l (λ z t u e g w. s .formed .nested .whole u t z g e ∙ w) (s .abandoning) in
+              clash (ap (isFinishing p) (sym same) ∙ f) (s .finish)
+        ]
 
   module _ (t : ℕ) (may : mayFire p l t ≡ true) where
     -- a root that deviates is forward in that state, which is not final

@@ -10,6 +10,7 @@ pub mod WrongPlan
 pub mod Endings
 pub mod Continuation
 pub mod Days
+pub mod Rights
 pub mod Bound
 pub mod LiteralRuns
 -- Books for the sample plan; what would be false.

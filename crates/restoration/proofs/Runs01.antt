@@ -31,7 +31,7 @@ module _ (p : Plan) (limit : ℕ) where
   to-running (theory.by-begin o) = rule.by-begin o
   to-running (theory.by-call r c f o) = rule.by-call (to-reached r) (asRules c) f o
   to-running (theory.over-event r a z o) = rule.over-event (to-running r) a z o
-  to-running (theory.over-signal r a z f o) = rule.over-signal (to-running r) a z (λ t i. f t i refl) o
+  to-running (theory.over-signal r a z f o) = rule.over-signal (to-running r) a z f o
   to-running (theory.over-fire r a z o) = rule.over-fire (to-running r) a z o
 
   pub to-finished : {s : ℕ} {a : document01 .Event} {w : List ℕ} → theory.Finished document01 p limit s a w → rule.Finished p limit s w
@@ -49,7 +49,7 @@ module _ (p : Plan) (limit : ℕ) where
       subst (λ e. isOpen p (next limit p d l e) s ≡ true → theory.Running document01 p limit s (nextDay limit p d l e) (next limit p d l e) []) (there-and-back c)
       (theory.by-call (from-reached r) (asTheory c) f) o
   from-running (rule.over-event r a z o) = theory.over-event (from-running r) a z o
-  from-running (rule.over-signal r a z f o) = theory.over-signal (from-running r) a z (λ t i y. f t i) o
+  from-running (rule.over-signal r a z f o) = theory.over-signal (from-running r) a z f o
   from-running (rule.over-fire r a z o) = theory.over-fire (from-running r) a z o
 
   pub from-finished : {s : ℕ} {w : List ℕ} → rule.Finished p limit s w → (a : document01 .Event) × theory.Finished document01 p limit s a w

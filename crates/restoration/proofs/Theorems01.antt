@@ -9,6 +9,7 @@ use Prim.Native.Nat.{ℕ, _<_}
 use lib.IntN.{pos}
 use Rattle.rules.specs.Names.{Day}
 use Rattle.rules.specs.Plan.{Plan, trackCount, transitionCount, transition, host, mover, isStateOf, isFinal, isInside}
+use Rattle.rules.specs.Rights.{signalRight, isPermitted}
 use Rattle.rules.specs.Ledger.{Configuration, Ledger, isAwake, isForward, isUndoing, isEmpty}
 use Rattle.rules.specs.Scope.{hasOpenScope, isOver}
 use Rattle.rules.specs.Opening.{enter}
@@ -44,11 +45,11 @@ use Rattle.theory.proofs.Histories as histories
 use Rattle.theory.proofs.Effects as effects
 use Rattle.theory.proofs.Effects.{Effect}
 use Rattle.restoration.proofs.Runs01.{same-act, from-reached, from-finished}
-use Rattle.restoration.proofs.Document01.{document01, asTheory, there-and-back, same-by, laws01, unfinished01}
+use Rattle.restoration.proofs.Document01.{document01, asTheory, there-and-back, same-by, turned-is, laws01, unfinished01}
 pub use Rattle.theory.proofs.SoundParts.{Over, sleeping-asleep}
 pub use Rattle.theory.proofs.MovingNested.{to-none, to-destination, to-some, has-code}
 pub use Rattle.theory.proofs.SoundKept.{over-is}
-pub use Rattle.restoration.proofs.Document01.{move-takes, move-for, move-day, next-accepted, next-refused, day-accepted, day-refused, event-accepted, event-day, signal-accepted, fire-accepted}
+pub use Rattle.restoration.proofs.Document01.{move-takes, move-for, move-day, move-permitted, next-accepted, next-refused, day-accepted, day-refused, event-accepted, event-day, signal-accepted, fire-accepted}
 
 -- sound, and sound or over
 abbrev pub Sound : ℕ → Plan → Ledger → Type 0
@@ -128,7 +129,7 @@ module _ (p : Plan) (l : Ledger) (a : EventArguments) where
 -- Closing: the event does not matter.
 module _ (p : Plan) (l : Ledger) where
   abbrev any : EventArguments
-  any = record { event = 0; day = pos 0 }
+  any = record { event = 0; day = pos 0; society = 0 }
 
   pub closed-awake : (t : ℕ) → Awake (closed p l) t → (isClosed p l t ≡ false) × Awake l t
   closed-awake = closing.closed-awake laws01 p l any
@@ -137,37 +138,48 @@ module _ (p : Plan) (ok : Accepted p) (l : Ledger) (n : Nested p l) where
   pub closed-nested : Nested p (closed p l)
   closed-nested = closing.closed-nested laws01 p ok l n (any p l)
 
--- A signal turns every forward track.
+-- A signal turns the forward tracks for which its society has the right.
 module _ (p : Plan) (ok : Accepted p) (a : SignalArguments) (l : Ledger) where
-  same-turned : turned l ≡ seam.turned document01 p l a
-  unfolding turned
-  same-turned = refl
+  abbrev T : Ledger
+  T = turned p (a .society) l
 
-  pub turned-awake : (t : ℕ) → isAwake (turned l t .mode) ≡ isAwake (l t .mode)
+  same-turned : turned p (a .society) l ≡ seam.turned document01 p l a
+  same-turned = turned-is p l a
+
+  pub turned-awake : (t : ℕ) → isAwake (turned p (a .society) l t .mode) ≡ isAwake (l t .mode)
   turned-awake t = ap (λ (m : Ledger). isAwake (m t .mode)) same-turned ∙ turning.turned-awake laws01 p l a t
 
-  pub turned-state : (t : ℕ) → turned l t .state ≡ l t .state
+  pub turned-state : (t : ℕ) → turned p (a .society) l t .state ≡ l t .state
   turned-state t = ap (λ (m : Ledger). m t .state) same-turned ∙ turning.turned-state laws01 p l a t
 
-  pub turned-held : (t : ℕ) → turned l t .held ≡ l t .held
+  pub turned-held : (t : ℕ) → turned p (a .society) l t .held ≡ l t .held
   turned-held t = ap (λ (m : Ledger). m t .held) same-turned ∙ turning.turned-held laws01 p l a t
 
-  pub turned-forward : (t : ℕ) → isForward (turned l t .mode) ≡ false
-  turned-forward t = ap (λ (m : Ledger). isForward (m t .mode)) same-turned ∙ turning.turned-forward laws01 p l a t refl
+  pub turned-forward : (t : ℕ) → isPermitted p signalRight (a .society) t ≡ true → isForward (turned p (a .society) l t .mode) ≡ false
+  turned-forward t h = ap (λ (m : Ledger). isForward (m t .mode)) same-turned ∙ turning.turned-forward laws01 p l a t h
 
-  -- so no track is forward after it, no root has ended, and finish is not due
-  pub signal-forward : (t : ℕ) → isForward (abandoned p (turned l) t .mode) ≡ false
-  signal-forward t =
-      refuted (isForward (abandoned p (turned l) t .mode))
-      (λ f.
-      let q = awake-kept p ok (turned l) t (forward-awake (abandoned p (turned l) t .mode) f) .1 in
-      clash (ap (λ (c : Configuration). isForward (c .mode)) (sym q) ∙ f) (turned-forward t))
+  -- the others stay
+  pub turned-kept : (t : ℕ) → isPermitted p signalRight (a .society) t ≡ false → turned p (a .society) l t ≡ l t
+  unfolding turned
+  turned-kept t h = rw h
 
-  pub signal-unended : isFinishing p (abandoned p (turned l)) ≡ false
-  signal-unended = none-ended p (abandoned p (turned l)) (λ t b e. ap (λ x. x && isFinal p (abandoned p (turned l) t .state)) (signal-forward t))
+  -- so what is forward after a signal is not the society's to turn, and is as it was
+  pub signal-forward : (t : ℕ) → isForward (abandoned p T t .mode) ≡ true → (isPermitted p signalRight (a .society) t ≡ false) × (abandoned p T t ≡ l t)
+  signal-forward t f =
+      let q = awake-kept p ok T t (forward-awake (abandoned p T t .mode) f) .1 in
+      let k = refuted (isPermitted p signalRight (a .society) t) (λ h. clash (ap (λ (c : Configuration). isForward (c .mode)) (sym q) ∙ f) (turned-forward t h)) in
+      (k, q ∙ turned-kept t k)
+
+  -- one that turns every root does not finish: no root has ended after it
+  pub signal-unended : ((t : ℕ) → t < trackCount p → host p t ≡ none → isPermitted p signalRight (a .society) t ≡ true) → isFinishing p (abandoned p T) ≡ false
+  signal-unended all =
+      none-ended p (abandoned p T)
+      (λ t b e.
+      ap (λ x. x && isFinal p (abandoned p T t .state))
+      (refuted (isForward (abandoned p T t .mode)) (λ f. clash (all t b e) (signal-forward t f .0))))
 
 module _ (p : Plan) (ok : Accepted p) (l : Ledger) (n : Nested p l) where
-  pub turned-nested : (a : SignalArguments) → Nested p (turned l)
+  pub turned-nested : (a : SignalArguments) → Nested p (turned p (a .society) l)
   turned-nested a = subst (Nested p) (sym (same-turned p ok a l)) (leaving.turned-nested laws01 p ok l n a)
 
 -- Calls: who may be fired, what is over, what an accepted call does.
@@ -189,7 +201,7 @@ module _ (limit : ℕ) (p : Plan) (ok : Accepted p) (l : Ledger) (f : Formed lim
 -- what a call does, finish apart
 abbrev pub work : Plan → Ledger → Call → Ledger
 work p l (event a) = closed p (moved p l a)
-work p l (signal a) = abandoned p (turned l)
+work p l (signal a) = abandoned p (turned p (a .society) l)
 work p l (fire a) = abandoned p (fired p l (a .track))
 
 -- a ledger with nothing left to settle but finish
@@ -200,7 +212,8 @@ pub record Worked (p : Plan) (l : Ledger) : Type 0 where
   pub abandoning : (s : ℕ) → isAbandoning p l s ≡ false
 
 module _ (limit : ℕ) (p : Plan) (ok : Accepted p) (l : Ledger) (s : Sound limit p l) where
-  pub signal-sound : (a : SignalArguments) → isFinishing p (abandoned p (turned l)) ≡ false → Sound limit p (abandoned p (turned l))
+  pub signal-sound : (a : SignalArguments) → isFinishing p (abandoned p (turned p (a .society) l)) ≡ false
+      → Sound limit p (abandoned p (turned p (a .society) l))
   signal-sound a =
       subst (λ m. isFinishing p (abandoned p m) ≡ false → Sound limit p (abandoned p m)) (sym (same-turned p ok a l))
       (sound-retraction.signal-sound laws01 limit p ok l s a)
@@ -222,8 +235,13 @@ module _ (limit : ℕ) (p : Plan) (ok : Accepted p) (l : Ledger) (s : Sound limi
         abandoning = event-abandoning limit p ok l (s .formed) a (s .abandoning);
       }
   worked d (signal a) h =
-      let k = signal-sound a (signal-unended p ok a l) in
-      record { nested = k .formed .nested; roots = k .roots; closing = k .closing; abandoning = k .abandoning }
+      subst (λ m. Worked p (abandoned p m)) (sym (same-turned p ok a l))
+      (record {
+        nested = abandoned-formed limit p ok _ (sound-retraction.signal-formed laws01 limit p ok l s a) .nested;
+        roots = sound-retraction.signal-roots laws01 limit p ok l s a;
+        closing = sound-retraction.signal-closing laws01 limit p ok l s a;
+        abandoning = abandoned-done p ok _;
+      })
   worked d (fire a) h =
       let t = a .track in
       let may = fire-accepted limit p d l a h .1 in

@@ -9,7 +9,7 @@ use Rattle.rules.specs.Plan.{Plan, planOf, mover}
 use Rattle.starred.specs.SamplePlan.{planP}
 
 abbrev pub countsP : Counts
-countsP = record { tracks = 3; states = 8; transitions = 5; windows = 0 }
+countsP = record { tracks = 3; states = 8; transitions = 5; windows = 0; grants = 1 }
 
 abbrev pub P : Plan
 P = planOf planP countsP

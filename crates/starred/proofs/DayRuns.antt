@@ -11,7 +11,7 @@ use Rattle.rules.specs.Plan.{planOf}
 use Rattle.rules.specs.Acceptance.{accepted, turnedBack, readPlan}
 use Rattle.rules.specs.Layout.{entryLimit}
 use Rattle.rules.specs.Leading.{lastDay, dated}
-use Rattle.rules.specs.Call.{Answer, refusal, done, Call, event, signal, fire, nothing, beginOutcome, readyOutcome, callOutcome}
+use Rattle.rules.specs.Call.{Answer, refusal, done, Call, event, signal, fire, beginOutcome, readyOutcome, callOutcome}
 use Rattle.rules.specs.Text.{ascii}
 use Rattle.rules.specs.Transcript.{transcript}
 use Rattle.rules.specs.ReferenceRun.{wordsAfter, answersAfter}
@@ -20,7 +20,7 @@ use Rattle.starred.specs.WindowPlans.{windowOf, beforeAll, earliest, min
 use Rattle.starred.specs.Computing.{computing}
 
 abbrev countsD : Counts
-countsD = record { tracks = 1; states = 3; transitions = 2; windows = 1 }
+countsD = record { tracks = 1; states = 3; transitions = 2; windows = 1; grants = 1 }
 
 -- so many days before day 0
 abbrev minus : ℕ → Day
@@ -28,16 +28,16 @@ minus n = pos 0 -ℤ pos n
 
 -- an event on a day, and on one before day 0
 abbrev e : ℕ → ℕ → Call
-e n day = event (record { event = n; day = pos day })
+e n day = event (record { event = n; day = pos day; society = 1 })
 
 abbrev before : ℕ → ℕ → Call
-before n days = event (record { event = n; day = minus days })
+before n days = event (record { event = n; day = minus days; society = 1 })
 
 abbrev s : Call
-s = signal nothing
+s = signal (record { society = 1 })
 
 abbrev f : Call
-f = fire (record { track = 0 })
+f = fire (record { track = 0; society = 1 })
 
 abbrev answers : List Call → List Answer
 answers cs = answersAfter entryLimit planD (lentFor 1) cs
@@ -182,9 +182,9 @@ pub out-of-place : (readPlan windowLast ≡ turnedBack 7) × (readPlan windowEar
 unfolding computing
 out-of-place = (refl, refl)
 
--- "Journals use kind 20, length 10: event, then day"
+-- "Journals use kind 20, length 10: event, then day", and the society last
 pub journal-days : transcript planD
-    (bytesOf (10 ∷ 20 ∷ 1 ∷ 65533 ∷ 65535 ∷ 10 ∷ 20 ∷ 1 ∷ 65534 ∷ 65535 ∷ 10 ∷ 20 ∷ 2 ∷ 65533 ∷ 65535 ∷ 4 ∷ 17 ∷ 4 ∷ 19 ∷ []))
+    (bytesOf (12 ∷ 20 ∷ 1 ∷ 65533 ∷ 65535 ∷ 1 ∷ 12 ∷ 20 ∷ 1 ∷ 65534 ∷ 65535 ∷ 1 ∷ 12 ∷ 20 ∷ 2 ∷ 65533 ∷ 65535 ∷ 1 ∷ 6 ∷ 17 ∷ 1 ∷ 6 ∷ 19 ∷ 1 ∷ []))
     ≡ ascii "PLAN 1 3 2\nE 1 0 0\nE 1 1 0\nR 26\nS 1\nF 0 50 -\nH 0 1\n"
 unfolding computing
 journal-days = refl
@@ -195,6 +195,6 @@ unfolding computing
 kind-withdrawn = refl
 
 -- 25 is "printed alone as 16 is"
-pub printed-alone : transcript (withWindows (windowOf 2 four five)) (bytesOf (4 ∷ 17 ∷ [])) ≡ ascii "R 25\n"
+pub printed-alone : transcript (withWindows (windowOf 2 four five)) (bytesOf (6 ∷ 17 ∷ 1 ∷ [])) ≡ ascii "R 25\n"
 unfolding computing
 printed-alone = refl

@@ -6,19 +6,19 @@ use Prim.Native.Nat.{ℕ}
 use lib.IntN.{pos}
 use lib.ListN.{take, replicate}
 use Rattle.rules.specs.Layout.{entryLimit}
-use Rattle.rules.specs.Call.{Answer, refusal, done, Call, event, signal, fire, nothing, readyOutcome, callOutcome}
+use Rattle.rules.specs.Call.{Answer, refusal, done, Call, event, signal, fire, readyOutcome, callOutcome}
 use Rattle.rules.specs.ReferenceRun.{wordsAfter, answersAfter}
 use Rattle.starred.specs.SamplePlan.{twoRoots, lentFor}
 use Rattle.starred.specs.Computing.{computing}
 
 abbrev e : ℕ → Call
-e n = event (record { event = n; day = pos 0 })
+e n = event (record { event = n; day = pos 0; society = 1 })
 
 abbrev f : ℕ → Call
-f t = fire (record { track = t })
+f t = fire (record { track = t; society = 1 })
 
 abbrev s : Call
-s = signal nothing
+s = signal (record { society = 1 })
 
 abbrev answers : List Call → List Answer
 answers cs = answersAfter entryLimit twoRoots (lentFor 3) cs

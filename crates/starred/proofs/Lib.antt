@@ -1,5 +1,7 @@
--- The starred runs, the leading words on the sample plan, links that end half withdrawn, and days and windows.
+-- The starred runs, the leading words on the sample plan, links that end half withdrawn, days and windows, rights, and isolation.
 pub mod Starred
 pub mod LeadingRuns
 pub mod HalfWithdrawn
 pub mod DayRuns
+pub mod RightsRuns
+pub mod IsolationRuns

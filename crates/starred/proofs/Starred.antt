@@ -1,5 +1,5 @@
 -- The starred lines of 'Runs and edges', in the paper's order, from the plan's bytes and a lent ledger's words. Each is proved by
--- computing the definitions of the rules: both sides come to the same value. Every event is on day 0. Assumes nothing.
+-- computing the definitions of the rules: both sides come to the same value. Every event is on day 0, every call of society 1. Assumes nothing.
 use mathlib.Core.Path.{_≡_, refl}
 use mathlib.Core.Bool.{true, false}
 use mathlib.Core.List.{List, [], _∷_, _++_}
@@ -13,7 +13,7 @@ use Rattle.rules.specs.Ledger.{Ledger}
 use Rattle.rules.specs.Scope.{isOpen, isOver}
 use Rattle.rules.specs.Text.{ascii}
 use Rattle.rules.specs.Transcript.{transcript}
-use Rattle.rules.specs.Call.{Answer, refusal, done, Call, event, signal, fire, nothing, beginOutcome, readyOutcome, entriesPart}
+use Rattle.rules.specs.Call.{Answer, refusal, done, Call, event, signal, fire, beginOutcome, readyOutcome, entriesPart}
 use Rattle.rules.specs.ReferenceRun.{wordsAfter, answersAfter, ledgerAfter}
 use Rattle.starred.specs.SamplePlan.{bytesOf, planP, journalP, lentFor}
 use Rattle.starred.specs.Computing.{computing}
@@ -22,16 +22,16 @@ abbrev lent : List ℕ
 lent = lentFor 3
 
 abbrev countsP : Counts
-countsP = record { tracks = 3; states = 8; transitions = 5; windows = 0 }
+countsP = record { tracks = 3; states = 8; transitions = 5; windows = 0; grants = 1 }
 
 abbrev e : ℕ → Call
-e n = event (record { event = n; day = pos 0 })
+e n = event (record { event = n; day = pos 0; society = 1 })
 
 abbrev f : ℕ → Call
-f t = fire (record { track = t })
+f t = fire (record { track = t; society = 1 })
 
 abbrev s : Call
-s = signal nothing
+s = signal (record { society = 1 })
 
 -- on plan P: the answers to a list of calls after begin, and the ledger, its words and what is ready after the list
 abbrev answers : List Call → List Answer
@@ -87,6 +87,7 @@ pub reads-P : planOf planP countsP
           ∷ record { source = 6; event = 14; code = 54; deviation = 65535; destination = 7 }
           ∷ [];
       windows = [];
+      grants = record { society = 1; root = 0; rights = 7 } ∷ [];
     }
 unfolding computing
 reads-P = refl

@@ -1,4 +1,5 @@
--- The sample plan and its journal, plans with windows, and the key that lets runs be computed.
+-- The sample plan and its journal, plans with windows, plans with rights records, and the key that lets runs be computed.
 pub mod SamplePlan
 pub mod WindowPlans
+pub mod RightsPlans
 pub mod Computing

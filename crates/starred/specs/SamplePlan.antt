@@ -9,7 +9,7 @@ unfoldable pub bytesOf : List ℕ → List ℕ
 bytesOf [] = []
 bytesOf (w ∷ ws) = w % 256 ∷ w / 256 ∷ bytesOf ws
 
--- P with these codes for its first and its third transition
+-- P with these codes for its first and its third transition; its rights record is "for society 1, track 0, sum 7"
 unfoldable pub planOfCodes : ℕ → ℕ → List ℕ
 planOfCodes first third =
     bytesOf
@@ -29,6 +29,7 @@ planOfCodes first third =
     ∷ 14 ∷ 3 ∷ 3 ∷ 11 ∷ third ∷ 65535 ∷ 4
     ∷ 14 ∷ 3 ∷ 5 ∷ 12 ∷ 52 ∷ 65535 ∷ 6
     ∷ 14 ∷ 3 ∷ 6 ∷ 14 ∷ 54 ∷ 65535 ∷ 7
+    ∷ 10 ∷ 6 ∷ 1 ∷ 0 ∷ 7
     ∷ 4 ∷ 4
     ∷ [])
 
@@ -43,7 +44,8 @@ unfoldable pub alikeP : List ℕ
 alikeP = planOfCodes 51 50
 
 -- Two roots. The first goes from 0 to 1 on event 1, with a deviation back to 0, and from 0 to its final state 2 on event 2. The second enters the
--- hosting state 4, on event 1 without a code, on event 5 with one; the track hosted there goes from 6 to 7 on event 3
+-- hosting state 4, on event 1 without a code, on event 5 with one; the track hosted there goes from 6 to 7 on event 3. Society 1 has
+-- every right
 unfoldable pub twoRoots : List ℕ
 twoRoots =
     bytesOf
@@ -66,16 +68,18 @@ twoRoots =
     ∷ 14 ∷ 3 ∷ 4 ∷ 4 ∷ 0 ∷ 65535 ∷ 5
     ∷ 14 ∷ 3 ∷ 6 ∷ 3 ∷ 61 ∷ 65535 ∷ 7
     ∷ 14 ∷ 3 ∷ 7 ∷ 6 ∷ 62 ∷ 65535 ∷ 8
+    ∷ 10 ∷ 6 ∷ 1 ∷ 0 ∷ 7
+    ∷ 10 ∷ 6 ∷ 1 ∷ 1 ∷ 7
     ∷ 4 ∷ 4
     ∷ [])
 
--- "events 10, 11, 12, signal, four times kind 19", each event on day 0
+-- "events 10, 11, 12, signal, four times kind 19", each event on day 0, each record of society 1
 unfoldable pub journalP : List ℕ
 journalP =
     bytesOf
-    (10 ∷ 20 ∷ 10 ∷ 0 ∷ 0 ∷ 10 ∷ 20 ∷ 11 ∷ 0 ∷ 0 ∷ 10 ∷ 20 ∷ 12 ∷ 0 ∷ 0
-    ∷ 4 ∷ 17
-    ∷ 4 ∷ 19 ∷ 4 ∷ 19 ∷ 4 ∷ 19 ∷ 4 ∷ 19
+    (12 ∷ 20 ∷ 10 ∷ 0 ∷ 0 ∷ 1 ∷ 12 ∷ 20 ∷ 11 ∷ 0 ∷ 0 ∷ 1 ∷ 12 ∷ 20 ∷ 12 ∷ 0 ∷ 0 ∷ 1
+    ∷ 6 ∷ 17 ∷ 1
+    ∷ 6 ∷ 19 ∷ 1 ∷ 6 ∷ 19 ∷ 1 ∷ 6 ∷ 19 ∷ 1 ∷ 6 ∷ 19 ∷ 1
     ∷ [])
 
 -- a lent ledger with two words more than so many tracks need, whatever it held

@@ -18,6 +18,14 @@ rootTransitions = 14 ∷ 3 ∷ 0 ∷ 1 ∷ 50 ∷ 65535 ∷ 1 ∷ 14 ∷ 3 ∷ 1
 abbrev pub endRecord : List ℕ
 endRecord = 4 ∷ 4 ∷ []
 
+-- "society, root track, rights"
+abbrev pub rightsOf : ℕ → ℕ → ℕ → List ℕ
+rightsOf society root rights = 10 ∷ 6 ∷ society ∷ root ∷ rights ∷ []
+
+-- society 1 with every right over the first root
+abbrev pub allRights : List ℕ
+allRights = rightsOf 1 0 7
+
 -- "transition number, first day, last day", each day as its low and its high word
 abbrev pub windowOf : ℕ → List ℕ → List ℕ → List ℕ
 windowOf transition first last = 14 ∷ 5 ∷ transition ∷ [] ++ first ++ last
@@ -46,17 +54,17 @@ afterAll = 51549 ∷ 2 ∷ []
 
 -- the root's plan with these window records, and the one whose first transition may be taken from -2 to 5
 unfoldable pub withWindows : List ℕ → List ℕ
-withWindows windows = bytesOf (rootRecords ++ rootTransitions ++ windows ++ endRecord)
+withWindows windows = bytesOf (rootRecords ++ rootTransitions ++ windows ++ allRights ++ endRecord)
 
 unfoldable pub planD : List ℕ
 planD = withWindows (windowOf 0 minusTwo five)
 
 -- the window record out of its place: after the end, and before the transitions
 unfoldable pub windowLast : List ℕ
-windowLast = bytesOf (rootRecords ++ rootTransitions ++ endRecord ++ windowOf 0 minusTwo five)
+windowLast = bytesOf (rootRecords ++ rootTransitions ++ allRights ++ endRecord ++ windowOf 0 minusTwo five)
 
 unfoldable pub windowEarly : List ℕ
-windowEarly = bytesOf (rootRecords ++ windowOf 0 minusTwo five ++ rootTransitions ++ endRecord)
+windowEarly = bytesOf (rootRecords ++ windowOf 0 minusTwo five ++ rootTransitions ++ allRights ++ endRecord)
 
 -- so many tracks, each with one state, which hosts the next; and a window that names no transition
 unfoldable pub chainTracks : ℕ → List ℕ
@@ -69,4 +77,4 @@ chainStates zero = []
 chainStates (suc t) = chainStates t ++ 10 ∷ 2 ∷ t ∷ 0 ∷ 0 ∷ []
 
 unfoldable pub chained : ℕ → List ℕ
-chained n = bytesOf (chainTracks n ++ chainStates n ++ windowOf 0 four five ++ endRecord)
+chained n = bytesOf (chainTracks n ++ chainStates n ++ windowOf 0 four five ++ allRights ++ endRecord)

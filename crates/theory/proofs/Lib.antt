@@ -1,7 +1,6 @@
 -- Property 3's mathematics, over the seams: theorems that know of the rules of calls only the laws of Laws.antt.
 -- Changes composed; ledgers nested, and what they hold; the laws.
 pub mod Composition
-pub mod Roots
 pub mod Nesting
 pub mod EnteringNested
 pub mod Entries
@@ -16,6 +15,7 @@ pub mod MovingNested
 pub mod ClosingNested
 pub mod SignalNested
 pub mod Forming
+pub mod Locality
 -- Soundness is kept by every call; progress; firings fall.
 pub mod SoundBegin
 pub mod SoundEvent

@@ -8,7 +8,7 @@ use mathlib.Core.Option.{none, some}
 use Prim.Native.Nat.{ℕ, _<_}
 use lib.Dec.{eqb, ltb}
 use borrow.Author.Tests.{eqb-true, ltb-true}
-use Rattle.rules.specs.Plan.{Plan, trackCount, stateCount, host, owner, isStateOf, isHostedBy, isInside, isAbove}
+use Rattle.rules.specs.Plan.{Plan, trackCount, stateCount, host, owner, isStateOf, isHostedBy, isInside, isAbove, rootOf}
 use Rattle.rules.specs.Ledger.{Ledger, isAwake, sleeping}
 use Rattle.rules.specs.Scope.{isOpen, hasOpenScope}
 use Rattle.rules.proofs.Tests.{look, look-option, clash, and-holds, strong}
@@ -16,8 +16,7 @@ use Rattle.rules.proofs.Folds.{some-same}
 use Rattle.rules.proofs.Acceptance.{Accepted}
 use Rattle.rules.proofs.Forest.{above-hosted, inside-hosted}
 use Rattle.rules.proofs.Scopes.{some-in-same, open-at, open-find, busy-at}
-use Rattle.theory.specs.Roots.{rootOf}
-use Rattle.theory.proofs.Roots.{root-self, root-up}
+use Rattle.rules.proofs.Roots.{root-self, root-up}
 
 abbrev pub Awake : Ledger → ℕ → Type 0
 Awake l t = isAwake (l t .mode) ≡ true

@@ -27,7 +27,7 @@ use Rattle.theory.proofs.Nesting.{Awake, Nested}
 use Rattle.theory.proofs.EnteringNested.{Fate, enters, wakens, stays, fate, arrived-awake, fresh-awake, fresh-state}
 use Rattle.theory.proofs.Entries.{Good, good-older, older-length}
 use Rattle.theory.proofs.FiringNested.{fired-is, removed-mode, removed-state, removed-here, removed-other, removed-awake, deviates-hosted, deviates-free, removed-nested, fired-still, fired-new}
-use Rattle.theory.proofs.SoundParts.{Formed, Sound}
+use Rattle.theory.proofs.SoundParts.{Formed, RootsAwake, Sound}
 use Rattle.theory.proofs.Laws.{Laws}
 use Rattle.theory.proofs.Turning.{turned-awake, unturned}
 use Rattle.theory.proofs.ClosingNested.{closing-open, closing-of}
@@ -44,11 +44,14 @@ module _ {σ : Seams} (ω : Laws σ) (limit : ℕ) (p : Plan) (ok : Accepted p) 
     abbrev T : Ledger
     T = turned σ p l a
 
-    turned-first : Formed limit p T
-    turned-first = turned-formed ω limit p ok l (s .formed) a
+    pub signal-formed : Formed limit p T
+    signal-formed = turned-formed ω limit p ok l (s .formed) a
 
-    turned-root : (t : ℕ) → host p t ≡ none → abandoned p T t ≡ T t
-    turned-root t e = left-root p ok T (turned-first .nested) t e
+    pub signal-root : (t : ℕ) → host p t ≡ none → abandoned p T t ≡ T t
+    signal-root t e = left-root p ok T (signal-formed .nested) t e
+
+    pub signal-roots : RootsAwake p (abandoned p T)
+    signal-roots t b e = ap (λ (c : Configuration). isAwake (c .mode)) (signal-root t e) ∙ turned-awake ω p l a t ∙ s .roots t b e
 
     -- what is forward after a signal is as it was
     pub track-untouched : (t : ℕ) → isForward (abandoned p T t .mode) ≡ true → abandoned p T t ≡ l t
@@ -56,21 +59,23 @@ module _ {σ : Seams} (ω : Laws σ) (limit : ℕ) (p : Plan) (ok : Accepted p) 
         let q = awake-kept p ok T t (forward-awake (abandoned p T t .mode) f) .1 in
         q ∙ unturned ω p l a t (ap (λ (c : Configuration). isForward (c .mode)) (sym q) ∙ f)
 
+    pub signal-closing : (z : ℕ) → isClosing p (abandoned p T) z ≡ false
+    signal-closing z =
+        refuted (isClosing p (abandoned p T) z)
+        (λ c.
+        let final : (v : ℕ) → host p v ≡ some z → (isForward (l v .mode) ≡ true) × (isFinal p (l v .state) ≡ true) =
+        λ v g.
+        let h = closing-final p (abandoned p T) z v c (ok .hosted v z g) g in
+        subst (λ (k : Configuration). (isForward (k .mode) ≡ true) × (isFinal p (k .state) ≡ true)) (track-untouched v (h .0)) h in
+        let (u, b, e, w) = open-find p (abandoned p T) z (closing-open p (abandoned p T) z c) in
+        clash (closing-of p l z (open-at p l z u b e (forward-awake (l u .mode) (final u e .0))) final) (s .closing z))
+
     pub signal-sound : isFinishing p (abandoned p T) ≡ false → Sound σ limit p (abandoned p T)
     signal-sound unfinished =
         record {
-          formed = abandoned-formed limit p ok T turned-first;
-          roots = λ t b e. ap (λ (c : Configuration). isAwake (c .mode)) (turned-root t e) ∙ turned-awake ω p l a t ∙ s .roots t b e;
-          closing =
-              λ z.
-              refuted (isClosing p (abandoned p T) z)
-              (λ c.
-              let final : (v : ℕ) → host p v ≡ some z → (isForward (l v .mode) ≡ true) × (isFinal p (l v .state) ≡ true) =
-              λ v g.
-              let h = closing-final p (abandoned p T) z v c (ok .hosted v z g) g in
-              subst (λ (k : Configuration). (isForward (k .mode) ≡ true) × (isFinal p (k .state) ≡ true)) (track-untouched v (h .0)) h in
-              let (u, b, e, w) = open-find p (abandoned p T) z (closing-open p (abandoned p T) z c) in
-              clash (closing-of p l z (open-at p l z u b e (forward-awake (l u .mode) (final u e .0))) final) (s .closing z));
+          formed = abandoned-formed limit p ok T signal-formed;
+          roots = signal-roots;
+          closing = signal-closing;
           finish = unfinished;
           abandoning = abandoned-done p ok T;
         }

@@ -106,7 +106,7 @@ module _ {σ : Seams} (ω : Laws σ) (p : Plan) (l : Ledger) (a : σ .Signal) wh
         ]
 
     -- all inside a scope are treated as its host's track is
-    inside-alike : (s t : ℕ) → isInside p s t ≡ true → isTurned p a t ≡ isTurned p a (owner p s)
+    pub inside-alike : (s t : ℕ) → isInside p s t ≡ true → isTurned p a t ≡ isTurned p a (owner p s)
     inside-alike s =
         strong (λ t. isInside p s t ≡ true → isTurned p a t ≡ isTurned p a (owner p s))
         (λ t ih i.
