@@ -15,7 +15,7 @@ use Rattle.rules.specs.Plan.{trackCount, planOf}
 use Rattle.rules.specs.Acceptance.{accepted, readPlan}
 use Rattle.rules.specs.Layout.{entryLimit}
 use Rattle.rules.specs.Event.{EventArguments}
-use Rattle.rules.specs.Call.{Answer, FireArguments, Call, nothing, beginOutcome, callOutcome, eventOutcome, signalOutcome, fireOutcome, Meets}
+use Rattle.rules.specs.Call.{Answer, SignalArguments, FireArguments, Call, beginOutcome, callOutcome, eventOutcome, signalOutcome, fireOutcome, Meets}
 use Rattle.rules.specs.Call as paper
 use Rattle.rules.specs.Answers.{beginTold, eventTold, signalTold, fireTold}
 use Rattle.rules.specs.ReferenceRun.{wordsFrom, answersFrom}
@@ -45,15 +45,15 @@ pub data Calls (bs : List ℕ) : List ℕ → List Call → List Answer → List
   by-event : {ws end : List ℕ} {cs : List Call} {rs : List Answer}
       (κs : Lfts 2) (a : ArgsD event.signature κs) (r : ResD event.signature κs) (s : AtExit (endedOf 2 event-kinds.ps event-kinds.r) κs)
       → event-reads.Post κs a r s → now (a .0) ≡ bs → now (a .1 .0) ≡ ws → Calls bs (now (s .1 .0)) cs rs end
-      → Calls bs ws (paper.event (record { event = a .1 .1 .0; day = a .1 .1 .1 .0 }) ∷ cs) (eventTold r ∷ rs) end
+      → Calls bs ws (paper.event (record { event = a .1 .1 .0; day = a .1 .1 .1 .0; society = a .1 .1 .1 .1 .0 }) ∷ cs) (eventTold r ∷ rs) end
   by-signal : {ws end : List ℕ} {cs : List Call} {rs : List Answer}
       (κs : Lfts 2) (a : ArgsD signal.signature κs) (r : ResD signal.signature κs) (s : AtExit (endedOf 2 signal-kinds.ps signal-kinds.r) κs)
       → signal-reads.Post κs a r s → now (a .0) ≡ bs → now (a .1 .0) ≡ ws → Calls bs (now (s .1 .0)) cs rs end
-      → Calls bs ws (paper.signal nothing ∷ cs) (signalTold r ∷ rs) end
+      → Calls bs ws (paper.signal (record { society = a .1 .1 .0 }) ∷ cs) (signalTold r ∷ rs) end
   by-fire : {ws end : List ℕ} {cs : List Call} {rs : List Answer}
       (κs : Lfts 2) (a : ArgsD fire.signature κs) (r : ResD fire.signature κs) (s : AtExit (endedOf 2 fire-kinds.ps fire-kinds.r) κs)
       → fire-reads.Post κs a r s → now (a .0) ≡ bs → now (a .1 .0) ≡ ws → Calls bs (now (s .1 .0)) cs rs end
-      → Calls bs ws (paper.fire (record { track = a .1 .1 .0 }) ∷ cs) (fireTold r ∷ rs) end
+      → Calls bs ws (paper.fire (record { track = a .1 .1 .0; society = a .1 .1 .1 .0 }) ∷ cs) (fireTold r ∷ rs) end
 
 -- the same promise, of the same bytes and words by other names
 same : (c : Call) (told : Answer) (left : List ℕ) {x bs y ws : List ℕ} → x ≡ bs → y ≡ ws
@@ -68,12 +68,13 @@ pub made : (bs : List ℕ) {ws end : List ℕ} {cs : List Call} {rs : List Answe
 unfolding eventOutcome signalOutcome fireOutcome
 made bs none = history.none
 made bs (by-event κs a r s p e q h) =
-    let x : EventArguments = record { event = a .1 .1 .0; day = a .1 .1 .1 .0 } in
+    let x : EventArguments = record { event = a .1 .1 .0; day = a .1 .1 .1 .0; society = a .1 .1 .1 .1 .0 } in
     history.event-made x r (same (paper.event x) (eventTold r) (now (s .1 .0)) e q (event-meets κs a r s p)) (made bs h)
 made bs (by-signal κs a r s p e q h) =
-    history.signal-made nothing r (same (paper.signal nothing) (signalTold r) (now (s .1 .0)) e q (signal-meets κs a r s p)) (made bs h)
+    let x : SignalArguments = record { society = a .1 .1 .0 } in
+    history.signal-made x r (same (paper.signal x) (signalTold r) (now (s .1 .0)) e q (signal-meets κs a r s p)) (made bs h)
 made bs (by-fire κs a r s p e q h) =
-    let x : FireArguments = record { track = a .1 .1 .0 } in
+    let x : FireArguments = record { track = a .1 .1 .0; society = a .1 .1 .1 .0 } in
     history.fire-made x r (same (paper.fire x) (fireTold r) (now (s .1 .0)) e q (fire-meets κs a r s p)) (made bs h)
 
 -- From whatever words: what they left and answered is what the reference run leaves and answers.

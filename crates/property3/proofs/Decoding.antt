@@ -13,17 +13,18 @@ use Rattle.rules.specs.Leading.{lastDay}
 use Rattle.rules.specs.Ledger.{Ledger, ledgerAt, written}
 use Rattle.rules.specs.Fold.{firstRefusal}
 use Rattle.rules.specs.Acceptance.{accepted, readPlan}
-use Rattle.rules.specs.Call.{Answer, refusal, done, Outcome, Call, event, signal, fire, nothing, refusedOr, underPlan, ledgerRefusals, callRefusals, figures, after, datedBy, callOutcome}
+use Rattle.rules.specs.Call.{Answer, refusal, done, Outcome, Call, event, signal, fire, refusedOr, underPlan, ledgerRefusals, callRefusals, figures, after, datedBy, callOutcome}
 use Rattle.rules.specs.Journal.{called, recordOf}
+use Rattle.rules.specs.Isolation.{societyOf}
 use Rattle.rules.specs.ReferenceRun.{answersFrom}
 use Rattle.rules.proofs.SignedLaws.{joined-words}
 use Rattle.property3.specs.Encoding.{kindOf, argumentOf, dayOf, encodedCalls, decodedCall, decodedCalls, encodedAnswer, encodedAnswers, decodedFigures, decodedAnswer, decodedAnswers}
 use Rattle.property3.proofs.Shapes.{Shaped, refused, figured, shaped}
 
-call-back : (c : Call) → decodedCall (kindOf c) (argumentOf c) (dayOf c) ≡ c
-unfolding kindOf argumentOf dayOf decodedCall
+call-back : (c : Call) → decodedCall (kindOf c) (argumentOf c) (dayOf c) (societyOf c) ≡ c
+unfolding kindOf argumentOf dayOf societyOf decodedCall
 call-back (event a) = refl
-call-back (signal nothing) = refl
+call-back (signal a) = refl
 call-back (fire a) = refl
 
 -- each call's day is a number of 32 bits
@@ -35,13 +36,14 @@ pub calls-back : (cs : List Call) → AllFit cs → decodedCalls (encodedCalls c
 unfolding encodedCalls decodedCalls
 calls-back [] h = refl
 calls-back (c ∷ cs) h =
-    ap₂ (λ x xs. x ∷ xs) (ap (decodedCall (kindOf c) (argumentOf c)) (joined-words (dayOf c) (h .0)) ∙ call-back c) (calls-back cs (h .1))
+    ap₂ (λ x xs. x ∷ xs) (ap (λ d. decodedCall (kindOf c) (argumentOf c) d (societyOf c)) (joined-words (dayOf c) (h .0)) ∙ call-back c)
+    (calls-back cs (h .1))
 
 -- the kinds are the journal's
-pub journal-kinds : (c : Call) → recordOf (kindOf c) (argumentOf c) (dayOf c) ≡ called c
-unfolding kindOf argumentOf dayOf recordOf
+pub journal-kinds : (c : Call) → recordOf (kindOf c) (argumentOf c) (dayOf c) (societyOf c) ≡ called c
+unfolding kindOf argumentOf dayOf societyOf recordOf
 journal-kinds (event a) = refl
-journal-kinds (signal nothing) = refl
+journal-kinds (signal a) = refl
 journal-kinds (fire a) = refl
 
 -- an answer that is no refusal by the number 0

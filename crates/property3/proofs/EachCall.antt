@@ -13,35 +13,38 @@ use Rattle.property3.specs.declared.EncodedAnswer.{EncodedAnswer}
 use Rattle.property3.specs.Encoding.{decodedCall, decodedCalls, encodedAnswers, answerRoom, encodedWords, CallMade}
 use Rattle.property3.specs.CallsRun.{CallsMade}
 
--- fewer than four words hold no call
-no-call : (ws : List ℕ) → length ws < 4 → decodedCalls ws ≡ []
+-- fewer than five words hold no call
+no-call : (ws : List ℕ) → length ws < 5 → decodedCalls ws ≡ []
 unfolding decodedCalls
 no-call [] h = refl
 no-call (k ∷ []) h = refl
 no-call (k ∷ x ∷ []) h = refl
 no-call (k ∷ x ∷ y ∷ []) h = refl
-no-call (k ∷ x ∷ y ∷ z ∷ ws) h = absurd (omega arith)
+no-call (k ∷ x ∷ y ∷ z ∷ []) h = refl
+no-call (k ∷ x ∷ y ∷ z ∷ w ∷ ws) h = absurd (omega arith)
 
-calls-end : (ws : List ℕ) (i : ℕ) → length ws / 4 ≤ i → decodedCalls (drop (4 * i) ws) ≡ []
-calls-end ws i h = no-call (drop (4 * i) ws) (rw (length-drop (4 * i) ws) (omega arith))
+calls-end : (ws : List ℕ) (i : ℕ) → length ws / 5 ≤ i → decodedCalls (drop (5 * i) ws) ≡ []
+calls-end ws i h = no-call (drop (5 * i) ws) (rw (length-drop (5 * i) ws) (omega arith))
 
 -- the call whose words start at a place
 abbrev pub callAt : List ℕ → ℕ → Call
-callAt ws at = decodedCall (getD ws at 0) (getD ws (at + 1) 0) (joined (getD ws (at + 2) 0) (getD ws (at + 3) 0))
+callAt ws at = decodedCall (getD ws at 0) (getD ws (at + 1) 0) (joined (getD ws (at + 2) 0) (getD ws (at + 3) 0)) (getD ws (at + 4) 0)
 
-calls-at : (ws : List ℕ) (i : ℕ) → i < length ws / 4 → decodedCalls (drop (4 * i) ws) ≡ callAt ws (4 * i) ∷ decodedCalls (drop (4 * (i + 1)) ws)
+calls-at : (ws : List ℕ) (i : ℕ) → i < length ws / 5 → decodedCalls (drop (5 * i) ws) ≡ callAt ws (5 * i) ∷ decodedCalls (drop (5 * (i + 1)) ws)
 unfolding decodedCalls
 calls-at ws i h =
     let word : (k m : ℕ) → suc k ≡ m → k < length ws → drop k ws ≡ getD ws k 0 ∷ drop m ws =
     λ k m e b. drop-cons ws k 0 b ∙ ap (λ (n : ℕ). getD ws k 0 ∷ drop n ws) e in
     ap decodedCalls
-    (word (4 * i) (4 * i + 1) (omega arith) (omega arith)
-    ∙ ap (λ (l : List ℕ). getD ws (4 * i) 0 ∷ l)
-    (word (4 * i + 1) (4 * i + 2) (omega arith) (omega arith)
-    ∙ ap (λ (l : List ℕ). getD ws (4 * i + 1) 0 ∷ l)
-    (word (4 * i + 2) (4 * i + 3) (omega arith) (omega arith)
-    ∙ ap (λ (l : List ℕ). getD ws (4 * i + 2) 0 ∷ l)
-    (word (4 * i + 3) (4 * (i + 1)) (omega arith) (omega arith)))))
+    (word (5 * i) (5 * i + 1) (omega arith) (omega arith)
+    ∙ ap (λ (l : List ℕ). getD ws (5 * i) 0 ∷ l)
+    (word (5 * i + 1) (5 * i + 2) (omega arith) (omega arith)
+    ∙ ap (λ (l : List ℕ). getD ws (5 * i + 1) 0 ∷ l)
+    (word (5 * i + 2) (5 * i + 3) (omega arith) (omega arith)
+    ∙ ap (λ (l : List ℕ). getD ws (5 * i + 2) 0 ∷ l)
+    (word (5 * i + 3) (5 * i + 4) (omega arith) (omega arith)
+    ∙ ap (λ (l : List ℕ). getD ws (5 * i + 3) 0 ∷ l)
+    (word (5 * i + 4) (5 * (i + 1)) (omega arith) (omega arith))))))
 
 module _ (bs : List ℕ) where
   abbrev words : List ℕ → List Call → List ℕ
@@ -52,25 +55,25 @@ module _ (bs : List ℕ) where
 
   -- before call number i: from the words ws and the answers out, the calls before it led to ws₁ and out₁
   pub record Underway (ws calls out ws₁ out₁ : List ℕ) (i : ℕ) : Type 0 where
-    pub left : words ws₁ (decodedCalls (drop (4 * i) calls)) ≡ words ws (decodedCalls calls)
-    pub written : take (3 * i) out₁ ++ answers ws₁ (decodedCalls (drop (4 * i) calls)) ≡ answers ws (decodedCalls calls)
+    pub left : words ws₁ (decodedCalls (drop (5 * i) calls)) ≡ words ws (decodedCalls calls)
+    pub written : take (3 * i) out₁ ++ answers ws₁ (decodedCalls (drop (5 * i) calls)) ≡ answers ws (decodedCalls calls)
     pub beyond : drop (3 * i) out₁ ≡ drop (3 * i) out
-    pub within : i ≤ length calls / 4
+    pub within : i ≤ length calls / 5
 
   pub underway-start : (ws calls out : List ℕ) → Underway ws calls out ws out 0
   underway-start ws calls out = record { left = refl; written = refl; beyond = refl; within = omega arith }
 
-  pub underway-next : (ws calls out ws₁ out₁ : List ℕ) (i : ℕ) → i < length calls / 4 → answerRoom calls ≤ length out₁
+  pub underway-next : (ws calls out ws₁ out₁ : List ℕ) (i : ℕ) → i < length calls / 5 → answerRoom calls ≤ length out₁
       → Underway ws calls out ws₁ out₁ i
       → (told : EncodedAnswer) (ws₂ out₂ : List ℕ)
-      → CallMade (callOutcome entryLimit bs ws₁ (callAt calls (4 * i))) told ws₂
+      → CallMade (callOutcome entryLimit bs ws₁ (callAt calls (5 * i))) told ws₂
       → out₂ ≡ take (3 * i) out₁ ++ (encodedWords told ++ drop (3 * i + 3) out₁)
       → Underway ws calls out ws₂ out₂ (i + 1)
   unfolding answerRoom wordsFrom answersFrom encodedAnswers encodedWords
   underway-next ws calls out ws₁ out₁ i l room u told ws₂ out₂ m e =
-      let d : Call = callAt calls (4 * i) in
-      let rest : List Call = decodedCalls (drop (4 * (i + 1)) calls) in
-      let q : decodedCalls (drop (4 * i) calls) ≡ d ∷ rest = calls-at calls i l in
+      let d : Call = callAt calls (5 * i) in
+      let rest : List Call = decodedCalls (drop (5 * (i + 1)) calls) in
+      let q : decodedCalls (drop (5 * i) calls) ≡ d ∷ rest = calls-at calls i l in
       let before : List ℕ = take (3 * i) out₁ in
       let s : 3 * (i + 1) ≡ 3 * i + 3 = omega arith in
       let n : length before ≡ 3 * i = length-take-le (3 * i) out₁ (omega arith) in
@@ -91,11 +94,11 @@ module _ (bs : List ℕ) where
         within = omega arith;
       }
 
-  pub underway-done : (ws calls out ws₁ out₁ : List ℕ) (i : ℕ) → length calls / 4 ≤ i
+  pub underway-done : (ws calls out ws₁ out₁ : List ℕ) (i : ℕ) → length calls / 5 ≤ i
       → Underway ws calls out ws₁ out₁ i → CallsMade bs ws calls out ws₁ out₁
   unfolding answerRoom wordsFrom answersFrom encodedAnswers
   underway-done ws calls out ws₁ out₁ i h u =
-      let q : decodedCalls (drop (4 * i) calls) ≡ [] = calls-end calls i h in
+      let q : decodedCalls (drop (5 * i) calls) ≡ [] = calls-end calls i h in
       let k : 3 * i ≡ answerRoom calls = omega (arith, u .within) in
       record {
         left = sym (ap (words ws₁) q) ∙ u .left;

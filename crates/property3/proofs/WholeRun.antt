@@ -54,7 +54,7 @@ module _ (bs ws : List ℕ) where
       ]
 
 module _ (bs lent calls out : List ℕ) where
-  pub run-short : length out / 3 < length calls / 4 → CallsRun bs lent calls out NoRoom lent out
+  pub run-short : length out / 3 < length calls / 5 → CallsRun bs lent calls out NoRoom lent out
   unfolding lacksRoom answerRoom
   run-short h =
       record {
@@ -63,7 +63,7 @@ module _ (bs lent calls out : List ℕ) where
         begun = λ e b. absurd (omega (arith, ltb-false (length out) (answerRoom calls) e));
       }
 
-  module _ (room : length calls / 4 ≤ length out / 3) (r : BeginAnswer) (ws : List ℕ) (m : Meets (beginOutcome entryLimit bs lent) (beginTold r) ws) where
+  module _ (room : length calls / 5 ≤ length out / 3) (r : BeginAnswer) (ws : List ℕ) (m : Meets (beginOutcome entryLimit bs lent) (beginTold r) ws) where
     pub run-refused : (n : ℕ) → r ≡ begin.Refused n → CallsRun bs lent calls out (Refused n) ws out
     unfolding lacksRoom answerRoom beginTold
     run-refused n q =

@@ -1,4 +1,4 @@
--- Calls and answers as words: four words for a call, three for its answer. Assumes nothing.
+-- Calls and answers as words: five words for a call, three for its answer. Assumes nothing.
 use mathlib.Core.Path.{_≡_}
 use mathlib.Core.Bool.{Bool, cond}
 use mathlib.Core.List.{List, [], _∷_, _++_}
@@ -6,13 +6,15 @@ use Prim.Native.Nat.{ℕ, zero, suc, _*_, _/_}
 use lib.ListN.{length}
 use lib.IntN.{pos}
 use lib.Dec.{eqb, ltb}
-use Rattle.rules.specs.Names.{Words, Day}
+use Rattle.rules.specs.Names.{Words, Day, Society}
 use Rattle.rules.specs.Signed.{joined, lowWord, highWord}
-use Rattle.rules.specs.Call.{Answer, refusal, done, Outcome, Call, event, signal, fire, nothing}
+use Rattle.rules.specs.Call.{Answer, refusal, done, Outcome, Call, event, signal, fire}
 use Rattle.rules.specs.Journal.{eventKind, signalKind, fireKind}
+use Rattle.rules.specs.Isolation.{societyOf}
 use Rattle.property3.specs.declared.EncodedAnswer.{EncodedAnswer}
 
--- A call is its kind, the journal's, its argument, an event's or a track's, and an event's day, low word first; 0 stands where there is none.
+-- A call is its kind, the journal's, its argument, an event's or a track's, an event's day, low word first, and the society; 0 stands where there is
+-- no argument or day.
 unfoldable pub kindOf : Call → ℕ
 kindOf (event a) = eventKind
 kindOf (signal a) = signalKind
@@ -30,13 +32,13 @@ dayOf (fire a) = pos 0
 
 unfoldable pub encodedCalls : List Call → List ℕ
 encodedCalls [] = []
-encodedCalls (c ∷ cs) = kindOf c ∷ argumentOf c ∷ lowWord (dayOf c) ∷ highWord (dayOf c) ∷ encodedCalls cs
+encodedCalls (c ∷ cs) = kindOf c ∷ argumentOf c ∷ lowWord (dayOf c) ∷ highWord (dayOf c) ∷ societyOf c ∷ encodedCalls cs
 
 -- and back: a kind that is neither an event's nor a signal's is a firing
-unfoldable pub decodedCall : ℕ → ℕ → Day → Call
-decodedCall kind argument day =
-    cond (eqb kind eventKind) (event (record { event = argument; day = day }))
-    (cond (eqb kind signalKind) (signal nothing) (fire (record { track = argument })))
+unfoldable pub decodedCall : ℕ → ℕ → Day → Society → Call
+decodedCall kind argument day society =
+    cond (eqb kind eventKind) (event (record { event = argument; day = day; society = society }))
+    (cond (eqb kind signalKind) (signal (record { society = society })) (fire (record { track = argument; society = society })))
 
 -- words left over are no call
 unfoldable pub decodedCalls : List ℕ → List Call
@@ -44,7 +46,8 @@ decodedCalls [] = []
 decodedCalls (kind ∷ []) = []
 decodedCalls (kind ∷ argument ∷ []) = []
 decodedCalls (kind ∷ argument ∷ low ∷ []) = []
-decodedCalls (kind ∷ argument ∷ low ∷ high ∷ ws) = decodedCall kind argument (joined low high) ∷ decodedCalls ws
+decodedCalls (kind ∷ argument ∷ low ∷ high ∷ []) = []
+decodedCalls (kind ∷ argument ∷ low ∷ high ∷ society ∷ ws) = decodedCall kind argument (joined low high) society ∷ decodedCalls ws
 
 -- An answer is the refusal's number, 0 where accepted, and two figures, 0 where there is none.
 unfoldable pub encodedAnswer : Answer → List ℕ
@@ -76,7 +79,7 @@ decodedAnswers (c ∷ cs) (n ∷ x ∷ y ∷ out) = decodedAnswer c n x y ∷ de
 
 -- the words that the answers to encoded calls take
 unfoldable pub answerRoom : List ℕ → ℕ
-answerRoom calls = 3 * (length calls / 4)
+answerRoom calls = 3 * (length calls / 5)
 
 unfoldable pub lacksRoom : List ℕ → List ℕ → Bool
 lacksRoom calls out = ltb (length out) (answerRoom calls)

@@ -1,5 +1,5 @@
 // Property 3 of the calls: a theorem about lists of them (proofs/Property3.antt, Calls.antt), and the contract of `run_calls`, which makes such a
-// list. A call is four words, its kind as in a journal, its argument and an event's day; its answer is three.
+// list. A call is five words, its kind as in a journal, its argument, an event's day and the society; its answer is three.
 use rules::BeginAnswer;
 use rules::EventAnswer;
 use rules::FireAnswer;
@@ -10,11 +10,11 @@ ghost use mathlib.Core.List.{_++_};
 ghost use Prim.Native.Nat.{_+_, _≤_};
 ghost use lib.ListN.{length, take, drop};
 ghost use Rattle.rules.specs.Layout.{entryLimit};
-ghost use Rattle.rules.specs.Call.{nothing, callOutcome, eventOutcome, signalOutcome, fireOutcome};
+ghost use Rattle.rules.specs.Call.{callOutcome, eventOutcome, signalOutcome, fireOutcome};
 ghost use Rattle.property3.specs.Encoding.{decodedCall, encodedWords, answerRoom, CallMade};
 ghost use Rattle.property3.specs.CallsRun.{CallsMade, CallsRun};
 
-pub const CALL_WIDTH: usize = 4;
+pub const CALL_WIDTH: usize = 5;
 
 pub const ANSWER_WIDTH: usize = 3;
 
@@ -49,10 +49,11 @@ fn encoded_refusal(n: u8) -> EncodedAnswer
     }
 }
 
-fn make_event(plan: &[u8], ledger: &mut [u16], name: u16, day: i32) -> EncodedAnswer
-    ensures { λ r. ⌜ CallMade (eventOutcome entryLimit (now (plan .entry)) (now (ledger .entry)) (record { event = name; day = day })) r (now (ledger .exit)) ⌝ }
+fn make_event(plan: &[u8], ledger: &mut [u16], name: u16, day: i32, society: u16) -> EncodedAnswer
+    ensures { λ r. ⌜ CallMade (eventOutcome entryLimit (now (plan .entry)) (now (ledger .entry)) (record { event = name; day = day; society = society }))
+        r (now (ledger .exit)) ⌝ }
 {
-    let answer = manager::event(plan, &mut ledger[..], name, day);
+    let answer = manager::event(plan, &mut ledger[..], name, day, society);
     match answer {
         EventAnswer::Refused(n) => encoded_refusal(n),
         EventAnswer::Moved(moved, closed) => EncodedAnswer {
@@ -63,10 +64,10 @@ fn make_event(plan: &[u8], ledger: &mut [u16], name: u16, day: i32) -> EncodedAn
     }
 }
 
-fn make_signal(plan: &[u8], ledger: &mut [u16]) -> EncodedAnswer
-    ensures { λ r. ⌜ CallMade (signalOutcome entryLimit (now (plan .entry)) (now (ledger .entry)) nothing) r (now (ledger .exit)) ⌝ }
+fn make_signal(plan: &[u8], ledger: &mut [u16], society: u16) -> EncodedAnswer
+    ensures { λ r. ⌜ CallMade (signalOutcome entryLimit (now (plan .entry)) (now (ledger .entry)) (record { society = society })) r (now (ledger .exit)) ⌝ }
 {
-    let answer = manager::signal(plan, &mut ledger[..]);
+    let answer = manager::signal(plan, &mut ledger[..], society);
     match answer {
         SignalAnswer::Refused(n) => encoded_refusal(n),
         SignalAnswer::Turned(turned) => EncodedAnswer {
@@ -77,10 +78,11 @@ fn make_signal(plan: &[u8], ledger: &mut [u16]) -> EncodedAnswer
     }
 }
 
-fn make_fire(plan: &[u8], ledger: &mut [u16], track: u16) -> EncodedAnswer
-    ensures { λ r. ⌜ CallMade (fireOutcome entryLimit (now (plan .entry)) (now (ledger .entry)) (record { track = track })) r (now (ledger .exit)) ⌝ }
+fn make_fire(plan: &[u8], ledger: &mut [u16], track: u16, society: u16) -> EncodedAnswer
+    ensures { λ r. ⌜ CallMade (fireOutcome entryLimit (now (plan .entry)) (now (ledger .entry)) (record { track = track; society = society }))
+        r (now (ledger .exit)) ⌝ }
 {
-    let answer = manager::fire(plan, &mut ledger[..], track);
+    let answer = manager::fire(plan, &mut ledger[..], track, society);
     match answer {
         FireAnswer::Refused(n) => encoded_refusal(n),
         FireAnswer::Fired(code, deviation) => EncodedAnswer {
@@ -91,17 +93,24 @@ fn make_fire(plan: &[u8], ledger: &mut [u16], track: u16) -> EncodedAnswer
     }
 }
 
-// Makes the call that a kind, an argument and a day stand for.
-fn make_call(plan: &[u8], ledger: &mut [u16], kind: u16, argument: u16, day: i32) -> EncodedAnswer
-    ensures { λ r. ⌜ CallMade (callOutcome entryLimit (now (plan .entry)) (now (ledger .entry)) (decodedCall kind argument day)) r (now (ledger .exit)) ⌝ }
+// Makes the call that a kind, an argument, a day and a society stand for.
+fn make_call(
+    plan: &[u8],
+    ledger: &mut [u16],
+    kind: u16,
+    argument: u16,
+    day: i32,
+    society: u16,
+) -> EncodedAnswer
+    ensures { λ r. ⌜ CallMade (callOutcome entryLimit (now (plan .entry)) (now (ledger .entry)) (decodedCall kind argument day society)) r (now (ledger .exit)) ⌝ }
 {
     if kind == EVENT {
-        return make_event(plan, &mut ledger[..], argument, day);
+        return make_event(plan, &mut ledger[..], argument, day, society);
     }
     if kind == SIGNAL {
-        return make_signal(plan, &mut ledger[..]);
+        return make_signal(plan, &mut ledger[..], society);
     }
-    make_fire(plan, &mut ledger[..], argument)
+    make_fire(plan, &mut ledger[..], argument, society)
 }
 
 fn write_answer(answers: &mut [u16], at: usize, told: EncodedAnswer)
@@ -127,7 +136,8 @@ fn make_calls(plan: &[u8], ledger: &mut [u16], calls: &[u16], answers: &mut [u16
         let low = calls[CALL_WIDTH * i + 2];
         let high = calls[CALL_WIDTH * i + 3];
         let day = words::join(low, high);
-        let told = make_call(plan, &mut ledger[..], kind, argument, day);
+        let society = calls[CALL_WIDTH * i + 4];
+        let told = make_call(plan, &mut ledger[..], kind, argument, day, society);
         write_answer(&mut answers[..], ANSWER_WIDTH * i, told);
         i += 1;
     }

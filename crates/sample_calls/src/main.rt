@@ -14,40 +14,48 @@ ghost use Prim.Native.Nat.{_<_};
 
 const COUNT: usize = 8;
 
-// "Journal: events 10, 11, 12, signal, four times kind 19", each event on day 0: the firings that kind 19 comes to; the last is refused.
+// "Journal: events 10, 11, 12, signal, four times kind 19", each event on day 0 and each call by society 1: the firings that kind 19 comes to; the last is refused.
 const CALLS: [u16; CALL_WIDTH * COUNT] = [
     EVENT,
     10,
     0,
     0,
+    1,
     EVENT,
     11,
     0,
     0,
+    1,
     EVENT,
     12,
     0,
     0,
+    1,
     SIGNAL,
     0,
     0,
     0,
+    1,
     FIRE,
     1,
     0,
     0,
+    1,
     FIRE,
     2,
     0,
     0,
+    1,
     FIRE,
     0,
     0,
     0,
+    1,
     FIRE,
     0,
     0,
     0,
+    1,
 ];
 
 // The words of a ledger of 3 tracks.

@@ -23,16 +23,16 @@ loop-holds c = (underway-start _ _ _ _, refl, refl)
 write-answer-requires : tie.Need-write-answer-requires Inv-loop μ-loop
 unfolding answerRoom
 write-answer-requires c κs =
-    let loop = c .before .before .before .before .before .before .before .before .before .before in
+    let loop = c .before .before .before .before .before .before .before .before .before .before .before in
     omega (arith, loop .before .before .before .before .before .before .pre, loop .before .loop .inv .1, loop .loop-test .taken)
 
 loop-again : tie.Need-loop-again Inv-loop μ-loop
 loop-again c =
     let made = c .before .before .before .before .before .before in
-    let read = made .before .before in
+    let read = made .before .before .before in
     let loop = read .before .before .before .before .before in (
       underway-next _ _ _ _ _ _ _ (omega (arith, loop .loop-test .taken)) (omega (arith, loop .before .before .before .before .before .before .pre, loop .before .loop .inv .1)) (loop .before .loop .inv .0) _ _ _
-          (on-read _ _ _ _ _ (read .join .result) (record { sfits = read .join .ok }) _ _ _ (read .join .ensures) (made .make-call .ensures)) (c .before .before .write-answer .ensures),
+          (on-read _ _ _ _ _ (read .join .result) (record { sfits = read .join .ok }) _ _ _ _ (read .join .ensures) (made .make-call .ensures)) (c .before .before .write-answer .ensures),
       search needs,
       search needs,
     )
@@ -43,32 +43,7 @@ returns c = underway-done _ _ _ _ _ _ _ (c .loop-test .left) (c .before .loop .i
 pub make-calls-spec : {M : Type 1} → statement M
 make-calls-spec =
     tie.close
-    (tie.spec
-    Inv-loop
-    μ-loop
-    loop-holds
-    (λ c. search needs)
-    (λ c. search needs)
-    (λ c. search needs)
-    (λ c. search needs)
-    (λ c. search needs)
-    (λ c. search needs)
-    (λ c. search needs)
-    (λ c. search needs)
-    (λ c. search needs)
-    (λ c. search needs)
-    (λ c. search needs)
-    (λ c. search needs)
-    (λ c. search needs)
-    (λ c. search needs)
-    (λ c. search needs)
-    (λ c κs. search needs)
-    (λ c κs. search needs)
-    (λ c. search needs)
-    write-answer-requires
-    (λ c. search needs)
-    (λ c. search needs)
-    loop-again
-    (λ c. search needs)
-    (λ c. search needs)
-    returns)
+    (tie.spec Inv-loop μ-loop loop-holds (λ c. search needs) (λ c. search needs) (λ c. search needs) (λ c. search needs) (λ c. search needs) (λ c. search needs)
+    (λ c. search needs) (λ c. search needs) (λ c. search needs) (λ c. search needs) (λ c. search needs) (λ c. search needs)
+    (λ c. search needs) (λ c. search needs) (λ c. search needs) (λ c κs. search needs) (λ c. search needs) (λ c. search needs) (λ c. search needs) (λ c. search needs) (λ c κs. search needs)
+    (λ c. search needs) write-answer-requires (λ c. search needs) (λ c. search needs) loop-again (λ c. search needs) (λ c. search needs) returns)

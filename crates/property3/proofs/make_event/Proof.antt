@@ -11,7 +11,7 @@ returns : tie.Need-returns
 unfolding eventTold encodedAnswer encodedWords
 returns c =
     let s = c .before .before .before .before .before .before .before .before .before .before in
-    on-day _ _ _ _ _ (s .args .day) (s .fits .day) _
+    on-day _ _ _ _ _ (s .args .day) (s .fits .day) _ _
     (encoded _ _ _ _ (c .before .before .before .before .before .before .event .ensures)
     (ap encodedWords (c .encoded-refusal .ensures) ∙ sym (ap (λ x. encodedAnswer (eventTold x)) (c .before .before .answer .given .1))))
 
@@ -19,7 +19,7 @@ returns-2 : tie.Need-returns-2
 unfolding eventTold encodedAnswer encodedWords
 returns-2 c =
     let s = c .before .before .before .before .before .before .before .before .before in
-    on-day _ _ _ _ _ (s .args .day) (s .fits .day) _
+    on-day _ _ _ _ _ (s .args .day) (s .fits .day) _ _
     (encoded _ _ _ _ (c .before .before .before .before .before .event .ensures) (sym (ap (λ x. encodedAnswer (eventTold x)) (c .before .answer2 .given .1))))
 
 pub make-event-spec : {M : Type 1} → statement M
