@@ -21,6 +21,7 @@ struct request {
     uint32_t call;
     uint32_t argument;
     int32_t day;
+    uint32_t society;
     uint32_t plan_len;
     uint32_t ledger_len;
 };
@@ -75,11 +76,12 @@ static int guards_stand(struct lent lent)
 
 static uint64_t answer(struct request r, const uint8_t *plan, uint16_t *ledger)
 {
+    uint16_t society = (uint16_t)r.society;
     switch (r.call) {
     case BEGIN: return retraction_begin(plan, r.plan_len, ledger, r.ledger_len);
-    case EVENT: return retraction_event(plan, r.plan_len, ledger, r.ledger_len, (uint16_t)r.argument, r.day);
-    case SIGNAL: return retraction_signal(plan, r.plan_len, ledger, r.ledger_len);
-    case FIRE: return retraction_fire(plan, r.plan_len, ledger, r.ledger_len, (uint16_t)r.argument);
+    case EVENT: return retraction_event(plan, r.plan_len, ledger, r.ledger_len, (uint16_t)r.argument, r.day, society);
+    case SIGNAL: return retraction_signal(plan, r.plan_len, ledger, r.ledger_len, society);
+    case FIRE: return retraction_fire(plan, r.plan_len, ledger, r.ledger_len, (uint16_t)r.argument, society);
     case READY: return retraction_ready(plan, r.plan_len, ledger, r.ledger_len);
     case ENTRIES: return retraction_entries(plan, r.plan_len, ledger, r.ledger_len, (uint16_t)r.argument);
     case READ: return retraction_read(plan, r.plan_len);

@@ -30,11 +30,16 @@ impl Call {
             "P" => return Some(Call::Read),
             "B" => return Some(Call::Begin),
             "E" => {
-                let (event, day) = argument.split_once('@')?;
-                singles::Call::Event(event.parse().ok()?, day.parse().ok()?)
+                let (event, rest) = argument.split_once('@')?;
+                let (day, society) = rest.split_once(':')?;
+                let (event, day) = (event.parse().ok()?, day.parse().ok()?);
+                singles::Call::Event(event, day, society.parse().ok()?)
             }
-            "S" => singles::Call::Signal,
-            "F" => singles::Call::Fire(argument.parse().ok()?),
+            "S" => singles::Call::Signal(argument.strip_prefix(':')?.parse().ok()?),
+            "F" => {
+                let (track, society) = argument.split_once(':')?;
+                singles::Call::Fire(track.parse().ok()?, society.parse().ok()?)
+            }
             "Y" => singles::Call::Ready,
             "N" => singles::Call::Entries(argument.parse().ok()?),
             "D" => singles::Call::DateOfDay(argument.parse().ok()?),
@@ -138,9 +143,10 @@ mod tests {
     #[test]
     fn a_call_is_read_back_from_its_line() {
         let calls = [
-            (singles::Call::Fire(7), "F7"),
-            (singles::Call::Event(7, -3), "E7@-3"),
-            (singles::Call::Event(7, i32::MAX), "E7@2147483647"),
+            (singles::Call::Fire(7, 2), "F7:2"),
+            (singles::Call::Signal(65535), "S:65535"),
+            (singles::Call::Event(7, -3, 0), "E7@-3:0"),
+            (singles::Call::Event(7, i32::MAX, 1), "E7@2147483647:1"),
         ];
         for (call, text) in calls {
             let (plan, words) = (vec![4, 0, 255], vec![1, 65535, 0]);
@@ -174,10 +180,10 @@ mod tests {
     fn a_journal_is_read_back_from_its_line() {
         let journal = Journal {
             plan: vec![],
-            journal: vec![4, 0, 17, 0],
+            journal: vec![6, 0, 17, 0, 1, 0],
         };
         let line = journal_line(&journal);
-        assert_eq!(line, "U;;04001100");
+        assert_eq!(line, "U;;060011000100");
         let same = |again: &Journal| again.plan.is_empty() && again.journal == journal.journal;
         assert!(matches!(parse(&line), Some(Again::Journal(ref again)) if same(again)));
     }

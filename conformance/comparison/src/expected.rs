@@ -36,13 +36,18 @@ pub fn answer(given: &Given) -> Done {
 
 fn other(plan: &[u8], words: &mut [u16], call: singles::Call) -> u64 {
     match call {
-        singles::Call::Event(event, day) => number(manager::event(plan, words, event, day), |m| {
-            pair(m.moved, m.closed)
-        }),
-        singles::Call::Signal => number(manager::signal(plan, words), |turned| pair(turned, 0)),
-        singles::Call::Fire(track) => number(manager::fire(plan, words, track), |entry| {
-            pair(entry.code, entry.deviation)
-        }),
+        singles::Call::Event(event, day, society) => {
+            let answer = manager::event(plan, words, event, day, society);
+            number(answer, |m| pair(m.moved, m.closed))
+        }
+        singles::Call::Signal(society) => {
+            let answer = manager::signal(plan, words, society);
+            number(answer, |turned| pair(turned, 0))
+        }
+        singles::Call::Fire(track, society) => {
+            let answer = manager::fire(plan, words, track, society);
+            number(answer, |entry| pair(entry.code, entry.deviation))
+        }
         singles::Call::Ready => number(manager::ready(plan, words), |bits| u64::from(bits) << 32),
         singles::Call::Entries(track) => part(manager::entries(plan, words, track), track),
         singles::Call::DateOfDay(day) => number(manager::date_of_day(day), |date| {
@@ -98,7 +103,7 @@ mod tests {
         let mut words = vec![0; 205];
         manager::begin(&sample(), &mut words);
         for event in [10, 11] {
-            manager::event(&sample(), &mut words, event, 0);
+            manager::event(&sample(), &mut words, event, 0, 1);
         }
         words
     }
@@ -122,12 +127,25 @@ mod tests {
         other.transitions[0].code = 60;
         for (call, answer) in [
             (singles::Call::Ready, 24),
-            (singles::Call::Fire(1), 24),
+            (singles::Call::Fire(1, 1), 24),
             (singles::Call::Entries(1), 0),
         ] {
             let done = answered(other.encode(), call);
             assert_eq!((done.answer, done.words), (answer, worked()));
         }
+    }
+
+    #[test]
+    fn a_society_without_rights_is_28_and_changes_no_word() {
+        for call in [
+            singles::Call::Event(12, 0, 2),
+            singles::Call::Signal(2),
+            singles::Call::Fire(1, 2),
+        ] {
+            let done = answered(sample(), call);
+            assert_eq!((done.answer, done.words), (28, worked()));
+        }
+        assert_eq!(answered(sample(), singles::Call::Signal(1)).answer, 3 << 16);
     }
 
     #[test]

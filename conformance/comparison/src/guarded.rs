@@ -10,24 +10,24 @@ use testing::generate::singles;
 use crate::case::{Call, Given};
 use crate::expected::Done;
 
-/// The program's number for a call, its argument and its day. A date is its
-/// year and month, the month 16 bits up, and its day.
-fn code(call: Call) -> (u32, u32, i32) {
+/// The program's number for a call, its argument, its day and its society. A
+/// date is its year and month, the month 16 bits up, and its day.
+fn code(call: Call) -> (u32, u32, i32, u16) {
     let call = match call {
-        Call::Begin => return (0, 0, 0),
-        Call::Read => return (6, 0, 0),
+        Call::Begin => return (0, 0, 0, 0),
+        Call::Read => return (6, 0, 0, 0),
         Call::Other(call) => call,
     };
     match call {
-        singles::Call::Event(event, day) => (1, u32::from(event), day),
-        singles::Call::Signal => (2, 0, 0),
-        singles::Call::Fire(track) => (3, u32::from(track), 0),
-        singles::Call::Ready => (4, 0, 0),
-        singles::Call::Entries(track) => (5, u32::from(track), 0),
-        singles::Call::DateOfDay(day) => (7, 0, day),
+        singles::Call::Event(event, day, society) => (1, u32::from(event), day, society),
+        singles::Call::Signal(society) => (2, 0, 0, society),
+        singles::Call::Fire(track, society) => (3, u32::from(track), 0, society),
+        singles::Call::Ready => (4, 0, 0, 0),
+        singles::Call::Entries(track) => (5, u32::from(track), 0, 0),
+        singles::Call::DateOfDay(day) => (7, 0, day, 0),
         singles::Call::DayOfDate(date) => {
             let month = u32::from(date.month) << 16;
-            (8, month | u32::from(date.year), i32::from(date.day))
+            (8, month | u32::from(date.year), i32::from(date.day), 0)
         }
     }
 }
@@ -49,10 +49,17 @@ pub struct Requests(ChildStdin);
 impl Requests {
     /// Asks for a call, in one write.
     pub fn send(&mut self, given: &Given) -> io::Result<()> {
-        let (call, argument, day) = code(given.call);
-        let sizes = [given.plan.len() as u32, given.words.len() as u32];
-        let mut bytes = Vec::with_capacity(20 + given.plan.len() + 2 * given.words.len());
-        for number in [call, argument, day as u32, sizes[0], sizes[1]] {
+        let (call, argument, day, society) = code(given.call);
+        let numbers = [
+            call,
+            argument,
+            day as u32,
+            u32::from(society),
+            given.plan.len() as u32,
+            given.words.len() as u32,
+        ];
+        let mut bytes = Vec::with_capacity(24 + given.plan.len() + 2 * given.words.len());
+        for number in numbers {
             bytes.extend(number.to_ne_bytes());
         }
         bytes.extend(&given.plan);

@@ -108,21 +108,40 @@ fn counts(plan: &[u8]) -> String {
 
 fn record_line(plan: &[u8], words: &mut [u16], record: Record) -> Result<String, Refusal> {
     Ok(match record {
-        Record::Event(event, day) => {
-            let Moved { moved, closed } = raw::event(plan, words, event, day)?;
+        Record::Event(event, day, society) => {
+            let Moved { moved, closed } = raw::event(plan, words, event, day, society)?;
             format!("E {event} {moved} {closed}")
         }
-        Record::Signal => format!("S {}", raw::signal(plan, words)?),
-        Record::Fire(track) => firing_line(plan, words, track)?,
-        Record::FireLowest => {
-            let lowest = raw::ready(plan, words)?.trailing_zeros();
-            firing_line(plan, words, lowest as u16)?
-        }
+        Record::Signal(society) => format!("S {}", raw::signal(plan, words, society)?),
+        Record::Fire(track, society) => firing_line(plan, words, track, society)?,
+        Record::FireLowest(society) => lowest_line(plan, words, society)?,
     })
 }
 
-fn firing_line(plan: &[u8], words: &mut [u16], track: u16) -> Result<String, Refusal> {
-    let Entry { code, deviation } = raw::fire(plan, words, track)?;
+/// The number of a refusal for want of a right.
+const NO_RIGHT: u16 = 28;
+
+/// The first ready track that is not refused for want of the right; where there
+/// is none, a track that no plan has.
+fn lowest_line(plan: &[u8], words: &mut [u16], society: u16) -> Result<String, Refusal> {
+    let ready = raw::ready(plan, words)?;
+    let ready = (0..MAX_TRACKS as u16).filter(|track| ready >> track & 1 == 1);
+    for track in ready {
+        match firing_line(plan, words, track, society) {
+            Err(refusal) if refusal.number() == NO_RIGHT => {}
+            line => return line,
+        }
+    }
+    firing_line(plan, words, MAX_TRACKS as u16, society)
+}
+
+fn firing_line(
+    plan: &[u8],
+    words: &mut [u16],
+    track: u16,
+    society: u16,
+) -> Result<String, Refusal> {
+    let Entry { code, deviation } = raw::fire(plan, words, track, society)?;
     let deviation = deviation.map_or("-".to_string(), |state| state.to_string());
     Ok(format!("F {track} {code} {deviation}"))
 }

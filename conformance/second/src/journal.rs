@@ -3,7 +3,7 @@
 use std::io::Write;
 
 use crate::ledger::{Entry, Ledger};
-use crate::plan::{self, Plan, NONE};
+use crate::plan::{self, Plan, MAX_TRACKS, NONE};
 use crate::record::{self, Header};
 use crate::refusal::{demand, Refusal};
 use crate::rules::{self, Moved};
@@ -17,27 +17,28 @@ pub const FIRE: u16 = 18;
 pub const FIRE_LOWEST: u16 = 19;
 pub const EVENT: u16 = 20;
 
-/// A journal record.
+/// A journal record. Its last field is the society whose call it is.
 #[derive(Clone, Copy, Debug, PartialEq, Eq)]
 pub enum Record {
-    /// An event and its day.
-    Event(u16, i32),
-    Signal,
-    Fire(u16),
-    FireLowest,
+    /// An event, its day and the society.
+    Event(u16, i32, u16),
+    Signal(u16),
+    /// A track and the society.
+    Fire(u16, u16),
+    FireLowest(u16),
 }
 
 impl Record {
     /// Appends the record to a journal.
     pub fn encode(self, out: &mut Vec<u8>) {
         match self {
-            Record::Event(event, day) => {
+            Record::Event(event, day, society) => {
                 let [low, high] = record::words_of(day);
-                record::put(out, EVENT, &[event, low, high])
+                record::put(out, EVENT, &[event, low, high, society])
             }
-            Record::Signal => record::put(out, SIGNAL, &[]),
-            Record::Fire(track) => record::put(out, FIRE, &[track]),
-            Record::FireLowest => record::put(out, FIRE_LOWEST, &[]),
+            Record::Signal(society) => record::put(out, SIGNAL, &[society]),
+            Record::Fire(track, society) => record::put(out, FIRE, &[track, society]),
+            Record::FireLowest(society) => record::put(out, FIRE_LOWEST, &[society]),
         }
     }
 
@@ -47,11 +48,12 @@ impl Record {
         let length = kind_length(header.kind).ok_or(Refusal::BrokenRecord)?;
         let whole = header.length == length && usize::from(length) <= bytes.len();
         demand(whole, Refusal::BrokenRecord)?;
+        let field = |n| record::field(bytes, n);
         let record = match header.kind {
-            EVENT => Record::Event(record::field(bytes, 0), record::signed(bytes, 1)),
-            SIGNAL => Record::Signal,
-            FIRE => Record::Fire(record::field(bytes, 0)),
-            _ => Record::FireLowest,
+            EVENT => Record::Event(field(0), record::signed(bytes, 1), field(3)),
+            SIGNAL => Record::Signal(field(0)),
+            FIRE => Record::Fire(field(0), field(1)),
+            _ => Record::FireLowest(field(0)),
         };
         Ok((record, usize::from(length)))
     }
@@ -60,9 +62,9 @@ impl Record {
 /// The length of each kind of journal record; `None` for an unknown kind.
 pub fn kind_length(kind: u16) -> Option<u16> {
     match kind {
-        EVENT => Some(10),
-        FIRE => Some(6),
-        SIGNAL | FIRE_LOWEST => Some(4),
+        EVENT => Some(12),
+        FIRE => Some(8),
+        SIGNAL | FIRE_LOWEST => Some(6),
         _ => None,
     }
 }
@@ -107,23 +109,23 @@ pub enum Outcome {
 pub fn perform(plan: &Plan, ledger: &mut Ledger, record: Record) -> Outcome {
     let fired = |track, done: Result<Entry, Refusal>| done.map(|e| Outcome::Fire(track, e));
     let done = match record {
-        Record::Event(event, day) => {
-            rules::event(plan, ledger, event, day).map(|m| Outcome::Event(event, m))
+        Record::Event(event, day, society) => {
+            rules::event(plan, ledger, event, day, society).map(|m| Outcome::Event(event, m))
         }
-        Record::Signal => rules::signal(plan, ledger).map(Outcome::Signal),
-        Record::Fire(track) => fired(track, rules::fire(plan, ledger, track)),
-        Record::FireLowest => {
-            let track = lowest_ready(plan, ledger);
-            fired(track, rules::fire(plan, ledger, track))
+        Record::Signal(society) => rules::signal(plan, ledger, society).map(Outcome::Signal),
+        Record::Fire(track, society) => fired(track, rules::fire(plan, ledger, track, society)),
+        Record::FireLowest(society) => {
+            let track = lowest_ready(plan, ledger, society);
+            fired(track, rules::fire(plan, ledger, track, society))
         }
     };
     done.unwrap_or_else(Outcome::Refused)
 }
 
-/// The lowest ready track; with none, a track that no plan has, so that the
-/// firing is refused as 20 or 22.
-fn lowest_ready(plan: &Plan, ledger: &Ledger) -> u16 {
-    rules::ready(plan, ledger).trailing_zeros() as u16
+/// The lowest ready track that the society may fire; with none, a track that
+/// no plan has, so that the firing is refused as 20 or 22.
+pub fn lowest_ready(plan: &Plan, ledger: &Ledger, society: u16) -> u16 {
+    rules::lowest_ready(plan, ledger, society).unwrap_or(MAX_TRACKS) as u16
 }
 
 /// The whole output of `unwind`.
@@ -136,7 +138,7 @@ pub fn unwind(plan: &[u8], journal: &[u8]) -> Vec<u8> {
     text
 }
 
-/// 1 to 16 and 25: both files short enough, and an accepted plan.
+/// 1 to 16, 25 and 27: both files short enough, and an accepted plan.
 pub fn open(plan: &[u8], journal: &[u8]) -> Result<Plan, Refusal> {
     let fits = plan.len() <= MAX_BYTES && journal.len() <= MAX_BYTES;
     demand(fits, Refusal::TooLong)?;

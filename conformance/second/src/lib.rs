@@ -2,7 +2,7 @@
 //! from the paper alone, for word-for-word comparison with the first.
 //!
 //! - [`days`]: days and dates, refusal 26 of the conversions.
-//! - [`plan`]: the plan reader, refusals 2 to 16 and 25.
+//! - [`plan`]: the plan reader, refusals 2 to 16, 25 and 27; and who may do what.
 //! - [`ledger`]: leading words and tracks, and what makes a ledger sound.
 //! - [`rules`]: what the calls do, on an accepted plan and a sound ledger.
 //! - [`manager`]: the six calls, on plan bytes and lent words, and the two

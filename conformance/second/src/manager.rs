@@ -1,5 +1,6 @@
 //! The six calls, on plan bytes and lent words. Every call checks 2 to 16, 25,
-//! 17, 24 and 18 first, begin 2 to 16, 25 and 17. Refused calls change no word.
+//! 27, 17, 24 and 18 first, begin 2 to 16, 25, 27 and 17. Refused calls change no
+//! word. Event, signal and fire are a society's; ready and entries anybody's.
 //! And the two conversions, which are given neither plan nor ledger.
 
 use crate::days::{self, Date};
@@ -31,18 +32,18 @@ pub fn begin(plan: &[u8], words: &mut [u16]) -> Answer<()> {
 }
 
 /// Event on a day: tracks moved, scopes closed.
-pub fn event(plan: &[u8], words: &mut [u16], event: u16, day: i32) -> Answer<Moved> {
-    call(plan, words, |p, l| rules::event(p, l, event, day))
+pub fn event(plan: &[u8], words: &mut [u16], event: u16, day: i32, society: u16) -> Answer<Moved> {
+    call(plan, words, |p, l| rules::event(p, l, event, day, society))
 }
 
 /// Signal: tracks turned.
-pub fn signal(plan: &[u8], words: &mut [u16]) -> Answer<u16> {
-    call(plan, words, rules::signal)
+pub fn signal(plan: &[u8], words: &mut [u16], society: u16) -> Answer<u16> {
+    call(plan, words, |p, l| rules::signal(p, l, society))
 }
 
 /// Fire a named track: code and deviation.
-pub fn fire(plan: &[u8], words: &mut [u16], track: u16) -> Answer<Entry> {
-    call(plan, words, |p, l| rules::fire(p, l, track))
+pub fn fire(plan: &[u8], words: &mut [u16], track: u16, society: u16) -> Answer<Entry> {
+    call(plan, words, |p, l| rules::fire(p, l, track, society))
 }
 
 /// Ready: bit n set exactly if track n may be fired.
@@ -89,7 +90,7 @@ fn call<Figures>(
     done.into()
 }
 
-/// 2 to 16, 25 and 17: an accepted plan, and enough words for it.
+/// 2 to 16, 25, 27 and 17: an accepted plan, and enough words for it.
 fn accepted(plan: &[u8], words: &[u16]) -> Result<Plan, Refusal> {
     let plan = plan::read(plan)?;
     demand(
@@ -99,7 +100,7 @@ fn accepted(plan: &[u8], words: &[u16]) -> Result<Plan, Refusal> {
     Ok(plan)
 }
 
-/// 2 to 16, 25, 17, 24 and 18: an accepted plan, and its own and sound ledger.
+/// 2 to 16, 25, 27, 17, 24 and 18: an accepted plan, and its own and sound ledger.
 fn sound(plan: &[u8], words: &[u16]) -> Result<(Plan, Ledger), Refusal> {
     let plan = accepted(plan, words)?;
     demand(ledger::is_of(&plan, words), Refusal::OtherPlan)?;

@@ -1,8 +1,8 @@
-//! Plan reader: bytes to an accepted plan, or the first refusal of 2 to 16
-//! and 25.
+//! Plan reader: bytes to an accepted plan, or the first refusal of 2 to 16,
+//! 25 and 27.
 //!
-//! Numbers 2 to 7 are judged record by record, 8 to 16 and then 25 number by
-//! number over the whole plan.
+//! Numbers 2 to 7 are judged record by record, 8 to 16, then 25 and then 27
+//! number by number over the whole plan.
 
 use crate::days::Term;
 use crate::record::{self, Header};
@@ -14,6 +14,7 @@ pub const MAX_TRACKS: usize = 32;
 pub const MAX_STATES: usize = 128;
 pub const MAX_TRANSITIONS: usize = 256;
 pub const MAX_HEIGHT: u32 = 8;
+pub const MAX_RIGHTS: usize = 64;
 
 /// Record kinds of a plan.
 pub const TRACK: u16 = 1;
@@ -21,10 +22,11 @@ pub const STATE: u16 = 2;
 pub const TRANSITION: u16 = 3;
 pub const END: u16 = 4;
 pub const WINDOW: u16 = 5;
+pub const RIGHTS: u16 = 6;
 
-/// The kinds in the order of their records: windows stand between transitions
-/// and the end.
-pub const KINDS: [u16; 5] = [TRACK, STATE, TRANSITION, WINDOW, END];
+/// The kinds in the order of their records: windows stand after transitions,
+/// rights after windows, and the end stays last.
+pub const KINDS: [u16; 6] = [TRACK, STATE, TRANSITION, WINDOW, RIGHTS, END];
 
 /// A track record.
 #[derive(Clone, Copy, Debug, PartialEq, Eq)]
@@ -63,6 +65,33 @@ pub struct Window {
     pub term: Term,
 }
 
+/// What a society may do; its discriminant is its part of a sum of rights.
+#[derive(Clone, Copy, Debug, PartialEq, Eq)]
+pub enum Right {
+    Move = 1,
+    Signal = 2,
+    Fire = 4,
+}
+
+/// A rights record.
+#[derive(Clone, Copy, Debug, PartialEq, Eq)]
+pub struct Rights {
+    pub society: u16,
+    /// The root track over which, with everything under it, they hold.
+    pub root: u16,
+    /// 1 move, 2 signal and 4 fire, added up.
+    pub sum: u16,
+}
+
+impl Rights {
+    /// All three.
+    pub const ALL: u16 = 7;
+
+    fn include(&self, right: Right) -> bool {
+        self.sum & right as u16 != 0
+    }
+}
+
 /// The records of a plan in file order, before they are judged as a whole.
 #[derive(Clone, Debug, Default, PartialEq, Eq)]
 pub struct Records {
@@ -70,6 +99,7 @@ pub struct Records {
     pub states: Vec<State>,
     pub transitions: Vec<Transition>,
     pub windows: Vec<Window>,
+    pub rights: Vec<Rights>,
 }
 
 impl Records {
@@ -90,6 +120,9 @@ impl Records {
             let [first, last] = [w.term.first, w.term.last].map(record::words_of);
             let fields = [w.transition, first[0], first[1], last[0], last[1]];
             record::put(&mut out, WINDOW, &fields);
+        }
+        for r in &self.rights {
+            record::put(&mut out, RIGHTS, &[r.society, r.root, r.sum]);
         }
         record::put(&mut out, END, &[]);
         out
@@ -112,9 +145,13 @@ impl Records {
                 deviation: field(3),
                 destination: field(4),
             }),
-            // Windows have no limit.
+            // Any number of windows and of rights records is read.
             WINDOW => {
                 self.windows.push(window(bytes));
+                Ok(())
+            }
+            RIGHTS => {
+                self.rights.push(rights(bytes));
                 Ok(())
             }
             _ => Ok(()),
@@ -151,7 +188,16 @@ fn window(bytes: &[u8]) -> Window {
     }
 }
 
-/// Reads a plan: the accepted plan, or the first refusal of 2 to 16 and 25.
+/// The whole rights record at the front of `bytes`.
+fn rights(bytes: &[u8]) -> Rights {
+    Rights {
+        society: record::field(bytes, 0),
+        root: record::field(bytes, 1),
+        sum: record::field(bytes, 2),
+    }
+}
+
+/// Reads a plan: the accepted plan, or the first refusal of 2 to 16, 25 and 27.
 pub fn read(bytes: &[u8]) -> Result<Plan, Refusal> {
     Plan::accept(read_records(bytes)?, bytes)
 }
@@ -182,7 +228,7 @@ fn record_length(header: Header, before: u16) -> Result<usize, Refusal> {
 }
 
 /// The length of each kind of record, in the order of `KINDS`.
-const LENGTHS: [u16; 5] = [6, 10, 14, 14, 4];
+const LENGTHS: [u16; 6] = [6, 10, 14, 14, 10, 4];
 
 /// The place of a kind in the order of records; `None` for an unknown kind.
 fn place(kind: u16) -> Option<usize> {
@@ -210,11 +256,13 @@ pub struct Plan {
     exits: Vec<Exit>,
     /// The days on which each transition may be taken.
     terms: Vec<Term>,
+    /// The root above each track; a root's is itself.
+    roots: Vec<usize>,
 }
 
 impl Plan {
-    /// Judges the records of these bytes as a whole: refusals 8 to 16 and 25,
-    /// number by number.
+    /// Judges the records of these bytes as a whole: refusals 8 to 16, 25 and
+    /// 27, number by number.
     fn accept(records: Records, bytes: &[u8]) -> Result<Plan, Refusal> {
         demand(!records.tracks.is_empty(), Refusal::NoTrack)?;
         demand(states_fit(&records), Refusal::State)?;
@@ -227,6 +275,7 @@ impl Plan {
         demand(plan.exits_differ(), Refusal::Twins)?;
         demand(plan.heights_fit(), Refusal::Height)?;
         demand(windows_fit(&plan.records), Refusal::Window)?;
+        demand(rights_fit(&plan.records), Refusal::Rights)?;
         Ok(plan)
     }
 
@@ -238,6 +287,7 @@ impl Plan {
             scopes: scopes(&records),
             exits: exits(&records),
             terms: terms(&records),
+            roots: roots(&records),
             records,
         }
     }
@@ -308,7 +358,7 @@ impl Plan {
         heights
     }
 
-    /// The plan's length in bytes; an accepted plan has at most 8,644.
+    /// The plan's length in bytes; an accepted plan has at most 9,284.
     pub fn length(&self) -> u16 {
         self.length
     }
@@ -406,6 +456,29 @@ impl Plan {
 
     pub fn roots(&self) -> impl Iterator<Item = usize> + '_ {
         (0..self.track_count()).filter(|&t| self.is_root(t))
+    }
+
+    /// The root that a track is or is under.
+    pub fn root_of(&self, track: usize) -> usize {
+        self.roots[track]
+    }
+
+    /// Whether a society has a right over the root of a track that exists.
+    pub fn allows(&self, society: u16, right: Right, track: usize) -> bool {
+        let root = self.root_of(track);
+        self.rights_of(society, right)
+            .any(|r| usize::from(r.root) == root)
+    }
+
+    /// Whether a society has a right over any root.
+    pub fn allows_somewhere(&self, society: u16, right: Right) -> bool {
+        self.rights_of(society, right).next().is_some()
+    }
+
+    /// The records that give a society a right.
+    fn rights_of(&self, society: u16, right: Right) -> impl Iterator<Item = &Rights> {
+        let rights = self.records.rights.iter();
+        rights.filter(move |r| r.society == society && r.include(right))
     }
 
     /// The state's transition for that event, if it has one, with the days on
@@ -508,6 +581,33 @@ fn windows_fit(records: &Records) -> bool {
         };
         first_to_name && w.term.fits()
     })
+}
+
+/// 27: at most 64 rights records, each for a root, with a sum from 1 to 7, and
+/// one for each pair of society and root.
+fn rights_fit(records: &Records) -> bool {
+    let is_root = |root: u16| {
+        let track = records.tracks.get(usize::from(root));
+        track.map_or(false, |track| track.host == NONE)
+    };
+    let fits = |r: &Rights| is_root(r.root) && (1..=Rights::ALL).contains(&r.sum);
+    let mut pairs: Vec<_> = records.rights.iter().map(|r| (r.society, r.root)).collect();
+    pairs.sort_unstable();
+    pairs.dedup();
+    records.rights.len() <= MAX_RIGHTS
+        && records.rights.iter().all(fits)
+        && pairs.len() == records.rights.len()
+}
+
+/// The root above each track. Hosts lie in lower-numbered tracks, so each
+/// host's root is known before.
+fn roots(records: &Records) -> Vec<usize> {
+    let mut roots = Vec::new();
+    for (t, track) in records.tracks.iter().enumerate() {
+        let host = records.states.get(usize::from(track.host));
+        roots.push(host.map_or(t, |state| roots[usize::from(state.track)]));
+    }
+    roots
 }
 
 /// The days of each transition: its window's, or the whole range. A window that

@@ -1,5 +1,5 @@
 //! The numbers under "Turned back, in checking order". 24 is checked between
-//! 17 and 18, 25 after 16, 26 after 19.
+//! 17 and 18, 25 and then 27 after 16, 26 after 19, 28 after 20.
 
 /// A refusal; its discriminant is the paper's number.
 #[derive(Clone, Copy, Debug, PartialEq, Eq, PartialOrd, Ord, Hash)]
@@ -9,7 +9,7 @@ pub enum Refusal {
     TooLong = 1,
     /// Fewer than 4 bytes remain where a record must start.
     NoRecord = 2,
-    /// The kind is not 1 to 5, or falls in the order of records.
+    /// The kind is not 1 to 6, or falls in the order of records.
     Kind = 3,
     /// The length is not its kind's.
     Length = 4,
@@ -59,6 +59,12 @@ pub enum Refusal {
     /// A day is out of range, an event's is before the last, or a date is none
     /// of the range.
     Day = 26,
+    /// A rights record names no root, has a sum outside 1 to 7, repeats a pair,
+    /// or is the 65th.
+    Rights = 27,
+    /// The society lacks the fire right for the track, or the move or signal
+    /// right everywhere.
+    NoRight = 28,
 }
 
 impl Refusal {

@@ -1,10 +1,11 @@
 //! The rules of the compensating automaton, on an accepted plan and a sound
 //! ledger. A refused call changes nothing. Finish follows every event, signal
-//! and firing, as their last settling.
+//! and firing, as their last settling. Each of these three is a society's, and
+//! touches only the tracks for which it has the right.
 
 use crate::days::Term;
 use crate::ledger::{self, Entry, Ledger, Mode, Track};
-use crate::plan::{members, Plan, Transition, NONE};
+use crate::plan::{members, Plan, Right, Transition, NONE};
 use crate::refusal::{demand, Refusal};
 
 /// Event's figures: tracks moved, scopes closed.
@@ -40,12 +41,20 @@ fn open_scope(plan: &Plan, ledger: &mut Ledger, state: u16) {
 
 /// Event: the chosen moves, then closing, then finish. Its day is the last
 /// accepted one from now on, even where none moves.
-pub fn event(plan: &Plan, ledger: &mut Ledger, event: u16, day: i32) -> Result<Moved, Refusal> {
+pub fn event(
+    plan: &Plan,
+    ledger: &mut Ledger,
+    event: u16,
+    day: i32,
+    society: u16,
+) -> Result<Moved, Refusal> {
     demand(event != 0, Refusal::EventZero)?;
     let follows = Term::RANGE.contains(day) && day >= ledger.day;
     demand(follows, Refusal::Day)?;
     demand(!ledger.is_over(), Refusal::Over)?;
-    let moves = chosen_moves(plan, ledger, event, day);
+    let entitled = plan.allows_somewhere(society, Right::Move);
+    demand(entitled, Refusal::NoRight)?;
+    let moves = chosen_moves(plan, ledger, event, day, society);
     let mut after = ledger.clone();
     after.day = day;
     for &(track, transition) in &moves {
@@ -60,8 +69,21 @@ pub fn event(plan: &Plan, ledger: &mut Ledger, event: u16, day: i32) -> Result<M
     })
 }
 
-/// The moves an event makes on a day, each track with its transition.
+/// The moves a society's event makes on a day, each track with its transition.
 pub fn chosen_moves<'p>(
+    plan: &'p Plan,
+    ledger: &Ledger,
+    event: u16,
+    day: i32,
+    society: u16,
+) -> Vec<(usize, &'p Transition)> {
+    let mut moves = possible_moves(plan, ledger, event, day);
+    moves.retain(|&(t, _)| plan.allows(society, Right::Move, t));
+    moves
+}
+
+/// The same with rights left aside.
+pub fn possible_moves<'p>(
     plan: &'p Plan,
     ledger: &Ledger,
     event: u16,
@@ -148,13 +170,16 @@ fn sleep(ledger: &mut Ledger, scope: u32) {
     }
 }
 
-/// Signal: every forward track turns; then abandoning and finish, which no
-/// signal brings about, since it leaves no root forward. Answers how many turned.
-pub fn signal(plan: &Plan, ledger: &mut Ledger) -> Result<u16, Refusal> {
+/// Signal: every forward track that the society may turn does so; then
+/// abandoning and finish, which comes where a root that it may not turn has
+/// ended. Answers how many turned.
+pub fn signal(plan: &Plan, ledger: &mut Ledger, society: u16) -> Result<u16, Refusal> {
     demand(!ledger.is_over(), Refusal::Over)?;
+    let entitled = plan.allows_somewhere(society, Right::Signal);
+    demand(entitled, Refusal::NoRight)?;
     let mut turned = 0;
-    for track in &mut ledger.tracks {
-        if track.mode == Mode::Forward {
+    for (t, track) in ledger.tracks.iter_mut().enumerate() {
+        if track.mode == Mode::Forward && plan.allows(society, Right::Signal, t) {
             track.mode = Mode::Undoing;
             turned += 1;
         }
@@ -178,9 +203,12 @@ fn lapses(plan: &Plan, ledger: &Ledger, hosting: u16) -> bool {
 
 /// Fire: the newest entry is removed; a deviation turns the track forward;
 /// then abandoning, then finish. Answers the entry.
-pub fn fire(plan: &Plan, ledger: &mut Ledger, track: u16) -> Result<Entry, Refusal> {
+pub fn fire(plan: &Plan, ledger: &mut Ledger, track: u16, society: u16) -> Result<Entry, Refusal> {
     demand(!ledger.is_over(), Refusal::Over)?;
     let track = usize::from(track);
+    let exists = track < plan.track_count();
+    let entitled = !exists || plan.allows(society, Right::Fire, track);
+    demand(entitled, Refusal::NoRight)?;
     demand(may_fire(plan, ledger, track), Refusal::NotReady)?;
     let entry = ledger.tracks[track].remove().ok_or(Refusal::NotReady)?;
     if entry.deviation != NONE {
@@ -206,9 +234,14 @@ pub fn may_fire(plan: &Plan, ledger: &Ledger, track: usize) -> bool {
         && !ledger.has_open_scope(plan, track)
 }
 
-/// Ready: bit n set exactly if track n may be fired.
+/// Ready: bit n set exactly if track n may be fired, rights left aside.
 pub fn ready(plan: &Plan, ledger: &Ledger) -> u32 {
     (0..plan.track_count())
         .filter(|&t| may_fire(plan, ledger, t))
         .fold(0, |bits, t| bits | 1 << t)
+}
+
+/// The lowest ready track that the society may fire.
+pub fn lowest_ready(plan: &Plan, ledger: &Ledger, society: u16) -> Option<usize> {
+    members(ready(plan, ledger)).find(|&t| plan.allows(society, Right::Fire, t))
 }

@@ -1,11 +1,10 @@
 //! Finish: every root ended or spent, at least one ended; after an event and
-//! after a firing, and what soundness makes of it. An ended root is forward in a
+//! after a firing, and what soundness makes of it; after a signal, see rights. An ended root is forward in a
 //! final state; a spent one is undoing, with nothing held and no open scope.
 
 mod common;
 
 use common::*;
-use second::journal::Record::{Fire, FireLowest, Signal};
 use second::ledger::{self, track_words, track_words_mut, Clause, Entry};
 use second::manager::{self, Answer};
 use second::plan::{self, Records, NONE};
@@ -29,18 +28,18 @@ impl Desk {
 
     /// An event that moves and closes so many.
     fn event(&mut self, event: u16, moved: u16, closed: u16) {
-        let answer = manager::event(&self.plan, &mut self.words, event, 0);
+        let answer = manager::event(&self.plan, &mut self.words, event, 0, 1);
         assert_eq!(answer, Answer::Done(Moved { moved, closed }));
     }
 
     fn signal(&mut self, turned: u16) {
-        let answer = manager::signal(&self.plan, &mut self.words);
+        let answer = manager::signal(&self.plan, &mut self.words, 1);
         assert_eq!(answer, Answer::Done(turned));
     }
 
     /// A firing that answers this code and deviation.
     fn fire(&mut self, track: u16, code: u16, deviation: u16) {
-        let answer = manager::fire(&self.plan, &mut self.words, track);
+        let answer = manager::fire(&self.plan, &mut self.words, track, 1);
         assert_eq!(answer, Answer::Done(Entry { code, deviation }));
     }
 
@@ -59,12 +58,12 @@ impl Desk {
     fn refused(&mut self, refusal: Refusal) {
         let before = self.words.clone();
         let number = refusal.number();
-        let event = manager::event(&self.plan, &mut self.words, 1, 0);
+        let event = manager::event(&self.plan, &mut self.words, 1, 0, 1);
         assert_eq!(event, Answer::Refused(refusal), "event: {number}");
-        let signal = manager::signal(&self.plan, &mut self.words);
+        let signal = manager::signal(&self.plan, &mut self.words, 1);
         assert_eq!(signal, Answer::Refused(refusal), "signal: {number}");
         for track in [0, 1, 99] {
-            let fire = manager::fire(&self.plan, &mut self.words, track);
+            let fire = manager::fire(&self.plan, &mut self.words, track, 1);
             assert_eq!(fire, Answer::Refused(refusal), "fire: {number}");
         }
         assert_eq!(self.words, before);
@@ -152,7 +151,7 @@ fn all_roots_taken_back_is_not_over() {
     desk.event(1, 0, 0);
     desk.signal(0);
     for track in [0, 1, 2] {
-        let answer = manager::fire(&desk.plan, &mut desk.words, track);
+        let answer = manager::fire(&desk.plan, &mut desk.words, track, 1);
         assert_eq!(answer, Answer::Refused(Refusal::NotReady));
     }
     assert_eq!([desk.track(0), desk.track(1)], [[2, 0, 0], [2, 3, 0]]);
@@ -177,6 +176,7 @@ fn one_root_taken_back_in_its_final_state_is_not_over() {
     let mut plan = looping();
     plan.tracks.push(track(NONE));
     plan.states.push(state(1, 0, 0));
+    plan.rights = every_right(&[0, 1]);
     let mut desk = Desk::begun(&plan);
     desk.event(2, 1, 0);
     desk.signal(2);
@@ -200,7 +200,7 @@ fn a_root_undoing_in_its_final_state_is_spent_beside_an_ended_one() {
 }
 
 #[test]
-fn a_signal_turns_an_ended_root_and_never_ends_the_ledger() {
+fn a_signal_over_all_roots_turns_an_ended_one_and_is_not_the_end() {
     let mut desk = deviated();
     desk.event(3, 1, 0);
     desk.signal(1);
@@ -313,7 +313,7 @@ fn an_entry_that_finish_would_drop_still_needs_room() {
     }
     assert_eq!([desk.track(0), desk.track(1)], [[1, 0, 32], [2, 2, 0]]);
     let before = desk.words.clone();
-    let answer = manager::event(&desk.plan, &mut desk.words, 2, 0);
+    let answer = manager::event(&desk.plan, &mut desk.words, 2, 0, 1);
     assert_eq!(answer, Answer::Refused(Refusal::Full));
     assert_eq!(desk.words, before);
     desk.event(3, 1, 0);
@@ -362,6 +362,7 @@ fn three_roots() -> Records {
         states: roots.chain(hosted).collect(),
         transitions: vec![],
         windows: vec![],
+        rights: every_right(&[0, 1, 2]),
     }
 }
 
@@ -451,15 +452,15 @@ fn a_firing_of_the_last_entry_ends_it_whichever_root_it_is() {
 fn the_journal_goes_on_with_20_after_a_firing_that_ends_it() {
     let records = [
         event(1),
-        Signal,
-        Fire(0),
+        signal(),
+        fire(0),
         event(1),
         event(2),
-        FireLowest,
-        FireLowest,
-        Signal,
+        lowest(),
+        lowest(),
+        signal(),
         event(1),
-        Fire(0),
+        fire(0),
     ];
     let lines = run(&two_links().encode(), &records);
     assert_eq!(
@@ -483,7 +484,7 @@ fn the_journal_goes_on_with_20_after_a_firing_that_ends_it() {
 
 #[test]
 fn a_journal_that_takes_all_back_goes_on_with_22() {
-    let records = [event(1), Signal, Fire(1), Fire(0), Signal, FireLowest];
+    let records = [event(1), signal(), fire(1), fire(0), signal(), lowest()];
     let lines = run(&two_links().encode(), &records);
     assert_eq!(
         lines[2..],

@@ -39,7 +39,7 @@ fn worked(plan: &[u8], events: &[u16]) -> Vec<u16> {
     let mut words = vec![0xABCD; 206];
     assert_eq!(manager::begin(plan, &mut words), Answer::Done(()));
     for &event in events {
-        let answer = manager::event(plan, &mut words, event, 0);
+        let answer = manager::event(plan, &mut words, event, 0, 1);
         assert!(matches!(answer, Answer::Done(m) if m.moved == 1));
     }
     words
@@ -63,11 +63,14 @@ fn number<Figures>(answer: Answer<Figures>) -> u8 {
 fn refused(plan: &[u8], words: &[u16], refusal: u8) {
     let mut lent = words.to_vec();
     for event in [0, 10, 13] {
-        assert_eq!(number(manager::event(plan, &mut lent, event, 0)), refusal);
+        assert_eq!(
+            number(manager::event(plan, &mut lent, event, 0, 1)),
+            refusal
+        );
     }
-    assert_eq!(number(manager::signal(plan, &mut lent)), refusal);
+    assert_eq!(number(manager::signal(plan, &mut lent, 1)), refusal);
     for track in [0, 1, 99] {
-        assert_eq!(number(manager::fire(plan, &mut lent, track)), refusal);
+        assert_eq!(number(manager::fire(plan, &mut lent, track, 1)), refusal);
         assert!(manager::entries(plan, &lent, track).is_empty());
     }
     assert_eq!(number(manager::ready(plan, &lent)), refusal);
@@ -75,19 +78,19 @@ fn refused(plan: &[u8], words: &[u16], refusal: u8) {
 }
 
 #[test]
-fn the_sample_has_length_172_and_sum_609() {
+fn the_sample_has_length_182_and_sum_633() {
     let plan = plan::read(&sample()).expect("accepted");
-    assert_eq!((plan.length(), plan.sum()), (172, 609));
-    assert_eq!(sample().len(), 172);
-    assert_eq!(record::sum(&sample()), 609);
+    assert_eq!((plan.length(), plan.sum()), (182, 633));
+    assert_eq!(sample().len(), 182);
+    assert_eq!(record::sum(&sample()), 633);
 }
 
 #[test]
 fn begin_writes_both_words_over_any_others() {
-    for lent in [0, 609, 0xABCD, 65535] {
+    for lent in [0, 633, 0xABCD, 65535] {
         let mut words = vec![lent; 206];
         assert_eq!(manager::begin(&sample(), &mut words), Answer::Done(()));
-        assert_eq!(words[..7], [172, 609, 21_499, 65_534, 1, 0, 0]);
+        assert_eq!(words[..7], [182, 633, 21_499, 65_534, 1, 0, 0]);
         assert_eq!(words[205], lent);
     }
     let plan = plan::read(&sample()).expect("accepted");
@@ -105,10 +108,10 @@ fn begin_takes_a_neighbours_ledger() {
 fn calls_keep_both_words() {
     let plan = sample();
     let mut words = worked(&plan, &[10, 11, 12]);
-    assert_eq!(words[..2], [172, 609]);
-    assert_eq!(manager::signal(&plan, &mut words), Answer::Done(3));
-    assert_eq!(number(manager::fire(&plan, &mut words, 1)), 0);
-    assert_eq!(words[..2], [172, 609]);
+    assert_eq!(words[..2], [182, 633]);
+    assert_eq!(manager::signal(&plan, &mut words, 1), Answer::Done(3));
+    assert_eq!(number(manager::fire(&plan, &mut words, 1, 1)), 0);
+    assert_eq!(words[..2], [182, 633]);
 }
 
 #[test]
@@ -116,7 +119,7 @@ fn every_byte_counts_in_the_sum() {
     for at in 0..sample().len() {
         let mut bytes = sample();
         bytes[at] = bytes[at].wrapping_add(1);
-        assert_ne!(record::sum(&bytes), 609, "byte {at}");
+        assert_ne!(record::sum(&bytes), 633, "byte {at}");
     }
 }
 
@@ -127,7 +130,7 @@ fn the_bytes_of_a_word_exchanged_give_another_sum() {
         let mut bytes = sample();
         if bytes[at] != bytes[at + 1] {
             bytes.swap(at, at + 1);
-            assert_ne!(record::sum(&bytes), 609, "bytes {at} and {}", at + 1);
+            assert_ne!(record::sum(&bytes), 633, "bytes {at} and {}", at + 1);
             exchanged += 1;
         }
     }
@@ -226,7 +229,7 @@ fn the_sum_passes_65535_in_the_tail_alone() {
 }
 
 /// The sample plan with up to three transitions more, and so plans that rounds
-/// of eight leave 4, 2, 0 and 6 bytes of.
+/// of eight leave 6, 4, 2 and 0 bytes of.
 fn by_tails() -> [Vec<u8>; 4] {
     let more = |count: u16| (0..count).map(|n| step(0, 15 + n, 0, 0));
     [0, 1, 2, 3].map(|count| changed(|p| p.transitions.extend(more(count))))
@@ -234,7 +237,7 @@ fn by_tails() -> [Vec<u8>; 4] {
 
 #[test]
 fn begin_writes_the_plain_sum_whatever_rounds_of_eight_leave() {
-    assert_eq!(by_tails().map(|plan| plan.len() % 8), [4, 2, 0, 6]);
+    assert_eq!(by_tails().map(|plan| plan.len() % 8), [6, 4, 2, 0]);
     for plan in by_tails() {
         let leading = [plan.len() as u16, plain_sum(&plan)];
         assert_eq!(worked(&plan, &[])[..2], leading);
@@ -256,20 +259,20 @@ fn a_sum_without_the_last_bytes_is_24() {
 #[test]
 fn either_word_alone_is_24() {
     let words = worked(&sample(), &[10, 11]);
-    for length in [0, 170, 171, 173, 174, 172 << 8, 609, 65535] {
-        refused(&sample(), &led_by([length, 609], &words), 24);
+    for length in [0, 180, 181, 183, 184, 182 << 8, 633, 65535] {
+        refused(&sample(), &led_by([length, 633], &words), 24);
     }
-    for sum in [0, 608, 610, 609 - 512, 609u16.swap_bytes(), 172, 65535] {
-        refused(&sample(), &led_by([172, sum], &words), 24);
+    for sum in [0, 632, 634, 633 - 512, 633u16.swap_bytes(), 182, 65535] {
+        refused(&sample(), &led_by([182, sum], &words), 24);
     }
-    refused(&sample(), &led_by([609, 172], &words), 24);
+    refused(&sample(), &led_by([633, 182], &words), 24);
     assert_eq!(number(manager::ready(&sample(), &words)), 0);
 }
 
 #[test]
 fn a_ledger_begun_under_a_neighbours_plan_is_24() {
     let same_length = plan::read(&neighbour()).expect("accepted");
-    assert_eq!((same_length.length(), same_length.sum()), (172, 619));
+    assert_eq!((same_length.length(), same_length.sum()), (182, 643));
     for other in [neighbour(), longer()] {
         for events in [&[][..], &[10], &[10, 11, 12], &[10, 11, 12, 14]] {
             refused(&sample(), &worked(&other, events), 24);
@@ -289,17 +292,17 @@ fn entries_of_a_neighbours_ledger_are_the_empty_part() {
 fn zeros_are_24_and_over_with_the_words() {
     let zeros = [0; 205];
     refused(&sample(), &zeros, 24);
-    let mut over = led_by([172, 609], &zeros);
-    assert_eq!(number(manager::signal(&sample(), &mut over)), 20);
+    let mut over = led_by([182, 633], &zeros);
+    assert_eq!(number(manager::signal(&sample(), &mut over, 1)), 20);
     assert_eq!(manager::ready(&sample(), &over), Answer::Done(0));
 }
 
 #[test]
 fn an_over_ledger_keeps_the_words_and_is_24_under_another_plan() {
     let over = worked(&sample(), &[10, 11, 12, 14, 13]);
-    assert_eq!(over[..2], [172, 609]);
+    assert_eq!(over[..2], [182, 633]);
     assert_eq!(over[4..205], [0; 201]);
-    assert_eq!(number(manager::signal(&sample(), &mut over.clone())), 20);
+    assert_eq!(number(manager::signal(&sample(), &mut over.clone(), 1)), 20);
     refused(&neighbour(), &over, 24);
     refused(&longer(), &over, 24);
 }
@@ -335,7 +338,7 @@ fn plans_alike_in_both_words_pass_for_each_other() {
     assert_ne!(sample(), alike());
     let mut words = worked(&sample(), &[10]);
     assert_eq!(words[..2], worked(&alike(), &[])[..2]);
-    let moved = manager::event(&alike(), &mut words, 11, 0);
+    let moved = manager::event(&alike(), &mut words, 11, 0, 1);
     let one = Moved {
         moved: 1,
         closed: 0,

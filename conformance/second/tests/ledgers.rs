@@ -15,7 +15,7 @@ fn working() -> Vec<u16> {
     let mut words = vec![0; 205];
     manager::begin(&plan, &mut words);
     for event in [10, 11, 12] {
-        manager::event(&plan, &mut words, event, 0);
+        manager::event(&plan, &mut words, event, 0, 1);
     }
     words
 }
@@ -36,7 +36,7 @@ fn violated(changes: &[(usize, u16)]) -> Vec<Clause> {
 #[test]
 fn the_working_ledger_is_laid_out_as_described() {
     let words = working();
-    assert_eq!(words[..4], [172, 609, 0, 0]);
+    assert_eq!(words[..4], [182, 633, 0, 0]);
     assert_eq!(words[4..9], [1, 1, 1, 50, NONE]);
     assert_eq!(words[71..76], [1, 4, 1, 51, NONE]);
     assert_eq!(words[138..143], [1, 6, 1, 52, NONE]);
@@ -147,12 +147,15 @@ fn a_damaged_ledger_is_refused_and_not_touched() {
     let before = words.clone();
     let unsound = Refusal::Unsound;
     assert_eq!(
-        manager::event(&plan, &mut words, 11, 0),
+        manager::event(&plan, &mut words, 11, 0, 1),
         Answer::Refused(unsound)
     );
-    assert_eq!(manager::signal(&plan, &mut words), Answer::Refused(unsound));
     assert_eq!(
-        manager::fire(&plan, &mut words, 1),
+        manager::signal(&plan, &mut words, 1),
+        Answer::Refused(unsound)
+    );
+    assert_eq!(
+        manager::fire(&plan, &mut words, 1, 1),
         Answer::Refused(unsound)
     );
     assert_eq!(manager::ready(&plan, &words), Answer::Refused(unsound));

@@ -3,7 +3,6 @@
 mod common;
 
 use common::*;
-use second::journal::Record::{Fire, FireLowest, Signal};
 use second::ledger::{track_words, Entry};
 use second::manager::{self, Answer};
 use second::plan::{self, NONE};
@@ -34,7 +33,7 @@ fn fired(code: u16) -> Answer<Entry> {
 /// Sends events to the sample plan.
 fn send(words: &mut [u16], events: &[u16]) -> Vec<Answer<Moved>> {
     let plan = sample();
-    let send = |&event| manager::event(&plan, words, event, 0);
+    let send = |&event| manager::event(&plan, words, event, 0, 1);
     events.iter().map(send).collect()
 }
 
@@ -44,11 +43,11 @@ fn sample_plan_prints_its_ten_lines() {
         event(10),
         event(11),
         event(12),
-        Signal,
-        FireLowest,
-        FireLowest,
-        FireLowest,
-        FireLowest,
+        signal(),
+        lowest(),
+        lowest(),
+        lowest(),
+        lowest(),
     ];
     let lines = [
         "PLAN 3 8 5",
@@ -89,7 +88,7 @@ fn event_13_first_moves_none() {
     let before = words.clone();
     assert_eq!(send(&mut words, &[13]), [moved(0, 0)]);
     // The day alone is written.
-    assert_eq!(words[..4], [172, 609, 0, 0]);
+    assert_eq!(words[..4], [182, 633, 0, 0]);
     assert_eq!(words[4..], before[4..]);
 }
 
@@ -120,10 +119,10 @@ fn signal_then_fires_90_and_50() {
     let plan = sample();
     let mut words = begun(&plan);
     send(&mut words, &[10, 11, 12, 14]);
-    assert_eq!(manager::signal(&plan, &mut words), Answer::Done(1));
+    assert_eq!(manager::signal(&plan, &mut words, 1), Answer::Done(1));
     assert_eq!(manager::ready(&plan, &words), Answer::Done(1));
-    assert_eq!(manager::fire(&plan, &mut words, 0), fired(90));
-    assert_eq!(manager::fire(&plan, &mut words, 0), fired(50));
+    assert_eq!(manager::fire(&plan, &mut words, 0, 1), fired(90));
+    assert_eq!(manager::fire(&plan, &mut words, 0, 1), fired(50));
     assert_eq!(words[4..7], [2, 1, 0]);
     assert_eq!(manager::ready(&plan, &words), Answer::Done(0));
 }
@@ -134,10 +133,10 @@ fn event_13_instead_of_the_signal_is_over() {
     let mut words = begun(&plan);
     send(&mut words, &[10, 11, 12, 14]);
     assert_eq!(send(&mut words, &[13]), [moved(1, 0)]);
-    assert_eq!(words[..4], [172, 609, 0, 0]);
+    assert_eq!(words[..4], [182, 633, 0, 0]);
     assert_eq!(words[4..205], [0; 201]);
     assert_eq!(
-        manager::signal(&plan, &mut words),
+        manager::signal(&plan, &mut words, 1),
         Answer::Refused(Refusal::Over)
     );
     assert_eq!(manager::ready(&plan, &words), Answer::Done(0));
@@ -147,10 +146,10 @@ fn event_13_instead_of_the_signal_is_over() {
 fn signal_after_begin_turns_1_and_is_not_over() {
     let plan = sample();
     let mut words = begun(&plan);
-    assert_eq!(manager::signal(&plan, &mut words), Answer::Done(1));
+    assert_eq!(manager::signal(&plan, &mut words, 1), Answer::Done(1));
     assert_eq!(manager::ready(&plan, &words), Answer::Done(0));
     assert_eq!(words[4..7], [2, 0, 0]);
-    assert_eq!(manager::signal(&plan, &mut words), Answer::Done(0));
+    assert_eq!(manager::signal(&plan, &mut words, 1), Answer::Done(0));
 }
 
 #[test]
@@ -158,7 +157,7 @@ fn signal_after_10_turns_3_and_abandons() {
     let plan = sample();
     let mut words = begun(&plan);
     send(&mut words, &[10]);
-    assert_eq!(manager::signal(&plan, &mut words), Answer::Done(3));
+    assert_eq!(manager::signal(&plan, &mut words, 1), Answer::Done(3));
     assert_eq!(words[71..205], [0; 134]);
     assert_eq!(manager::ready(&plan, &words), Answer::Done(1));
 }
@@ -168,10 +167,10 @@ fn firing_track_0_while_1_holds_an_entry_is_22() {
     let plan = sample();
     let mut words = begun(&plan);
     send(&mut words, &[10, 11]);
-    manager::signal(&plan, &mut words);
+    manager::signal(&plan, &mut words, 1);
     let before = words.clone();
     assert_eq!(
-        manager::fire(&plan, &mut words, 0),
+        manager::fire(&plan, &mut words, 0, 1),
         Answer::Refused(Refusal::NotReady)
     );
     assert_eq!(words, before);
@@ -201,7 +200,7 @@ fn height_8_passes_and_9_is_16() {
 #[test]
 fn a_chain_wakes_and_is_abandoned_as_a_whole() {
     let plan = plans::chain(8).encode();
-    let lines = run(&plan, &[Signal, Signal, FireLowest]);
+    let lines = run(&plan, &[signal(), signal(), lowest()]);
     assert_eq!(lines, ["PLAN 8 16 8", "S 8", "S 0", "R 22", "H 0 0"]);
 }
 
@@ -217,7 +216,7 @@ fn host_does_not_move_on_the_event_that_closed_its_scope() {
 
 #[test]
 fn host_is_not_fired_while_a_branch_holds_entries() {
-    let records = [event(10), event(12), Signal, Fire(0), Fire(2), Fire(0)];
+    let records = [event(10), event(12), signal(), fire(0), fire(2), fire(0)];
     let lines = run(&sample(), &records);
     assert_eq!(lines[3..], ["S 3", "R 22", "F 2 52 -", "F 0 50 -", "H 0 2"]);
 }
@@ -238,8 +237,8 @@ fn inner_entries_are_dropped_beside_the_replacement() {
         event(11),
         event(12),
         event(14),
-        Signal,
-        FireLowest,
+        signal(),
+        lowest(),
     ];
     let lines = run(&sample(), &records);
     assert_eq!(lines[4..], ["E 14 1 1", "S 1", "F 0 90 -", "H 1 1"]);
@@ -250,7 +249,7 @@ fn signal_turns_every_track() {
     let plan = sample();
     let mut words = begun(&plan);
     send(&mut words, &[10, 11, 12]);
-    assert_eq!(manager::signal(&plan, &mut words), Answer::Done(3));
+    assert_eq!(manager::signal(&plan, &mut words, 1), Answer::Done(3));
     assert_eq!([0, 1, 2].map(|t| track_words(&words, t)[0]), [2, 2, 2]);
     assert_eq!(manager::ready(&plan, &words), Answer::Done(0b110));
 }

@@ -3,7 +3,6 @@
 mod common;
 
 use common::*;
-use second::journal::Record::{FireLowest, Signal};
 use std::fs;
 use std::io::Write;
 use std::path::PathBuf;
@@ -38,8 +37,8 @@ fn output(name: &str, plan: Option<&[u8]>, journal: &[u8]) -> String {
 
 #[test]
 fn the_sample_prints_its_whole_output() {
-    let mut records = vec![event(10), event(11), event(12), Signal];
-    records.extend([FireLowest; 4]);
+    let mut records = vec![event(10), event(11), event(12), signal()];
+    records.extend([lowest(); 4]);
     let expected = "PLAN 3 8 5\nE 10 1 0\nE 11 1 0\nE 12 1 0\nS 3\n\
                     F 1 51 -\nF 2 52 -\nF 0 50 -\nR 22\nH 0 3\n";
     let printed = output("sample", Some(&sample()), &journal(&records));

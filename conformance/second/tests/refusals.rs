@@ -3,7 +3,7 @@
 mod common;
 
 use common::*;
-use second::journal::{self, Record};
+use second::journal;
 use second::manager::{self, Answer};
 use second::plan::{self, Plan, Records, MAX_STATES, NONE};
 use second::refusal::Refusal;
@@ -32,13 +32,14 @@ fn the_sample_is_accepted() {
 #[test]
 fn files_of_32768_bytes_pass_and_of_32769_are_1() {
     let plan = sample();
-    let signals = vec![Record::Signal; 8192];
-    let mut journal = journal(&signals);
+    let mut records = vec![signal(); 5460];
+    records.push(fire(0));
+    let mut journal = journal(&records);
     assert_eq!(journal.len(), 32_768);
     let lines = unwind(&plan, &journal);
-    assert_eq!(lines.len(), 8194);
+    assert_eq!(lines.len(), 5463);
     assert_eq!(lines[..3], ["PLAN 3 8 5", "S 1", "S 0"]);
-    assert_eq!(lines[8193], "H 0 0");
+    assert_eq!(lines[5461..], ["R 22", "H 0 0"]);
     journal.push(0);
     assert_eq!(unwind(&plan, &journal), ["R 1"]);
     assert_eq!(unwind(&[], &journal), ["R 1"]);
@@ -66,7 +67,7 @@ fn too_few_bytes_for_a_record_is_2() {
 #[test]
 fn unknown_or_falling_kind_is_3() {
     assert_eq!(of_bytes(&[4, 0, 0, 0]), 3);
-    assert_eq!(of_bytes(&[4, 0, 6, 0]), 3);
+    assert_eq!(of_bytes(&[4, 0, 7, 0]), 3);
     assert_eq!(of_bytes(&[4, 0, 4, 1]), 3);
     let mut plan = sample();
     // The second track becomes a state of the wrong length, the third falls.
@@ -205,11 +206,11 @@ fn too_few_words_are_17() {
     let few = Refusal::FewWords;
     assert_eq!(manager::begin(&plan, &mut words), Answer::Refused(few));
     assert_eq!(
-        manager::event(&plan, &mut words, 0, 0),
+        manager::event(&plan, &mut words, 0, 0, 1),
         Answer::Refused(few)
     );
-    assert_eq!(manager::signal(&plan, &mut words), Answer::Refused(few));
-    assert_eq!(manager::fire(&plan, &mut words, 0), Answer::Refused(few));
+    assert_eq!(manager::signal(&plan, &mut words, 1), Answer::Refused(few));
+    assert_eq!(manager::fire(&plan, &mut words, 0, 1), Answer::Refused(few));
     assert_eq!(manager::ready(&plan, &words), Answer::Refused(few));
     assert!(manager::entries(&plan, &words, 0).is_empty());
     assert_eq!(words, [5; 204]);
@@ -219,23 +220,26 @@ fn too_few_words_are_17() {
 fn an_unsound_ledger_is_18_and_begin_takes_it() {
     let plan = sample();
     let mut words = vec![5; 205];
-    words[..2].copy_from_slice(&[172, 609]);
+    words[..2].copy_from_slice(&[182, 633]);
     let before = words.clone();
     let unsound = Refusal::Unsound;
     assert_eq!(
-        manager::event(&plan, &mut words, 0, 0),
+        manager::event(&plan, &mut words, 0, 0, 1),
         Answer::Refused(unsound)
     );
-    assert_eq!(manager::signal(&plan, &mut words), Answer::Refused(unsound));
     assert_eq!(
-        manager::fire(&plan, &mut words, 9),
+        manager::signal(&plan, &mut words, 1),
+        Answer::Refused(unsound)
+    );
+    assert_eq!(
+        manager::fire(&plan, &mut words, 9, 1),
         Answer::Refused(unsound)
     );
     assert_eq!(manager::ready(&plan, &words), Answer::Refused(unsound));
     assert!(manager::entries(&plan, &words, 0).is_empty());
     assert_eq!(words, before);
     assert_eq!(manager::begin(&plan, &mut words), Answer::Done(()));
-    assert_eq!(words[..5], [172, 609, 21_499, 65_534, 1]);
+    assert_eq!(words[..5], [182, 633, 21_499, 65_534, 1]);
     assert_eq!(words[5..], [0; 200]);
 }
 
@@ -243,12 +247,12 @@ fn an_unsound_ledger_is_18_and_begin_takes_it() {
 fn event_0_is_19_before_20() {
     let plan = sample();
     let mut over = vec![0; 205];
-    over[..2].copy_from_slice(&[172, 609]);
-    let event = |words: &mut [u16], e| manager::event(&sample(), words, e, 0);
+    over[..2].copy_from_slice(&[182, 633]);
+    let event = |words: &mut [u16], e| manager::event(&sample(), words, e, 0, 1);
     assert_eq!(event(&mut over, 0), Answer::Refused(Refusal::EventZero));
     assert_eq!(event(&mut over, 1), Answer::Refused(Refusal::Over));
     assert_eq!(
-        manager::fire(&plan, &mut over, 9),
+        manager::fire(&plan, &mut over, 9, 1),
         Answer::Refused(Refusal::Over)
     );
     assert_eq!(manager::ready(&plan, &over), Answer::Done(0));
@@ -262,7 +266,7 @@ fn a_firing_that_may_not_be_is_22() {
     manager::begin(&plan, &mut words);
     for track in [0, 1, 2, 3, 32, 65535] {
         assert_eq!(
-            manager::fire(&plan, &mut words, track),
+            manager::fire(&plan, &mut words, track, 1),
             Answer::Refused(Refusal::NotReady)
         );
     }
@@ -275,11 +279,14 @@ fn each_call_gives_the_plans_refusal() {
     let none = Refusal::NoTrack;
     assert_eq!(manager::begin(&plan, &mut words), Answer::Refused(none));
     assert_eq!(
-        manager::event(&plan, &mut words, 0, 0),
+        manager::event(&plan, &mut words, 0, 0, 1),
         Answer::Refused(none)
     );
-    assert_eq!(manager::signal(&plan, &mut words), Answer::Refused(none));
-    assert_eq!(manager::fire(&plan, &mut words, 0), Answer::Refused(none));
+    assert_eq!(manager::signal(&plan, &mut words, 1), Answer::Refused(none));
+    assert_eq!(
+        manager::fire(&plan, &mut words, 0, 1),
+        Answer::Refused(none)
+    );
     assert_eq!(manager::ready(&plan, &words), Answer::Refused(none));
     assert!(manager::entries(&plan, &words, 0).is_empty());
     assert_eq!(words, [7; 4]);
@@ -287,24 +294,34 @@ fn each_call_gives_the_plans_refusal() {
 
 #[test]
 fn a_broken_journal_record_is_23_and_ends_the_reading() {
-    let broken: [&[u8]; 16] = [
-        &[10],
-        &[10, 0],
-        &[10, 0, 20],
+    let broken: [&[u8]; 23] = [
+        &[12],
+        &[12, 0],
+        &[12, 0, 20],
         &[4, 0, 4, 0],
         &[4, 0, 5, 0],
         &[4, 0, 21, 0],
         &[4, 0, 17, 1],
-        // An event without a day, as it was before.
+        // An event without a day and a society, as it was before.
         &[6, 0, 16, 0, 10, 0],
-        &[10, 0, 16, 0, 10, 0, 0, 0, 0, 0],
+        &[12, 0, 16, 0, 10, 0, 0, 0, 0, 0, 1, 0],
         &[6, 0, 20, 0, 10, 0],
-        &[12, 0, 20, 0, 10, 0, 0, 0, 0, 0, 0, 0],
-        &[6, 0, 17, 0, 1, 0],
-        &[6, 0, 19, 0, 1, 0],
-        &[10, 0, 20, 0],
-        &[10, 0, 20, 0, 10, 0, 0, 0, 0],
-        &[6, 0, 18, 0, 0],
+        // Without a society.
+        &[10, 0, 20, 0, 10, 0, 0, 0, 0, 0],
+        &[4, 0, 17, 0],
+        &[6, 0, 18, 0, 0, 0],
+        &[4, 0, 19, 0],
+        // Too long.
+        &[14, 0, 20, 0, 10, 0, 0, 0, 0, 0, 1, 0, 0, 0],
+        &[8, 0, 17, 0, 1, 0, 0, 0],
+        &[10, 0, 18, 0, 0, 0, 1, 0, 0, 0],
+        &[8, 0, 19, 0, 1, 0, 0, 0],
+        // Cut short.
+        &[12, 0, 20, 0],
+        &[12, 0, 20, 0, 10, 0, 0, 0, 0, 0, 1],
+        &[6, 0, 17, 0, 1],
+        &[8, 0, 18, 0, 0, 0, 1],
+        &[6, 0, 19, 0],
     ];
     for record in broken {
         let mut journal = journal(&[event(10)]);
@@ -317,14 +334,14 @@ fn a_broken_journal_record_is_23_and_ends_the_reading() {
 #[test]
 fn records_after_a_broken_one_are_not_read() {
     let mut bytes = vec![4, 0, 4, 0];
-    Record::Signal.encode(&mut bytes);
+    signal().encode(&mut bytes);
     let lines = unwind(&sample(), &bytes);
     assert_eq!(lines, ["PLAN 3 8 5", "R 23", "H 0 0"]);
 }
 
 #[test]
 fn refusals_in_a_journal_do_not_end_it() {
-    let lines = run(&sample(), &[event(0), Record::Fire(3), event(10)]);
+    let lines = run(&sample(), &[event(0), fire(3), event(10)]);
     assert_eq!(lines, ["PLAN 3 8 5", "R 19", "R 22", "E 10 1 0", "H 1 0"]);
 }
 

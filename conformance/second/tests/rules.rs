@@ -3,7 +3,6 @@
 mod common;
 
 use common::*;
-use second::journal::Record::{Fire, FireLowest, Signal};
 use second::plan::{Records, NONE};
 use testing::generate::plans;
 
@@ -28,6 +27,7 @@ fn deviating() -> Records {
             step(1, 4, 0, 2),
         ],
         windows: vec![],
+        rights: every_right(&[0]),
     };
     plan.transitions[0].deviation = 1;
     plan
@@ -35,7 +35,7 @@ fn deviating() -> Records {
 
 #[test]
 fn a_deviation_enters_a_hosting_state_and_opens_its_scope() {
-    let records = [event(1), Signal, Fire(0), event(2), Signal, FireLowest];
+    let records = [event(1), signal(), fire(0), event(2), signal(), lowest()];
     let lines = run(&deviating().encode(), &records);
     assert_eq!(
         lines,
@@ -77,17 +77,18 @@ fn an_ended_root_waits_for_the_entry_of_another() {
     let mut plan = looping();
     plan.tracks.push(track(NONE));
     plan.states.extend([state(1, 0, 0), state(1, 1, 0)]);
+    plan.rights = every_right(&[0, 1]);
     plan.transitions[0].deviation = 0;
     plan.transitions
         .extend([step(2, 1, 9, 2), step(2, 4, 0, 3)]);
     let records = [
         event(1),
-        Signal,
-        Fire(0),
+        signal(),
+        fire(0),
         event(3),
         event(4),
-        Signal,
-        Signal,
+        signal(),
+        signal(),
     ];
     let lines = run(&plan.encode(), &records);
     assert_eq!(
@@ -121,7 +122,7 @@ fn a_replacement_needs_room() {
     plan.transitions.push(step(0, 5, 70, 0));
     plan.transitions[1].code = 0;
     let mut records = vec![event(5); 31];
-    records.extend([event(1), event(2), Signal, FireLowest]);
+    records.extend([event(1), event(2), signal(), lowest()]);
     let lines = run(&plan.encode(), &records);
     assert_eq!(
         lines[32..],
@@ -147,7 +148,7 @@ fn abandoning_climbs_after_a_firing() {
     let mut plan = plans::chain(4);
     plan.tracks.push(track(plan.tracks[3].host));
     plan.states.push(state(4, 0, 0));
-    let records = [event(4), Signal, FireLowest, Signal, FireLowest];
+    let records = [event(4), signal(), lowest(), signal(), lowest()];
     let lines = run(&plan.encode(), &records);
     assert_eq!(
         lines,
@@ -188,6 +189,7 @@ fn one_event_closes_two_scopes() {
     let mut plan = plans::chain(2);
     let second = plans::chain(2);
     plan.tracks.extend([track(NONE), track(4)]);
+    plan.rights = every_right(&[0, 2]);
     plan.states
         .extend(second.states.iter().map(|s| state(s.track + 2, s.last, 0)));
     plan.transitions.push(step(6, 2, 5, 7));
@@ -197,7 +199,7 @@ fn one_event_closes_two_scopes() {
 
 #[test]
 fn journal_kinds_may_fall() {
-    let lines = run(&sample(), &[FireLowest, Fire(9), Signal, event(10)]);
+    let lines = run(&sample(), &[lowest(), fire(9), signal(), event(10)]);
     assert_eq!(
         lines,
         ["PLAN 3 8 5", "R 22", "R 22", "S 1", "E 10 0 0", "H 0 0"]

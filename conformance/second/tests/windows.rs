@@ -4,7 +4,6 @@
 mod common;
 
 use common::*;
-use second::journal::Record::{Event, Fire, FireLowest, Signal};
 use second::ledger::{self, Clause};
 use second::manager::{self, Answer};
 use second::plan::{self, Records, Window};
@@ -43,7 +42,7 @@ fn begun(plan: &[u8]) -> Vec<u16> {
 
 /// What an event on a day moves, or its refusal.
 fn moved(plan: &[u8], words: &mut [u16], event: u16, day: i32) -> Result<u16, u8> {
-    match manager::event(plan, words, event, day) {
+    match manager::event(plan, words, event, day, 1) {
         Answer::Done(m) => Ok(m.moved),
         Answer::Refused(refusal) => Err(refusal.number()),
     }
@@ -99,7 +98,12 @@ fn windows_restrict_the_transition_that_they_number() {
     // In any order, and for the last transition of a plan too.
     let plan = windowed(&[window(4, 7, 7), window(0, 1, 9)]).encode();
     let run = |last: i32| {
-        let records = [Event(10, 1), Event(12, 1), Event(11, 2), Event(14, last)];
+        let records = [
+            event_on(10, 1),
+            event_on(12, 1),
+            event_on(11, 2),
+            event_on(14, last),
+        ];
         common::run(&plan, &records).split_off(4)
     };
     assert_eq!(run(6), ["E 14 0 0", "H 3 0"].map(String::from));
@@ -111,14 +115,14 @@ fn the_windows_order_is_between_transitions_and_the_end() {
     let window = [14, 0, 5, 0, 0, 0, 0, 0, 0, 0, 9, 0, 0, 0];
     let transition = [14, 0, 3, 0, 0, 0, 77, 0, 0, 0, 255, 255, 0, 0];
     let end = [4, 0, 4, 0];
-    let body = &sample()[..sample().len() - 4];
+    let body = &sample()[..sample().len() - 14];
     let plan = |records: &[&[u8]]| refusal(&[body, &records.concat()].concat());
     assert_eq!(plan(&[&window, &end]), 0);
     assert_eq!(plan(&[&transition, &window, &end]), 0);
     assert_eq!(plan(&[&window, &transition, &end]), 3);
     assert_eq!(plan(&[&window, &[10, 0, 2, 0]]), 3);
     assert_eq!(plan(&[&window, &[6, 0, 1, 0]]), 3);
-    assert_eq!(plan(&[&window, &[4, 0, 6, 0]]), 3);
+    assert_eq!(plan(&[&window, &[4, 0, 7, 0]]), 3);
     assert_eq!(plan(&[&end, &window]), 7);
     assert_eq!(plan(&[&window, &end, &window]), 7);
     assert_eq!(plan(&[&window]), 2);
@@ -184,11 +188,12 @@ fn hundreds_of_windows_are_read() {
             .rev()
             .map(|n| window(n, i32::from(n), i32::from(n)))
             .collect(),
+        rights: every_right(&[0]),
     };
     let bytes = plan.encode();
     assert_eq!(refusal(&bytes), 0);
     let mut words = begun(&bytes);
-    assert_eq!(words[0], 7_188);
+    assert_eq!(words[0], 7_198);
     for day in 0..256 {
         assert_eq!(moved(&bytes, &mut words, day as u16 + 1, day), Ok(1));
         assert_eq!(moved(&bytes, &mut words, day as u16 + 2, day), Ok(0));
@@ -205,7 +210,7 @@ fn hundreds_of_windows_are_read() {
 fn a_refused_window_prints_its_line_alone() {
     let plan = windowed(&[window(5, 0, 0)]).encode();
     assert_eq!(unwind(&plan, &[1]), ["R 25"]);
-    assert_eq!(run(&plan, &[event(10), Signal]), ["R 25"]);
+    assert_eq!(run(&plan, &[event(10), signal()]), ["R 25"]);
 }
 
 #[test]
@@ -269,9 +274,9 @@ fn the_day_is_kept_by_an_event_that_moves_none_and_by_no_other_call() {
     assert_eq!(words[2..4], [40, 0]);
     assert_eq!(moved(&plan, &mut words, 10, 39), Err(26));
     assert_eq!(moved(&plan, &mut words, 10, 40), Ok(1));
-    assert_eq!(manager::signal(&plan, &mut words), Answer::Done(3));
+    assert_eq!(manager::signal(&plan, &mut words, 1), Answer::Done(3));
     assert!(matches!(
-        manager::fire(&plan, &mut words, 0),
+        manager::fire(&plan, &mut words, 0, 1),
         Answer::Done(_)
     ));
     assert_eq!(words[2..4], [40, 0]);
@@ -321,7 +326,7 @@ fn over() -> Vec<u16> {
 #[test]
 fn an_over_ledger_keeps_its_day_and_26_is_before_20_and_after_19() {
     let mut words = over();
-    assert_eq!(words[..4], [172, 609, 3, 0]);
+    assert_eq!(words[..4], [182, 633, 3, 0]);
     assert_eq!(words[4..205], [0; 201]);
     assert_eq!(moved(&sample(), &mut words, 10, 2), Err(26));
     assert_eq!(moved(&sample(), &mut words, 10, LAST + 1), Err(26));
@@ -348,9 +353,9 @@ fn a_day_out_of_range_is_18_on_an_over_ledger_too() {
                 assert_eq!(moved(&sample(), &mut words, event, 0), Err(18));
                 assert_eq!(moved(&sample(), &mut words, event, day), Err(18));
             }
-            let signal = manager::signal(&sample(), &mut words);
+            let signal = manager::signal(&sample(), &mut words, 1);
             assert_eq!(signal, Answer::Refused(Refusal::Unsound));
-            let fire = manager::fire(&sample(), &mut words, 0);
+            let fire = manager::fire(&sample(), &mut words, 0, 1);
             assert_eq!(fire, Answer::Refused(Refusal::Unsound));
             assert!(manager::entries(&sample(), &words, 0).is_empty());
             assert_eq!(words, before);
@@ -376,15 +381,15 @@ fn another_plan_s_ledger_is_24_whatever_its_day() {
 #[test]
 fn the_journal_goes_on_after_26() {
     let records = [
-        Event(10, 5),
-        Event(11, 4),
-        Event(11, LAST + 1),
-        Event(11, 5),
-        Signal,
-        Fire(1),
-        FireLowest,
-        Event(99, 6),
-        Event(99, 5),
+        event_on(10, 5),
+        event_on(11, 4),
+        event_on(11, LAST + 1),
+        event_on(11, 5),
+        signal(),
+        fire(1),
+        lowest(),
+        event_on(99, 6),
+        event_on(99, 5),
     ];
     let lines = run(&sample(), &records);
     assert_eq!(
@@ -407,7 +412,7 @@ fn moves_are_judged_by_the_call_s_own_day_alone() {
         moved: 0,
         closed: 0,
     };
-    let again = manager::event(&plan, &mut words, 11, 7);
+    let again = manager::event(&plan, &mut words, 11, 7, 1);
     assert_eq!(again, Answer::Done(none));
 }
 
@@ -415,7 +420,13 @@ fn moves_are_judged_by_the_call_s_own_day_alone() {
 fn firing_and_deviating_know_no_window() {
     let mut plan = two_links();
     plan.windows = vec![window(0, 1, 1)];
-    let records = [Event(1, 1), Event(99, 50), Signal, Fire(0), Event(1, 50)];
+    let records = [
+        event_on(1, 1),
+        event_on(99, 50),
+        signal(),
+        fire(0),
+        event_on(1, 50),
+    ];
     let lines = run(&plan.encode(), &records);
     assert_eq!(
         lines[1..],

@@ -4,17 +4,16 @@
 //! and what soundness makes of a finish left to do or of a day out of range;
 //! and conversions.
 
-use crate::generate::singles::Call::{
-    self, DateOfDay, DayOfDate, Entries, Event, Fire, Ready, Signal,
-};
+use crate::generate::singles::Call::{self, DateOfDay, DayOfDate, Entries, Ready};
 use crate::samples::{
-    looping, sample, sample_records, scoped_links, state, step, track, two_links, window,
+    every_right, looping, rights, sample, sample_records, scoped_links, state, step, track,
+    two_links, window, SOCIETY,
 };
 use crate::vectors;
 use second::days::{Date, Term};
 use second::ledger::{track_words_mut, words_needed};
 use second::manager;
-use second::plan::{self, Records, NONE};
+use second::plan::{self, Records, Rights, NONE};
 use second::record;
 
 /// Where they stand, from the repository's root.
@@ -49,14 +48,43 @@ pub fn all() -> Vec<Stored> {
         windows(),
         days(),
         days_of_ledgers(),
+        shared_roots(),
+        divided(),
+        order_of_28(),
+        unfit_rights(),
+        without_rights(),
         conversions(),
     ];
     parts.into_iter().flatten().collect()
 }
 
-/// An event on day 0.
+/// An event on day 0 by society 1.
 fn event(event: u16) -> Call {
-    Event(event, 0)
+    event_on(event, 0)
+}
+
+fn event_on(event: u16, day: i32) -> Call {
+    Call::Event(event, day, SOCIETY)
+}
+
+/// A signal by society 1.
+fn signal() -> Call {
+    Call::Signal(SOCIETY)
+}
+
+/// A firing by society 1.
+fn fire(track: u16) -> Call {
+    Call::Fire(track, SOCIETY)
+}
+
+/// The call as one of another society.
+fn by(society: u16, call: Call) -> Call {
+    match call {
+        Call::Event(event, day, _) => Call::Event(event, day, society),
+        Call::Signal(_) => Call::Signal(society),
+        Call::Fire(track, _) => Call::Fire(track, society),
+        other => other,
+    }
 }
 
 fn stored(shows: &str, plan: &[u8], words: &[u16], call: Call) -> Stored {
@@ -91,7 +119,7 @@ fn begun(plan: &[u8], events: &[u16]) -> Vec<u16> {
     let mut words = UNBEGUN.to_vec();
     manager::begin(plan, &mut words);
     for &event in events {
-        manager::event(plan, &mut words, event, 0);
+        manager::event(plan, &mut words, event, 0, SOCIETY);
     }
     words
 }
@@ -99,7 +127,7 @@ fn begun(plan: &[u8], events: &[u16]) -> Vec<u16> {
 /// P's ledger after events 10, 11, 12 and a signal: tracks 1 and 2 may fire.
 fn withdrawn() -> Vec<u16> {
     let mut words = begun(&sample(), &[10, 11, 12]);
-    manager::signal(&sample(), &mut words);
+    manager::signal(&sample(), &mut words, SOCIETY);
     words
 }
 
@@ -118,7 +146,7 @@ fn begins() -> Vec<Stored> {
     };
     let neighbours = begun(&longer(), &[10, 11]);
     vec![
-        begin("P begun: its length 172 and its sum 609 lead", &UNBEGUN),
+        begin("P begun: its length 182 and its sum 633 lead", &UNBEGUN),
         begin("a begin takes a neighbour's ledger", &neighbours),
         begin("a begin with one word too few: 17", &UNBEGUN[..204]),
     ]
@@ -128,8 +156,8 @@ fn begins() -> Vec<Stored> {
 fn by_each_call(shows: &str, plan: &[u8], words: &[u16]) -> Vec<Stored> {
     let calls = [
         ("event", event(10)),
-        ("signal", Signal),
-        ("fire", Fire(1)),
+        ("signal", signal()),
+        ("fire", fire(1)),
         ("ready", Ready),
         ("entries", Entries(1)),
     ];
@@ -156,11 +184,11 @@ fn wrong_words() -> Vec<Stored> {
         stored(shows, &plan, &with(withdrawn(), changes), Ready)
     };
     vec![
-        misled("the length alone is wrong: 24", &[(0, 174)]),
-        misled("the sum alone is wrong: 24", &[(1, 610)]),
-        misled("the sum's bytes are exchanged: 24", &[(1, 0x6102)]),
-        misled("length and sum are exchanged: 24", &[(0, 609), (1, 172)]),
-        stored("zeros: 24", &plan, &[0; 205], Signal),
+        misled("the length alone is wrong: 24", &[(0, 184)]),
+        misled("the sum alone is wrong: 24", &[(1, 634)]),
+        misled("the sum's bytes are exchanged: 24", &[(1, 0x7902)]),
+        misled("length and sum are exchanged: 24", &[(0, 633), (1, 182)]),
+        stored("zeros: 24", &plan, &[0; 205], signal()),
         stored("zeros, event 0: 24", &plan, &[0; 205], event(0)),
     ]
 }
@@ -173,11 +201,11 @@ fn over() -> Vec<Stored> {
     let last = "the event that ends P leaves the leading words";
     vec![
         stored(last, &sample(), &before, event(13)),
-        own("an over ledger under its plan: 20", Signal),
+        own("an over ledger under its plan: 20", signal()),
         own("an over ledger under its plan, ready", Ready),
-        other("an over ledger under another plan: 24", Signal),
+        other("an over ledger under another plan: 24", signal()),
         other("an over ledger under another plan, event 0: 24", event(0)),
-        other("an over ledger under another plan, a firing: 24", Fire(0)),
+        other("an over ledger under another plan, a firing: 24", fire(0)),
         other("an over ledger under another plan, ready: 24", Ready),
     ]
 }
@@ -186,15 +214,15 @@ fn unsound() -> Vec<Stored> {
     let words = with(withdrawn(), &[(4, 3)]);
     let other = |shows: &str, call| stored(shows, &other_code(), &words, call);
     vec![
-        stored("a mode of 3: 18", &sample(), &words, Signal),
-        other("a mode of 3 and another plan: 24", Signal),
+        stored("a mode of 3: 18", &sample(), &words, signal()),
+        other("a mode of 3 and another plan: 24", signal()),
         other("a mode of 3 and another plan, entries", Entries(1)),
     ]
 }
 
 fn few_words() -> Vec<Stored> {
     let words = withdrawn();
-    let few = |shows: &str, plan: &[u8], kept: usize| stored(shows, plan, &words[..kept], Signal);
+    let few = |shows: &str, plan: &[u8], kept: usize| stored(shows, plan, &words[..kept], signal());
     vec![
         few("one word too few: 17", &sample(), 204),
         few("as many as without a day: 17", &sample(), 203),
@@ -216,6 +244,7 @@ fn two_roots(tracks: [u16; 4]) -> Vec<u8> {
         states,
         transitions: vec![step(0, 1, 7, 0)],
         windows: Vec::new(),
+        rights: every_right(&[0, 1]),
     };
     plan.encode()
 }
@@ -252,7 +281,7 @@ fn worked(plan: &[u8], calls: &[Call]) -> Vec<u16> {
 
 /// Root 0 has ended, holding nothing, and root 1 is undoing and holds 60.
 fn entry_left(plan: &[u8]) -> Vec<u16> {
-    worked(plan, &[event(1), Signal, Fire(0), event(3)])
+    worked(plan, &[event(1), signal(), fire(0), event(3)])
 }
 
 /// The words with the start of a track's words changed.
@@ -265,21 +294,21 @@ fn with_track(mut words: Vec<u16>, track: usize, own: &[u16]) -> Vec<u16> {
 fn near_finish() -> Vec<Stored> {
     let (plan, scoped) = (two_links().encode(), scoped_links(0).encode());
     let entry = entry_left(&plan);
-    let spent = worked(&plan, &[event(1), Signal, Fire(0), Fire(1)]);
-    let inner = [event(1), event(5), event(6), Signal, Fire(0), event(3)];
+    let spent = worked(&plan, &[event(1), signal(), fire(0), fire(1)]);
+    let inner = [event(1), event(5), event(6), signal(), fire(0), event(3)];
     let scope = worked(&scoped, &inner);
-    let both = worked(&plan, &[Signal]);
+    let both = worked(&plan, &[signal()]);
     let on = |shows: &str, words: &[u16], call| stored(shows, &plan, words, call);
     let inside = |shows: &str, call| stored(shows, &scoped, &scope, call);
     vec![
         on("one root ended, one with an entry: ready", &entry, Ready),
-        on("one root ended, its last entry fired", &entry, Fire(1)),
+        on("one root ended, its last entry fired", &entry, fire(1)),
         on("one root taken back, the other ends", &spent, event(3)),
         inside("one root ended, one with a scope: ready", Ready),
-        inside("one root ended, the last scope abandoned", Fire(3)),
+        inside("one root ended, the last scope abandoned", fire(3)),
         on("both roots taken back: ready", &both, Ready),
-        on("both roots taken back: signal", &both, Signal),
-        on("both roots taken back, a firing: 22", &both, Fire(0)),
+        on("both roots taken back: signal", &both, signal()),
+        on("both roots taken back, a firing: 22", &both, fire(0)),
     ]
 }
 
@@ -308,19 +337,21 @@ fn finish_left() -> Vec<Stored> {
     calls
 }
 
-/// `looping` with so many transitions. The code of the fourth is such that the
-/// plan's last word brings the sum past 65,535 once more.
-fn looping_by(transitions: usize) -> Vec<u8> {
+/// `looping` with so many transitions, the first with this code.
+fn looping_by(transitions: usize, code: u16) -> Vec<u8> {
     let mut plan = looping();
-    plan.transitions.push(step(0, 4, 65_408, 1));
+    plan.transitions.push(step(0, 4, 9, 1));
     plan.transitions.truncate(transitions);
+    plan.transitions[0].code = code;
     plan.encode()
 }
 
 /// Plans that rounds of eight bytes leave 0, 2, 4 and 6 bytes of, and sums that
-/// not all of these are in.
+/// not all of these are in. The code of the last is such that the plan's last
+/// word brings the sum past 65,535 once more.
 fn tails() -> Vec<Stored> {
-    let [four, two, none, six] = [1, 2, 3, 4].map(looping_by);
+    let [four, two, none] = [2, 3, 4].map(|count| looping_by(count, 7));
+    let six = looping_by(1, 65_459);
     let begin = |shows: &str, plan: &[u8]| Stored {
         shows: format!("a plan of {} bytes begun: {shows}", plan.len()),
         line: vectors::begin_line(plan, &UNBEGUN[..72]),
@@ -331,7 +362,7 @@ fn tails() -> Vec<Stored> {
         let sum = record::sum(&plan[..length - last]);
         stored(&shows, plan, &with(worked(plan, &[]), &[(1, sum)]), Ready)
     };
-    let own = "a plan of 86 bytes, its own ledger: event";
+    let own = "a plan of 54 bytes, its own ledger: event";
     vec![
         begin("none left after rounds of eight", &none),
         begin("2 left after rounds of eight", &two),
@@ -353,9 +384,9 @@ fn windowed() -> Vec<u8> {
 fn windows() -> Vec<Stored> {
     let plan = windowed();
     let words = begun(&plan, &[]);
-    let on = |shows: &str, day| stored(shows, &plan, &words, Event(10, day));
+    let on = |shows: &str, day| stored(shows, &plan, &words, event_on(10, day));
     let begin = Stored {
-        shows: "P with a window begun: length 186".to_string(),
+        shows: "P with a window begun: length 196".to_string(),
         line: vectors::begin_line(&plan, &UNBEGUN),
     };
     let repeated = changed(|p| p.windows = vec![window(0, 5, 6); 2]);
@@ -366,7 +397,7 @@ fn windows() -> Vec<Stored> {
         on("the first day of a window moves", 5),
         on("the last day of a window moves", 6),
         on("the day after a window moves none, and is kept", 7),
-        stored(refused, &repeated, &[], Event(0, i32::MIN)),
+        stored(refused, &repeated, &[], event_on(0, i32::MIN)),
     ]
 }
 
@@ -388,31 +419,43 @@ fn days() -> Vec<Stored> {
         on(
             "the range's first day after a begin",
             &begun,
-            Event(10, first),
+            event_on(10, first),
         ),
         on(
             "the range's last day after a begin",
             &begun,
-            Event(10, last),
+            event_on(10, last),
         ),
-        on("the day before the range: 26", &begun, Event(10, first - 1)),
-        on("the day after the range: 26", &begun, Event(10, last + 1)),
-        on("the least number: 26", &begun, Event(10, i32::MIN)),
-        on("the greatest number: 26", &begun, Event(10, i32::MAX)),
-        on("an equal day", &week, Event(10, 7)),
-        on("a falling day: 26", &week, Event(10, 6)),
-        on("a falling day below 0: 26", &week, Event(10, -7)),
-        on("event 0 on a falling day: 19", &week, Event(0, 6)),
-        on("a signal keeps the day", &week, Signal),
-        on("an over ledger, a falling day: 26", &over, Event(10, -1)),
-        on("an over ledger, an equal day: 20", &over, Event(10, 0)),
-        on("an over ledger of the last day: 20", &late, Event(10, last)),
+        on(
+            "the day before the range: 26",
+            &begun,
+            event_on(10, first - 1),
+        ),
+        on(
+            "the day after the range: 26",
+            &begun,
+            event_on(10, last + 1),
+        ),
+        on("the least number: 26", &begun, event_on(10, i32::MIN)),
+        on("the greatest number: 26", &begun, event_on(10, i32::MAX)),
+        on("an equal day", &week, event_on(10, 7)),
+        on("a falling day: 26", &week, event_on(10, 6)),
+        on("a falling day below 0: 26", &week, event_on(10, -7)),
+        on("event 0 on a falling day: 19", &week, event_on(0, 6)),
+        on("a signal keeps the day", &week, signal()),
+        on("an over ledger, a falling day: 26", &over, event_on(10, -1)),
+        on("an over ledger, an equal day: 20", &over, event_on(10, 0)),
+        on(
+            "an over ledger of the last day: 20",
+            &late,
+            event_on(10, last),
+        ),
         on(
             "an over ledger of the last day, the day before: 26",
             &late,
-            Event(10, last - 1),
+            event_on(10, last - 1),
         ),
-        on("event 0 on a falling day, over: 19", &over, Event(0, -1)),
+        on("event 0 on a falling day, over: 19", &over, event_on(0, -1)),
     ]
 }
 
@@ -437,7 +480,7 @@ fn days_of_ledgers() -> Vec<Stored> {
         awake("the greatest number: 18", i32::MAX),
         over("the first day: ready", first, Ready),
         over("the day before the range: 18", first - 1, Ready),
-        over("the day after the range: 18", last + 1, Signal),
+        over("the day after the range: 18", last + 1, signal()),
         over("the greatest number, event 0: 18", i32::MAX, event(0)),
     ]);
     calls
@@ -456,6 +499,164 @@ fn after_the_range() -> Vec<Stored> {
     calls.push(stored(&other, &other_code(), &words, Ready));
     calls.push(begin);
     calls
+}
+
+/// `two_links` with root 0 held by society 1 and root 1 by society 2, and by
+/// society 3 with the right to move alone.
+fn divided_links() -> Vec<u8> {
+    let mut plan = two_links();
+    plan.rights = vec![rights(1, 0, 7), rights(2, 1, 7), rights(3, 1, 1)];
+    plan.encode()
+}
+
+/// Both roots of `divided_links` undoing with an entry each.
+fn both_undoing() -> Vec<u16> {
+    let calls = [event(1), signal()];
+    let both = calls.into_iter().flat_map(|call| [call, by(2, call)]);
+    worked(&divided_links(), &both.collect::<Vec<_>>())
+}
+
+/// Root 1, which two societies hold, and what each may do.
+fn shared_roots() -> Vec<Stored> {
+    let plan = divided_links();
+    let begun = worked(&plan, &[]);
+    let turned = worked(&plan, &[by(2, event(1)), by(2, signal())]);
+    let on = |shows: &str, words: &[u16], call| {
+        let shows = format!("a root of two societies, {shows}");
+        stored(&shows, &plan, words, call)
+    };
+    vec![
+        on("the one moves it", &begun, by(2, event(1))),
+        on("the other moves it", &begun, by(3, event(1))),
+        on("the one signals", &begun, by(2, signal())),
+        on("the other signals: 28", &begun, by(3, signal())),
+        on("the one fires", &turned, by(2, fire(1))),
+        on("the other fires: 28", &turned, by(3, fire(1))),
+    ]
+}
+
+/// Two roots of two societies: what the calls of each do, and what they leave.
+fn divided() -> Vec<Stored> {
+    let plan = divided_links();
+    let begun = worked(&plan, &[]);
+    let moved = worked(&plan, &[event(1), by(2, event(1))]);
+    let ended = worked(&plan, &[event(3)]);
+    let half = worked(&plan, &[event(1), signal(), by(2, event(1))]);
+    let both = both_undoing();
+    let on = |shows: &str, words: &[u16], call| {
+        let shows = format!("two roots of two societies, {shows}");
+        stored(&shows, &plan, words, call)
+    };
+    vec![
+        on("an event moves one", &begun, event(1)),
+        on(
+            "an event of the other moves the other",
+            &begun,
+            by(2, event(1)),
+        ),
+        on("an event that moves the other's alone", &moved, event(4)),
+        on("a signal turns one", &moved, signal()),
+        on(
+            "a signal of the other turns the other",
+            &moved,
+            by(2, signal()),
+        ),
+        on("a signal that turns none", &half, signal()),
+        on("a signal finishes", &ended, by(2, signal())),
+        on("ready leaves rights aside", &both, Ready),
+        on("entries leave rights aside", &both, Entries(1)),
+        on("a firing of one's own", &both, fire(0)),
+        on("a firing of the other's: 28", &both, fire(1)),
+    ]
+}
+
+/// What is named before 28, and what after it, of a society without rights.
+fn order_of_28() -> Vec<Stored> {
+    let stranger = |shows: &str, words: &[u16], call| {
+        let shows = format!("a society without rights, {shows}");
+        stored(&shows, &sample(), words, by(9, call))
+    };
+    let begun = begun(&sample(), &[]);
+    let full = [&[1, 0, 32][..], &[7, NONE].repeat(32)].concat();
+    let full = with_track(begun.clone(), 0, &full);
+    let week = on_day(begun.clone(), 7);
+    let over = worked(&sample(), &[10, 11, 12, 14, 13].map(event));
+    let other = with(begun.clone(), &[(1, 0)]);
+    let unsound = with(begun.clone(), &[(4, 3)]);
+    vec![
+        stranger("an event: 28", &begun, event(10)),
+        stranger("a signal: 28", &begun, signal()),
+        stranger("a firing of a ready track: 28", &withdrawn(), fire(1)),
+        stranger("a firing of a track not ready: 28", &begun, fire(0)),
+        stranger("a firing of no track: 22", &begun, fire(3)),
+        stranger("ready", &withdrawn(), Ready),
+        stranger("entries", &withdrawn(), Entries(1)),
+        stranger("an event on a full track: 28", &full, event(10)),
+        stored(
+            "a full track, by its society: 21",
+            &sample(),
+            &full,
+            event(10),
+        ),
+        stranger("one word too few: 17", &begun[..204], signal()),
+        stranger("another plan's ledger: 24", &other, signal()),
+        stranger("a mode of 3: 18", &unsound, signal()),
+        stranger("event 0: 19", &begun, event(0)),
+        stranger("a falling day: 26", &week, event_on(10, 6)),
+        stranger("over, an event: 20", &over, event(10)),
+        stranger("over, a signal: 20", &over, signal()),
+        stranger("over, a firing: 20", &over, fire(0)),
+    ]
+}
+
+/// P with these rights.
+fn held(rights: &[Rights]) -> Vec<u8> {
+    changed(|p| p.rights = rights.to_vec())
+}
+
+/// 27, after 25 and before 17.
+fn unfit_rights() -> Vec<Stored> {
+    let each = |count: u16| (0..count).map(|society| rights(society, 0, 7));
+    let of_each = |count: u16| held(&each(count).collect::<Vec<_>>());
+    let no_word = |shows: &str, plan: &[u8]| stored(shows, plan, &[], event(0));
+    let shut = changed(|p| {
+        p.windows = vec![window(5, 0, 0)];
+        p.rights = vec![rights(1, 3, 8)];
+    });
+    let begin = |shows: &str, plan: &[u8]| Stored {
+        shows: shows.to_string(),
+        line: vectors::begin_line(plan, &UNBEGUN),
+    };
+    let twice = held(&[rights(1, 0, 7), rights(1, 0, 1)]);
+    vec![
+        begin("P with 64 rights records begun: length 812", &of_each(64)),
+        begin("P with 65 rights records begun: 27", &of_each(65)),
+        no_word("P with 65 rights records and no word: 27", &of_each(65)),
+        no_word("P with a pair twice and no word: 27", &twice),
+        no_word("P with rights over no track: 27", &held(&[rights(1, 3, 7)])),
+        no_word(
+            "P with rights over a hosted track: 27",
+            &held(&[rights(1, 1, 7)]),
+        ),
+        no_word("P with a sum of 0: 27", &held(&[rights(1, 0, 0)])),
+        no_word("P with a sum of 8: 27", &held(&[rights(1, 0, 8)])),
+        no_word("P with an unfit window and unfit rights: 25", &shut),
+    ]
+}
+
+/// P without rights: begun, and nobody's.
+fn without_rights() -> Vec<Stored> {
+    let plan = held(&[]);
+    let words = begun(&plan, &[]);
+    let on = |shows: &str, call| stored(&format!("P without rights, {shows}"), &plan, &words, call);
+    vec![
+        on("an event: 28", event(10)),
+        on("a signal: 28", signal()),
+        on("a firing: 28", fire(0)),
+        on("ready", Ready),
+        on("society 0: 28", by(0, event(10))),
+        on("society 65535: 28", by(65_535, event(10))),
+    ]
 }
 
 /// The paper's days and dates, and those that are turned back.

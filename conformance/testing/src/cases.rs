@@ -3,14 +3,16 @@
 
 use crate::generate::plans;
 use crate::samples::{
-    brothers, event, journal, looping, looping_link, sample, sample_records, scoped_links, state,
-    step, three_links, track, two_links, window,
+    brothers, event, event_on, every_right, fire, journal, looping, looping_link, lowest, rights,
+    sample, sample_records, scoped_links, signal, state, step, three_links, track, two_links,
+    window,
 };
 use second::days::Term;
-use second::journal::Record::{self, Event, Fire, FireLowest, Signal};
+use second::journal::Record;
 use second::journal::MAX_BYTES;
 use second::plan::{
-    Records, State, Transition, Window, MAX_STATES, MAX_TRACKS, MAX_TRANSITIONS, NONE,
+    Records, Rights, State, Transition, Window, MAX_RIGHTS, MAX_STATES, MAX_TRACKS,
+    MAX_TRANSITIONS, NONE,
 };
 
 /// One stored run.
@@ -42,6 +44,14 @@ pub fn all() -> Vec<Case> {
         unfit_windows(),
         many_windows(),
         days(),
+        societies(),
+        divided_calls(),
+        rights_of_each_sort(),
+        lacking(),
+        order_of_28(),
+        unread_rights(),
+        unfit_rights(),
+        many_rights(),
         journals(),
         sizes(),
     ];
@@ -74,7 +84,7 @@ fn changed(name: &str, change: impl FnOnce(&mut Records), records: &[Record]) ->
 
 /// A plan that is turned back, with a journal that is never read.
 fn refused(name: &str, change: impl FnOnce(&mut Records)) -> Case {
-    changed(name, change, &[Signal])
+    changed(name, change, &[signal()])
 }
 
 /// The event as often as that, and then the others.
@@ -87,8 +97,8 @@ fn often(times: usize, repeated: u16, then: &[Record]) -> Vec<Record> {
 /// The two brothers and the two sisters.
 fn samples() -> Vec<Case> {
     let mut halfway = [1, 31, 32, 30, 41, 2].map(event).to_vec();
-    halfway.extend([Signal, Fire(0)]);
-    halfway.extend([FireLowest; 5]);
+    halfway.extend([signal(), fire(0)]);
+    halfway.extend([lowest(); 5]);
     vec![Case {
         folder: "samples/brothers_and_sisters".to_string(),
         plan: Some(brothers().encode()),
@@ -100,16 +110,16 @@ fn samples() -> Vec<Case> {
 fn runs() -> Vec<Case> {
     let closing = [10, 11, 12, 14].map(event);
     let then = |records: &[Record]| [&closing, records].concat();
-    let withdrawn = [Signal, FireLowest, FireLowest, FireLowest, FireLowest];
-    let fired = [event(10), event(11), Signal, Fire(0), Fire(1), Fire(0)];
+    let withdrawn = [signal(), lowest(), lowest(), lowest(), lowest()];
+    let fired = [event(10), event(11), signal(), fire(0), fire(1), fire(0)];
     let over = [
         event(13),
-        Signal,
+        signal(),
         event(10),
         event(0),
-        Fire(0),
-        Fire(99),
-        FireLowest,
+        fire(0),
+        fire(99),
+        lowest(),
     ];
     let entries = often(33, 1, &[]);
     vec![
@@ -118,18 +128,18 @@ fn runs() -> Vec<Case> {
         under_sample("event_13_scope_open", &[event(10), event(13)]),
         under_sample(
             "replaced_then_fired",
-            &then(&[Signal, FireLowest, FireLowest]),
+            &then(&[signal(), lowest(), lowest()]),
         ),
         under_sample("over", &then(&over)),
-        under_sample("signal_first", &[Signal, FireLowest, Signal]),
+        under_sample("signal_first", &[signal(), lowest(), signal()]),
         under_sample(
             "signal_after_10",
-            &[event(10), Signal, FireLowest, FireLowest],
+            &[event(10), signal(), lowest(), lowest()],
         ),
         under_sample("host_waits_for_branch", &fired),
         case("entry_33", &looping(), &entries),
-        case("height_8", &plans::chain(8), &[Signal]),
-        case("height_9", &plans::chain(9), &[Signal]),
+        case("height_8", &plans::chain(8), &[signal()]),
+        case("height_9", &plans::chain(9), &[signal()]),
     ]
 }
 
@@ -137,7 +147,7 @@ fn runs() -> Vec<Case> {
 fn mistakes() -> Vec<Case> {
     let twice = [10, 11, 12, 14, 14].map(event);
     let mut fired = twice[..4].to_vec();
-    fired.extend([Signal, FireLowest, FireLowest]);
+    fired.extend([signal(), lowest(), lowest()]);
     vec![
         changed(
             "host_stays_on_closing_event",
@@ -171,6 +181,7 @@ fn looping_branch() -> Records {
             step(2, 3, 0, 3),
         ],
         windows: Vec::new(),
+        rights: every_right(&[0]),
     }
 }
 
@@ -189,6 +200,7 @@ fn looping_host(replacement: u16) -> Records {
             step(3, 3, 9, 4),
         ],
         windows: Vec::new(),
+        rights: every_right(&[0]),
     }
 }
 
@@ -219,6 +231,7 @@ fn two_roots() -> Records {
         ],
         transitions: vec![first, step(1, 2, 0, 2), step(3, 1, 60, 4)],
         windows: Vec::new(),
+        rights: every_right(&[0, 1]),
     }
 }
 
@@ -232,23 +245,24 @@ fn nested() -> Records {
         states,
         transitions: vec![step(0, 10, 50, 1)],
         windows: Vec::new(),
+        rights: every_right(&[0]),
     }
 }
 
 /// Abandoning that climbs, mixed modes and deviations.
 fn scopes() -> Vec<Case> {
-    let climbs = [event(10), Signal, FireLowest, FireLowest];
-    let mut mixed = vec![event(1), Signal, Fire(0), event(1), event(2)];
-    mixed.extend([Fire(1), FireLowest, Signal, FireLowest, FireLowest]);
+    let climbs = [event(10), signal(), lowest(), lowest()];
+    let mut mixed = vec![event(1), signal(), fire(0), event(1), event(2)];
+    mixed.extend([fire(1), lowest(), signal(), lowest(), lowest()]);
     let reopened = [
         event(10),
-        Signal,
-        Fire(0),
-        FireLowest,
+        signal(),
+        fire(0),
+        lowest(),
         event(11),
-        Signal,
-        FireLowest,
-        FireLowest,
+        signal(),
+        lowest(),
+        lowest(),
     ];
     vec![
         case("abandoning_climbs", &nested(), &climbs),
@@ -270,35 +284,35 @@ fn links(change: impl FnOnce(&mut Records)) -> Records {
 
 /// Event 1, the signal and the deviation of root 0, and then the others.
 fn deviated(then: &[Record]) -> Vec<Record> {
-    [&[event(1), Signal, Fire(0)], then].concat()
+    [&[event(1), signal(), fire(0)], then].concat()
 }
 
 /// The same under `scoped_links`, with an entry in its inner scope.
 fn scope_left(then: &[Record]) -> Vec<Record> {
-    let before = [event(1), event(5), event(6), Signal, Fire(0)];
+    let before = [event(1), event(5), event(6), signal(), fire(0)];
     [&before, then].concat()
 }
 
 /// Ledgers that become over with one root taken back, and what is refused then.
 fn endings() -> Vec<Case> {
-    let over = [Signal, event(1), Fire(0), FireLowest];
+    let over = [signal(), event(1), fire(0), lowest()];
     let then = |records: &[Record]| deviated(&[records, &over].concat());
     let ended = [event(1), event(2)];
-    let fired = [&ended[..], &[FireLowest]].concat();
+    let fired = [&ended[..], &[lowest()]].concat();
     let scope = [&fired[..], &over].concat();
-    let host = [&ended[..], &[Fire(3), Fire(3), Fire(1)], &over].concat();
-    let closing = [Fire(1), event(5), event(7), event(8), event(4)];
+    let host = [&ended[..], &[fire(3), fire(3), fire(1)], &over].concat();
+    let closing = [fire(1), event(5), event(7), event(8), event(4)];
     let mut closes = scoped_links(60);
     closes.transitions[0].deviation = NONE;
     closes.transitions[3].deviation = 4;
-    let mut full = vec![event(9), Signal, Fire(0)];
+    let mut full = vec![event(9), signal(), fire(0)];
     full.extend(often(32, 1, &[event(2), event(3)]));
     full.extend(over);
     vec![
         case(
             "half_withdrawn_by_event",
             &two_links(),
-            &then(&[Fire(1), event(1), event(2)]),
+            &then(&[fire(1), event(1), event(2)]),
         ),
         case("half_withdrawn_by_firing", &two_links(), &then(&fired)),
         case(
@@ -314,7 +328,7 @@ fn endings() -> Vec<Case> {
         case(
             "half_withdrawn_three_roots",
             &three_links(),
-            &then(&[Fire(1), event(3)]),
+            &then(&[fire(1), event(3)]),
         ),
         case("half_withdrawn_after_closing", &closes, &then(&closing)),
         case("half_withdrawn_full_root", &looping_link(), &full),
@@ -323,15 +337,15 @@ fn endings() -> Vec<Case> {
 
 /// Ledgers that are not over, each for one reason.
 fn missed_endings() -> Vec<Case> {
-    let idle = [FireLowest, event(1), Signal];
-    let withdrawn = [&[event(1), Signal, Fire(1), Fire(0), Fire(0)], &idle[..]];
+    let idle = [lowest(), event(1), signal()];
+    let withdrawn = [&[event(1), signal(), fire(1), fire(0), fire(0)], &idle[..]];
     // A firing that is 22, an event that moves none, a signal that turns the
     // root that has ended, and the other root's entry.
     let left = |ready: u16| {
-        let after = [event(3), Fire(0), event(1), Signal, Fire(ready)];
+        let after = [event(3), fire(0), event(1), signal(), fire(ready)];
         [&after[..], &idle].concat()
     };
-    let deviation = [event(3), Fire(1), event(1), event(4), Signal];
+    let deviation = [event(3), fire(1), event(1), event(4), signal()];
     vec![
         case(
             "all_withdrawn_not_over",
@@ -360,12 +374,15 @@ fn limits() -> Vec<Case> {
         states,
         transitions,
         windows: Vec::new(),
+        rights: every_right(&[0]),
     };
+    let roots: Vec<u16> = (0..MAX_TRACKS as u16).collect();
     let roots = Records {
         tracks: vec![track(NONE); MAX_TRACKS],
-        states: (0..MAX_TRACKS as u16).map(|t| state(t, 0, 0)).collect(),
+        states: roots.iter().map(|&t| state(t, 0, 0)).collect(),
         transitions: Vec::new(),
         windows: Vec::new(),
+        rights: every_right(&roots),
     };
     let last = MAX_STATES as u16 - 1;
     let far = root(vec![state(0, 0, 0); MAX_STATES], vec![step(0, 1, 7, last)]);
@@ -374,8 +391,8 @@ fn limits() -> Vec<Case> {
     let wide = root(vec![state(0, 0, 0)], steps);
     let widest = [events.end(), &(events.end() + 1)].map(|&e| event(e));
     vec![
-        case("tracks_32", &roots, &[Signal, FireLowest]),
-        case("states_128", &far, &[event(1), Signal, FireLowest]),
+        case("tracks_32", &roots, &[signal(), lowest()]),
+        case("states_128", &far, &[event(1), signal(), lowest()]),
         case("transitions_256", &wide, &widest),
     ]
 }
@@ -388,11 +405,11 @@ fn unread_plans() -> Vec<Case> {
     let transitions = |n: usize| [14, 0, 3, 0, 0, 0, 1, 0, 0, 0, 255, 255, 0, 0].repeat(n);
     let after_end = [&sample[..], &[0]].concat();
     let second_end = [&sample[..], &[4, 0, 4, 0]].concat();
-    let plan = |name: &str, file: &[u8]| bytes(name, file, &journal(&[Signal]));
+    let plan = |name: &str, file: &[u8]| bytes(name, file, &journal(&[signal()]));
     vec![
         plan("r2_no_bytes", &[]),
         plan("r2_three_bytes", &[4, 0, 4]),
-        plan("r2_no_end", &sample[..sample.len() - 4]),
+        plan("r2_no_end", &sample[..sample.len() - 14]),
         plan("r3_kind_9", &[4, 0, 9, 0]),
         plan("r3_falling_kind", &[&states(1), &tracks(1)[..]].concat()),
         plan("r4_track_of_8_bytes", &[8, 0, 1, 0]),
@@ -463,35 +480,43 @@ fn windowed(windows: &[Window]) -> Records {
 fn windows() -> Vec<Case> {
     let Term { first, last } = Term::RANGE;
     let plan = windowed(&[window(0, 5, 7)]);
-    let opens = [Event(10, 4), Event(10, 5), Event(11, 9)];
-    let passed = [Event(10, 8), Event(10, 8), Signal];
+    let opens = [event_on(10, 4), event_on(10, 5), event_on(11, 9)];
+    let passed = [event_on(10, 8), event_on(10, 8), signal()];
     let one_day = windowed(&[window(0, -1, -1)]);
-    let before_and_on = [Event(10, -2), Event(10, -1), Event(10, 0)];
+    let before_and_on = [event_on(10, -2), event_on(10, -1), event_on(10, 0)];
     let ends = windowed(&[window(0, first, first), window(2, last, last)]);
-    let both_ends = [Event(10, first), Event(11, last - 1), Event(11, last)];
+    let both_ends = [
+        event_on(10, first),
+        event_on(11, last - 1),
+        event_on(11, last),
+    ];
     let mut roots = two_links();
     roots.windows = vec![window(3, 100, 200)];
     let closing = windowed(&[window(4, 3, 3), window(1, 3, 3)]);
     let closed = [
-        Event(10, 1),
-        Event(11, 1),
-        Event(12, 2),
-        Event(14, 2),
-        Event(14, 3),
-        Event(13, 4),
-        Signal,
-        FireLowest,
+        event_on(10, 1),
+        event_on(11, 1),
+        event_on(12, 2),
+        event_on(14, 2),
+        event_on(14, 3),
+        event_on(13, 4),
+        signal(),
+        lowest(),
     ];
     vec![
         case("window_opens", &plan, &opens),
-        case("window_last_day", &plan, &[Event(10, 7), Event(11, 7)]),
+        case(
+            "window_last_day",
+            &plan,
+            &[event_on(10, 7), event_on(11, 7)],
+        ),
         case("window_passed", &plan, &passed),
         case("window_of_one_day", &one_day, &before_and_on),
         case("windows_at_the_range_ends", &ends, &both_ends),
         case(
             "window_of_one_track",
             &roots,
-            &[Event(1, 99), Event(1, 100)],
+            &[event_on(1, 99), event_on(1, 100)],
         ),
         case("window_keeps_scope_open", &closing, &closed),
     ]
@@ -501,26 +526,26 @@ fn windows() -> Vec<Case> {
 fn full_window() -> Vec<Case> {
     let mut plan = looping();
     plan.windows = vec![window(1, 10, 20)];
-    let days = [9, 10, 20, 21].map(|day| Event(2, day));
-    let records = often(32, 1, &[&days[..], &[Event(3, 21)]].concat());
+    let days = [9, 10, 20, 21].map(|day| event_on(2, day));
+    let records = often(32, 1, &[&days[..], &[event_on(3, 21)]].concat());
     vec![case("window_of_a_full_root", &plan, &records)]
 }
 
 /// The order of window records, and broken ones: 3, 4, 5 and 7.
 fn unread_windows() -> Vec<Case> {
     let sample = sample();
-    let (body, end) = sample.split_at(sample.len() - 4);
+    let (body, end) = sample.split_at(sample.len() - 14);
     let record = [14, 0, 5, 0, 0, 0, 0, 0, 0, 0, 9, 0, 0, 0];
     let transition = &body[body.len() - 14..];
     let before = &body[..body.len() - 14];
-    let plan = |name: &str, parts: &[&[u8]]| bytes(name, &parts.concat(), &journal(&[Signal]));
+    let plan = |name: &str, parts: &[&[u8]]| bytes(name, &parts.concat(), &journal(&[signal()]));
     vec![
         plan(
             "r3_window_before_transition",
             &[before, &record, transition, end],
         ),
         plan("r3_state_after_window", &[body, &record, &[10, 0, 2, 0]]),
-        plan("r3_kind_6", &[body, &record, &[4, 0, 6, 0]]),
+        plan("r3_kind_7", &[body, &record, &[4, 0, 7, 0]]),
         plan("r4_window_of_12_bytes", &[body, &[12, 0], &record[2..]]),
         plan("r5_cut_window", &[body, &record[..13]]),
         plan("r7_window_after_end", &[body, &record, end, &record]),
@@ -531,7 +556,7 @@ fn unread_windows() -> Vec<Case> {
 /// Windows that are turned back, 25, and what is named before it.
 fn unfit_windows() -> Vec<Case> {
     let Term { first, last } = Term::RANGE;
-    let plan = |name: &str, windows: &[Window]| case(name, &windowed(windows), &[Signal]);
+    let plan = |name: &str, windows: &[Window]| case(name, &windowed(windows), &[signal()]);
     let mut tall = plans::chain(9);
     tall.windows = vec![window(9, 1, 0)];
     let mut twins = windowed(&[window(9, 1, 0)]);
@@ -545,8 +570,8 @@ fn unfit_windows() -> Vec<Case> {
         plan("r25_begins_before_the_range", &[window(0, first - 1, 0)]),
         plan("r25_ends_after_the_range", &[window(0, 0, last + 1)]),
         plan("r25_greatest_numbers", &[window(0, i32::MIN, i32::MAX)]),
-        case("r16_before_25", &tall, &[Signal]),
-        case("r15_before_25", &twins, &[Signal]),
+        case("r16_before_25", &tall, &[signal()]),
+        case("r15_before_25", &twins, &[signal()]),
     ]
 }
 
@@ -560,16 +585,17 @@ fn many_windows() -> Vec<Case> {
         states: vec![state(0, 0, 0)],
         transitions: events.map(|e| step(0, e, e, 0)).collect(),
         windows: each.map(|n| window(n, i32::from(n), 300)).collect(),
+        rights: every_right(&[0]),
     };
     let mut crowded = full.clone();
     crowded.windows.resize(300, window(0, 0, 0));
     let mut unfit = crowded.clone();
     unfit.states[0].last = 1;
     let steps = [
-        Event(256, 254),
-        Event(256, 255),
-        Event(1, 300),
-        Event(2, 301),
+        event_on(256, 254),
+        event_on(256, 255),
+        event_on(1, 300),
+        event_on(2, 301),
     ];
     vec![
         case("windows_256", &full, &steps),
@@ -581,27 +607,41 @@ fn many_windows() -> Vec<Case> {
 /// The days of events: equal, falling, out of range, and which is kept.
 fn days() -> Vec<Case> {
     let Term { first, last } = Term::RANGE;
-    let equal = [Event(10, -7), Event(11, -7), Event(12, -7)];
-    let falling = [Event(10, 5), Event(11, 4), Event(11, first), Event(11, 5)];
+    let equal = [event_on(10, -7), event_on(11, -7), event_on(12, -7)];
+    let falling = [
+        event_on(10, 5),
+        event_on(11, 4),
+        event_on(11, first),
+        event_on(11, 5),
+    ];
     let outside = [
-        Event(10, first - 1),
-        Event(10, last + 1),
-        Event(10, i32::MIN),
-        Event(10, i32::MAX),
-        Event(10, first),
-        Event(11, last),
+        event_on(10, first - 1),
+        event_on(10, last + 1),
+        event_on(10, i32::MIN),
+        event_on(10, i32::MAX),
+        event_on(10, first),
+        event_on(11, last),
     ];
     let kept = [
-        Event(99, 40),
-        Event(10, 39),
-        Signal,
-        Event(10, 40),
-        Event(10, 39),
+        event_on(99, 40),
+        event_on(10, 39),
+        signal(),
+        event_on(10, 40),
+        event_on(10, 39),
     ];
-    let refused = [Event(0, 9), Event(10, 8)];
-    let ended = [10, 11, 12, 14, 13].map(|e| Event(e, 3));
-    let over = [Event(10, 2), Event(10, last + 1), Event(10, 3), Event(0, 2)];
-    let negative = [Event(10, -65_536), Event(11, -1), Event(12, 65_536)];
+    let refused = [event_on(0, 9), event_on(10, 8)];
+    let ended = [10, 11, 12, 14, 13].map(|e| event_on(e, 3));
+    let over = [
+        event_on(10, 2),
+        event_on(10, last + 1),
+        event_on(10, 3),
+        event_on(0, 2),
+    ];
+    let negative = [
+        event_on(10, -65_536),
+        event_on(11, -1),
+        event_on(12, 65_536),
+    ];
     vec![
         under_sample("day_equal", &equal),
         under_sample("day_kept_by_an_event_that_moves_none", &kept),
@@ -613,6 +653,234 @@ fn days() -> Vec<Case> {
     ]
 }
 
+/// The record as a call of another society.
+fn by(society: u16, record: Record) -> Record {
+    match record {
+        Record::Event(event, day, _) => Record::Event(event, day, society),
+        Record::Signal(_) => Record::Signal(society),
+        Record::Fire(track, _) => Record::Fire(track, society),
+        Record::FireLowest(_) => Record::FireLowest(society),
+    }
+}
+
+/// The records as calls of another society.
+fn all_by(society: u16, records: &[Record]) -> Vec<Record> {
+    records.iter().map(|&record| by(society, record)).collect()
+}
+
+/// P with other rights.
+fn held(rights: &[Rights]) -> Records {
+    Records {
+        rights: rights.to_vec(),
+        ..sample_records()
+    }
+}
+
+/// `two_links` with root 0 held by society 1 and root 1 by society 2.
+fn divided() -> Records {
+    links(|p| p.rights = vec![rights(1, 0, 7), rights(2, 1, 7)])
+}
+
+/// Societies by number, two of them over one root, and none.
+fn societies() -> Vec<Case> {
+    let calls = [event(10), signal(), lowest()];
+    let alone = |name: &str, society: u16| {
+        case(
+            name,
+            &held(&[rights(society, 0, 7)]),
+            &all_by(society, &calls),
+        )
+    };
+    let shared = held(&[rights(1, 0, 1), rights(2, 0, 6)]);
+    let turns = [
+        event(10),
+        by(2, event(11)),
+        signal(),
+        by(2, signal()),
+        fire(0),
+        by(2, fire(0)),
+    ];
+    let nobody = [
+        event(10),
+        signal(),
+        fire(0),
+        lowest(),
+        fire(9),
+        event(0),
+        by(7, event(10)),
+    ];
+    vec![
+        alone("society_0", 0),
+        alone("society_65535", 65_535),
+        case("two_societies_one_root", &shared, &turns),
+        case("no_rights_nobody_moves", &held(&[]), &nobody),
+    ]
+}
+
+/// Events, signals and firings that strike the society's own tracks alone.
+fn divided_calls() -> Vec<Case> {
+    let plan = divided();
+    let moved = [event(1), event(1), by(2, event(1)), by(2, event(4))];
+    let both = [event(1), by(2, event(1))];
+    let then = |records: &[Record]| [&both, records].concat();
+    let partial = then(&[by(2, signal()), event(2), by(2, fire(1)), signal()]);
+    let finishing = [event(3), by(2, signal()), event(1), by(2, lowest())];
+    let none = [signal(), signal(), by(2, event(1)), signal(), fire(0)];
+    let passes = then(&[
+        signal(),
+        by(2, signal()),
+        by(2, lowest()),
+        by(2, lowest()),
+        lowest(),
+    ]);
+    let another = then(&[signal(), by(2, lowest()), by(3, lowest()), lowest()]);
+    vec![
+        case("partial_event", &plan, &moved),
+        case("partial_signal", &plan, &partial),
+        case("partial_signal_finishes", &plan, &finishing),
+        case("signal_turns_none", &plan, &none),
+        case("lowest_ready_passes_over", &plan, &passes),
+        case("lowest_ready_22_of_another", &plan, &another),
+    ]
+}
+
+/// Each right alone, rights over what a root hosts, and what no right changes:
+/// the day, and the room of others' tracks.
+fn rights_of_each_sort() -> Vec<Case> {
+    let alone = held(&[rights(1, 0, 1), rights(2, 0, 2), rights(4, 0, 4)]);
+    let calls = [event(10), signal(), fire(0)];
+    let alone_calls = [1, 2, 4].map(|society| all_by(society, &calls)).concat();
+    let mut under = scoped_links(60);
+    under.rights = divided().rights;
+    let inner = [
+        by(2, event(1)),
+        event(5),
+        by(2, event(5)),
+        by(2, event(6)),
+        signal(),
+        by(2, signal()),
+        fire(3),
+        by(2, fire(3)),
+    ];
+    let mut loops = looping_link();
+    loops.transitions.push(step(2, 1, 9, 2));
+    loops.rights = vec![rights(1, 0, 7), rights(2, 1, 7), rights(3, 0, 1)];
+    loops.rights.push(rights(3, 1, 1));
+    let full = often(32, 1, &[1, 2, 3].map(|society| by(society, event(1))));
+    let kept = [event_on(1, 9), by(2, event_on(1, 8)), by(2, event_on(1, 9))];
+    vec![
+        case("each_right_alone", &alone, &alone_calls),
+        case("rights_reach_under_a_root", &under, &inner),
+        case("full_track_of_another", &loops, &full),
+        case("day_kept_for_other_societies", &divided(), &kept),
+    ]
+}
+
+/// 28 of each call.
+fn lacking() -> Vec<Case> {
+    let no_signal = held(&[rights(1, 0, 5)]);
+    let signals = [event(10), signal(), by(2, signal()), event(11)];
+    let fires = [
+        event(10),
+        event(11),
+        signal(),
+        by(2, fire(1)),
+        by(2, lowest()),
+        fire(1),
+    ];
+    vec![
+        under_sample("r28_event", &[by(2, event(10)), event(10)]),
+        case("r28_signal", &no_signal, &signals),
+        under_sample("r28_fire", &fires),
+    ]
+}
+
+/// What is named before 28, and what after it.
+fn order_of_28() -> Vec<Case> {
+    let last = Term::RANGE.last;
+    let ended = [10, 11, 12, 14, 13].map(event);
+    let over = all_by(2, &[event(10), signal(), fire(0), fire(9), lowest()]);
+    let full = often(32, 1, &[by(2, event(1)), event(1), by(2, event(3))]);
+    let before = [event(0), event_on(10, last + 1), event(10)];
+    let missing = [fire(3), by(2, fire(3)), by(2, fire(NONE))];
+    vec![
+        under_sample("r20_before_28", &[&ended[..], &over].concat()),
+        under_sample("r19_and_r26_before_28", &all_by(2, &before)),
+        case("r28_before_21", &looping(), &full),
+        under_sample("r28_before_22", &[by(2, fire(0)), fire(0)]),
+        under_sample("r22_missing_track", &missing),
+    ]
+}
+
+/// The order of rights records, and broken ones: 2, 3, 4, 5 and 7.
+fn unread_rights() -> Vec<Case> {
+    let sample = sample();
+    let (body, last) = sample.split_at(sample.len() - 14);
+    let (record, end) = last.split_at(10);
+    let window = [14, 0, 5, 0, 0, 0, 0, 0, 0, 0, 9, 0, 0, 0];
+    let transition = &body[body.len() - 14..];
+    let before = &body[..body.len() - 14];
+    let plan = |name: &str, parts: &[&[u8]]| bytes(name, &parts.concat(), &journal(&[signal()]));
+    vec![
+        plan("r3_window_after_rights", &[body, record, &window, end]),
+        plan(
+            "r3_rights_before_transition",
+            &[before, record, transition, end],
+        ),
+        plan("r3_rights_before_track", &[record, body, end]),
+        plan("r3_kind_7_after_rights", &[body, record, &[4, 0, 7, 0]]),
+        plan("r4_rights_of_12_bytes", &[body, &[12, 0], &record[2..]]),
+        plan("r5_cut_rights", &[body, &record[..9]]),
+        plan("r7_rights_after_end", &[body, record, end, record]),
+        plan("r2_no_end_after_rights", &[body, record]),
+    ]
+}
+
+/// Rights that are turned back, 27, and what is named before it.
+fn unfit_rights() -> Vec<Case> {
+    let plan = |name: &str, rights: &[Rights]| case(name, &held(rights), &[signal()]);
+    let mut tall = plans::chain(9);
+    tall.rights = vec![rights(1, 9, 0)];
+    let mut shut = held(&[rights(1, 3, 8)]);
+    shut.windows = vec![window(5, 0, 0)];
+    let again = [rights(1, 0, 1), rights(2, 0, 7), rights(1, 0, 6)];
+    vec![
+        plan("r27_no_track", &[rights(1, 3, 7)]),
+        plan("r27_track_65535", &[rights(1, NONE, 7)]),
+        plan("r27_hosted_track", &[rights(1, 0, 7), rights(1, 2, 7)]),
+        plan("r27_sum_0", &[rights(1, 0, 0)]),
+        plan("r27_sum_8", &[rights(1, 0, 8)]),
+        plan("r27_sum_65535", &[rights(1, 0, 65_535)]),
+        plan("r27_repeats", &again),
+        plan("r27_repeats_alike", &[rights(1, 0, 7); 2]),
+        case("r16_before_27", &tall, &[signal()]),
+        case("r25_before_27", &shut, &[signal()]),
+    ]
+}
+
+/// As many rights records as a plan may have, more of them, and more in a plan
+/// with another fault.
+fn many_rights() -> Vec<Case> {
+    let plan = |count: u16| {
+        let each = (0..count).map(|society| rights(society, 0, 7));
+        held(&each.collect::<Vec<_>>())
+    };
+    let most = MAX_RIGHTS as u16;
+    let calls = [
+        by(most - 1, event(10)),
+        by(most, event(11)),
+        by(0, event(11)),
+    ];
+    let mut unfit = plan(300);
+    unfit.states[3].last = 1;
+    vec![
+        case("rights_64", &plan(most), &calls),
+        case("r27_rights_65", &plan(most + 1), &calls),
+        case("r27_rights_300", &plan(300), &calls),
+        case("r11_rights_300", &unfit, &calls),
+    ]
+}
+
 /// Journals: refusals that do not end the reading, and 23 in each form.
 fn journals() -> Vec<Case> {
     let broken = |name: &str, record: &[u8]| {
@@ -621,29 +889,34 @@ fn journals() -> Vec<Case> {
     };
     vec![
         under_sample("empty_journal", &[]),
-        under_sample("kinds_may_fall", &[Signal, event(10), FireLowest, Signal]),
+        under_sample("kinds_may_fall", &[signal(), event(10), lowest(), signal()]),
         under_sample(
             "r19_and_r22_go_on",
-            &[event(0), Fire(3), Fire(0), event(10)],
+            &[event(0), fire(3), fire(0), event(10)],
         ),
-        broken("r23_one_byte", &[10]),
-        broken("r23_two_bytes", &[10, 0]),
-        broken("r23_three_bytes", &[10, 0, 20]),
-        broken("r23_unknown_kind", &[4, 0, 21, 0, 4, 0, 17, 0]),
-        broken("r23_kind_16", &[6, 0, 16, 0, 10, 0, 4, 0, 17, 0]),
-        broken("r23_plan_kind", &[4, 0, 4, 0, 4, 0, 17, 0]),
-        broken("r23_short_event", &[6, 0, 20, 0, 10, 0]),
-        broken("r23_long_signal", &[6, 0, 17, 0, 1, 0]),
-        broken("r23_cut_event", &[10, 0, 20, 0, 10, 0, 0, 0, 0]),
-        broken("r23_cut_fire", &[6, 0, 18, 0, 0]),
+        broken("r23_one_byte", &[12]),
+        broken("r23_two_bytes", &[12, 0]),
+        broken("r23_three_bytes", &[12, 0, 20]),
+        broken("r23_unknown_kind", &[4, 0, 21, 0, 6, 0, 17, 0, 1, 0]),
+        broken("r23_kind_16", &[6, 0, 16, 0, 10, 0, 6, 0, 17, 0, 1, 0]),
+        broken("r23_plan_kind", &[4, 0, 4, 0, 6, 0, 17, 0, 1, 0]),
+        broken("r23_short_event", &[10, 0, 20, 0, 10, 0, 0, 0, 0, 0]),
+        broken("r23_short_signal", &[4, 0, 17, 0]),
+        broken("r23_short_fire", &[6, 0, 18, 0, 0, 0]),
+        broken("r23_short_fire_lowest", &[4, 0, 19, 0]),
+        broken("r23_long_signal", &[8, 0, 17, 0, 1, 0, 1, 0]),
+        broken("r23_cut_event", &[12, 0, 20, 0, 10, 0, 0, 0, 0, 0, 1]),
+        broken("r23_cut_fire", &[8, 0, 18, 0, 0, 0, 1]),
         bytes("refused_plan_broken_journal", &[4, 0, 4, 0], &[1]),
     ]
 }
 
 /// The limit of 32,768 bytes, and a missing plan.
 fn sizes() -> Vec<Case> {
-    let signals = vec![Signal; MAX_BYTES / 4];
-    let longer = [&journal(&signals)[..], &[0]].concat();
+    // Signals of 6 bytes each, and a firing of 8.
+    let mut records = vec![signal(); (MAX_BYTES - 8) / 6];
+    records.push(fire(0));
+    let longer = [&journal(&records)[..], &[0]].concat();
     let padded = |size: usize| {
         let mut plan = sample();
         plan.resize(size, 0);
@@ -654,7 +927,7 @@ fn sizes() -> Vec<Case> {
         ..bytes(name, &[], journal)
     };
     vec![
-        under_sample("journal_of_32768", &signals),
+        under_sample("journal_of_32768", &records),
         bytes("r1_journal_of_32769", &sample(), &longer),
         missing("r1_journal_of_32769_no_plan", &longer),
         bytes("plan_of_32768", &padded(MAX_BYTES), &[]),

@@ -1,6 +1,7 @@
 //! Counts what happened over a generated batch, and holds it to floors.
 
 mod days;
+mod rights;
 
 use crate::faults;
 use crate::generate::journals::{self, Case};
@@ -133,18 +134,52 @@ pub enum Happening {
     LedgerOfLastDay,
     DayUnsoundAwake,
     DayUnsoundOver,
+    NoRightsAccepted,
+    Rights64Accepted,
+    RootShared,
+    RootUnheld,
+    FallAfterRights,
+    RightsCut,
+    RightsAfterEnd,
+    RightsNoTrack,
+    RightsHosted,
+    RightsSumZero,
+    RightsSumAbove,
+    RightsRepeated,
+    RightsTooMany,
+    RightsMany,
+    RightsOtherFirst,
+    RightsWindowFirst,
+    NoMoveRight,
+    NoSignalRight,
+    NoFireRight,
+    NoRightReady,
+    NoRightBeforeNotReady,
+    NoRightBeforeFull,
+    OverBeforeNoRight,
+    EventPartial,
+    EventOfOthers,
+    FullOfAnother,
+    SignalPartial,
+    SignalOfOthers,
+    SignalFinishes,
+    EndBySignal,
+    LowestPassesOver,
+    LowestOfAnother,
+    Society0,
+    Society65535,
 }
 
-const HAPPENINGS: usize = 106;
+const HAPPENINGS: usize = 140;
 
-/// Refusals 1 to 26.
-const REFUSALS: usize = 26;
+/// Refusals 1 to 28.
+const REFUSALS: usize = 28;
 
 /// Floors of the refusals for the default batch. What entries refuses is not
 /// among their counts, since it gives no number.
 const REFUSAL_FLOORS: [u64; REFUSALS] = [
     15, 300, 400, 400, 300, 200, 400, 200, 250, 200, 200, 200, 200, 200, 200, 200, 5_000, 40_000,
-    3_000, 15_000, 6_000, 12_000, 1_800, 10_000, 650, 9_500,
+    3_000, 15_000, 6_000, 12_000, 1_800, 10_000, 650, 9_500, 2_000, 2_000,
 ];
 
 /// Names and floors of the happenings, in the order of the enum.
@@ -579,6 +614,132 @@ const HAPPENING_FLOORS: [(Happening, &str, u64); HAPPENINGS] = [
         "18: the day out of range, over",
         650,
     ),
+    (
+        Happening::NoRightsAccepted,
+        "plan without rights accepted",
+        3_000,
+    ),
+    (
+        Happening::Rights64Accepted,
+        "plan of 64 rights records accepted",
+        2_500,
+    ),
+    (
+        Happening::RootShared,
+        "plan with a root of several societies",
+        35_000,
+    ),
+    (
+        Happening::RootUnheld,
+        "plan with a root that no society holds",
+        3_500,
+    ),
+    (
+        Happening::FallAfterRights,
+        "3: a kind that falls after a rights record",
+        50,
+    ),
+    (
+        Happening::RightsCut,
+        "5: a rights record that is cut short",
+        25,
+    ),
+    (
+        Happening::RightsAfterEnd,
+        "7: a rights record after the end",
+        55,
+    ),
+    (
+        Happening::RightsNoTrack,
+        "27: a rights record names no track",
+        450,
+    ),
+    (
+        Happening::RightsHosted,
+        "27: a rights record names a hosted track",
+        300,
+    ),
+    (Happening::RightsSumZero, "27: a sum of 0", 350),
+    (Happening::RightsSumAbove, "27: a sum above 7", 350),
+    (Happening::RightsRepeated, "27: a pair is repeated", 400),
+    (Happening::RightsTooMany, "27: a 65th rights record", 900),
+    (Happening::RightsMany, "27: 100 rights records or more", 300),
+    (
+        Happening::RightsOtherFirst,
+        "8 to 16 or 25 before a fault of rights",
+        700,
+    ),
+    (
+        Happening::RightsWindowFirst,
+        "25 before a fault of rights",
+        130,
+    ),
+    (Happening::NoMoveRight, "28 by an event", 4_500),
+    (Happening::NoSignalRight, "28 by a signal", 3_000),
+    (Happening::NoFireRight, "28 by a firing", 3_000),
+    (
+        Happening::NoRightReady,
+        "28 by a firing of a ready track",
+        800,
+    ),
+    (
+        Happening::NoRightBeforeNotReady,
+        "28 by a firing of a track not ready",
+        2_500,
+    ),
+    (
+        Happening::NoRightBeforeFull,
+        "28 by an event that would be 21",
+        150,
+    ),
+    (
+        Happening::OverBeforeNoRight,
+        "20 by a society without the right",
+        1_200,
+    ),
+    (
+        Happening::EventPartial,
+        "event that moves some, others by no right",
+        5_000,
+    ),
+    (
+        Happening::EventOfOthers,
+        "event that moves none, others by no right",
+        1_200,
+    ),
+    (
+        Happening::FullOfAnother,
+        "event beside a full track of another's",
+        130,
+    ),
+    (
+        Happening::SignalPartial,
+        "signal that turns some, leaves some forward",
+        5_000,
+    ),
+    (
+        Happening::SignalOfOthers,
+        "signal that turns none, leaves some forward",
+        1_000,
+    ),
+    (Happening::SignalFinishes, "finish by a signal", 350),
+    (Happening::EndBySignal, "history ending by a signal", 200),
+    (
+        Happening::LowestPassesOver,
+        "lowest firing that passes over another's",
+        110,
+    ),
+    (
+        Happening::LowestOfAnother,
+        "22 by a lowest firing, another's ready",
+        400,
+    ),
+    (Happening::Society0, "call of society 0 accepted", 12_000),
+    (
+        Happening::Society65535,
+        "call of society 65535 accepted",
+        13_000,
+    ),
 ];
 
 /// Floor of each clause violated alone for the default batch.
@@ -777,17 +938,21 @@ impl Coverage {
 
     /// Counts the end of a history that some root was taken back in.
     fn half_withdrawn(&mut self, change: &Change, outcome: Outcome) {
-        if change.ends_half_withdrawn() {
-            match outcome {
-                Outcome::Event(..) => self.count(Happening::HalfWithdrawnByEvent),
-                Outcome::Fire(..) => self.count(Happening::HalfWithdrawnByFiring),
-                _ => unreachable!("finish by neither an event nor a firing"),
+        match outcome {
+            Outcome::Event(..) if change.ends_half_withdrawn() => {
+                self.count(Happening::HalfWithdrawnByEvent)
             }
+            Outcome::Fire(..) if change.ends_half_withdrawn() => {
+                self.count(Happening::HalfWithdrawnByFiring)
+            }
+            Outcome::Signal(_) if change.finishes() => self.count(Happening::EndBySignal),
+            _ => {}
         }
     }
 
     fn accepted(&mut self, plan: &Plan) {
         self.windows_accepted(plan);
+        self.rights_accepted(plan);
         let height = plan.heights().into_iter().max();
         self.count_if(height == Some(8), Happening::Height8Accepted);
         let sizes = (
@@ -799,16 +964,20 @@ impl Coverage {
     }
 
     fn outcome(&mut self, change: &Change, record: Record, outcome: Outcome) {
+        self.rights_met(change, record, outcome);
         match (outcome, record) {
-            (Outcome::Event(_, m), Record::Event(event, day)) => {
+            (Outcome::Event(_, m), Record::Event(event, day, _)) => {
                 self.event_day(change, event, day, m.moved);
                 self.event(change, m.moved)
             }
             (Outcome::Event(..), _) => unreachable!("an event by another record"),
             (Outcome::Signal(_), _) => self.signal(change),
             (Outcome::Fire(_, entry), _) => self.firing(change, entry.deviation),
-            (Outcome::Refused(refusal), Record::Event(event, day)) => {
-                self.event_refused(change.plan, change.before, (event, day), refusal);
+            (Outcome::Refused(refusal), Record::Event(event, day, society)) => {
+                self.event_day_refused(change.before, day, refusal);
+                if refusal == Refusal::Full {
+                    self.full(change.plan, change.before, (event, day, society));
+                }
                 self.refused(refusal)
             }
             (Outcome::Refused(refusal), _) => self.refused(refusal),
@@ -886,8 +1055,11 @@ impl Coverage {
         let after = Roots::of(change.plan, change.after);
         let spent = after.all_spent() && !before.all_spent();
         self.count_if(spent && after.spent > 1, Happening::AllSpentBySignal);
-        let turns = before.ended > 0 && before.moving == 0;
+        let turns = change.turns_ended() && before.moving == 0;
         self.count_if(turns, Happening::SignalTurnsEnded);
+        if change.finishes() {
+            self.finish(change);
+        }
     }
 
     fn abandoning(&mut self, change: &Change) {
@@ -912,30 +1084,17 @@ impl Coverage {
         self.count_if(climb > 1, Happening::AbandoningByFiringClimbsTwo);
     }
 
-    /// Counts why an event on a sound ledger is refused, but not its number.
-    fn event_refused(
-        &mut self,
-        plan: &Plan,
-        before: &Ledger,
-        (event, day): (u16, i32),
-        refusal: Refusal,
-    ) {
-        self.event_day_refused(before, day, refusal);
-        if refusal == Refusal::Full {
-            self.full(plan, before, event, day);
-        }
-    }
-
     /// Finds why 21 applied, from what the event does once full tracks have
     /// given up their newest entry.
-    fn full(&mut self, plan: &Plan, before: &Ledger, event: u16, day: i32) {
+    fn full(&mut self, plan: &Plan, before: &Ledger, call: (u16, i32, u16)) {
+        let (event, day, society) = call;
         let mut eased = before.clone();
         for track in eased.tracks.iter_mut().filter(|t| t.is_full()) {
             track.remove();
         }
-        let moves = rules::chosen_moves(plan, &eased, event, day);
+        let moves = rules::chosen_moves(plan, &eased, event, day, society);
         let mut after = eased.clone();
-        if rules::event(plan, &mut after, event, day).is_err() {
+        if rules::event(plan, &mut after, event, day, society).is_err() {
             return;
         }
         let full = |t: usize| before.tracks[t].is_full();
@@ -1034,8 +1193,8 @@ impl Coverage {
     fn neighbours(&mut self, words: &[u16], call: Call) {
         let by = match call {
             Call::Event(..) => Happening::NeighboursByEvent,
-            Call::Signal => Happening::NeighboursBySignal,
-            Call::Fire(_) => Happening::NeighboursByFire,
+            Call::Signal(_) => Happening::NeighboursBySignal,
+            Call::Fire(..) => Happening::NeighboursByFire,
             Call::Ready => Happening::NeighboursByReady,
             Call::Entries(track) if track_words(words, usize::from(track))[2] > 0 => {
                 Happening::NeighboursByEntries
@@ -1060,69 +1219,31 @@ impl Coverage {
 
     /// Makes the call; `plan` is given where the ledger is its own and sound.
     fn answer(&mut self, single: &Single, plan: Option<&Plan>) {
-        let (bytes, mut words) = (&single.plan[..], single.words.clone());
-        match single.call {
-            Call::Event(event, day) => {
-                let answer = manager::event(bytes, &mut words, event, day);
-                self.event_answer(single, plan, &words, (event, day), answer);
-            }
-            Call::Signal => {
-                let answer = manager::signal(bytes, &mut words);
-                self.figures(single, plan, &words, answer, |c, change, _| {
-                    c.signal(change)
-                });
-            }
-            Call::Fire(track) => {
-                let answer = manager::fire(bytes, &mut words, track);
-                self.figures(single, plan, &words, answer, |c, change, entry| {
-                    c.firing(change, entry.deviation)
-                });
-            }
-            Call::Ready => {
-                let answer = manager::ready(bytes, &words);
-                self.figures(single, plan, &words, answer, |_, _, _| {});
-            }
-            Call::Entries(_) | Call::DateOfDay(_) | Call::DayOfDate(_) => {}
-        }
-    }
-
-    fn event_answer(
-        &mut self,
-        single: &Single,
-        plan: Option<&Plan>,
-        words: &[u16],
-        (event, day): (u16, i32),
-        answer: Answer<rules::Moved>,
-    ) {
-        if let (Answer::Refused(refusal), Some(plan)) = (answer, plan) {
-            let before = Ledger::decode(plan, &single.words);
-            self.event_refused(plan, &before, (event, day), refusal);
-        }
-        self.figures(single, plan, words, answer, |c, change, m| {
-            c.event_day(change, event, day, m.moved);
-            c.event(change, m.moved)
-        });
-    }
-
-    fn figures<F>(
-        &mut self,
-        single: &Single,
-        plan: Option<&Plan>,
-        words: &[u16],
-        answer: Answer<F>,
-        observe: impl FnOnce(&mut Coverage, &Change, F),
-    ) {
-        match (answer, plan) {
-            (Answer::Refused(refusal), _) => self.refused(refusal),
-            (Answer::Done(figures), Some(plan)) => {
+        match (plan, single.call.record()) {
+            (Some(plan), Some(record)) => {
+                let before = Ledger::decode(plan, &single.words);
+                let mut after = before.clone();
+                let outcome = journal::perform(plan, &mut after, record);
                 let change = Change {
                     plan,
-                    before: &Ledger::decode(plan, &single.words),
-                    after: &Ledger::decode(plan, words),
+                    before: &before,
+                    after: &after,
                 };
-                observe(self, &change, figures);
+                self.outcome(&change, record, outcome);
             }
-            (Answer::Done(_), None) => unreachable!("a call answered that is to be refused"),
+            (Some(_), None) => {}
+            (None, _) => self.refused_before(single),
+        }
+    }
+
+    /// Counts the refusal of a plan or a ledger, which every call but entries
+    /// gives.
+    fn refused_before(&mut self, single: &Single) {
+        let numbered = single.call == Call::Ready || single.call.record().is_some();
+        match manager::ready(&single.plan, &single.words) {
+            Answer::Refused(refusal) if numbered => self.refused(refusal),
+            Answer::Refused(_) => {}
+            Answer::Done(_) => unreachable!("a call answered that is to be refused"),
         }
     }
 }
@@ -1136,6 +1257,13 @@ impl Change<'_> {
     /// Whether it did so with some root undoing.
     fn ends_half_withdrawn(&self) -> bool {
         self.finishes() && Roots::of(self.plan, self.before).undoing() > 0
+    }
+
+    /// Whether it turned a root that had ended.
+    fn turns_ended(&self) -> bool {
+        let turned = |t: usize| self.after.tracks[t].mode == Mode::Undoing;
+        let ended = |t: usize| rules::has_ended(self.plan, self.before, t);
+        self.plan.roots().any(|t| ended(t) && turned(t))
     }
 
     /// The scopes open before and asleep after, by hosting state.

@@ -3,7 +3,7 @@
 
 use second::days::Term;
 use second::journal::Records as JournalRecords;
-use second::plan::{Records, Window, END, KINDS, WINDOW};
+use second::plan::{Records, Rights, Window, END, KINDS, MAX_RIGHTS, NONE};
 use second::record::{Header, HEADER};
 
 /// The forms of 25.
@@ -45,6 +45,41 @@ fn repeats(windows: &[Window]) -> bool {
     named.windows(2).any(|two| two[0] == two[1])
 }
 
+/// The forms of 27.
+#[derive(Clone, Copy, Debug, PartialEq, Eq)]
+pub enum RightsFault {
+    NoTrack,
+    Hosted,
+    SumZero,
+    SumAbove,
+    Repeated,
+    TooMany,
+}
+
+/// The forms of 27 that a plan's records have, each once.
+pub fn rights_faults(records: &Records) -> Vec<RightsFault> {
+    let rights = &records.rights[..];
+    let tracks = &records.tracks;
+    let nowhere = |r: &Rights| usize::from(r.root) >= tracks.len();
+    let hosted = |r: &Rights| matches!(tracks.get(usize::from(r.root)), Some(t) if t.host != NONE);
+    let faults = [
+        (RightsFault::NoTrack, rights.iter().any(nowhere)),
+        (RightsFault::Hosted, rights.iter().any(hosted)),
+        (RightsFault::SumZero, rights.iter().any(|r| r.sum == 0)),
+        (RightsFault::SumAbove, rights.iter().any(|r| r.sum > 7)),
+        (RightsFault::Repeated, repeats_pair(rights)),
+        (RightsFault::TooMany, rights.len() > MAX_RIGHTS),
+    ];
+    let found = faults.into_iter().filter(|(_, found)| *found);
+    found.map(|(fault, _)| fault).collect()
+}
+
+fn repeats_pair(rights: &[Rights]) -> bool {
+    let mut pairs: Vec<(u16, u16)> = rights.iter().map(|r| (r.society, r.root)).collect();
+    pairs.sort_unstable();
+    pairs.windows(2).any(|two| two[0] == two[1])
+}
+
 /// The kinds of a plan's records in order, as far as their lengths lead.
 fn kinds(plan: &[u8]) -> Vec<u16> {
     let mut kinds = Vec::new();
@@ -71,11 +106,16 @@ pub fn fall(plan: &[u8]) -> Option<(u16, u16)> {
     None
 }
 
-/// Whether a window record follows the first end record.
-pub fn window_follows_end(plan: &[u8]) -> bool {
+/// Whether a record of this kind follows the first end record.
+pub fn follows_end(plan: &[u8], kind: u16) -> bool {
     let kinds = kinds(plan);
     let end = kinds.iter().position(|&kind| kind == END);
-    end.map_or(false, |at| kinds.get(at + 1) == Some(&WINDOW))
+    end.map_or(false, |at| kinds.get(at + 1) == Some(&kind))
+}
+
+/// The kind of a plan's last record, whole or not.
+pub fn last_kind(plan: &[u8]) -> Option<u16> {
+    kinds(plan).last().copied()
 }
 
 /// The kind of a journal's broken record, if it has that much.

@@ -2,7 +2,7 @@
 
 use second::days::Term;
 use second::journal::Record;
-use second::plan::{Records, State, Track, Transition, Window, NONE};
+use second::plan::{Records, Rights, State, Track, Transition, Window, NONE};
 
 pub fn track(host: u16) -> Track {
     Track { host }
@@ -35,9 +35,43 @@ pub fn window(transition: u16, first: i32, last: i32) -> Window {
     }
 }
 
-/// An event on day 0, as the paper's runs are read.
+/// The society has these rights over the root.
+pub fn rights(society: u16, root: u16, sum: u16) -> Rights {
+    Rights { society, root, sum }
+}
+
+/// The society of the paper's runs.
+pub const SOCIETY: u16 = 1;
+
+/// All rights of that society over these roots.
+pub fn every_right(roots: &[u16]) -> Vec<Rights> {
+    let all = |&root: &u16| rights(SOCIETY, root, Rights::ALL);
+    roots.iter().map(all).collect()
+}
+
+/// An event on day 0 by society 1, as the paper's runs are read.
 pub fn event(event: u16) -> Record {
-    Record::Event(event, 0)
+    event_on(event, 0)
+}
+
+/// The same on another day.
+pub fn event_on(event: u16, day: i32) -> Record {
+    Record::Event(event, day, SOCIETY)
+}
+
+/// A signal by society 1.
+pub fn signal() -> Record {
+    Record::Signal(SOCIETY)
+}
+
+/// A firing by society 1.
+pub fn fire(track: u16) -> Record {
+    Record::Fire(track, SOCIETY)
+}
+
+/// A firing by society 1 of the lowest track that it may fire.
+pub fn lowest() -> Record {
+    Record::FireLowest(SOCIETY)
 }
 
 /// The records of the sample plan P.
@@ -62,6 +96,7 @@ pub fn sample_records() -> Records {
             step(6, 14, 54, 7),
         ],
         windows: vec![],
+        rights: every_right(&[0]),
     }
 }
 
@@ -78,6 +113,7 @@ pub fn looping() -> Records {
         states: vec![state(0, 0, 0), state(0, 1, 0)],
         transitions: vec![step(0, 1, 7, 0), step(0, 2, 8, 1), step(0, 3, 0, 1)],
         windows: vec![],
+        rights: every_right(&[0]),
     }
 }
 
@@ -107,6 +143,7 @@ pub fn two_links() -> Records {
             step(4, 4, 0, 5),
         ],
         windows: vec![],
+        rights: every_right(&[0, 1]),
     }
 }
 
@@ -138,6 +175,7 @@ pub fn looping_link() -> Records {
     plan.tracks.push(track(NONE));
     plan.states.push(state(1, 0, 0));
     plan.transitions.push(detour(0, 9, 0));
+    plan.rights = every_right(&[0, 1]);
     plan
 }
 
@@ -149,6 +187,7 @@ pub fn three_links() -> Records {
     plan.states.push(state(2, 0, 0));
     plan.transitions[3].deviation = 3;
     plan.transitions[4] = step(3, 3, 0, 5);
+    plan.rights = every_right(&[0, 1, 2]);
     plan
 }
 
@@ -191,5 +230,6 @@ pub fn brothers() -> Records {
             step(13, 42, 142, 14),
         ],
         windows: vec![],
+        rights: every_right(&[0]),
     }
 }

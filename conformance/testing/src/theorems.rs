@@ -71,11 +71,15 @@ fn first_letter(text: &str) -> Option<(&str, &str)> {
 fn call(text: &str) -> Option<String> {
     match first_letter(text)? {
         ("E", given) => {
-            let (event, day) = given.split_once('@')?;
-            Some(format!("e {event} {}", integer(day)?))
+            let (event, given) = given.split_once('@')?;
+            let (day, society) = given.split_once(':')?;
+            Some(format!("e {event} {} {society}", integer(day)?))
         }
-        ("S", "") => Some("s".to_string()),
-        ("F", track) => Some(format!("f {track}")),
+        ("S", given) => Some(format!("s {}", given.strip_prefix(':')?)),
+        ("F", given) => {
+            let (track, society) = given.split_once(':')?;
+            Some(format!("f {track} {society}"))
+        }
         _ => None,
     }
 }

@@ -12,7 +12,7 @@ use crate::generate::singles::{self, Call};
 use crate::samples;
 use second::days::Date;
 use second::journal::{self, Record};
-use second::ledger::Entry;
+use second::ledger::{Entry, Ledger};
 use second::manager::{self, Answer};
 use second::plan::{self, Plan};
 use second::rules::Moved;
@@ -121,24 +121,32 @@ fn named_calls(plan: &Plan, records: &[Record]) -> Vec<Call> {
     let mut ledger = second::rules::begin(plan);
     let mut calls = Vec::new();
     for &record in records {
-        let lowest = second::rules::ready(plan, &ledger).trailing_zeros();
-        calls.push(match record {
-            Record::Event(event, day) => Call::Event(event, day),
-            Record::Signal => Call::Signal,
-            Record::Fire(track) => Call::Fire(track),
-            Record::FireLowest => Call::Fire(lowest as u16),
-        });
+        calls.push(named_call(plan, &ledger, record));
         journal::perform(plan, &mut ledger, record);
     }
     calls
 }
 
+/// The call of a record, a firing of the lowest track under that track's name.
+fn named_call(plan: &Plan, ledger: &Ledger, record: Record) -> Call {
+    match record {
+        Record::Event(event, day, society) => Call::Event(event, day, society),
+        Record::Signal(society) => Call::Signal(society),
+        Record::Fire(track, society) => Call::Fire(track, society),
+        Record::FireLowest(society) => {
+            Call::Fire(journal::lowest_ready(plan, ledger, society), society)
+        }
+    }
+}
+
 /// Makes a call; its answer as text.
 pub fn answer(plan: &[u8], words: &mut [u16], call: Call) -> String {
     match call {
-        Call::Event(event, day) => moved_text(manager::event(plan, words, event, day)),
-        Call::Signal => number_text(manager::signal(plan, words)),
-        Call::Fire(track) => fired_text(manager::fire(plan, words, track)),
+        Call::Event(event, day, society) => {
+            moved_text(manager::event(plan, words, event, day, society))
+        }
+        Call::Signal(society) => number_text(manager::signal(plan, words, society)),
+        Call::Fire(track, society) => fired_text(manager::fire(plan, words, track, society)),
         Call::Ready => number_text(manager::ready(plan, words)),
         Call::Entries(track) => word_hex(manager::entries(plan, words, track)),
         Call::DateOfDay(day) => date_text(manager::date_of_day(day)),
@@ -146,12 +154,12 @@ pub fn answer(plan: &[u8], words: &mut [u16], call: Call) -> String {
     }
 }
 
-/// A call's letter and what it is given.
+/// A call's letter and what it is given, the society last.
 pub fn call_text(call: Call) -> String {
     match call {
-        Call::Event(event, day) => format!("E{event}@{day}"),
-        Call::Signal => "S".to_string(),
-        Call::Fire(track) => format!("F{track}"),
+        Call::Event(event, day, society) => format!("E{event}@{day}:{society}"),
+        Call::Signal(society) => format!("S:{society}"),
+        Call::Fire(track, society) => format!("F{track}:{society}"),
         Call::Ready => "Y".to_string(),
         Call::Entries(track) => format!("N{track}"),
         Call::DateOfDay(day) => format!("D{day}"),
@@ -189,8 +197,9 @@ fn number_text<Number: std::fmt::Display>(answer: Answer<Number>) -> String {
 
 fn accepted_text(plan: &Plan) -> String {
     let (tracks, states) = (plan.track_count(), plan.state_count());
-    let (transitions, windows) = (plan.transition_count(), plan.records().windows.len());
-    format!("A{tracks},{states},{transitions},{windows}")
+    let transitions = plan.transition_count();
+    let (windows, rights) = (plan.records().windows.len(), plan.records().rights.len());
+    format!("A{tracks},{states},{transitions},{windows},{rights}")
 }
 
 fn byte_hex(bytes: &[u8]) -> String {

@@ -79,6 +79,7 @@ fn stored_calls_that_finish_leave_zeros_behind_the_leading_words() {
         ("one root ended, its last entry fired", "D60,65535"),
         ("one root taken back, the other ends", "D1,0"),
         ("one root ended, the last scope abandoned", "D90,65535"),
+        ("two roots of two societies, a signal finishes", "D1"),
     ];
     for (shows, answered) in finishing {
         assert_eq!(answers(shows), [answered]);
@@ -107,10 +108,10 @@ fn leading_words(shows: &str) -> Vec<[String; 2]> {
 fn stored_calls_on_plans_of_each_tail_have_the_sums_that_they_say() {
     // Of four plans the length, the sum, and sums without some last bytes.
     let plans: [(u16, u16, &[u16]); 4] = [
-        (72, 110, &[]),
-        (58, 90, &[86]),
-        (44, 63, &[55]),
-        (86, 3, &[65_535, 65_530]),
+        (96, 164, &[]),
+        (82, 134, &[130]),
+        (68, 114, &[106]),
+        (54, 3, &[65_535, 65_524]),
     ];
     for (length, sum, cut) in plans {
         let words = |sum: u16| format!("{length:04x}{sum:04x}");
@@ -120,7 +121,7 @@ fn stored_calls_on_plans_of_each_tail_have_the_sums_that_they_say() {
         let expected: Vec<_> = cut.iter().map(|&sum| [words(sum), words(sum)]).collect();
         assert_eq!(refused, expected);
     }
-    assert_eq!(answers("a plan of 86 bytes, its own ledger"), ["D1,0"]);
+    assert_eq!(answers("a plan of 54 bytes, its own ledger"), ["D1,0"]);
 }
 
 /// The answers to the stored calls whose comment starts so, and the day in the
@@ -280,19 +281,130 @@ fn stored_runs_with_windows_and_days_print_what_their_names_say() {
 }
 
 #[test]
+fn stored_runs_of_several_societies_print_what_their_names_say() {
+    let runs: [(&str, &[&str]); 21] = [
+        ("society_0", &["E 10 1 0", "S 3", "F 0 50 -", "H 0 1"]),
+        ("society_65535", &["E 10 1 0", "S 3", "F 0 50 -", "H 0 1"]),
+        (
+            "two_societies_one_root",
+            &[
+                "E 10 1 0", "R 28", "R 28", "S 3", "R 28", "F 0 50 -", "H 0 1",
+            ],
+        ),
+        (
+            "no_rights_nobody_moves",
+            &[
+                "R 28", "R 28", "R 28", "R 22", "R 22", "R 19", "R 28", "H 0 0",
+            ],
+        ),
+        (
+            "partial_event",
+            &["E 1 1 0", "E 1 0 0", "E 1 1 0", "E 4 1 0", "H 2 0"],
+        ),
+        (
+            "partial_signal",
+            &[
+                "E 1 1 0", "E 1 1 0", "S 1", "E 2 1 0", "F 1 60 -", "R 20", "H 0 1",
+            ],
+        ),
+        (
+            "partial_signal_finishes",
+            &["E 3 1 0", "S 1", "R 20", "R 20", "H 0 0"],
+        ),
+        (
+            "signal_turns_none",
+            &["S 1", "S 0", "E 1 1 0", "S 0", "R 22", "H 1 0"],
+        ),
+        (
+            "lowest_ready_passes_over",
+            &[
+                "E 1 1 0", "E 1 1 0", "S 1", "S 1", "F 1 60 -", "R 22", "F 0 50 0", "H 0 2",
+            ],
+        ),
+        (
+            "lowest_ready_22_of_another",
+            &[
+                "E 1 1 0", "E 1 1 0", "S 1", "R 22", "R 22", "F 0 50 0", "H 1 1",
+            ],
+        ),
+        (
+            "each_right_alone",
+            &[
+                "E 10 1 0", "R 28", "R 28", "R 28", "S 3", "R 28", "R 28", "R 28", "F 0 50 -",
+                "H 0 1",
+            ],
+        ),
+        (
+            "rights_reach_under_a_root",
+            &[
+                "E 1 1 0", "E 5 0 0", "E 5 1 0", "E 6 1 0", "S 1", "S 3", "R 28", "F 3 90 -",
+                "H 1 1",
+            ],
+        ),
+        (
+            "day_kept_for_other_societies",
+            &["E 1 1 0", "R 26", "E 1 1 0", "H 2 0"],
+        ),
+        ("r28_event", &["R 28", "E 10 1 0", "H 1 0"]),
+        (
+            "r28_signal",
+            &["E 10 1 0", "R 28", "R 28", "E 11 1 0", "H 2 0"],
+        ),
+        (
+            "r28_fire",
+            &[
+                "E 10 1 0", "E 11 1 0", "S 3", "R 28", "R 22", "F 1 51 -", "H 1 1",
+            ],
+        ),
+        (
+            "r20_before_28",
+            &[
+                "E 10 1 0", "E 11 1 0", "E 12 1 0", "E 14 1 1", "E 13 1 0", "R 20", "R 20", "R 20",
+                "R 20", "R 20", "H 0 0",
+            ],
+        ),
+        ("r19_and_r26_before_28", &["R 19", "R 26", "R 28", "H 0 0"]),
+        ("r28_before_22", &["R 28", "R 22", "H 0 0"]),
+        ("r22_missing_track", &["R 22", "R 22", "R 22", "H 0 0"]),
+        ("rights_64", &["E 10 1 0", "R 28", "E 11 1 0", "H 2 0"]),
+    ];
+    for (name, expected) in runs {
+        assert_eq!(lines(name)[1..], *expected, "{name}");
+    }
+    let full = lines("r28_before_21").split_off(33);
+    assert_eq!(full, ["R 28", "R 21", "R 28", "H 32 0"]);
+    let another = lines("full_track_of_another").split_off(33);
+    assert_eq!(another, ["R 21", "E 1 1 0", "R 21", "H 33 0"]);
+}
+
+#[test]
+fn stored_calls_of_several_societies_are_answered_as_they_say() {
+    let shared = ["D1,0", "D1,0", "D1", "R28", "D60,65535", "R28"];
+    assert_eq!(answers("a root of two societies"), shared);
+    let divided = [
+        "D1,0", "D1,0", "D0,0", "D1", "D1", "D0", "D1", "D3", "003cffff", "D50,0", "R28",
+    ];
+    assert_eq!(answers("two roots of two societies"), divided);
+    assert_eq!(answers("a society without rights, ready"), ["D6"]);
+    assert_eq!(answers("a society without rights, entries"), ["0033ffff"]);
+    assert_eq!(answers("P with 64 rights records"), ["begun"]);
+    assert_eq!(answers("P without rights, ready"), ["D0"]);
+}
+
+#[test]
 fn stored_runs_of_refused_plans_print_the_number_of_their_name_alone() {
     let mut refused = 0;
     for case in cases::all() {
         let name = case.folder.rsplit('/').next().expect("a name");
         let number = name.strip_prefix('r').and_then(|n| n.split('_').next());
         let number = number.and_then(|n| n.parse::<u8>().ok());
-        let plans = number.filter(|n| *n <= 16 || *n == 25);
+        let plans = number.filter(|n| *n <= 16 || [25, 27].contains(n));
         if let Some(number) = plans {
             assert_eq!(lines(name), [format!("R {number}")], "{name}");
             refused += 1;
         }
     }
-    assert_eq!(refused, 54);
+    assert_eq!(refused, 75);
 }
 
 #[test]
@@ -305,7 +417,7 @@ fn stored_calls_are_refused_with_the_number_that_they_name() {
             named += 1;
         }
     }
-    assert_eq!(named, 67);
+    assert_eq!(named, 98);
 }
 
 #[test]

@@ -45,7 +45,7 @@ fn each_refusal_has_one_section() {
     let page = page("REFUSALS.md");
     let mut numbers: Vec<u8> = page.split("\n## ").skip(1).map(number).collect();
     numbers.sort_unstable();
-    assert_eq!(numbers, (1..=26).collect::<Vec<u8>>());
+    assert_eq!(numbers, (1..=28).collect::<Vec<u8>>());
 }
 
 #[test]

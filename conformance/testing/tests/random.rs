@@ -2,15 +2,15 @@
 
 use second::days::Term;
 use second::journal::{self, Outcome, Record};
-use second::ledger::{self, Clause, Ledger, Mode};
+use second::ledger::{self, Clause, Ledger, Mode, Track};
 use second::manager::{self, Answer};
-use second::plan::{self, Plan, Records, MAX_TRACKS, NONE};
+use second::plan::{self, Plan, Records, Right, Rights, MAX_TRACKS, NONE};
 use second::refusal::Refusal;
 use second::rules;
 use testing::coverage;
 use testing::generate::rng::Rng;
 use testing::generate::singles::{self, Call, Single};
-use testing::generate::{damage, journals, ledgers, neighbours, plans};
+use testing::generate::{damage, journals, ledgers, neighbours, plans, societies};
 use testing::vectors;
 
 #[test]
@@ -58,26 +58,40 @@ fn ledgers_are_sound_or_violate_one_clause() {
     assert!(seen.iter().all(|&n| n > 20), "{seen:?}");
 }
 
+/// Tries the ready tracks from the lowest on, until one is not refused for want
+/// of the right; with none, a track that there is not.
+fn lowest(plan: &[u8], words: &mut [u16], society: u16) -> Outcome {
+    let ready = match manager::ready(plan, words) {
+        Answer::Done(ready) => ready,
+        Answer::Refused(refusal) => return Outcome::Refused(refusal),
+    };
+    let tracks = plan::members(ready).chain([MAX_TRACKS]);
+    for track in tracks {
+        let outcome = perform(plan, words, Record::Fire(track as u16, society));
+        if outcome != Outcome::Refused(Refusal::NoRight) {
+            return outcome;
+        }
+    }
+    unreachable!("a missing track refused for want of the right")
+}
+
 /// Does a record by the public call; its outcome as the journal's.
 fn perform(plan: &[u8], words: &mut [u16], record: Record) -> Outcome {
     let refused = Outcome::Refused;
     match record {
-        Record::Event(event, day) => match manager::event(plan, words, event, day) {
+        Record::Event(event, day, by) => match manager::event(plan, words, event, day, by) {
             Answer::Done(m) => Outcome::Event(event, m),
             Answer::Refused(refusal) => refused(refusal),
         },
-        Record::Signal => match manager::signal(plan, words) {
+        Record::Signal(society) => match manager::signal(plan, words, society) {
             Answer::Done(turned) => Outcome::Signal(turned),
             Answer::Refused(refusal) => refused(refusal),
         },
-        Record::Fire(track) => match manager::fire(plan, words, track) {
+        Record::Fire(track, society) => match manager::fire(plan, words, track, society) {
             Answer::Done(entry) => Outcome::Fire(track, entry),
             Answer::Refused(refusal) => refused(refusal),
         },
-        Record::FireLowest => match manager::ready(plan, words) {
-            Answer::Done(bits) => perform(plan, words, Record::Fire(bits.trailing_zeros() as u16)),
-            Answer::Refused(refusal) => refused(refusal),
-        },
+        Record::FireLowest(society) => lowest(plan, words, society),
     }
 }
 
@@ -111,11 +125,9 @@ fn single_calls_leave_sound_ledgers_sound_and_others_alone() {
         let mut rng = Rng::for_case(7, 5, index);
         let single = singles::single(&mut rng, MAX_TRACKS);
         let mut words = single.words.clone();
-        let record = match single.call {
-            Call::Event(event, day) => Record::Event(event, day),
-            Call::Signal => Record::Signal,
-            Call::Fire(track) => Record::Fire(track),
-            _ => continue,
+        let record = match single.call.record() {
+            Some(record) => record,
+            None => continue,
         };
         match perform(&single.plan, &mut words, record) {
             Outcome::Refused(_) => assert_eq!(words, single.words),
@@ -132,17 +144,10 @@ fn single_calls_leave_sound_ledgers_sound_and_others_alone() {
 /// The call's refusal, if it gives one; entries gives none.
 fn refusal(single: &Single) -> Option<Refusal> {
     let (plan, mut words) = (&single.plan[..], single.words.clone());
-    let record = match single.call {
-        Call::Event(event, day) => Record::Event(event, day),
-        Call::Signal => Record::Signal,
-        Call::Fire(track) => Record::Fire(track),
-        Call::Ready => match manager::ready(plan, &words) {
-            Answer::Refused(refusal) => return Some(refusal),
-            Answer::Done(_) => return None,
-        },
-        Call::Entries(_) | Call::DateOfDay(_) | Call::DayOfDate(_) => return None,
-    };
-    match perform(plan, &mut words, record) {
+    if let (Call::Ready, Answer::Refused(refusal)) = (single.call, manager::ready(plan, &words)) {
+        return Some(refusal);
+    }
+    match perform(plan, &mut words, single.call.record()?) {
         Outcome::Refused(refusal) => Some(refusal),
         _ => None,
     }
@@ -211,14 +216,20 @@ fn plans_alike_have_other_bytes_and_the_same_leading_words() {
 
 #[test]
 fn some_firing_is_allowed_while_an_undoing_track_holds_an_entry() {
+    let mut undoing = 0;
     for index in 0..3_000 {
         let mut rng = Rng::for_case(7, 6, index);
         let plan = plan::read(&plans::bytes(&mut rng, MAX_TRACKS)).expect("accepted");
         let mut ledger = ledgers::sound(&mut rng, &plan);
-        if rules::signal(&plan, &mut ledger).is_ok() && ledger.total_held() > 0 {
+        let society = societies::any(&mut rng, &plan);
+        let done = rules::signal(&plan, &mut ledger, society).is_ok();
+        let holds = |t: &Track| t.mode == Mode::Undoing && t.held() > 0;
+        if done && ledger.tracks.iter().any(holds) {
             assert_ne!(rules::ready(&plan, &ledger), 0);
+            undoing += 1;
         }
     }
+    assert!(undoing > 1_000, "{undoing}");
 }
 
 /// Whether the track is forward in a final state.
@@ -258,13 +269,20 @@ fn finish_is_allowed(plan: &Plan, before: &Ledger, outcome: Outcome) {
             let dropped: usize = ended.iter().map(|&t| before.tracks[t].held()).sum();
             assert_eq!(before.total_held(), dropped + 1);
         }
-        _ => panic!("finish by {outcome:?}"),
+        Outcome::Signal(turned) => {
+            let ended = roots.iter().filter(|&&t| has_ended(plan, before, t));
+            assert!(turned > 0 && (1..roots.len()).contains(&ended.count()));
+            let holds = |&t: &usize| before.tracks[t].held() > 0;
+            let mut tracks = (0..plan.track_count()).filter(holds);
+            assert!(tracks.all(|t| has_ended(plan, before, t)));
+        }
+        Outcome::Refused(_) => panic!("finish by {outcome:?}"),
     }
 }
 
 #[test]
-fn a_finish_is_by_an_event_or_a_firing_once_all_else_is_spent() {
-    let (mut by_event, mut by_firing) = (0, 0);
+fn a_finish_comes_once_all_else_is_spent() {
+    let (mut by_event, mut by_firing, mut by_signal) = (0, 0, 0);
     for index in 0..4_000 {
         let mut rng = Rng::for_case(7, 10, index);
         let plan = plans::linked_records(&mut rng, MAX_TRACKS).encode();
@@ -277,10 +295,12 @@ fn a_finish_is_by_an_event_or_a_firing_once_all_else_is_spent() {
                 finish_is_allowed(&plan, &before, outcome);
                 by_event += u32::from(matches!(outcome, Outcome::Event(..)));
                 by_firing += u32::from(matches!(outcome, Outcome::Fire(..)));
+                by_signal += u32::from(matches!(outcome, Outcome::Signal(_)));
             }
         }
     }
     assert!(by_event > 800 && by_firing > 80, "{by_event} {by_firing}");
+    assert!(by_signal > 80, "{by_signal}");
 }
 
 #[test]
@@ -293,10 +313,13 @@ fn ledgers_near_their_finish_are_sound_and_often_a_call_away() {
         let near = ledgers::near_finish(&mut rng, &plan);
         assert!(!near.is_over() && ledger::is_sound(&plan, &near.words()));
         let events = journals::moving_events(&plan, &near, |_| true);
-        let tracks = 0..plan.track_count() as u16;
-        let on_day = |e| Record::Event(e, journals::event_day(&mut rng, &plan, &near, e));
-        let records = events.into_iter().map(on_day);
-        let mut records = records.chain(tracks.map(Record::Fire));
+        let on_day = |e| journals::event_of(&mut rng, &plan, &near, e);
+        let mut records: Vec<Record> = events.into_iter().map(on_day).collect();
+        for society in societies::named(&plan) {
+            let tracks = 0..plan.track_count() as u16;
+            records.extend(tracks.map(|track| Record::Fire(track, society)));
+        }
+        let mut records = records.into_iter();
         away += u32::from(records.any(|record| {
             let mut after = near.clone();
             journal::perform(&plan, &mut after, record);
@@ -309,8 +332,8 @@ fn ledgers_near_their_finish_are_sound_and_often_a_call_away() {
 }
 
 #[test]
-fn short_histories_end_half_withdrawn_by_events_and_by_firings() {
-    let (mut by_event, mut by_firing) = (0, 0);
+fn short_histories_end_half_withdrawn_by_each_sort_of_call() {
+    let (mut by_event, mut by_firing, mut by_signal) = (0, 0, 0);
     for index in 0..200 {
         let mut rng = Rng::for_case(7, 12, index);
         let (bytes, records) = journals::half_withdrawn(&mut rng, 3);
@@ -319,14 +342,18 @@ fn short_histories_end_half_withdrawn_by_events_and_by_firings() {
         let mut ledger = rules::begin(&plan);
         for record in records {
             let undoing = plan.roots().any(|t| ledger.tracks[t].mode == Mode::Undoing);
+            let over = ledger.is_over();
             let outcome = journal::perform(&plan, &mut ledger, record);
+            let ends = ledger.is_over() && !over;
+            by_signal += u32::from(ends && matches!(outcome, Outcome::Signal(_)));
             if undoing && ledger.is_over() {
                 by_event += u32::from(matches!(outcome, Outcome::Event(..)));
                 by_firing += u32::from(matches!(outcome, Outcome::Fire(..)));
             }
         }
     }
-    assert!(by_event > 70 && by_firing > 70, "{by_event} {by_firing}");
+    assert!(by_event > 60 && by_firing > 60, "{by_event} {by_firing}");
+    assert!(by_signal > 30, "{by_signal}");
 }
 
 /// The records without the transitions that may not be taken on a day, and
@@ -354,21 +381,153 @@ fn an_event_does_what_it_does_without_the_steps_that_the_day_forbids() {
         let mut ledger = ledgers::sound(&mut rng, &plan);
         let event = journals::any_event(&mut rng, &plan);
         let day = journals::event_day(&mut rng, &plan, &ledger, event);
+        let society = journals::mover(&mut rng, &plan, &ledger, event);
         let open = plan::read(&open_on(&plan, day).encode()).expect("accepted");
         let mut other = rules::begin(&open);
         other.tracks = ledger.tracks.clone();
         if day < ledger.day || !Term::RANGE.contains(day) {
-            let refused = rules::event(&plan, &mut ledger, event, day);
+            let refused = rules::event(&plan, &mut ledger, event, day, society);
             assert!(matches!(refused, Err(Refusal::Day)));
             continue;
         }
-        let answer = rules::event(&plan, &mut ledger, event, day);
-        assert_eq!(answer, rules::event(&open, &mut other, event, day));
+        let answer = rules::event(&plan, &mut ledger, event, day, society);
+        assert_eq!(answer, rules::event(&open, &mut other, event, day, society));
         assert_eq!(ledger.tracks, other.tracks);
         moving += u32::from(matches!(answer, Ok(m) if m.moved > 0));
         shut += u32::from(open.transition_count() < plan.transition_count());
     }
     assert!(moving > 700 && shut > 1_000, "{moving} {shut}");
+}
+
+/// The plan with every right for a society over the roots where it has this one,
+/// and with no others: what is left aside elsewhere is then never struck.
+fn held_alone(plan: &Plan, right: Right, society: u16) -> Records {
+    let roots = plan.roots().filter(|&t| plan.allows(society, right, t));
+    let all = |t: usize| Rights {
+        society,
+        root: t as u16,
+        sum: Rights::ALL,
+    };
+    Records {
+        rights: roots.map(all).collect(),
+        ..plan.records().clone()
+    }
+}
+
+#[test]
+fn other_rights_and_other_societies_change_nothing_for_a_call() {
+    let (mut events, mut signals) = (0, 0);
+    for index in 0..3_000 {
+        let mut rng = Rng::for_case(7, 16, index);
+        let plan = plan::read(&plans::linked_records(&mut rng, 8).encode()).expect("accepted");
+        let ledger = ledgers::sound(&mut rng, &plan);
+        let society = societies::any(&mut rng, &plan);
+        let event = journals::any_event(&mut rng, &plan);
+        let calls = [
+            (Right::Move, Record::Event(event, ledger.day, society)),
+            (Right::Signal, Record::Signal(society)),
+        ];
+        for (right, record) in calls {
+            let records = held_alone(&plan, right, society);
+            let alone = plan::read(&records.encode()).expect("accepted");
+            let (mut first, mut second) = (ledger.clone(), ledger.clone());
+            let outcome = journal::perform(&plan, &mut first, record);
+            assert_eq!(outcome, journal::perform(&alone, &mut second, record));
+            assert_eq!(first, second);
+            events += u32::from(matches!(outcome, Outcome::Event(_, m) if m.moved > 0));
+            signals += u32::from(matches!(outcome, Outcome::Signal(turned) if turned > 0));
+        }
+    }
+    assert!(events > 400 && signals > 800, "{events} {signals}");
+}
+
+#[test]
+fn calls_strike_no_track_under_another_root() {
+    let (mut struck, mut refused) = (0, 0);
+    for index in 0..1_000 {
+        let mut rng = Rng::for_case(7, 17, index);
+        let plan = plan::read(&plans::linked_records(&mut rng, 8).encode()).expect("accepted");
+        let mut ledger = rules::begin(&plan);
+        for record in journals::history(&mut rng, &plan).0 {
+            let before = ledger.clone();
+            let outcome = journal::perform(&plan, &mut ledger, record);
+            let (right, society) = match record {
+                Record::Event(_, _, society) => (Right::Move, society),
+                Record::Signal(society) => (Right::Signal, society),
+                Record::Fire(_, society) | Record::FireLowest(society) => (Right::Fire, society),
+            };
+            let others = |&t: &usize| !plan.allows(society, right, t);
+            let others = (0..plan.track_count()).filter(others);
+            if !ledger.is_over() {
+                others.for_each(|t| assert_eq!(ledger.tracks[t], before.tracks[t]));
+            }
+            struck += u32::from(ledger.tracks != before.tracks);
+            refused += u32::from(outcome == Outcome::Refused(Refusal::NoRight));
+        }
+    }
+    assert!(struck > 5_000 && refused > 300, "{struck} {refused}");
+}
+
+/// A plan with a root that one society alone holds, that root and the society.
+fn held_root(rng: &mut Rng) -> Option<(Plan, u16)> {
+    let plan = plan::read(&plans::linked_records(rng, 8).encode()).expect("accepted");
+    let rights = &plan.records().rights;
+    let own = |society: u16| rights.iter().filter(move |r| r.society == society);
+    let shares = |root: u16, society: u16| {
+        rights
+            .iter()
+            .any(|r| r.root == root && r.society != society)
+    };
+    let alone = |&society: &u16| own(society).all(|r| !shares(r.root, society));
+    let several = plan.roots().count() > 1 && societies::named(&plan).len() > 1;
+    let society = societies::named(&plan).into_iter().find(alone);
+    society.filter(|_| several).map(|society| (plan, society))
+}
+
+/// Whether the record is a call of that society.
+fn is_of(record: Record, own: u16) -> bool {
+    match record {
+        Record::Event(_, _, society) | Record::Fire(_, society) => society == own,
+        Record::Signal(society) | Record::FireLowest(society) => society == own,
+    }
+}
+
+#[test]
+fn a_society_that_shares_no_root_is_answered_alike_whatever_others_do() {
+    let (mut compared, mut others) = (0, 0);
+    for index in 0..3_000 {
+        let mut rng = Rng::for_case(7, 18, index);
+        let (plan, society) = match held_root(&mut rng) {
+            Some(held) => held,
+            None => continue,
+        };
+        let (mut with, mut without) = (rules::begin(&plan), rules::begin(&plan));
+        for record in journals::history(&mut rng, &plan).0 {
+            let outcome = journal::perform(&plan, &mut with, record);
+            if is_of(record, society) {
+                let alone = journal::perform(&plan, &mut without, record);
+                let day = Outcome::Refused(Refusal::Day);
+                if with.is_over() || without.is_over() || outcome == day || alone == day {
+                    break;
+                }
+                assert_eq!(outcome, alone);
+                compared += 1;
+            } else if with.is_over() {
+                break;
+            } else {
+                others += u32::from(!matches!(outcome, Outcome::Refused(_)));
+            }
+            let own = (0..plan.track_count()).filter(|&t| {
+                let rights = &plan.records().rights;
+                let root = plan.root_of(t) as u16;
+                rights
+                    .iter()
+                    .any(|r| r.society == society && r.root == root)
+            });
+            own.for_each(|t| assert_eq!(with.tracks[t], without.tracks[t]));
+        }
+    }
+    assert!(compared > 1_500 && others > 1_500, "{compared} {others}");
 }
 
 #[test]
@@ -383,11 +542,11 @@ fn accepted_days_never_fall_and_are_kept() {
             let before = ledger.day;
             let outcome = journal::perform(&plan, &mut ledger, record);
             match (record, outcome) {
-                (Record::Event(_, day), Outcome::Event(..)) => {
+                (Record::Event(_, day, _), Outcome::Event(..)) => {
                     assert!(day >= before && ledger.day == day);
                     kept += 1;
                 }
-                (Record::Event(_, day), Outcome::Refused(Refusal::Day)) => {
+                (Record::Event(_, day, _), Outcome::Refused(Refusal::Day)) => {
                     assert!(day < before || day > 182_620);
                     assert_eq!(ledger.day, before);
                     refused += 1;
@@ -443,6 +602,6 @@ fn lines_are_made_again_from_the_same_seed() {
 fn a_small_batch_reaches_most_rows() {
     let rows = coverage::batch(3, 300).rows();
     let reached = rows.iter().filter(|row| row.count > 0).count();
-    assert_eq!(rows.len(), 150);
-    assert!(reached >= 144, "{reached}");
+    assert_eq!(rows.len(), 186);
+    assert!(reached >= 178, "{reached}");
 }

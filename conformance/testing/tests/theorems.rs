@@ -6,7 +6,7 @@ use std::process::{Command, Stdio};
 
 use second::manager;
 use testing::generate::singles::Call;
-use testing::samples::{two_links, window};
+use testing::samples::{rights, two_links, window};
 use testing::vectors;
 
 /// What the first file holds below its imports, of cases given as lines;
@@ -36,27 +36,27 @@ fn theorems(name: &str, lines: &str) -> Option<String> {
 
 #[test]
 fn a_history_is_its_answers_and_its_words() {
-    let expected = "-- H;0400;00010002;E7@5,E8@-5,S,F1;begun|D1,0|R26|D2|R22;0003ffff\n\
+    let expected = "-- H;0400;00010002;E7@5:1,E8@-5:2,S:3,F1:4;begun|D1,0|R26|D2|R22;0003ffff\n\
                     pub case-0 : HistoryAgrees (4 ∷ 0 ∷ []) (1 ∷ 2 ∷ []) \
-                    (e 7 (pos 5) ∷ e 8 (negsuc 4) ∷ s ∷ f 1 ∷ []) \
+                    (e 7 (pos 5) 1 ∷ e 8 (negsuc 4) 2 ∷ s 3 ∷ f 1 4 ∷ []) \
                     (done [] ∷ done (1 ∷ 0 ∷ []) ∷ refusal 26 ∷ done (2 ∷ []) ∷ \
                     refusal 22 ∷ []) \
                     (3 ∷ 65535 ∷ [])\n\
                     unfolding computing\ncase-0 = (refl, refl)\n";
-    let line = "H;0400;00010002;E7@5,E8@-5,S,F1;begun|D1,0|R26|D2|R22;0003ffff\n";
+    let line = "H;0400;00010002;E7@5:1,E8@-5:2,S:3,F1:4;begun|D1,0|R26|D2|R22;0003ffff\n";
     assert_eq!(theorems("history", line).as_deref(), Some(expected));
 }
 
 #[test]
 fn plans_and_single_calls_have_statements_of_their_own() {
-    let lines = "P;;2\nP;04;A3,8,5,2\nL;;0001;Y;R18;0001\nL;;;N3;;\nL;;;F9;R17;\n";
+    let lines = "P;;2\nP;04;A3,8,5,2,1\nL;;0001;Y;R18;0001\nL;;;N3;;\nL;;;F9:1;R17;\n";
     let text = theorems("others", lines).expect("theorems");
     let says = |statement: &str| assert!(text.contains(statement), "{text}");
     says("case-0 : PlanAgrees ([]) (turnedBack 2)\n");
-    says("case-1 : PlanAgrees (4 ∷ []) (acceptedWith 3 8 5 2)\n");
+    says("case-1 : PlanAgrees (4 ∷ []) (acceptedWith 3 8 5 2 1)\n");
     says("case-2 : ReadyAgrees ([]) (1 ∷ []) (refusal 18) (1 ∷ [])\n");
     says("case-3 : EntriesAgree ([]) ([]) 3 ([])\n");
-    says("case-4 : CallAgrees ([]) ([]) (f 9) (refusal 17) ([])\n");
+    says("case-4 : CallAgrees ([]) ([]) (f 9 1) (refusal 17) ([])\n");
 }
 
 #[test]
@@ -65,10 +65,10 @@ fn calls_refused_as_24_are_a_sort_of_their_own() {
     let plan = "06000100ffff0a00020000000000000004000400";
     let zeros = "0000".repeat(71);
     let line = |call: &str, answer: &str| format!("L;{plan};{zeros};{call};{answer};{zeros}\n");
-    let lines = line("S", "R24").repeat(2) + &line("N0", "");
+    let lines = line("S:1", "R24").repeat(2) + &line("N0", "");
     let text = theorems("other-plan", &lines).expect("theorems");
     assert_eq!(text.matches("pub case-").count(), 2);
-    assert!(text.contains("(s) (refusal 24) (0 ∷ 0 ∷"), "{text}");
+    assert!(text.contains("(s 1) (refusal 24) (0 ∷ 0 ∷"), "{text}");
     assert!(text.contains("pub case-2 : EntriesAgree"), "{text}");
 }
 
@@ -77,21 +77,21 @@ fn calls_with_roots_in_both_modes_are_a_sort_of_their_own() {
     let plan = two_links().encode();
     let mut words = vec![0; 138];
     manager::begin(&plan, &mut words);
-    let event = |event| Call::Event(event, -1);
-    for call in [event(1), Call::Signal, Call::Fire(0), event(3)] {
+    let event = |event| Call::Event(event, -1, 1);
+    for call in [event(1), Call::Signal(1), Call::Fire(0, 1), event(3)] {
         vectors::answer(&plan, &mut words, call);
     }
     // Of two like firings and a signal, as many different ones as wanted.
-    let calls = [Call::Fire(1), Call::Fire(1), Call::Signal];
+    let calls = [Call::Fire(1, 1), Call::Fire(1, 1), Call::Signal(1)];
     let line = |call| vectors::call_line(&plan, &words, call) + "\n";
     let text = theorems("parted", &calls.map(line).concat()).expect("theorems");
     assert_eq!(text.matches("pub case-").count(), 2);
     let zeros = "0 ∷ ".repeat(134);
     let sum = words[1];
-    let leading = format!("146 ∷ {sum} ∷ 65535 ∷ 65535");
-    let fired = format!("(f 1) (done (60 ∷ 65535 ∷ [])) ({leading} ∷ {zeros}[])");
+    let leading = format!("166 ∷ {sum} ∷ 65535 ∷ 65535");
+    let fired = format!("(f 1 1) (done (60 ∷ 65535 ∷ [])) ({leading} ∷ {zeros}[])");
     assert!(text.contains(&fired), "{text}");
-    assert!(text.contains("(s) (done (1 ∷ []))"), "{text}");
+    assert!(text.contains("(s 1) (done (1 ∷ []))"), "{text}");
 }
 
 #[test]
@@ -103,11 +103,46 @@ fn events_that_meet_a_window_or_are_refused_as_26_are_a_sort_of_their_own() {
     manager::begin(&plan, &mut words);
     // Of two like events before the window and one out of range, two wanted.
     let days = [4, 3, 200_000];
-    let line = |day| vectors::call_line(&plan, &words, Call::Event(1, day)) + "\n";
+    let line = |day| vectors::call_line(&plan, &words, Call::Event(1, day, 1)) + "\n";
     let text = theorems("dated", &days.map(line).concat()).expect("theorems");
     assert_eq!(text.matches("pub case-").count(), 2);
-    assert!(text.contains("(e 1 (pos 4)) (done (1 ∷ 0 ∷ []))"), "{text}");
-    assert!(text.contains("(e 1 (pos 200000)) (refusal 26)"), "{text}");
+    assert!(
+        text.contains("(e 1 (pos 4) 1) (done (1 ∷ 0 ∷ []))"),
+        "{text}"
+    );
+    assert!(text.contains("(e 1 (pos 200000) 1) (refusal 26)"), "{text}");
+}
+
+#[test]
+fn cases_that_rights_have_a_say_in_are_sorts_of_their_own() {
+    let mut plan = two_links();
+    plan.rights = vec![rights(1, 0, 7), rights(2, 1, 7)];
+    let bytes = plan.encode();
+    let mut words = vec![0; 138];
+    manager::begin(&bytes, &mut words);
+    let calls = [
+        Call::Signal(2),
+        Call::Event(1, 0, 2),
+        Call::Signal(3),
+        Call::Fire(1, 1),
+    ];
+    let mut lines: String = calls
+        .iter()
+        .map(|&call| vectors::call_line(&bytes, &words, call) + "\n")
+        .collect();
+    plan.rights[1].sum = 8;
+    let unfit: String = plan.encode().iter().map(|b| format!("{b:02x}")).collect();
+    lines += &format!("P;{unfit};27\n");
+    let text = theorems("rights", &lines).expect("theorems");
+    assert!(text.contains("(s 2) (done (1 ∷ []))"), "{text}");
+    assert!(
+        text.contains("(e 1 (pos 0) 2) (done (1 ∷ 0 ∷ []))"),
+        "{text}"
+    );
+    assert!(text.contains("(s 3) (refusal 28)"), "{text}");
+    assert!(text.contains("(turnedBack 27)"), "{text}");
+    // Of two calls refused as 28, as many as wanted.
+    assert!(!text.contains("(f 1 1) (refusal 28)"), "{text}");
 }
 
 /// The theorem of one conversion.

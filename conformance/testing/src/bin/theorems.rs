@@ -5,9 +5,10 @@
 //! Taken are HISTORIES histories, PLANS refused plans and LEDGERS calls on
 //! damaged ledgers, and fewer histories that end half withdrawn, whole runs,
 //! accepted plans, calls on sound ledgers, on those with roots in both modes
-//! and on those of other plans, events that windows or days have a say in, and
-//! conversions: of each sort as many different ones as there are. Cases too
-//! large to be computed quickly are dropped.
+//! and on those of other plans, events that windows or days have a say in, calls
+//! that rights have a say in, plans refused for their rights, and conversions:
+//! of each sort as many different ones as there are. Cases too large to be
+//! computed quickly are dropped.
 
 use std::collections::{BTreeSet, HashMap};
 use std::fs;
@@ -17,10 +18,10 @@ use std::process::ExitCode;
 
 use second::days::Term;
 use second::journal::{self, Record, Records};
-use second::ledger::{self, track_words, Clause, Ledger};
-use second::plan::{self, Plan};
+use second::ledger::{self, track_words, Clause, Ledger, Mode};
+use second::plan::{self, Plan, Right};
 use second::rules;
-use testing::faults;
+use testing::faults::{self, RightsFault};
 use testing::generate::journals::windows_met;
 use testing::theorems::{parts, statement};
 
@@ -56,6 +57,17 @@ enum Sort {
     OtherPlan,
     /// An event that meets a window, or is refused for its day.
     Dated,
+    /// A plan refused for its rights records.
+    UnfitRights,
+    /// A plan refused for a 65th rights record alone: never small.
+    CrowdedRights,
+    /// A call refused as 28.
+    NoRight,
+    /// A signal that turns some forward tracks and leaves others.
+    Partial,
+    /// An event that leaves tracks which would move by right of all, or a signal
+    /// that turns none of the forward ones.
+    Left,
     /// A conversion of a day or a date.
     Conversion,
     /// An event, a signal or a firing that is done with roots in both modes:
@@ -74,7 +86,7 @@ struct Share {
     limit: usize,
 }
 
-fn shares(histories: usize, plans: usize, ledgers: usize) -> [Share; 13] {
+fn shares(histories: usize, plans: usize, ledgers: usize) -> [Share; 18] {
     let share = |sort, name, wanted, limit| Share {
         sort,
         name,
@@ -106,6 +118,26 @@ fn shares(histories: usize, plans: usize, ledgers: usize) -> [Share; 13] {
             "events that meet a window or are refused as 26",
             ledgers / 5,
             240,
+        ),
+        share(Sort::UnfitRights, "plans refused as 27", plans / 10, 300),
+        share(
+            Sort::CrowdedRights,
+            "plans refused as 27 for a 65th record",
+            plans / 100,
+            900,
+        ),
+        share(Sort::NoRight, "calls refused as 28", ledgers / 8, 240),
+        share(
+            Sort::Partial,
+            "signals that leave some forward",
+            ledgers / 8,
+            260,
+        ),
+        share(
+            Sort::Left,
+            "events and signals that leave others' tracks",
+            ledgers / 10,
+            260,
         ),
         share(Sort::Undoing, "signals and firings done", ledgers / 5, 240),
         share(Sort::Other, "other calls", ledgers / 5, 200),
@@ -142,12 +174,19 @@ fn sort_of(fields: &[&str]) -> Option<(Sort, usize)> {
             (Sort::Run, plan * (1 + records))
         }
         ["P", _, "6" | "16"] => (Sort::Oversized, plan),
+        ["P", bytes, "27"] if is_crowded(bytes) => (Sort::CrowdedRights, plan),
+        ["P", _, "27"] => (Sort::UnfitRights, plan),
         ["P", _, answer] if answer.starts_with('A') => (Sort::Accepted, plan),
         ["P", _, _] => (Sort::Refused, plan),
         ["L", "", "", call, _, _] if call.starts_with(['D', 'G']) => {
             (Sort::Conversion, days_before(call))
         }
         ["L", _, _, _, "R17" | "R18", _] => (Sort::Damaged, plan),
+        ["L", _, _, _, "R28", _] => (Sort::NoRight, plan),
+        ["L", bytes, words, call, answer, _] if leaves(bytes, words, call, answer).is_some() => {
+            let partial = leaves(bytes, words, call, answer) == Some(true);
+            (if partial { Sort::Partial } else { Sort::Left }, plan)
+        }
         ["L", bytes, words, _, "R24" | "", _] if !differing(bytes, words).is_empty() => {
             (Sort::OtherPlan, plan)
         }
@@ -161,6 +200,33 @@ fn sort_of(fields: &[&str]) -> Option<(Sort, usize)> {
         ["L", _, _, _, _, _] => (Sort::Other, plan),
         _ => return None,
     })
+}
+
+/// Whether a plan has more than 64 rights records and no other fault of rights.
+fn is_crowded(plan: &str) -> bool {
+    let records = plan::read_records(&numbers(plan, 2));
+    let faults = records.map(|records| faults::rights_faults(&records));
+    faults == Ok(vec![RightsFault::TooMany])
+}
+
+/// Of an event or a signal that is done and leaves tracks for want of the right:
+/// whether it is a signal that turns some. None of another call.
+fn leaves(plan: &str, words: &str, call: &str, answer: &str) -> Option<bool> {
+    let done: usize = answer.strip_prefix('D')?.split(',').next()?.parse().ok()?;
+    let record = records(call).next()?;
+    let plan = plan::read(&numbers(plan, 2)).ok()?;
+    let ledger = Ledger::decode(&plan, &numbers(words, 4));
+    match record {
+        Record::Event(event, day, _) => {
+            let possible = rules::possible_moves(&plan, &ledger, event, day);
+            (possible.len() > done).then_some(false)
+        }
+        Record::Signal(_) => {
+            let forward = ledger.tracks.iter().filter(|t| t.mode == Mode::Forward);
+            (forward.count() > done).then_some(done > 0)
+        }
+        _ => None,
+    }
 }
 
 /// The days of the range before the day whose date is asked for; none of a day
@@ -192,7 +258,7 @@ fn windows_of_call(plan: &str, words: &str, call: &str, answer: &str) -> BTreeSe
 /// How the windows that a record meets stand to its day.
 fn windows(plan: &Plan, ledger: &Ledger, record: Record) -> BTreeSet<&'static str> {
     let (event, day) = match record {
-        Record::Event(event, day) => (event, day),
+        Record::Event(event, day, _) => (event, day),
         _ => return BTreeSet::new(),
     };
     let stands = |term: Term| match term {
@@ -249,8 +315,8 @@ fn ending(plan: &str, mut records: impl Iterator<Item = Record>) -> Option<(char
         journal::perform(&plan, &mut ledger, record);
         let letter = match record {
             Record::Event(..) => 'E',
-            Record::Signal => 'S',
-            Record::Fire(_) | Record::FireLowest => 'F',
+            Record::Signal(_) => 'S',
+            Record::Fire(..) | Record::FireLowest(_) => 'F',
         };
         ledger.is_over().then_some((letter, parted))
     })
@@ -260,11 +326,16 @@ fn ending(plan: &str, mut records: impl Iterator<Item = Record>) -> Option<(char
 fn records(calls: &str) -> impl Iterator<Item = Record> + '_ {
     let record = |call: &str| match (call.get(..1)?, call.get(1..)?) {
         ("E", given) => {
-            let (event, day) = given.split_once('@')?;
-            Some(Record::Event(event.parse().ok()?, day.parse().ok()?))
+            let (event, given) = given.split_once('@')?;
+            let (day, society) = given.split_once(':')?;
+            let (event, day) = (event.parse().ok()?, day.parse().ok()?);
+            Some(Record::Event(event, day, society.parse().ok()?))
         }
-        ("S", _) => Some(Record::Signal),
-        ("F", track) => Some(Record::Fire(track.parse().ok()?)),
+        ("S", given) => Some(Record::Signal(given.strip_prefix(':')?.parse().ok()?)),
+        ("F", given) => {
+            let (track, society) = given.split_once(':')?;
+            Some(Record::Fire(track.parse().ok()?, society.parse().ok()?))
+        }
         _ => None,
     };
     parts(calls, ',').filter_map(record)
@@ -329,11 +400,14 @@ fn shows(fields: &[&str]) -> String {
         }
         ["P", plan, "3"] => format!("3 {:?}", faults::fall(&numbers(plan, 2))),
         ["P", plan, "25"] => window_faults(&numbers(plan, 2)),
+        ["P", plan, "27"] => rights_faults(&numbers(plan, 2)),
         ["P", plan, answer] => {
             let tracks: String = parts(answer, ',').take(1).collect();
-            let windowed = plan::read_records(&numbers(plan, 2));
-            let windowed = windowed.map_or(false, |records| !records.windows.is_empty());
-            format!("{tracks} {windowed}")
+            let records = plan::read_records(&numbers(plan, 2));
+            let has = records.map_or((false, false), |records| {
+                (!records.windows.is_empty(), records.rights.len() > 1)
+            });
+            format!("{tracks} {has:?}")
         }
         ["L", "", "", call, answer, _] if call.starts_with(['D', 'G']) => conversion(call, answer),
         ["L", plan, before, call, "R24" | "", _] => {
@@ -346,9 +420,12 @@ fn shows(fields: &[&str]) -> String {
                 let roots = parted(&plan, &before).then(|| standings(&plan, &before));
                 let changes = changes(&plan, &before, &after);
                 let windows = windows_of_call(fields[1], fields[2], call, answer);
-                format!("{} {changes} {roots:?} {windows:?}", outcome(call, answer))
+                let left = leaves(fields[1], fields[2], call, answer);
+                let outcome = outcome(call, answer);
+                format!("{outcome} {changes} {roots:?} {windows:?} {left:?}")
             }
             Ok(_) if answer == "R26" => day_refused(&numbers(before, 4), call),
+            Ok(plan) if answer == "R28" => right_lacked(&plan, &numbers(before, 4), call),
             _ => outcome(call, answer),
         },
         _ => String::new(),
@@ -371,10 +448,33 @@ fn window_faults(plan: &[u8]) -> String {
     }
 }
 
+/// The forms of 27 that a plan has.
+fn rights_faults(plan: &[u8]) -> String {
+    match plan::read_records(plan) {
+        Ok(records) => format!("27 {:?}", faults::rights_faults(&records)),
+        Err(_) => String::new(),
+    }
+}
+
+/// Of a call refused as 28: its letter, the rights that the society has
+/// somewhere, and whether a track to be fired is ready and under a root.
+fn right_lacked(plan: &Plan, words: &[u16], call: &str) -> String {
+    let (society, track) = match records(call).next() {
+        Some(Record::Event(_, _, society)) | Some(Record::Signal(society)) => (society, None),
+        Some(Record::Fire(track, society)) => (society, Some(usize::from(track))),
+        _ => return String::new(),
+    };
+    let ledger = Ledger::decode(plan, words);
+    let ready = track.map(|t| (rules::may_fire(plan, &ledger, t), plan.is_root(t)));
+    let rights = [Right::Move, Right::Signal, Right::Fire];
+    let has = rights.map(|right| plan.allows_somewhere(society, right));
+    format!("R28 {} {has:?} {ready:?}", &call[..1])
+}
+
 /// How a day is refused: out of range or falling, and by how much.
 fn day_refused(words: &[u16], call: &str) -> String {
     let day = match records(call).next() {
-        Some(Record::Event(_, day)) => day,
+        Some(Record::Event(_, day, _)) => day,
         _ => return String::new(),
     };
     let last = ledger::day_of(words);

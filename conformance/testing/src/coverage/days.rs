@@ -22,13 +22,14 @@ impl Coverage {
 
     /// Counts what the windows of a refused plan have to do with its refusal.
     pub(super) fn plan_refused(&mut self, bytes: &[u8], refusal: Refusal) {
+        self.rights_refused(bytes, refusal);
         match refusal {
             Refusal::Kind => {
                 let falls = matches!(faults::fall(bytes), Some((WINDOW, _)));
                 self.count_if(falls, Happening::FallAfterWindow);
             }
             Refusal::AfterEnd => {
-                let follows = faults::window_follows_end(bytes);
+                let follows = faults::follows_end(bytes, WINDOW);
                 self.count_if(follows, Happening::WindowAfterEnd);
             }
             _ => self.windows_refused(bytes, refusal),

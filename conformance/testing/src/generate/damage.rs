@@ -1,17 +1,18 @@
-//! Damaged plans: each refusal 2 to 16 and 25 as the first that applies,
+//! Damaged plans: each refusal 2 to 16, 25 and 27 as the first that applies,
 //! several faults at once, and random bytes.
 
 use super::days;
 use super::plans;
 use super::rng::Rng;
+use super::societies;
 use second::plan::{
-    self, Records, State, Track, Transition, Window, KINDS, MAX_HEIGHT, MAX_STATES, MAX_TRACKS,
-    MAX_TRANSITIONS, NONE,
+    self, Records, Rights, State, Track, Transition, Window, KINDS, MAX_HEIGHT, MAX_RIGHTS,
+    MAX_STATES, MAX_TRACKS, MAX_TRANSITIONS, NONE,
 };
 use second::record;
 
 /// The refusals of a plan.
-pub const NUMBERS: [u8; 16] = [2, 3, 4, 5, 6, 7, 8, 9, 10, 11, 12, 13, 14, 15, 16, 25];
+pub const NUMBERS: [u8; 17] = [2, 3, 4, 5, 6, 7, 8, 9, 10, 11, 12, 13, 14, 15, 16, 25, 27];
 /// The one for a track's height.
 const HEIGHT: u8 = 16;
 
@@ -29,17 +30,18 @@ pub fn any_plan(rng: &mut Rng, limit: usize) -> Vec<u8> {
     }
 }
 
-/// Some refusal of a plan, 25 more often, since it has the most forms.
+/// Some refusal of a plan, 25 and 27 more often, since they have the most forms.
 fn any_number(rng: &mut Rng) -> u8 {
-    if rng.chance(16) {
-        return 25;
+    match rng.below(100) {
+        0..=15 => 25,
+        16..=23 => 27,
+        _ => rng.pick(&NUMBERS).unwrap_or(25),
     }
-    rng.pick(&NUMBERS).unwrap_or(25)
 }
 
-/// A plan whose first refusal is `number`, now and then with a window's fault
-/// behind it. A limit below 9 tracks leaves no
-/// height to exceed; such a plan is damaged in another way.
+/// A plan whose first refusal is `number`, now and then with a window's fault or
+/// one of rights behind it. A limit below 9 tracks leaves no height to exceed;
+/// such a plan is damaged in another way.
 pub fn refused_as(rng: &mut Rng, limit: usize, number: u8) -> Vec<u8> {
     let room = number != HEIGHT || limit > MAX_HEIGHT as usize;
     for _ in 0..if room { 64 } else { 0 } {
@@ -47,6 +49,9 @@ pub fn refused_as(rng: &mut Rng, limit: usize, number: u8) -> Vec<u8> {
         spoil_records(rng, &mut plan, limit, number);
         if rng.chance(15) {
             spoil_windows(rng, &mut plan);
+        }
+        if rng.chance(15) {
+            spoil_rights(rng, &mut plan);
         }
         let mut bytes = plan.encode();
         spoil_bytes(rng, &mut bytes, number);
@@ -105,7 +110,7 @@ fn extend(rng: &mut Rng, bytes: &mut Vec<u8>) {
     }
 }
 
-/// Faults that show in the records: 6, 8 to 16 and 25.
+/// Faults that show in the records: 6, 8 to 16, 25 and 27.
 fn spoil_records(rng: &mut Rng, plan: &mut Records, limit: usize, number: u8) {
     match number {
         6 => overfill(rng, plan, limit),
@@ -119,6 +124,7 @@ fn spoil_records(rng: &mut Rng, plan: &mut Records, limit: usize, number: u8) {
         15 => add_twin(rng, plan),
         16 => grow_high(rng, plan, limit),
         25 => spoil_windows(rng, plan),
+        27 => spoil_rights(rng, plan),
         _ => {}
     }
 }
@@ -332,6 +338,64 @@ fn crowd(rng: &mut Rng, plan: &mut Records) {
     }
 }
 
+/// 27: a rights record names no track or a hosted one, its sum is 0 or above 7,
+/// or it repeats a pair; or there are more than 64.
+fn spoil_rights(rng: &mut Rng, plan: &mut Records) {
+    let roots = societies::roots(&plan.tracks);
+    if rng.chance(30) {
+        return crowd_rights(rng, plan, &roots);
+    }
+    if plan.rights.is_empty() {
+        plan.rights = societies::many(rng, &roots, 1);
+    }
+    let at = rng.below(plan.rights.len().max(1));
+    let mut unfit = match plan.rights.get(at) {
+        Some(&rights) => rights,
+        None => return,
+    };
+    match rng.below(5) {
+        0 => unfit.root = beyond(rng, plan.tracks.len()),
+        1 => unfit.root = hosted_track(rng, plan).unwrap_or(NONE),
+        2 => unfit.sum = 0,
+        3 => unfit.sum = sum_above(rng),
+        _ => return repeat_pair(rng, plan, unfit),
+    }
+    plan.rights[at] = unfit;
+}
+
+fn hosted_track(rng: &mut Rng, plan: &Records) -> Option<u16> {
+    let numbers = 0..plan.tracks.len() as u16;
+    let hosted = |&t: &u16| plan.tracks[usize::from(t)].host != NONE;
+    let hosted: Vec<u16> = numbers.filter(hosted).collect();
+    rng.pick(&hosted)
+}
+
+/// A sum above 7, often the next one.
+fn sum_above(rng: &mut Rng) -> u16 {
+    let any = rng.between(8, 65_535) as u16;
+    rng.pick(&[8, 8, 9, 15, 16, 0x0100, 0x0700, 0x0107, 65_535, any])
+        .unwrap_or(8)
+}
+
+/// The pair once more, anywhere, with the same sum or another.
+fn repeat_pair(rng: &mut Rng, plan: &mut Records, mut again: Rights) {
+    if plan.rights.len() >= MAX_RIGHTS {
+        plan.rights.truncate(MAX_RIGHTS - 1);
+        again = plan.rights[0];
+    }
+    if rng.chance(70) {
+        again.sum = rng.between(1, 7) as u16;
+    }
+    let place = rng.below(plan.rights.len() + 1);
+    plan.rights.insert(place, again);
+}
+
+/// A 65th record, or many more, each of another pair.
+fn crowd_rights(rng: &mut Rng, plan: &mut Records, roots: &[u16]) {
+    let more = rng.pick(&[1, 1, 1, 2, 40, 300]).unwrap_or(1);
+    plan.rights = societies::many(rng, roots, MAX_RIGHTS + more);
+}
+
 /// Faults that show in the bytes: 2 to 5 and 7.
 fn spoil_bytes(rng: &mut Rng, bytes: &mut Vec<u8>, number: u8) {
     match number {
@@ -344,12 +408,12 @@ fn spoil_bytes(rng: &mut Rng, bytes: &mut Vec<u8>, number: u8) {
     }
 }
 
-/// 7: any bytes behind the end, or a window.
+/// 7: any bytes behind the end, a window, or a rights record.
 fn follow(rng: &mut Rng, bytes: &mut Vec<u8>) {
-    if rng.chance(30) {
-        record::put(bytes, plan::WINDOW, &[0; 5]);
-    } else {
-        extend(rng, bytes);
+    match rng.below(10) {
+        0..=2 => record::put(bytes, plan::WINDOW, &[0; 5]),
+        3..=5 => record::put(bytes, plan::RIGHTS, &[1, 0, 7]),
+        _ => extend(rng, bytes),
     }
 }
 
@@ -371,9 +435,13 @@ fn cut_between(rng: &mut Rng, bytes: &mut Vec<u8>) {
     bytes.truncate(start + rng.below(4));
 }
 
-/// 3: a kind not 1 to 5, one that falls, or a window before a transition.
-fn spoil_kind(rng: &mut Rng, bytes: &mut [u8]) {
+/// 3: a kind not 1 to 6, one that falls, a window before a transition, or a
+/// rights record before others.
+fn spoil_kind(rng: &mut Rng, bytes: &mut Vec<u8>) {
     let starts = starts(bytes);
+    if rng.chance(15) {
+        return insert_rights(rng, bytes, &starts);
+    }
     let way = rng.below(5);
     let transition = |&start: &usize| u16::from(bytes[start + 2]) == plan::TRANSITION;
     let chosen: Vec<usize> = match way {
@@ -384,12 +452,20 @@ fn spoil_kind(rng: &mut Rng, bytes: &mut [u8]) {
         let kind = match way {
             0 => plan::WINDOW,
             1 => 0,
-            2 => 6,
+            2 => 7,
             3 => rng.pick(&KINDS).unwrap_or(0),
             _ => rng.word(),
         };
         bytes[start + 2..start + 4].copy_from_slice(&kind.to_le_bytes());
     }
+}
+
+/// A whole rights record where some record starts.
+fn insert_rights(rng: &mut Rng, bytes: &mut Vec<u8>, starts: &[usize]) {
+    let mut rights = Vec::new();
+    record::put(&mut rights, plan::RIGHTS, &[1, 0, 7]);
+    let at = rng.pick(starts).unwrap_or(0);
+    bytes.splice(at..at, rights);
 }
 
 /// 4: a length that is not the kind's.

@@ -1,14 +1,16 @@
 //! Histories and journals, steered by the rules so that they move, close,
-//! signal, abandon, fire and deviate, on days in and about the windows.
+//! signal, abandon, fire and deviate, on days in and about the windows, by
+//! societies that mostly have the right.
 
 use super::damage;
 use super::days;
 use super::plans;
 use super::rng::Rng;
+use super::societies;
 use second::days::Term;
 use second::journal::{self, Record, MAX_BYTES};
 use second::ledger::{Ledger, Mode};
-use second::plan::{self, members, Plan};
+use second::plan::{self, members, Plan, Right};
 use second::record;
 use second::rules;
 
@@ -64,17 +66,21 @@ fn stretch(rng: &mut Rng, case: &mut Case) {
     }
 }
 
-/// Appends whole records up to the greatest length.
+/// Bytes of a signal, and of a firing of the lowest track.
+const SHORTEST: usize = 6;
+
+/// Appends whole records up to the greatest length. A firing has two bytes more
+/// than the shortest records.
 fn pad(rng: &mut Rng, journal: &mut Vec<u8>) {
-    if journal.len() % 4 == 2 {
-        Record::Fire(0).encode(journal);
+    for _ in 0..(MAX_BYTES - journal.len()) % SHORTEST / 2 {
+        Record::Fire(0, 1).encode(journal);
     }
-    while journal.len() + record::HEADER <= MAX_BYTES {
-        let signal = rng.chance(10);
-        let record = if signal {
-            Record::Signal
+    while journal.len() + SHORTEST <= MAX_BYTES {
+        let society = rng.between(1, 2) as u16;
+        let record = if rng.chance(10) {
+            Record::Signal(society)
         } else {
-            Record::FireLowest
+            Record::FireLowest(society)
         };
         record.encode(journal);
     }
@@ -97,7 +103,7 @@ fn stray_journal(rng: &mut Rng) -> Vec<u8> {
     let mut bytes = Vec::new();
     for _ in 0..rng.below(4) {
         let event = rng.between(1, 5) as u16;
-        Record::Event(event, days::any_day(rng)).encode(&mut bytes);
+        Record::Event(event, days::any_day(rng), 1).encode(&mut bytes);
     }
     bytes
 }
@@ -116,27 +122,27 @@ fn break_off(rng: &mut Rng, bytes: &mut Vec<u8>) {
 fn unknown_kind(rng: &mut Rng, bytes: &mut Vec<u8>) {
     let kinds = [0, 1, 2, 3, 4, 5, 15, 16, 16, 16, 21, 4096, 65535];
     let kind = rng.pick(&kinds).unwrap_or(0);
-    record::put(bytes, kind, &[1, 0, 0][..rng.below(4)]);
-    Record::Signal.encode(bytes);
+    record::put(bytes, kind, &[1, 0, 0, 1][..rng.below(5)]);
+    Record::Signal(1).encode(bytes);
 }
 
 fn wrong_length(rng: &mut Rng, bytes: &mut Vec<u8>) {
     let kind = rng.between(17, 20) as u16;
     let right = journal::kind_length(kind);
-    let lengths: Vec<u16> = [0, 2, 4, 5, 6, 8, 10, 12, 65535]
+    let lengths: Vec<u16> = [0, 2, 4, 5, 6, 8, 10, 12, 14, 65535]
         .into_iter()
         .filter(|&l| Some(l) != right)
         .collect();
     let length = rng.pick(&lengths).unwrap_or(0);
-    record::put_words(bytes, &[length, kind, 1, 0, 0, 0]);
+    record::put_words(bytes, &[length, kind, 1, 0, 0, 1, 0]);
 }
 
 fn cut_short(rng: &mut Rng, bytes: &mut Vec<u8>) {
     let mut whole = Vec::new();
     if rng.chance(50) {
-        Record::Event(1, 0).encode(&mut whole);
+        Record::Event(1, 0, 1).encode(&mut whole);
     } else {
-        Record::Fire(0).encode(&mut whole);
+        Record::Fire(0, 1).encode(&mut whole);
     }
     let kept = rng.between(record::HEADER, whole.len() - 1);
     bytes.extend_from_slice(&whole[..kept]);
@@ -172,16 +178,21 @@ const SHORT: usize = 8;
 const TRIES: usize = 400;
 
 /// A small plan and a short history, most often one that is over at its end
-/// with some root taken back: by an event or by a firing, equally often.
+/// with some root taken back: by an event or by a firing, equally often, and
+/// more seldom by a signal.
 pub fn half_withdrawn(rng: &mut Rng, limit: usize) -> (Vec<u8>, Vec<Record>) {
-    let by_event = rng.chance(50);
+    let way = rng.below(5);
+    let wanted = |last| match last {
+        Record::Event(..) => way < 2,
+        Record::Signal(_) => way == 4,
+        Record::Fire(..) | Record::FireLowest(_) => way == 2 || way == 3,
+    };
     let mut tries = TRIES;
     loop {
         let bytes = plans::small_linked_records(rng, limit).encode();
         let plan = plan::read(&bytes).expect("a good plan is accepted");
         let temper = parting(rng);
         let records = steered(rng, &temper, &plan, SHORT).0;
-        let wanted = |last| matches!(last, Record::Event(..)) == by_event;
         tries -= 1;
         if tries == 0 || parted_end(&plan, &records).map_or(false, wanted) {
             return (bytes, records);
@@ -189,24 +200,31 @@ pub fn half_withdrawn(rng: &mut Rng, limit: usize) -> (Vec<u8>, Vec<Record>) {
     }
 }
 
-/// The record that put every track to sleep, where roots were in both modes
-/// before it.
+/// The record that put every track to sleep, where it is a signal or roots were
+/// in both modes before it.
 fn parted_end(plan: &Plan, records: &[Record]) -> Option<Record> {
     let mut ledger = rules::begin(plan);
     for &record in records {
         let parted = is_parted(plan, &ledger);
         journal::perform(plan, &mut ledger, record);
         if ledger.is_over() {
-            return Some(record).filter(|_| parted);
+            let signal = matches!(record, Record::Signal(_));
+            return Some(record).filter(|_| parted || signal);
         }
     }
     None
 }
 
-/// Whether nothing more can happen: over, or all undoing with none ready.
+/// Whether nothing more can happen by anyone's right: over, or all undoing with
+/// none ready.
 fn is_spent(plan: &Plan, ledger: &Ledger) -> bool {
-    let forward = ledger.tracks.iter().any(|t| t.mode == Mode::Forward);
-    !forward && rules::ready(plan, ledger) == 0
+    let held = |right, t| societies::is_held(plan, right, t);
+    let strikes = |t: usize| match ledger.tracks[t].mode {
+        Mode::Asleep => false,
+        Mode::Forward => held(Right::Move, t) || held(Right::Signal, t),
+        Mode::Undoing => rules::may_fire(plan, ledger, t) && held(Right::Fire, t),
+    };
+    !(0..plan.track_count()).any(strikes)
 }
 
 fn temper(rng: &mut Rng, plan: &Plan) -> Temper {
@@ -226,7 +244,7 @@ fn temper(rng: &mut Rng, plan: &Plan) -> Temper {
         again: signal,
         fire: 55,
         repeat: if pumping { 95 } else { 20 },
-        haste: rng.pick(&[0, 20, 50]).unwrap_or(0),
+        haste: rng.pick(&[0, 30, 60]).unwrap_or(0),
     }
 }
 
@@ -264,7 +282,11 @@ fn next_record(
         return useless(rng, plan, ledger);
     }
     let events = moving_events(plan, ledger, |_| true);
-    let ready: Vec<usize> = members(rules::ready(plan, ledger)).collect();
+    if let Some(society) = finishing_signal(plan, ledger).filter(|_| rng.chance(40)) {
+        return Record::Signal(society);
+    }
+    let mut ready: Vec<usize> = members(rules::ready(plan, ledger)).collect();
+    ready.retain(|&t| societies::is_held(plan, Right::Fire, t));
     let fires = !ready.is_empty() && (events.is_empty() || rng.chance(temper.fire));
     if fires {
         return firing(rng, plan, &ready);
@@ -275,14 +297,28 @@ fn next_record(
         temper.signal
     };
     if rng.chance(signal) {
-        return Record::Signal;
+        return Record::Signal(signaller(rng, plan, ledger));
     }
     match before {
-        Some(&Record::Event(e, _)) if events.contains(&e) && rng.chance(temper.repeat) => {
-            Record::Event(e, event_day(rng, plan, ledger, e))
+        Some(&Record::Event(e, _, _)) if events.contains(&e) && rng.chance(temper.repeat) => {
+            event_of(rng, plan, ledger, e)
         }
         _ => moving_event(rng, temper, plan, ledger, &events),
     }
+}
+
+/// A society whose signal leaves the ledger over, if there is one: it takes
+/// back all roots that have not ended.
+pub fn finishing_signal(plan: &Plan, ledger: &Ledger) -> Option<u16> {
+    let ended = |t: usize| rules::has_ended(plan, ledger, t);
+    if ledger.is_over() || !plan.roots().any(ended) {
+        return None;
+    }
+    societies::named(plan).into_iter().find(|&society| {
+        let mut after = ledger.clone();
+        let done = rules::signal(plan, &mut after, society);
+        done.is_ok() && after.is_over()
+    })
 }
 
 /// Whether some root is forward and some root undoing.
@@ -291,15 +327,48 @@ fn is_parted(plan: &Plan, ledger: &Ledger) -> bool {
     some(Mode::Forward) && some(Mode::Undoing)
 }
 
-/// A firing that is allowed, or now and then of any track.
+/// An event on a fitting day, by a society that can move something by it.
+pub fn event_of(rng: &mut Rng, plan: &Plan, ledger: &Ledger, event: u16) -> Record {
+    let day = event_day(rng, plan, ledger, event);
+    Record::Event(event, day, mover(rng, plan, ledger, event))
+}
+
+/// A society for an event: mostly one whose tracks move by it.
+pub fn mover(rng: &mut Rng, plan: &Plan, ledger: &Ledger, event: u16) -> u16 {
+    let moves = |&t: &usize| {
+        let transition = plan.transition(ledger.tracks[t].state, event);
+        transition.is_some() && rules::may_move(plan, ledger, t)
+    };
+    let moving: Vec<usize> = (0..plan.track_count()).filter(moves).collect();
+    societies::caller(rng, plan, Right::Move, &moving)
+}
+
+/// A society for a signal: mostly one with forward tracks to turn.
+pub fn signaller(rng: &mut Rng, plan: &Plan, ledger: &Ledger) -> u16 {
+    let forward = |&t: &usize| ledger.tracks[t].mode == Mode::Forward;
+    let forward: Vec<usize> = (0..plan.track_count()).filter(forward).collect();
+    societies::caller(rng, plan, Right::Signal, &forward)
+}
+
+/// A firing that is allowed, or now and then of any track; one of the lowest
+/// track now and then by a society that may fire none of the ready ones, or only
+/// higher ones.
 fn firing(rng: &mut Rng, plan: &Plan, ready: &[usize]) -> Record {
     if rng.chance(8) {
-        return Record::Fire(rng.below(plan.track_count()) as u16);
+        let track = rng.below(plan.track_count());
+        return Record::Fire(track as u16, firer(rng, plan, &[track]));
     }
     match rng.pick(ready) {
-        Some(track) if rng.chance(60) => Record::Fire(track as u16),
-        _ => Record::FireLowest,
+        Some(track) if rng.chance(60) => Record::Fire(track as u16, firer(rng, plan, &[track])),
+        _ if rng.chance(8) => Record::FireLowest(societies::any(rng, plan)),
+        _ if rng.chance(40) => Record::FireLowest(firer(rng, plan, &ready[ready.len() / 2..])),
+        _ => Record::FireLowest(firer(rng, plan, ready)),
     }
+}
+
+/// A society for a firing: mostly one that may fire one of the tracks.
+pub fn firer(rng: &mut Rng, plan: &Plan, tracks: &[usize]) -> u16 {
+    societies::caller(rng, plan, Right::Fire, tracks)
 }
 
 /// An event that moves something, or a signal or firing where none does.
@@ -311,10 +380,11 @@ fn moving_event(
     events: &[u16],
 ) -> Record {
     let hasty = moving_events(plan, ledger, |s| plan.is_final(s));
-    let hasty = rng.pick(&hasty).filter(|_| rng.chance(temper.haste));
+    let busiest = busiest(plan, ledger, &hasty).filter(|_| rng.chance(45));
+    let hasty = busiest.or_else(|| rng.pick(&hasty).filter(|_| rng.chance(temper.haste)));
     match hasty.or_else(|| rng.pick(events)) {
-        Some(event) => Record::Event(event, event_day(rng, plan, ledger, event)),
-        None if rng.chance(50) => Record::Signal,
+        Some(event) => event_of(rng, plan, ledger, event),
+        None if rng.chance(50) => Record::Signal(signaller(rng, plan, ledger)),
         None => useless(rng, plan, ledger),
     }
 }
@@ -396,12 +466,13 @@ pub fn refused_day(rng: &mut Rng, ledger: &Ledger) -> i32 {
     }
 }
 
-/// The events that move a track into a destination of the wanted sort, on some
-/// day that is not before the last.
+/// The events by which some society moves a track into a destination of the
+/// wanted sort, on some day that is not before the last.
 pub fn moving_events(plan: &Plan, ledger: &Ledger, wanted: impl Fn(u16) -> bool) -> Vec<u16> {
     let wanted = &wanted;
     let mut events: Vec<u16> = (0..plan.track_count())
         .filter(|&t| rules::may_move(plan, ledger, t))
+        .filter(|&t| societies::is_held(plan, Right::Move, t))
         .flat_map(|t| plan.transitions_from(ledger.tracks[t].state))
         .filter(|(x, term)| wanted(x.destination) && term.last >= ledger.day)
         .map(|(x, _)| x.event)
@@ -411,22 +482,40 @@ pub fn moving_events(plan: &Plan, ledger: &Ledger, wanted: impl Fn(u16) -> bool)
     events
 }
 
+/// Of these events the one by which the most tracks move into final states.
+pub fn busiest(plan: &Plan, ledger: &Ledger, events: &[u16]) -> Option<u16> {
+    let moves = |event: u16, t: usize| {
+        let transition = plan.transition(ledger.tracks[t].state, event);
+        let ends = transition.map_or(false, |(x, _)| plan.is_final(x.destination));
+        ends && rules::may_move(plan, ledger, t)
+    };
+    let tracks = 0..plan.track_count();
+    let count = |&event: &u16| tracks.clone().filter(|&t| moves(event, t)).count();
+    events.iter().copied().max_by_key(count)
+}
+
 /// A record that need not do anything: any event of the plan, event 0, an
-/// unknown event, on any day, any track, a missing track, a signal, a firing.
+/// unknown event, on any day, any track, a missing track, a signal, a firing, by
+/// any society.
 fn useless(rng: &mut Rng, plan: &Plan, ledger: &Ledger) -> Record {
     let day = if rng.chance(75) {
         later_day(rng, plan, ledger.day)
     } else {
         refused_day(rng, ledger)
     };
+    let society = if rng.chance(75) {
+        societies::any(rng, plan)
+    } else {
+        societies::stranger(rng, plan)
+    };
     match rng.below(12) {
-        0 => Record::Event(0, day),
-        1 => Record::Event(rng.word(), day),
-        2..=4 => Record::Event(any_event(rng, plan), day),
-        5..=7 => Record::Fire(rng.below(plan.track_count()) as u16),
-        8 => Record::Fire(missing_track(rng, plan)),
-        9 => Record::Signal,
-        _ => Record::FireLowest,
+        0 => Record::Event(0, day, society),
+        1 => Record::Event(rng.word(), day, society),
+        2..=4 => Record::Event(any_event(rng, plan), day, society),
+        5..=7 => Record::Fire(rng.below(plan.track_count()) as u16, society),
+        8 => Record::Fire(missing_track(rng, plan), society),
+        9 => Record::Signal(society),
+        _ => Record::FireLowest(society),
     }
 }
 

@@ -8,3 +8,4 @@ pub mod neighbours;
 pub mod plans;
 pub mod rng;
 pub mod singles;
+pub mod societies;

@@ -4,6 +4,7 @@
 use super::days;
 use super::plans;
 use super::rng::Rng;
+use super::societies;
 use second::ledger;
 use second::plan::{self, Plan, Records, State, Window};
 use second::record;
@@ -38,10 +39,11 @@ fn accepted_neighbour(plan: &Plan, records: Records) -> Option<Plan> {
 /// The records with one of them changed, added or left out.
 fn varied(rng: &mut Rng, records: &Records) -> Records {
     let mut records = records.clone();
-    match rng.below(5) {
+    match rng.below(6) {
         0 => vary_state(rng, &mut records),
         1 => leave_out(rng, &mut records),
         2 => vary_window(rng, &mut records),
+        3 => vary_rights(rng, &mut records),
         _ => vary_transition(rng, &mut records),
     }
     records
@@ -80,6 +82,23 @@ fn vary_window(rng: &mut Rng, records: &mut Records) {
     }
 }
 
+/// Another society or another sum in a rights record, one record fewer, or all
+/// of them others.
+fn vary_rights(rng: &mut Rng, records: &mut Records) {
+    if records.rights.is_empty() || rng.chance(25) {
+        records.rights = societies::rights(rng, &records.tracks, 50);
+        return;
+    }
+    let at = rng.below(records.rights.len());
+    match rng.below(3) {
+        0 => records.rights[at].society = rng.below(5) as u16,
+        1 => records.rights[at].sum = rng.between(1, 7) as u16,
+        _ => {
+            records.rights.remove(at);
+        }
+    }
+}
+
 fn leave_out(rng: &mut Rng, records: &mut Records) {
     if !records.transitions.is_empty() {
         let at = rng.below(records.transitions.len());
@@ -111,7 +130,7 @@ fn vary_transition(rng: &mut Rng, records: &mut Records) {
 pub fn alike(rng: &mut Rng, plan: &Plan) -> Option<Plan> {
     let bytes = plan.records().encode();
     let kinds = kinds(plan);
-    let kind = rng.pick(&[0, 1, 1, 2, 2, 3])?;
+    let kind = rng.pick(&[0, 0, 1, 1, 1, 2, 2, 3, 4])?;
     (0..TRIES).find_map(|_| {
         let fields = two_fields(rng, &kinds, kind)?;
         let other = rearranged(rng, &bytes, fields);
@@ -143,23 +162,26 @@ const HEADER_WORDS: usize = record::HEADER / 2;
 /// many there are.
 type Kind = (usize, usize, usize);
 
-/// Tracks, states, transitions and windows.
-fn kinds(plan: &Plan) -> [Kind; 4] {
-    let [track, state, transition, window] = [1, 3, 5, 5].map(|fields| HEADER_WORDS + fields);
+/// Tracks, states, transitions, windows and rights.
+fn kinds(plan: &Plan) -> [Kind; 5] {
+    let words = [1, 3, 5, 5, 3].map(|fields| HEADER_WORDS + fields);
+    let [track, state, transition, window, grant] = words;
     let states = track * plan.track_count();
     let transitions = states + state * plan.state_count();
     let windows = transitions + transition * plan.transition_count();
+    let rights = windows + window * plan.records().windows.len();
     [
         (0, track, plan.track_count()),
         (states, state, plan.state_count()),
         (transitions, transition, plan.transition_count()),
         (windows, window, plan.records().windows.len()),
+        (rights, grant, plan.records().rights.len()),
     ]
 }
 
 /// The places, in words, of two fields of a kind of record: mostly the same
 /// field of two records.
-fn two_fields(rng: &mut Rng, kinds: &[Kind; 4], kind: usize) -> Option<(usize, usize)> {
+fn two_fields(rng: &mut Rng, kinds: &[Kind; 5], kind: usize) -> Option<(usize, usize)> {
     let (start, words, count) = kinds[kind];
     if count == 0 {
         return None;

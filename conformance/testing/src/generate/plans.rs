@@ -1,11 +1,13 @@
 //! Accepted plans: nested and parallel scopes, several roots, replacements,
-//! deviations, self loops, hosting first states, scopes that reopen, windows.
+//! deviations, self loops, hosting first states, scopes that reopen, windows,
+//! rights.
 
 use super::days;
 use super::rng::Rng;
+use super::societies;
 use second::plan::{
-    Records, State, Track, Transition, Window, MAX_HEIGHT, MAX_STATES, MAX_TRACKS, MAX_TRANSITIONS,
-    NONE,
+    Records, Rights, State, Track, Transition, Window, MAX_HEIGHT, MAX_STATES, MAX_TRACKS,
+    MAX_TRANSITIONS, NONE,
 };
 
 /// What a plan is to look like.
@@ -31,6 +33,8 @@ struct Taste {
     deviating: usize,
     /// Percent of transitions with a window.
     windows: usize,
+    /// Percent of plans in which one society has every right.
+    led: usize,
 }
 
 /// The records of an accepted plan of at most `limit` tracks.
@@ -101,6 +105,7 @@ fn sketch(rng: &mut Rng, taste: &Taste) -> Records {
         rng.shuffle(&mut plan.transitions);
     }
     plan.windows = windows(rng, taste, plan.transitions.len());
+    plan.rights = societies::rights(rng, &plan.tracks, taste.led);
     plan
 }
 
@@ -126,7 +131,8 @@ pub fn bytes(rng: &mut Rng, limit: usize) -> Vec<u8> {
 }
 
 /// A chain of tracks, each hosted by the first state of the one before: its
-/// height is its number of tracks. 9 tracks or more are refused as 16.
+/// height is its number of tracks. 9 tracks or more are refused as 16. Society
+/// 1 has every right.
 pub fn chain(tracks: usize) -> Records {
     let state = |n: usize| State {
         track: (n / 2) as u16,
@@ -146,6 +152,11 @@ pub fn chain(tracks: usize) -> Records {
         states: (0..2 * tracks).map(state).collect(),
         transitions: (0..tracks).map(step).collect(),
         windows: Vec::new(),
+        rights: vec![Rights {
+            society: 1,
+            root: 0,
+            sum: Rights::ALL,
+        }],
     }
 }
 
@@ -174,6 +185,7 @@ fn taste_of(rng: &mut Rng, tracks: usize) -> Taste {
         codeless: if rng.chance(30) { 40 } else { 12 },
         deviating: 25,
         windows: rng.pick(&[0, 0, 0, 0, 8, 25, 50, 100]).unwrap_or(0),
+        led: 76,
     }
 }
 
@@ -191,6 +203,7 @@ fn linked_taste(rng: &mut Rng, limit: usize) -> Taste {
         deep: rng.between(30, 90),
         last: rng.between(10, 50),
         deviating: rng.between(30, 90),
+        led: 45,
         ..taste_of(rng, tracks)
     }
 }

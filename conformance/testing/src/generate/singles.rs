@@ -1,5 +1,6 @@
-//! Single calls on sound ledgers, some of them near their finish, on damaged
-//! ones, and on those of other plans; and conversions.
+//! Single calls on sound ledgers, some of them near their finish or with rights
+//! divided among societies, on damaged ones, and on those of other plans; and
+//! conversions.
 
 use super::damage;
 use super::days;
@@ -8,8 +9,9 @@ use super::ledgers;
 use super::neighbours;
 use super::plans;
 use super::rng::Rng;
+use super::societies;
 use second::days::Date;
-use second::journal::{self, Record};
+use second::journal::{self, Outcome, Record};
 use second::ledger::{self, Clause, Ledger, LEADING_WORDS, PLAN_WORDS};
 use second::plan::{self, members, Plan};
 use second::rules;
@@ -17,14 +19,38 @@ use second::rules;
 /// A call on lent words, or a conversion, which is given none.
 #[derive(Clone, Copy, Debug, PartialEq, Eq)]
 pub enum Call {
-    /// An event and its day.
-    Event(u16, i32),
-    Signal,
-    Fire(u16),
+    /// An event, its day and the society.
+    Event(u16, i32, u16),
+    /// A signal of a society.
+    Signal(u16),
+    /// A track and the society.
+    Fire(u16, u16),
     Ready,
     Entries(u16),
     DateOfDay(i32),
     DayOfDate(Date),
+}
+
+impl Call {
+    /// The journal record that makes the same call, if one does.
+    pub fn record(self) -> Option<Record> {
+        match self {
+            Call::Event(event, day, society) => Some(Record::Event(event, day, society)),
+            Call::Signal(society) => Some(Record::Signal(society)),
+            Call::Fire(track, society) => Some(Record::Fire(track, society)),
+            _ => None,
+        }
+    }
+
+    /// The call that a journal record makes; none of one of the lowest track.
+    pub fn of(record: Record) -> Option<Call> {
+        match record {
+            Record::Event(event, day, society) => Some(Call::Event(event, day, society)),
+            Record::Signal(society) => Some(Call::Signal(society)),
+            Record::Fire(track, society) => Some(Call::Fire(track, society)),
+            Record::FireLowest(_) => None,
+        }
+    }
 }
 
 /// Either conversion, of a day or date that need not be of the range.
@@ -50,16 +76,21 @@ pub struct Single {
 /// Tries at a plan that allows the wanted damage.
 const TRIES: usize = 24;
 
-/// A single call: on a sound ledger, one near its finish, a damaged one, too
-/// few words, a damaged plan, or a ledger of another plan.
+/// A single call: on a sound ledger, one whose scopes close at once, one with
+/// rights divided among societies, under a plan with unfit rights, on a ledger
+/// near its finish, a damaged one, too few words, a damaged plan, or a ledger of
+/// another plan.
 pub fn single(rng: &mut Rng, limit: usize) -> Single {
     match rng.below(100) {
-        0..=45 => on_sound(rng, limit),
+        0..=36 => on_sound(rng, limit),
+        37 => on_closings(rng, limit),
+        38..=43 => on_divided(rng, limit),
+        44..=45 => on_unfit_rights(rng, limit),
         46..=51 => on_near_finish(rng, limit),
-        52..=74 => on_violated(rng, limit),
-        75..=80 => on_flipped(rng, limit),
-        81..=84 => on_few_words(rng, limit),
-        85..=88 => on_any_plan(rng, limit),
+        52..=73 => on_violated(rng, limit),
+        74..=79 => on_flipped(rng, limit),
+        80..=83 => on_few_words(rng, limit),
+        84..=88 => on_any_plan(rng, limit),
         89..=93 => on_misled(rng, limit),
         94..=97 => on_neighbours(rng, limit),
         _ => on_alike(rng, limit),
@@ -93,6 +124,66 @@ fn on_sound(rng: &mut Rng, limit: usize) -> Single {
     }
 }
 
+/// A ledger on which an event closes several scopes, if a few tries find one.
+fn on_closings(rng: &mut Rng, limit: usize) -> Single {
+    for _ in 0..TRIES / 2 {
+        let (bytes, plan) = good_plan(rng, limit);
+        let ledger = ledgers::sound(rng, &plan);
+        let events = journals::moving_events(&plan, &ledger, |s| plan.is_final(s));
+        let event = match journals::busiest(&plan, &ledger, &events) {
+            Some(event) => journals::event_of(rng, &plan, &ledger, event),
+            None => continue,
+        };
+        let outcome = journal::perform(&plan, &mut ledger.clone(), event);
+        if matches!(outcome, Outcome::Event(_, m) if m.closed > 1) {
+            return Single {
+                words: ledgers::lend(rng, &ledger),
+                call: Call::of(event).unwrap_or(Call::Ready),
+                plan: bytes,
+                begun_under: None,
+            };
+        }
+    }
+    on_sound(rng, limit)
+}
+
+/// A ledger under a plan with several roots and, mostly, several societies, and
+/// a call that rights have a say in.
+fn on_divided(rng: &mut Rng, limit: usize) -> Single {
+    let (bytes, plan) = loop {
+        let (bytes, plan) = linked_plan(rng, limit);
+        if societies::named(&plan).len() > 1 || rng.chance(20) {
+            break (bytes, plan);
+        }
+    };
+    let ledger = ledgers::sound(rng, &plan);
+    let call = match rng.below(100) {
+        0..=62 => Call::Signal(journals::signaller(rng, &plan, &ledger)),
+        63..=84 => steered_event(rng, &plan, &ledger),
+        _ => any_firing(rng, &plan, &ledger),
+    };
+    Single {
+        words: ledgers::lend(rng, &ledger),
+        call,
+        plan: bytes,
+        begun_under: None,
+    }
+}
+
+/// A firing of a ready track, if there is one, by any society of the plan.
+fn any_firing(rng: &mut Rng, plan: &Plan, ledger: &Ledger) -> Call {
+    let ready: Vec<usize> = members(rules::ready(plan, ledger)).collect();
+    let track = rng.pick(&ready).unwrap_or(0);
+    Call::Fire(track as u16, societies::any(rng, plan))
+}
+
+/// A plan whose rights records are unfit, with a ledger of another plan.
+fn on_unfit_rights(rng: &mut Rng, limit: usize) -> Single {
+    let mut single = on_sound(rng, limit);
+    single.plan = damage::refused_as(rng, limit, 27);
+    single
+}
+
 /// A ledger near its finish, and mostly a call that finishes.
 fn on_near_finish(rng: &mut Rng, limit: usize) -> Single {
     let (bytes, plan) = linked_plan(rng, limit);
@@ -106,23 +197,27 @@ fn on_near_finish(rng: &mut Rng, limit: usize) -> Single {
     }
 }
 
-/// A call that leaves the ledger over, if there is one.
+/// A call that leaves the ledger over, if there is one; a signal more often
+/// than not where one does.
 fn finishing_call(rng: &mut Rng, plan: &Plan, ledger: &Ledger) -> Option<Call> {
-    let events = journals::moving_events(plan, ledger, |s| plan.is_final(s));
-    let ready = members(rules::ready(plan, ledger)).map(|t| Record::Fire(t as u16));
-    let on_day = |event| Record::Event(event, journals::event_day(rng, plan, ledger, event));
-    let records: Vec<Record> = events.into_iter().map(on_day).chain(ready).collect();
-    let finishes = |&record: &Record| {
+    let signaller = journals::finishing_signal(plan, ledger);
+    if let Some(society) = signaller.filter(|_| rng.chance(60)) {
+        return Some(Call::Signal(society));
+    }
+    let mut records = Vec::new();
+    for event in journals::moving_events(plan, ledger, |s| plan.is_final(s)) {
+        records.push(journals::event_of(rng, plan, ledger, event));
+    }
+    for track in members(rules::ready(plan, ledger)) {
+        let society = journals::firer(rng, plan, &[track]);
+        records.push(Record::Fire(track as u16, society));
+    }
+    records.retain(|&record| {
         let mut after = ledger.clone();
         journal::perform(plan, &mut after, record);
         after.is_over()
-    };
-    let finishing: Vec<Record> = records.into_iter().filter(finishes).collect();
-    match rng.pick(&finishing)? {
-        Record::Event(event, day) => Some(Call::Event(event, day)),
-        Record::Fire(track) => Some(Call::Fire(track)),
-        _ => None,
-    }
+    });
+    rng.pick(&records).and_then(Call::of)
 }
 
 /// One clause violated alone; where no plan allows it, words flipped.
@@ -263,8 +358,8 @@ fn fitting_call(rng: &mut Rng, plan: &Plan, words: &[u16]) -> Call {
 fn telling_call(rng: &mut Rng, plan: &Plan, ledger: &Ledger) -> Call {
     match rng.below(5) {
         0 => steered_event(rng, plan, ledger),
-        1 => Call::Signal,
-        2 => steered_firing(rng, plan, ledger).unwrap_or(Call::Fire(0)),
+        1 => Call::Signal(journals::signaller(rng, plan, ledger)),
+        2 => steered_firing(rng, plan, ledger).unwrap_or(Call::Fire(0, 1)),
         3 => Call::Ready,
         _ => steered_entries(rng, ledger),
     }
@@ -274,9 +369,9 @@ fn telling_call(rng: &mut Rng, plan: &Plan, ledger: &Ledger) -> Call {
 fn steered_call(rng: &mut Rng, plan: &Plan, ledger: &Ledger) -> Call {
     let choice = rng.below(100);
     match choice {
-        0..=49 => steered_event(rng, plan, ledger),
-        50..=59 => Call::Signal,
-        60..=79 => steered_firing(rng, plan, ledger).unwrap_or(Call::Ready),
+        0..=59 => steered_event(rng, plan, ledger),
+        60..=68 => Call::Signal(journals::signaller(rng, plan, ledger)),
+        69..=86 => steered_firing(rng, plan, ledger).unwrap_or(Call::Ready),
         _ => any_call(rng, plan),
     }
 }
@@ -284,7 +379,8 @@ fn steered_call(rng: &mut Rng, plan: &Plan, ledger: &Ledger) -> Call {
 fn steered_event(rng: &mut Rng, plan: &Plan, ledger: &Ledger) -> Call {
     let hasty = journals::moving_events(plan, ledger, |s| plan.is_final(s));
     let events = journals::moving_events(plan, ledger, |_| true);
-    let hasty = rng.pick(&hasty).filter(|_| rng.chance(50));
+    let busiest = journals::busiest(plan, ledger, &hasty).filter(|_| rng.chance(45));
+    let hasty = busiest.or_else(|| rng.pick(&hasty).filter(|_| rng.chance(25)));
     let event = hasty.or_else(|| rng.pick(&events));
     let event = event.unwrap_or_else(|| journals::any_event(rng, plan));
     let day = if rng.chance(6) {
@@ -292,13 +388,15 @@ fn steered_event(rng: &mut Rng, plan: &Plan, ledger: &Ledger) -> Call {
     } else {
         journals::event_day(rng, plan, ledger, event)
     };
-    Call::Event(event, day)
+    Call::Event(event, day, journals::mover(rng, plan, ledger, event))
 }
 
 /// A firing that is allowed, if there is one.
 fn steered_firing(rng: &mut Rng, plan: &Plan, ledger: &Ledger) -> Option<Call> {
     let ready: Vec<usize> = members(rules::ready(plan, ledger)).collect();
-    rng.pick(&ready).map(|track| Call::Fire(track as u16))
+    let track = rng.pick(&ready)?;
+    let society = journals::firer(rng, plan, &[track]);
+    Some(Call::Fire(track as u16, society))
 }
 
 /// The entries of a track that holds some; of track 0 where none does.
@@ -320,11 +418,16 @@ fn any_call(rng: &mut Rng, plan: &Plan) -> Call {
     } else {
         days::outside(rng)
     };
+    let society = if rng.chance(85) {
+        societies::any(rng, plan)
+    } else {
+        societies::stranger(rng, plan)
+    };
     match rng.below(6) {
-        0 if rng.chance(30) => Call::Event(0, day),
-        0 | 1 => Call::Event(journals::any_event(rng, plan), day),
-        2 => Call::Signal,
-        3 => Call::Fire(track),
+        0 if rng.chance(30) => Call::Event(0, day, society),
+        0 | 1 => Call::Event(journals::any_event(rng, plan), day, society),
+        2 => Call::Signal(society),
+        3 => Call::Fire(track, society),
         4 => Call::Ready,
         _ => Call::Entries(track),
     }
