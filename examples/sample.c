@@ -1,10 +1,14 @@
-/* The paper's sample plan P and its journal, by the calls, with its events on day 0. Prints what `unwind` prints for them, and then on which
- * date the last event was, what an event the day before gets, and what the ledger gets under another plan. */
+/* The paper's sample plan P and its journal, by the calls, with its events on day 0 and society 1 making them. Prints what `unwind` prints for
+ * them, and then on which date the last event was, what an event the day before gets, what a society without the right gets, and what the ledger
+ * gets under another plan. */
 #include <stdio.h>
 
 #include "retraction.h"
 
 enum { TRACKS = 3, ROOT = RETRACTION_NONE, NONE = RETRACTION_NONE };
+
+/* The society that has every right over track 0 and what is under it, and one that has none. */
+enum { SOCIETY = 1, STRANGER = 2 };
 
 /* Records: length, kind, fields; the plan's bytes are these words, little-endian. */
 static const uint16_t records[] = {
@@ -17,6 +21,7 @@ static const uint16_t records[] = {
     14, 3, 3, 11, 51, NONE, 4,
     14, 3, 5, 12, 52, NONE, 6,
     14, 3, 6, 14, 54, NONE, 7,
+    10, 6, SOCIETY, 0, 7,
     4, 4,
 };
 
@@ -39,7 +44,7 @@ static void lay_out_plan(void)
 
 static void print_event(uint16_t event, int32_t day)
 {
-    uint64_t answer = retraction_event(plan, sizeof plan, ledger, room, event, day);
+    uint64_t answer = retraction_event(plan, sizeof plan, ledger, room, event, day, SOCIETY);
     if (retraction_refusal(answer) != 0)
         printf("R %u\n", retraction_refusal(answer));
     else
@@ -48,7 +53,7 @@ static void print_event(uint16_t event, int32_t day)
 
 static void print_signal(void)
 {
-    uint64_t answer = retraction_signal(plan, sizeof plan, ledger, room);
+    uint64_t answer = retraction_signal(plan, sizeof plan, ledger, room, SOCIETY);
     if (retraction_refusal(answer) != 0)
         printf("R %u\n", retraction_refusal(answer));
     else
@@ -68,7 +73,7 @@ static uint16_t lowest_ready(void)
 /* Whether a firing was done. */
 static int print_firing(uint16_t track)
 {
-    uint64_t answer = retraction_fire(plan, sizeof plan, ledger, room, track);
+    uint64_t answer = retraction_fire(plan, sizeof plan, ledger, room, track, SOCIETY);
     uint16_t deviation = retraction_second(answer);
     if (retraction_refusal(answer) != 0) {
         printf("R %u\n", retraction_refusal(answer));
@@ -94,8 +99,15 @@ static void print_last_day(void)
 {
     int32_t day = retraction_ledger_day(ledger);
     uint64_t date = retraction_date_of_day(day);
-    uint16_t refusal = retraction_refusal(retraction_event(plan, sizeof plan, ledger, room, 10, day - 1));
+    uint16_t refusal = retraction_refusal(retraction_event(plan, sizeof plan, ledger, room, 10, day - 1, SOCIETY));
     printf("last event on %u-%02u-%02u\n", retraction_first(date), retraction_second(date), retraction_third(date));
+    printf("R %u: %s\n", refusal, retraction_refusal_text(refusal));
+}
+
+/* The plan names one society. Another one has no right under it, so that its signal is refused. */
+static void print_without_the_right(void)
+{
+    uint16_t refusal = retraction_refusal(retraction_signal(plan, sizeof plan, ledger, room, STRANGER));
     printf("R %u: %s\n", refusal, retraction_refusal_text(refusal));
 }
 
@@ -129,6 +141,7 @@ int main(void)
         firings += (unsigned)print_firing(lowest_ready());
     printf("H %u %u\n", entries_held(), firings);
     print_last_day();
+    print_without_the_right();
     print_under_another_plan();
     return 0;
 }

@@ -22,15 +22,24 @@
  * before that, or out of range, is refused as 26, checked between 19 and 20. Begin writes -109573, so that the first event may have any day
  * of the range. Signals and firings carry no day and change none. A ledger whose day is out of range is not sound.
  *
+ * Each event, signal and firing is a society's. A plan's rights records say which society may do what: move, signal and fire are three rights,
+ * each over a root and every track under it. Without a record nobody has a right. An event moves, and a signal turns, the tracks for which the
+ * society has the right and no others; the figures of the answer count those alone. Other tracks stay as they are, and that is no refusal. A
+ * society that has the move right nowhere makes no event, one that has the signal right nowhere no signal, and a track is fired by a society
+ * with the fire right for it: otherwise the call is refused as 28, checked between 20 and 21. A track that does not exist is 22, whoever asks.
+ * Any number may be given as a society. Begin, ready and entries carry none: ready tells which tracks may be fired, not by whom. The ledger's
+ * day is the same for all societies, and no word of a ledger names one.
+ *
  * A ledger ends once each of its roots is either forward in a final state, or undoing with nothing held and no open scope, and at least one
  * is forward in a final state. Every track then goes to sleep, and what was still held is dropped unfired: the ledger is over. An event may
- * end it, and so may a firing. Where one root is taken back, and another deviates and reaches its end, whichever comes last ends the ledger.
- * That call gives its answer as ever; the next event, signal or firing is refused as 20, and ready gives 0. A signal ends no ledger, since
- * it leaves no track forward; and a ledger whose roots are all taken back is not over.
+ * end it, and so may a firing and a signal. Where one root is taken back, and another deviates and reaches its end, whichever comes last ends
+ * the ledger. A signal ends it only where a root has ended that the society may not turn. That call gives its answer as ever; the next event,
+ * signal or firing is refused as 20, and ready gives 0. A ledger whose roots are all taken back is not over.
  *
  * What a caller owes: a pointer is not null, even where its length is 0, and holds so many bytes or words; the ledger's is at an even
  * address; the plan and the ledger do not overlap; and nothing else writes to either during a call. Plans alike in length and sum are not
- * told apart: among those a ledger is kept with the plan that it was begun under.
+ * told apart: among those a ledger is kept with the plan that it was begun under. A society is taken as it is given: whether the call is really
+ * that society's is for the caller to know.
  *
  * The calls are reentrant and thread-safe: none allocates, keeps a pointer, prints, or has any state but the ledger lent to it. A ledger's
  * words have the machine's own byte order; a plan's bytes are little-endian everywhere.
@@ -64,8 +73,8 @@ extern "C" {
 #endif
 
 /* 10000 times the major version, 100 times the minor one, and the patch. */
-#define RETRACTION_VERSION 400
-#define RETRACTION_VERSION_TEXT "0.4.0"
+#define RETRACTION_VERSION 500
+#define RETRACTION_VERSION_TEXT "0.5.0"
 
 /* Words of a ledger: the leading ones, those of each track, and all of them with so many tracks. Read tells a plan's tracks. */
 #define RETRACTION_LEADING_WORDS 4
@@ -82,7 +91,8 @@ extern "C" {
 /* A host, or a deviation, that is none. */
 #define RETRACTION_NONE 65535
 
-/* The refusals, in checking order: 25 comes after 16, 24 between 17 and 18, 26 between 19 and 20. 1 and 23 are the program's alone. */
+/* The refusals, in checking order: 25 and then 27 come after 16, 24 between 17 and 18, 26 between 19 and 20, 28 between 20 and 21. 1 and 23 are
+ * the program's alone. */
 enum retraction_refusals {
     RETRACTION_TOO_LONG = 1,
     RETRACTION_NO_RECORD = 2,
@@ -101,12 +111,14 @@ enum retraction_refusals {
     RETRACTION_SAME_EVENT = 15,
     RETRACTION_HEIGHT = 16,
     RETRACTION_WINDOW = 25,
+    RETRACTION_RIGHTS = 27,
     RETRACTION_FEW_WORDS = 17,
     RETRACTION_OTHER_PLAN = 24,
     RETRACTION_UNSOUND = 18,
     RETRACTION_EVENT_ZERO = 19,
     RETRACTION_DAY = 26,
     RETRACTION_OVER = 20,
+    RETRACTION_NO_RIGHT = 28,
     RETRACTION_FULL = 21,
     RETRACTION_NOT_READY = 22,
     RETRACTION_BROKEN_RECORD = 23
@@ -114,9 +126,9 @@ enum retraction_refusals {
 
 uint64_t retraction_read(const uint8_t *plan, size_t plan_len);
 uint64_t retraction_begin(const uint8_t *plan, size_t plan_len, uint16_t *ledger, size_t ledger_len);
-uint64_t retraction_event(const uint8_t *plan, size_t plan_len, uint16_t *ledger, size_t ledger_len, uint16_t event, int32_t day);
-uint64_t retraction_signal(const uint8_t *plan, size_t plan_len, uint16_t *ledger, size_t ledger_len);
-uint64_t retraction_fire(const uint8_t *plan, size_t plan_len, uint16_t *ledger, size_t ledger_len, uint16_t track);
+uint64_t retraction_event(const uint8_t *plan, size_t plan_len, uint16_t *ledger, size_t ledger_len, uint16_t event, int32_t day, uint16_t society);
+uint64_t retraction_signal(const uint8_t *plan, size_t plan_len, uint16_t *ledger, size_t ledger_len, uint16_t society);
+uint64_t retraction_fire(const uint8_t *plan, size_t plan_len, uint16_t *ledger, size_t ledger_len, uint16_t track, uint16_t society);
 uint64_t retraction_ready(const uint8_t *plan, size_t plan_len, uint16_t *ledger, size_t ledger_len);
 uint64_t retraction_entries(const uint8_t *plan, size_t plan_len, const uint16_t *ledger, size_t ledger_len, uint16_t track);
 uint64_t retraction_date_of_day(int32_t day);
@@ -145,7 +157,7 @@ static inline const char *retraction_refusal_text(uint16_t refusal)
     case 0: return "accepted";
     case RETRACTION_TOO_LONG: return "the plan file or the journal is longer than 32768 bytes";
     case RETRACTION_NO_RECORD: return "fewer than 4 bytes remain where a record must start";
-    case RETRACTION_KIND: return "a record's kind is not 1 to 5, or falls in the order 1, 2, 3, 5, 4";
+    case RETRACTION_KIND: return "a record's kind is not 1 to 6, or falls in the order 1, 2, 3, 5, 6, 4";
     case RETRACTION_LENGTH: return "a record's length is not that of its kind";
     case RETRACTION_CUT_SHORT: return "a record runs past the last byte";
     case RETRACTION_TOO_MANY: return "there is a 33rd track, a 129th state or a 257th transition";
@@ -160,12 +172,14 @@ static inline const char *retraction_refusal_text(uint16_t refusal)
     case RETRACTION_SAME_EVENT: return "two transitions share source and event";
     case RETRACTION_HEIGHT: return "a track's height is above 8";
     case RETRACTION_WINDOW: return "a window names no transition, repeats one, ends before it begins or leaves the day range";
+    case RETRACTION_RIGHTS: return "a rights record names no root, has a sum outside 1 to 7, repeats a pair or is the 65th";
     case RETRACTION_FEW_WORDS: return "the ledger has too few words for the plan";
     case RETRACTION_OTHER_PLAN: return "the ledger's first two words are not those of this plan";
     case RETRACTION_UNSOUND: return "the ledger is not sound under this plan";
     case RETRACTION_EVENT_ZERO: return "the event is 0";
     case RETRACTION_DAY: return "the day or the date is out of range, or the event's day is before the last accepted one";
     case RETRACTION_OVER: return "the ledger is over";
+    case RETRACTION_NO_RIGHT: return "the society has no fire right for the track, or no move or signal right anywhere";
     case RETRACTION_FULL: return "a track that the event gives an entry holds 32 already";
     case RETRACTION_NOT_READY: return "the track may not be fired now, or does not exist";
     case RETRACTION_BROKEN_RECORD: return "a journal record is broken";

@@ -55,7 +55,7 @@ pub fn print(rounds: &mut Rounds, cases: &[Case]) {
     );
     println!("|---|---|---:|---:|---:|---:|---:|");
     for case in cases {
-        for name in CALLS.into_iter().chain([FINISHING]) {
+        for name in CALLS.into_iter().chain([FINISHING, LAST_SIGNAL]) {
             let given = case.given(name, LEDGERS);
             if given.is_empty() {
                 continue;
@@ -75,6 +75,9 @@ pub const CALLS: [&str; 6] = ["begin", "event", "signal", "fire", "ready", "entr
 
 /// The name of a firing that ends a link half withdrawn, which few plans have.
 pub const FINISHING: &str = "fire, finishing";
+
+/// The name of a signal that does, which only plans of several societies have.
+pub const LAST_SIGNAL: &str = "signal, finishing";
 
 /// One round of the proved calls alone.
 pub fn one(cases: &[Case], plan: &str, call: &str) {

@@ -1,7 +1,7 @@
 //! What is timed: plan P, the samples, a plan of two roots, random plans of
-//! three sizes and the largest one with windows, with ledgers that a history
-//! left, on each of which a call does something. All events are on day 0, on
-//! which no window keeps a track from moving.
+//! three sizes, the largest one with windows and one shared by societies, with
+//! ledgers that a history left, on each of which a call does something. All
+//! events are on day 0, on which no window keeps a track from moving.
 
 use std::fs;
 use std::io;
@@ -10,13 +10,13 @@ use std::path::Path;
 use bench::sides::Call;
 use second::journal::{self, Record, MAX_BYTES};
 use second::ledger::Ledger;
-use second::plan::{self, members, Plan};
+use second::plan::{self, members, Plan, Right, MAX_RIGHTS};
 use second::rules;
 use testing::generate::rng::Rng;
-use testing::generate::{journals, plans};
+use testing::generate::{journals, plans, societies};
 use testing::samples;
 
-use crate::calls::{Given, CALLS, FINISHING};
+use crate::calls::{Given, CALLS, FINISHING, LAST_SIGNAL};
 use crate::shapes;
 
 /// The day of all events.
@@ -31,6 +31,8 @@ pub struct Case {
     pub plan: Vec<u8>,
     pub journal: Vec<u8>,
     read: Plan,
+    /// The societies that the plan names.
+    societies: Vec<u16>,
 }
 
 impl Case {
@@ -46,8 +48,10 @@ impl Case {
         cases.push(Case::found("middle", (12, 14), (40, 60), (70, 110)));
         let largest = Case::found("largest", (32, 32), (128, 128), (256, 256));
         let windowed = shapes::windowed(largest.read.records().clone(), 256);
+        let shared = shapes::shared(largest.read.records().clone(), MAX_RIGHTS);
         cases.push(largest);
         cases.push(accepted("windows", windowed.encode()));
+        cases.push(accepted("societies", shared.encode()));
         for case in &mut cases {
             case.journal = case.lively_journal(MAX_BYTES);
         }
@@ -60,6 +64,7 @@ impl Case {
             name: name.to_string(),
             plan,
             journal: Vec::new(),
+            societies: societies::named(&read),
             read,
         })
     }
@@ -81,9 +86,9 @@ impl Case {
         Ok(cases?.into_iter().flatten().collect())
     }
 
-    /// The first generated plan, its windows left out, whose counts of tracks,
-    /// states and transitions lie in the ranges, whose histories do all the
-    /// calls, and that does not run dry.
+    /// The first generated plan, its windows left out and led by one society,
+    /// whose counts of tracks, states and transitions lie in the ranges, whose
+    /// histories do all the calls, and that does not run dry.
     fn found(
         name: &str,
         tracks: (usize, usize),
@@ -99,29 +104,33 @@ impl Case {
                 && case.stays_lively()
         };
         let made = (0..).map(|index| plans::records(&mut Rng::for_case(1, 21, index), 32));
-        made.map(|records| shapes::windowed(records, 0).encode())
+        made.map(|records| shapes::led(shapes::windowed(records, 0)).encode())
             .filter_map(|plan| Case::new(name, plan))
             .find(fits)
             .expect("plans go on for ever")
     }
 
-    /// The name, with tracks, states and transitions, and windows if any.
+    /// The name, with tracks, states, transitions, windows and rights records.
     pub fn label(&self) -> String {
-        let (tracks, states) = (self.read.track_count(), self.read.state_count());
-        let transitions = self.read.transition_count();
-        let windows = match self.read.records().windows.len() {
-            0 => String::new(),
-            windows => format!(", {windows}"),
-        };
-        format!("{} ({tracks}, {states}, {transitions}{windows})", self.name)
+        let records = self.read.records();
+        let counts = [
+            records.tracks.len(),
+            records.states.len(),
+            records.transitions.len(),
+            records.windows.len(),
+            records.rights.len(),
+        ];
+        let counts = counts.map(|count| count.to_string()).join(", ");
+        format!("{} ({counts})", self.name)
     }
 
     /// Ledgers on which the call is accepted and does something; at most so
-    /// many, fewer where few histories lead to one. Few do to a firing that
-    /// finishes, so that more are tried.
+    /// many, fewer where few histories lead to one. Few do to a firing or a
+    /// signal that finishes, so that more are tried.
     pub fn given(&self, call: &str, count: usize) -> Vec<Given> {
         let mut given = Vec::new();
-        let histories = if call == FINISHING { 400 } else { 40 };
+        let rare = [FINISHING, LAST_SIGNAL].contains(&call);
+        let histories = if rare { 400 } else { 40 };
         for index in 0..histories {
             let mut rng = Rng::for_case(1, 22, index);
             let (records, _) = journals::history(&mut rng, &self.read);
@@ -141,48 +150,75 @@ impl Case {
     }
 
     /// The call, if it is worth timing here: an event that moves, a signal
-    /// that turns, a firing that is allowed, one that ends the link, entries
-    /// that are held.
+    /// that turns, a firing that is allowed, one that ends the link or a signal
+    /// that does, entries that are held.
     fn call(&self, name: &str, ledger: &Ledger, record: Record) -> Option<Call> {
         if ledger.is_over() {
             return None;
         }
-        let ready = || members(rules::ready(&self.read, ledger)).map(|track| track as u16);
-        let ends = |&track: &u16| finishes(&self.read, ledger, track);
+        let ready = || members(rules::ready(&self.read, ledger));
+        let firing = |track: usize| Some((track as u16, self.firer(track)?));
+        let ends = |&(track, society): &(u16, u16)| finishes(&self.read, ledger, track, society);
+        let fire = |(track, society)| Call::Fire(track, society);
         let holding = || ledger.tracks.iter().position(|track| track.held() > 0);
         match (name, record) {
             ("begin", _) => Some(Call::Begin),
-            ("event", Record::Event(event, day)) => {
-                let moves = rules::chosen_moves(&self.read, ledger, event, day);
-                (!moves.is_empty()).then_some(Call::Event(event, day))
+            ("event", Record::Event(event, day, society)) => {
+                let moves = rules::chosen_moves(&self.read, ledger, event, day, society);
+                (!moves.is_empty()).then_some(Call::Event(event, day, society))
             }
-            ("signal", Record::Signal) => Some(Call::Signal),
-            ("fire", _) => ready().next().map(Call::Fire),
-            (FINISHING, _) => ready().find(ends).map(Call::Fire),
+            ("signal", Record::Signal(society)) => {
+                let turned = rules::signal(&self.read, &mut ledger.clone(), society);
+                turned
+                    .map_or(false, |turned| turned > 0)
+                    .then_some(Call::Signal(society))
+            }
+            ("fire", _) => ready().find_map(firing).map(fire),
+            (FINISHING, _) => ready().filter_map(firing).find(ends).map(fire),
+            (LAST_SIGNAL, _) => journals::finishing_signal(&self.read, ledger).map(Call::Signal),
             ("ready", _) => Some(Call::Ready),
             ("entries", _) => holding().map(|track| Call::Entries(track as u16)),
             _ => None,
         }
     }
 
-    /// A journal of so many bytes: events for three quarters of it, a signal,
-    /// and then firings of the lowest ready track.
+    /// The first society that may fire a track.
+    fn firer(&self, track: usize) -> Option<u16> {
+        let mut societies = self.societies.iter().copied();
+        societies.find(|&society| self.read.allows(society, Right::Fire, track))
+    }
+
+    /// The society of whose tracks the most move by an event.
+    fn mover(&self, ledger: &Ledger, event: u16) -> u16 {
+        let moves = rules::possible_moves(&self.read, ledger, event, DAY);
+        let allowed = |society, track| self.read.allows(society, Right::Move, track);
+        let moved = |&society: &u16| moves.iter().filter(|&&(t, _)| allowed(society, t)).count();
+        let most = self.societies.iter().copied().max_by_key(moved);
+        most.unwrap_or(samples::SOCIETY)
+    }
+
+    /// A journal of so many bytes: events for three quarters of it, a signal of
+    /// each society, a firing that brings the length to that of whole records,
+    /// and then firings of the lowest ready track, by each society in turn.
     fn lively_journal(&self, bytes: usize) -> Vec<u8> {
         let mut journal = Vec::new();
         let mut ledger = rules::begin(&self.read);
         let mut rng = Rng::for_case(1, 23, 0);
         while journal.len() < bytes / 4 * 3 {
-            let event = self.lively_event(&mut rng, &ledger);
-            let record = Record::Event(event, DAY);
+            let (event, society) = self.lively_event(&mut rng, &ledger);
+            let record = Record::Event(event, DAY, society);
             journal::perform(&self.read, &mut ledger, record);
             record.encode(&mut journal);
         }
-        if journal.len() % 4 == 2 {
-            Record::Event(1, DAY).encode(&mut journal);
+        for &society in &self.societies {
+            Record::Signal(society).encode(&mut journal);
         }
-        Record::Signal.encode(&mut journal);
-        while journal.len() < bytes {
-            Record::FireLowest.encode(&mut journal);
+        for &society in self.societies.iter().cycle() {
+            match bytes - journal.len() {
+                0 => break,
+                left if left % 6 == 2 => Record::Fire(0, society).encode(&mut journal),
+                _ => Record::FireLowest(society).encode(&mut journal),
+            }
         }
         journal
     }
@@ -192,40 +228,45 @@ impl Case {
         let mut ledger = rules::begin(&self.read);
         let mut rng = Rng::for_case(1, 24, 0);
         (0..400).all(|_| {
-            let event = self.lively_event(&mut rng, &ledger);
-            let done = rules::event(&self.read, &mut ledger, event, DAY);
+            let (event, society) = self.lively_event(&mut rng, &ledger);
+            let done = rules::event(&self.read, &mut ledger, event, DAY, society);
             done.map_or(false, |figures| figures.moved > 0)
         })
     }
 
-    /// An event that moves something and is accepted, most often one that
-    /// leaves no more entries held, so that a journal does not run dry soon.
-    fn lively_event(&self, rng: &mut Rng, ledger: &Ledger) -> u16 {
-        let held_after = |event: u16| {
+    /// An event that moves something and is accepted, with its society, most
+    /// often one that leaves no more entries held, so that a journal does not
+    /// run dry soon.
+    fn lively_event(&self, rng: &mut Rng, ledger: &Ledger) -> (u16, u16) {
+        let held_after = |(event, society): (u16, u16)| {
             let mut after = ledger.clone();
-            let done = rules::event(&self.read, &mut after, event, DAY);
+            let done = rules::event(&self.read, &mut after, event, DAY, society);
             (done.is_ok() && !after.is_over()).then(|| after.total_held())
         };
-        let mut events = journals::moving_events(&self.read, ledger, |_| true);
+        let by = |event: u16| (event, self.mover(ledger, event));
+        let events = journals::moving_events(&self.read, ledger, |_| true);
+        let mut events: Vec<(u16, u16)> = events.into_iter().map(by).collect();
         events.retain(|&event| held_after(event).is_some());
         let held = ledger.total_held();
-        let light = |&event: &u16| held_after(event).map_or(false, |after| after <= held);
-        let light: Vec<u16> = events.iter().copied().filter(light).collect();
+        let light = |&event: &(u16, u16)| held_after(event).map_or(false, |after| after <= held);
+        let light: Vec<(u16, u16)> = events.iter().copied().filter(light).collect();
         let light = rng.pick(&light).filter(|_| rng.chance(95));
-        light.or_else(|| rng.pick(&events)).unwrap_or(1)
+        light
+            .or_else(|| rng.pick(&events))
+            .unwrap_or((1, samples::SOCIETY))
     }
 }
 
 /// The record, an event on the day of all events.
 fn on_the_day(record: Record) -> Record {
     match record {
-        Record::Event(event, _) => Record::Event(event, DAY),
+        Record::Event(event, _, society) => Record::Event(event, DAY, society),
         other => other,
     }
 }
 
 /// Whether firing the track leaves the ledger over.
-pub fn finishes(plan: &Plan, ledger: &Ledger, track: u16) -> bool {
+pub fn finishes(plan: &Plan, ledger: &Ledger, track: u16, society: u16) -> bool {
     let mut after = ledger.clone();
-    rules::fire(plan, &mut after, track).is_ok() && after.is_over()
+    rules::fire(plan, &mut after, track, society).is_ok() && after.is_over()
 }

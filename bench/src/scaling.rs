@@ -5,6 +5,7 @@ use bench::sides::Call;
 use second::ledger::{track_start, Entry, Ledger, Mode, Track};
 use second::plan::{self, Plan, Records, NONE};
 use second::rules;
+use testing::samples::SOCIETY;
 
 use crate::calls::{self, Given, CALLS, FINISHING};
 use crate::cases::finishes;
@@ -35,6 +36,7 @@ pub fn print(rounds: &mut Rounds) {
         transitions(),
         steps(),
         windows(),
+        rights(),
         entries(),
     ] {
         table.print(rounds);
@@ -99,26 +101,33 @@ fn rows(plans: &[(Records, usize)]) -> Vec<Row> {
     CALLS.iter().map(row).collect()
 }
 
-/// A ledger after so many events 1, undoing for a firing, and the call on it.
+/// A ledger after so many events 1 of one society, undoing for a firing, and its
+/// call on it.
 fn given(name: &str, plan: &Plan, events: usize) -> Given {
     let mut ledger = rules::begin(plan);
     for _ in 0..events {
-        let moved = rules::event(plan, &mut ledger, 1, 0).map(|figures| figures.moved);
+        let moved = rules::event(plan, &mut ledger, 1, 0, SOCIETY).map(|figures| figures.moved);
         assert!(moved != Ok(0), "an event that moves");
     }
     let call = match name {
         "begin" => Call::Begin,
-        "event" => Call::Event(1, 0),
-        "signal" => Call::Signal,
+        "event" => Call::Event(1, 0, SOCIETY),
+        "signal" => Call::Signal(SOCIETY),
         "fire" => {
-            rules::signal(plan, &mut ledger).expect("not over");
-            Call::Fire(lowest_ready(plan, &ledger))
+            rules::signal(plan, &mut ledger, SOCIETY).expect("not over");
+            Call::Fire(lowest_ready(plan, &ledger), SOCIETY)
         }
         "ready" => Call::Ready,
-        _ => Call::Entries(plan.track_count() as u16 - 1),
+        _ => Call::Entries(last_holding(&ledger)),
     };
     let words = ledger.words();
     Given { words, call }
+}
+
+/// The last track that holds something.
+fn last_holding(ledger: &Ledger) -> u16 {
+    let held = ledger.tracks.iter().rposition(|track| track.held() > 0);
+    held.expect("an entry") as u16
 }
 
 fn lowest_ready(plan: &Plan, ledger: &Ledger) -> u16 {
@@ -239,6 +248,40 @@ fn repeated(plans: &[(Records, usize)]) -> Row {
     }
 }
 
+/// All calls of one society, and begin where the last record repeats the first
+/// one's pair.
+fn rights() -> Table {
+    let sizes = vec![8, 16, 32, 64];
+    let plan = |&records: &usize| (shapes::shared(shapes::roots(32, 128, 256), records), 2);
+    let plans: Vec<_> = sizes.iter().map(plan).collect();
+    let mut rows = rows(&plans);
+    rows.push(repeated_pair(&plans));
+    Table {
+        what: "Rights records, in any order; 32 tracks, all roots, 128 states, 256 transitions",
+        unit: "a record",
+        sizes,
+        rows,
+    }
+}
+
+/// Begin on plans whose last rights record repeats the first one's pair.
+fn repeated_pair(plans: &[(Records, usize)]) -> Row {
+    let point = |(records, _): &(Records, usize)| {
+        let mut records = records.clone();
+        let first = records.rights[0];
+        if let Some(last) = records.rights.last_mut() {
+            *last = first;
+        }
+        let words = vec![0; track_start(records.tracks.len())];
+        let call = Call::Begin;
+        (records.encode(), Given { words, call })
+    };
+    Row {
+        name: "begin, refused as 27".to_string(),
+        points: plans.iter().map(point).collect(),
+    }
+}
+
 fn entries() -> Table {
     let events = [1, 2, 4, 8, 16, 31];
     let plan = |&events: &usize| (shapes::roots(32, 128, 256), events);
@@ -275,8 +318,9 @@ fn finishing(plans: &[(Records, usize)]) -> Row {
         for number in 1..plan.track_count() * events {
             ledger.tracks[number % last].install(entry);
         }
-        assert!(finishes(&plan, &ledger, last as u16), "a firing that ends");
-        let (words, call) = (ledger.words(), Call::Fire(last as u16));
+        let ends = finishes(&plan, &ledger, last as u16, SOCIETY);
+        assert!(ends, "a firing that ends");
+        let (words, call) = (ledger.words(), Call::Fire(last as u16, SOCIETY));
         (bytes, Given { words, call })
     };
     Row {

@@ -1,8 +1,9 @@
-//! Plans of a chosen size.
+//! Plans of a chosen size. Unless said, one society has every right in them.
 
-use second::plan::{Records, Transition, NONE};
+use second::plan::{Records, Rights, Transition, NONE};
 use testing::generate::rng::Rng;
-use testing::samples::{state, step, track, window};
+use testing::generate::societies;
+use testing::samples::{every_right, rights, state, step, track, window};
 
 /// In which order the steps out of one state stand in the plan.
 #[derive(Clone, Copy, Debug, PartialEq, Eq)]
@@ -28,7 +29,7 @@ pub fn tree(tracks: usize, states: usize, transitions: usize) -> Records {
         let host = (number - 1) / 2 * (states / tracks);
         plan.tracks[number] = track(host as u16);
     }
-    plan
+    led(plan)
 }
 
 /// Roots, each with as many states, the last of them final, and with as many
@@ -50,7 +51,7 @@ pub fn roots(tracks: usize, states: usize, transitions: usize) -> Records {
             step(around(place), event as u16, 7, around(place + 1))
         }));
     }
-    plan
+    led(plan)
 }
 
 /// A root with so many steps out of its first state and back to it.
@@ -66,6 +67,7 @@ pub fn fan(steps: usize, order: Order) -> Records {
         states: vec![state(0, 0, 0), state(0, 1, 0)],
         transitions,
         windows: vec![],
+        rights: every_right(&[0]),
     }
 }
 
@@ -80,6 +82,31 @@ pub fn windowed(mut plan: Records, windows: usize) -> Records {
         window(number, -days, days)
     };
     plan.windows = numbers.into_iter().take(windows).map(term).collect();
+    plan
+}
+
+/// The plan with every right of one society over each of its roots, and no
+/// other.
+pub fn led(mut plan: Records) -> Records {
+    plan.rights = every_right(&societies::roots(&plan.tracks));
+    plan
+}
+
+/// Roots over which each of several societies has rights, if there are so many.
+const HELD: usize = 8;
+
+/// The plan with so many rights records, in any order. One society after the
+/// other, from 1 on, has every right over the next eight roots, or over all of
+/// fewer; after the last root comes the first again.
+pub fn shared(mut plan: Records, records: usize) -> Records {
+    let roots = societies::roots(&plan.tracks);
+    let held = HELD.min(roots.len());
+    let record = |number: usize| {
+        let society = 1 + number / held;
+        rights(society as u16, roots[number % roots.len()], Rights::ALL)
+    };
+    plan.rights = (0..records).map(record).collect();
+    Rng::new(3).shuffle(&mut plan.rights);
     plan
 }
 
@@ -110,5 +137,6 @@ pub fn two_roots() -> Records {
             step(3, 4, 61, 4),
         ],
         windows: vec![],
+        rights: every_right(&[0, 1]),
     }
 }

@@ -11,10 +11,12 @@ use crate::fast::{self, Refused};
 #[derive(Clone, Copy, Debug, PartialEq, Eq)]
 pub enum Call {
     Begin,
-    /// An event and its day.
-    Event(u16, i32),
-    Signal,
-    Fire(u16),
+    /// An event, its day and the society.
+    Event(u16, i32, u16),
+    /// A signal of a society.
+    Signal(u16),
+    /// A track and the society.
+    Fire(u16, u16),
     Ready,
     Entries(u16),
     DateOfDay(i32),
@@ -29,13 +31,16 @@ pub fn proved(plan: &[u8], words: &mut [u16], call: Call) -> u64 {
     let refused = |refusal: retraction::Refusal| refusal.number();
     match call {
         Call::Begin => number(raw::begin(plan, words).map_err(refused), |()| 0),
-        Call::Event(event, day) => {
-            let done = raw::event(plan, words, event, day).map_err(refused);
+        Call::Event(event, day, society) => {
+            let done = raw::event(plan, words, event, day, society).map_err(refused);
             number(done, |figures| pair(figures.moved, figures.closed))
         }
-        Call::Signal => number(raw::signal(plan, words).map_err(refused), |n| pair(n, 0)),
-        Call::Fire(track) => {
-            let done = raw::fire(plan, words, track).map_err(refused);
+        Call::Signal(society) => {
+            let done = raw::signal(plan, words, society).map_err(refused);
+            number(done, |turned| pair(turned, 0))
+        }
+        Call::Fire(track, society) => {
+            let done = raw::fire(plan, words, track, society).map_err(refused);
             number(done, |e| pair(e.code, e.deviation.unwrap_or(NONE)))
         }
         Call::Ready => number(raw::ready(plan, words).map_err(refused), bits),
@@ -54,13 +59,16 @@ pub fn proved(plan: &[u8], words: &mut [u16], call: Call) -> u64 {
 pub fn second(plan: &[u8], words: &mut [u16], call: Call) -> u64 {
     match call {
         Call::Begin => number(result(manager::begin(plan, words)), |()| 0),
-        Call::Event(event, day) => {
-            let done = result(manager::event(plan, words, event, day));
+        Call::Event(event, day, society) => {
+            let done = result(manager::event(plan, words, event, day, society));
             number(done, |figures| pair(figures.moved, figures.closed))
         }
-        Call::Signal => number(result(manager::signal(plan, words)), |n| pair(n, 0)),
-        Call::Fire(track) => {
-            let done = result(manager::fire(plan, words, track));
+        Call::Signal(society) => {
+            let done = result(manager::signal(plan, words, society));
+            number(done, |turned| pair(turned, 0))
+        }
+        Call::Fire(track, society) => {
+            let done = result(manager::fire(plan, words, track, society));
             number(done, |entry| pair(entry.code, entry.deviation))
         }
         Call::Ready => number(result(manager::ready(plan, words)), bits),
@@ -77,13 +85,16 @@ pub fn fast(plan: &[u8], words: &mut [u16], call: Call) -> u64 {
     let refused = |Refused(number)| number;
     match call {
         Call::Begin => number(fast::begin(plan, words).map_err(refused), |()| 0),
-        Call::Event(event, day) => {
-            let done = fast::event(plan, words, event, day).map_err(refused);
+        Call::Event(event, day, society) => {
+            let done = fast::event(plan, words, event, day, society).map_err(refused);
             number(done, |figures| pair(figures.moved, figures.closed))
         }
-        Call::Signal => number(fast::signal(plan, words).map_err(refused), |n| pair(n, 0)),
-        Call::Fire(track) => {
-            let done = fast::fire(plan, words, track).map_err(refused);
+        Call::Signal(society) => {
+            let done = fast::signal(plan, words, society).map_err(refused);
+            number(done, |turned| pair(turned, 0))
+        }
+        Call::Fire(track, society) => {
+            let done = fast::fire(plan, words, track, society).map_err(refused);
             number(done, |entry| pair(entry.code, entry.deviation))
         }
         Call::Ready => number(fast::ready(plan, words).map_err(refused), bits),

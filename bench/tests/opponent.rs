@@ -6,10 +6,10 @@ use bench::sides::{self, Call};
 use second::days::{Date, Term};
 use second::journal::{self, Record};
 use second::ledger::{track_start, Entry, Ledger, Mode, Track, LEADING_WORDS};
-use second::plan::{self, MAX_TRACKS, NONE};
+use second::plan::{self, Rights, MAX_RIGHTS, MAX_TRACKS, NONE};
 use testing::generate::rng::Rng;
-use testing::generate::{damage, days, journals, ledgers, neighbours, plans, singles};
-use testing::samples::{looping, state, step, track, window};
+use testing::generate::{damage, days, journals, ledgers, neighbours, plans, singles, societies};
+use testing::samples::{every_right, looping, rights, state, step, track, window, SOCIETY};
 
 /// Makes the call by both on copies of the words; the answer, and the words
 /// afterwards.
@@ -26,11 +26,11 @@ fn agreed(plan: &[u8], words: &[u16], call: Call, case: u64) -> (u64, Vec<u16>) 
 }
 
 /// Every call with arguments that may do something, or nothing.
-fn calls(rng: &mut Rng, call: singles::Call) -> [Call; 7] {
+fn calls(rng: &mut Rng, plan: &[u8], call: singles::Call) -> [Call; 7] {
     let own = match call {
-        singles::Call::Event(event, day) => Call::Event(event, day),
-        singles::Call::Signal => Call::Signal,
-        singles::Call::Fire(track) => Call::Fire(track),
+        singles::Call::Event(event, day, society) => Call::Event(event, day, society),
+        singles::Call::Signal(society) => Call::Signal(society),
+        singles::Call::Fire(track, society) => Call::Fire(track, society),
         singles::Call::Ready => Call::Ready,
         singles::Call::Entries(track) => Call::Entries(track),
         singles::Call::DateOfDay(day) => Call::DateOfDay(day),
@@ -39,12 +39,16 @@ fn calls(rng: &mut Rng, call: singles::Call) -> [Call; 7] {
     let event = rng.between(1, 12) as u16;
     let day = days::any_day(rng);
     let track = |rng: &mut Rng| rng.below(8) as u16;
+    let society = |rng: &mut Rng| match plan::read(plan) {
+        Ok(plan) if rng.chance(80) => societies::any(rng, &plan),
+        _ => rng.below(4) as u16,
+    };
     [
         own,
         Call::Begin,
-        Call::Event(event, day),
-        Call::Signal,
-        Call::Fire(track(rng)),
+        Call::Event(event, day, society(rng)),
+        Call::Signal(society(rng)),
+        Call::Fire(track(rng), society(rng)),
         Call::Ready,
         Call::Entries(track(rng)),
     ]
@@ -54,12 +58,12 @@ fn calls(rng: &mut Rng, call: singles::Call) -> [Call; 7] {
 /// of other plans. Each refusal of a call is among the answers.
 #[test]
 fn half_a_million_single_calls() {
-    let mut refused = [0; 27];
+    let mut refused = [0; 29];
     let mut made = 0;
     for index in 0..72_000 {
         let mut rng = Rng::for_case(31, 1, index);
         let single = singles::single(&mut rng, MAX_TRACKS);
-        for call in calls(&mut rng, single.call) {
+        for call in calls(&mut rng, &single.plan, single.call) {
             let (answer, _) = agreed(&single.plan, &single.words, call, index);
             if !matches!(call, Call::Entries(_)) {
                 refused[usize::from(answer as u16)] += 1;
@@ -68,18 +72,19 @@ fn half_a_million_single_calls() {
         }
     }
     assert!(made >= 500_000);
-    for number in (2..=22).chain(24..=26) {
+    for number in (2..=22).chain(24..=28) {
         assert!(refused[number] >= 100, "{number}: {}", refused[number]);
     }
     assert!(refused[24] >= 20_000, "24: {}", refused[24]);
+    assert!(refused[28] >= 10_000, "28: {}", refused[28]);
 }
 
 /// Ledgers that go on from call to call, from a begin on any words. Now and
 /// then a neighbour's plan is given: 24, and the history goes on. Some end half
-/// withdrawn, in a firing.
+/// withdrawn, in a firing or in a signal.
 #[test]
 fn calls_of_histories() {
-    let mut ending_firings = 0;
+    let (mut ending_firings, mut ending_signals) = (0, 0);
     for index in 0..10_000 {
         let mut rng = Rng::for_case(31, 2, index);
         let bytes = plans::bytes(&mut rng, MAX_TRACKS);
@@ -90,21 +95,23 @@ fn calls_of_histories() {
         let (_, mut words) = agreed(&bytes, &words, Call::Begin, index);
         for record in journals::history(&mut rng, &plan).0 {
             let call = match record {
-                Record::Event(event, day) => Call::Event(event, day),
-                Record::Signal => Call::Signal,
-                Record::Fire(track) => Call::Fire(track),
-                Record::FireLowest => Call::Fire(lowest_ready(&bytes, &words)),
+                Record::Event(event, day, society) => Call::Event(event, day, society),
+                Record::Signal(society) => Call::Signal(society),
+                Record::Fire(track, society) => Call::Fire(track, society),
+                Record::FireLowest(society) => Call::Fire(lowest_ready(&bytes, &words), society),
             };
             if rng.chance(10) {
                 assert_eq!(agreed(&neighbour, &words, call, index).0, 24);
             }
             let (answer, after) = agreed(&bytes, &words, call, index);
-            let fired = matches!(call, Call::Fire(_)) && answer as u16 == 0;
-            ending_firings += usize::from(fired && are_over(&after[..needed]));
+            let ended = answer as u16 == 0 && are_over(&after[..needed]);
+            ending_firings += usize::from(ended && matches!(call, Call::Fire(..)));
+            ending_signals += usize::from(ended && matches!(call, Call::Signal(_)));
             words = after;
         }
     }
     assert!(ending_firings >= 50, "{ending_firings}");
+    assert!(ending_signals >= 50, "{ending_signals}");
 }
 
 fn lowest_ready(plan: &[u8], words: &[u16]) -> u16 {
@@ -112,7 +119,7 @@ fn lowest_ready(plan: &[u8], words: &[u16]) -> u16 {
     (ready >> 32).trailing_zeros() as u16
 }
 
-/// Each refusal 2 to 16 and 25, several at once, and bytes gone astray.
+/// Each refusal 2 to 16, 25 and 27, several at once, and bytes gone astray.
 #[test]
 fn damaged_plans() {
     for index in 0..20_000 {
@@ -158,6 +165,84 @@ fn thousands_of_windows() {
     assert_eq!(agreed(&records.encode(), &words, Call::Begin, 1).0, 15);
 }
 
+/// Rights records up to the 64th and beyond, by far, in any order: 27, but 8 to
+/// 16 and 25 come first. One of them may repeat another's pair.
+#[test]
+fn thousands_of_rights() {
+    let words = vec![0; track_start(1)];
+    for index in 0..2_000 {
+        let mut rng = Rng::for_case(33, 1, index);
+        let mut records = looping();
+        let count = match rng.below(10) {
+            0..=6 => rng.between(1, MAX_RIGHTS),
+            7 | 8 => MAX_RIGHTS + rng.below(3),
+            _ => 3_000,
+        };
+        let from = rng.word();
+        let society = |n: usize| from.wrapping_add(n as u16).wrapping_mul(40_503);
+        records.rights = (0..count).map(|n| rights(society(n), 0, 7)).collect();
+        rng.shuffle(&mut records.rights);
+        let mut fits = count <= MAX_RIGHTS;
+        if rng.chance(50) {
+            let (first, second) = (rng.below(count), rng.below(count));
+            records.rights[first].society = records.rights[second].society;
+            fits &= first == second;
+        }
+        let expected = if fits { 0 } else { 27 };
+        let answer = agreed(&records.encode(), &words, Call::Begin, index).0;
+        assert_eq!(answer, expected, "case {index}");
+        records.windows = vec![window(0, 0, 9); 2];
+        assert_eq!(agreed(&records.encode(), &words, Call::Begin, index).0, 25);
+        records.transitions[1].event = 1;
+        assert_eq!(agreed(&records.encode(), &words, Call::Begin, index).0, 15);
+    }
+}
+
+/// Every root number and every sum about the borders, over the two roots of a
+/// plan with a hosted track.
+#[test]
+fn roots_and_sums_of_rights() {
+    let words = vec![0; track_start(3)];
+    let mut accepted = 0;
+    for root in (0..40).chain([255, 256, 65_534, NONE]) {
+        for sum in (0..20).chain([255, 256, 257, 263, 65_535]) {
+            let mut records = scoped_roots();
+            records.rights = vec![rights(9, 1, 2), rights(7, root, sum)];
+            let answer = agreed(&records.encode(), &words, Call::Begin, 0).0;
+            accepted += usize::from(answer == 0);
+        }
+    }
+    assert_eq!(accepted, 14);
+}
+
+/// Roots whose one state hosts the next track, a chain of four each, and 64
+/// societies with rights over some: whom each of them may fire.
+#[test]
+fn families_of_many_societies() {
+    let mut records = plan::Records::default();
+    for number in 0..MAX_TRACKS as u16 {
+        let host = if number % 4 == 0 { NONE } else { number - 1 };
+        records.tracks.push(track(host));
+        records.states.push(state(number, 0, 0));
+    }
+    let society = |n: u16| rights(n / 3, 4 * (n % 8), 1 + n % 7);
+    records.rights = (0..MAX_RIGHTS as u16).map(society).collect();
+    let bytes = records.encode();
+    let words = vec![0; track_start(MAX_TRACKS)];
+    let begun = agreed(&bytes, &words, Call::Begin, 0).1;
+    let mut allowed = 0;
+    for society in 0..24 {
+        for track in 0..34 {
+            let (answer, _) = agreed(&bytes, &begun, Call::Fire(track, society), 0);
+            allowed += usize::from(answer == 22 && track < 32);
+        }
+        agreed(&bytes, &begun, Call::Event(1, 0, society), 0);
+        agreed(&bytes, &begun, Call::Signal(society), 0);
+    }
+    let fires = |r: &&Rights| r.sum & 4 != 0;
+    assert_eq!(allowed, 4 * records.rights.iter().filter(fires).count());
+}
+
 /// A root that loops by each of 256 events, all with windows, in any order: the
 /// days about each end of each window, and each event on the last accepted day.
 #[test]
@@ -178,11 +263,11 @@ fn days_about_every_window() {
         let event = window.transition + 1;
         let Term { first, last } = window.term;
         for day in [first - 1, first, last, last + 1] {
-            let (answer, after) = agreed(&bytes, &begun, Call::Event(event, day), 0);
+            let (answer, after) = agreed(&bytes, &begun, Call::Event(event, day, SOCIETY), 0);
             taken += usize::from(answer == 1 << 16);
             ignored += usize::from(answer == 0);
-            agreed(&bytes, &after, Call::Event(event, day), 1);
-            agreed(&bytes, &after, Call::Event(event, day - 1), 2);
+            agreed(&bytes, &after, Call::Event(event, day, SOCIETY), 1);
+            agreed(&bytes, &after, Call::Event(event, day - 1, SOCIETY), 2);
         }
     }
     assert!(taken == 512 && ignored >= 300, "{taken} {ignored}");
@@ -252,7 +337,33 @@ fn scoped_roots() -> plan::Records {
             step(5, 5, 0, 6),
         ],
         windows: vec![],
+        rights: every_right(&[0, 1]),
     }
+}
+
+/// The same, each root held by another society as well.
+fn held_roots() -> plan::Records {
+    let mut records = scoped_roots();
+    let own = [rights(OF_ROOT_0, 0, 7), rights(OF_ROOT_1, 1, 7)];
+    records.rights.extend(own);
+    records
+}
+
+/// The societies that hold one root each.
+const OF_ROOT_0: u16 = 2;
+const OF_ROOT_1: u16 = 3;
+
+/// Events, signals and firings by society 1.
+fn event(event: u16) -> Call {
+    Call::Event(event, 0, SOCIETY)
+}
+
+fn signal() -> Call {
+    Call::Signal(SOCIETY)
+}
+
+fn fire(track: u16) -> Call {
+    Call::Fire(track, SOCIETY)
 }
 
 /// Whether the tracks of these words are all asleep.
@@ -277,12 +388,7 @@ fn after(bytes: &[u8], calls: &[(Call, u16, u16)]) -> Vec<u16> {
 /// Every call that an over ledger refuses.
 fn is_over(bytes: &[u8], words: &[u16]) {
     assert!(are_over(words));
-    for call in [
-        Call::Event(1, 0),
-        Call::Signal,
-        Call::Fire(0),
-        Call::Fire(1),
-    ] {
+    for call in [event(1), signal(), fire(0), fire(1)] {
         assert_eq!(agreed(bytes, words, call, 0).0, 20, "{call:?}");
     }
     assert_eq!(agreed(bytes, words, Call::Ready, 0).0, 0);
@@ -293,9 +399,9 @@ fn is_over(bytes: &[u8], words: &[u16]) {
 #[test]
 fn links_that_end_half_withdrawn() {
     let bytes = scoped_roots().encode();
-    let begun = [(Call::Event(1, 0), 2, 0), (Call::Signal, 3, 0)];
-    let ended = [(Call::Fire(1), 60, 3), (Call::Event(6, 0), 1, 0)];
-    let taken_back = [(Call::Fire(0), 50, NONE)];
+    let begun = [(event(1), 2, 0), (signal(), 3, 0)];
+    let ended = [(fire(1), 60, 3), (event(6), 1, 0)];
+    let taken_back = [(fire(0), 50, NONE)];
     is_over(
         &bytes,
         &after(&bytes, &[&begun[..], &ended, &taken_back].concat()),
@@ -305,12 +411,12 @@ fn links_that_end_half_withdrawn() {
         &after(&bytes, &[&begun[..], &taken_back, &ended].concat()),
     );
     let branch = [
-        (Call::Event(2, 0), 1, 0),
-        (Call::Event(1, 0), 1, 0),
-        (Call::Event(4, 0), 1, 0),
-        (Call::Signal, 3, 0),
+        (event(2), 1, 0),
+        (event(1), 1, 0),
+        (event(4), 1, 0),
+        (signal(), 3, 0),
     ];
-    let branch_taken_back = [(Call::Fire(2), 51, NONE)];
+    let branch_taken_back = [(fire(2), 51, NONE)];
     is_over(
         &bytes,
         &after(&bytes, &[&branch[..], &ended, &branch_taken_back].concat()),
@@ -324,17 +430,37 @@ fn a_link_withdrawn_as_a_whole_is_not_over() {
     let words = after(
         &bytes,
         &[
-            (Call::Event(1, 0), 2, 0),
-            (Call::Signal, 3, 0),
-            (Call::Fire(0), 50, NONE),
-            (Call::Fire(1), 60, 3),
-            (Call::Signal, 1, 0),
-            (Call::Signal, 0, 0),
+            (event(1), 2, 0),
+            (signal(), 3, 0),
+            (fire(0), 50, NONE),
+            (fire(1), 60, 3),
+            (signal(), 1, 0),
+            (signal(), 0, 0),
             (Call::Ready, 0, 0),
         ],
     );
     assert!(!are_over(&words));
-    assert_eq!(agreed(&bytes, &words, Call::Fire(0), 0).0, 22);
+    assert_eq!(agreed(&bytes, &words, fire(0), 0).0, 22);
+}
+
+/// Root 1 has ended, and is another society's: the signal that takes back root 0
+/// ends the link, if root 0 and its branch hold nothing.
+#[test]
+fn a_signal_over_one_root_ends_the_link() {
+    let bytes = held_roots().encode();
+    let by = |number, society| Call::Event(number, 0, society);
+    let ended = (by(6, OF_ROOT_1), 1, 0);
+    let taken_back = |turned| (Call::Signal(OF_ROOT_0), turned, 0);
+    let at_once = [ended, taken_back(1)];
+    is_over(&bytes, &after(&bytes, &at_once));
+    let abandoned = [(by(2, OF_ROOT_0), 1, 0), ended, taken_back(2)];
+    is_over(&bytes, &after(&bytes, &abandoned));
+    let held = [(by(1, OF_ROOT_0), 1, 0), ended, taken_back(2)];
+    let words = after(&bytes, &held);
+    assert!(!are_over(&words));
+    assert_eq!(agreed(&bytes, &words, Call::Fire(0, OF_ROOT_1), 0).0, 28);
+    let fired = agreed(&bytes, &words, Call::Fire(0, OF_ROOT_0), 0).1;
+    is_over(&bytes, &fired);
 }
 
 /// Every way in which a track can stand: asleep, or awake in one of its states
@@ -357,12 +483,13 @@ fn standings(states: &[u16], deviations: &[u16]) -> Vec<Track> {
 
 /// Every ledger of the two roots whose tracks hold at most one entry: 2,223, of
 /// which 337 are sound. 33 events end the link, 15 of them half withdrawn, and
-/// 21 firings do; no signal does.
+/// 21 firings do. No signal over both roots does. Of those over one root nine
+/// take back root 0 with root 1 at its end, and three the other way round.
 #[test]
 fn every_small_ledger_of_scoped_roots() {
-    let bytes = scoped_roots().encode();
+    let bytes = held_roots().encode();
     let plan = plan::read(&bytes).expect("accepted");
-    let (mut sound, mut events, mut firings) = (0, 0, 0);
+    let (mut sound, mut events, mut firings, mut signals) = (0, 0, 0, [0; 2]);
     let mut ledger = Ledger::asleep(&plan);
     for root_0 in standings(&[0, 1, 2], &[NONE, 0]) {
         for root_1 in standings(&[3, 4], &[NONE, 3]) {
@@ -374,13 +501,22 @@ fn every_small_ledger_of_scoped_roots() {
                     usize::from(answer as u16 == 0 && are_over(&after))
                 };
                 sound += usize::from(agreed(&bytes, &words, Call::Ready, 0).0 as u16 == 0);
-                events += (1..=6)
-                    .map(|event| ends(Call::Event(event, 0)))
-                    .sum::<usize>();
-                firings += (0..=3).map(|track| ends(Call::Fire(track))).sum::<usize>();
-                assert_eq!(ends(Call::Signal), 0);
+                events += (1..=6).map(|number| ends(event(number))).sum::<usize>();
+                firings += (0..=3).map(|track| ends(fire(track))).sum::<usize>();
+                assert_eq!(ends(signal()), 0);
+                for (place, society) in [OF_ROOT_0, OF_ROOT_1].into_iter().enumerate() {
+                    signals[place] += ends(Call::Signal(society));
+                    for number in 0..=6 {
+                        ends(Call::Event(number, 0, society));
+                    }
+                    for track in 0..=3 {
+                        ends(Call::Fire(track, society));
+                    }
+                }
+                assert_eq!(ends(Call::Signal(9)), 0);
             }
         }
     }
     assert_eq!((sound, events, firings), (337, 33, 21));
+    assert_eq!(signals, [9, 3]);
 }

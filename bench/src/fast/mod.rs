@@ -1,11 +1,13 @@
 //! The paper's calls, written for speed: no heap, one visit to each record of
 //! the plan and to each word of the ledger, the plan's sum in one sweep over
-//! its bytes, sets of tracks as bits, and transitions in a table of places by
-//! source and event, which both number 15 and an event look up. The answers
+//! its bytes, sets of tracks as bits, transitions in a table of places by source
+//! and event, which both number 15 and an event look up, and pairs of society and
+//! root in another, which number 27 looks up. The answers
 //! and every word of the ledger are the second program's, as a test holds them
 //! to be.
 //!
-//! - [`plan`]: the plan reader, refusals 2 to 16 and 25.
+//! - [`plan`]: the plan reader, refusals 2 to 16, 25 and 27; whose tracks a
+//!   society may strike.
 //! - [`ledger`]: the leading words, whether the tracks' words are sound, and
 //!   the tracks as sets.
 //! - [`days`]: days as dates, and dates as days.
@@ -21,6 +23,7 @@ pub mod steps;
 use days::FIRST_DAY;
 use ledger::{Sets, LEADING_WORDS, PAIRS, PLAN_WORDS, TRACK_WORDS};
 use plan::Plan;
+use steps::Given;
 
 /// The paper's number of a refusal.
 #[derive(Clone, Copy, Debug, PartialEq, Eq)]
@@ -50,26 +53,38 @@ pub fn begin(bytes: &[u8], words: &mut [u16]) -> Result<(), Refused> {
     Ok(())
 }
 
-/// Event on a day: tracks moved, scopes closed.
-pub fn event(bytes: &[u8], words: &mut [u16], event: u16, day: i32) -> Result<Moved, Refused> {
+/// A society's event on a day: tracks moved, scopes closed.
+pub fn event(
+    bytes: &[u8],
+    words: &mut [u16],
+    event: u16,
+    day: i32,
+    society: u16,
+) -> Result<Moved, Refused> {
     let mut plan = Plan::unread();
     let mut sets = check(&mut plan, bytes, words)?;
     let (leading, tracks) = words.split_at_mut(LEADING_WORDS);
-    steps::event(&plan, leading, tracks, &mut sets, event, day)
+    let given = Given {
+        event,
+        day,
+        society,
+    };
+    steps::event(&plan, leading, tracks, &mut sets, given)
 }
 
-/// Signal: tracks turned.
-pub fn signal(bytes: &[u8], words: &mut [u16]) -> Result<u16, Refused> {
+/// A society's signal: tracks turned.
+pub fn signal(bytes: &[u8], words: &mut [u16], society: u16) -> Result<u16, Refused> {
     let mut plan = Plan::unread();
     let mut sets = check(&mut plan, bytes, words)?;
-    steps::signal(&plan, &mut words[LEADING_WORDS..], &mut sets)
+    steps::signal(&plan, &mut words[LEADING_WORDS..], &mut sets, society)
 }
 
-/// Fire a named track: code and deviation.
-pub fn fire(bytes: &[u8], words: &mut [u16], track: u16) -> Result<Entry, Refused> {
+/// A society fires a named track: code and deviation.
+pub fn fire(bytes: &[u8], words: &mut [u16], track: u16, society: u16) -> Result<Entry, Refused> {
     let mut plan = Plan::unread();
     let mut sets = check(&mut plan, bytes, words)?;
-    steps::fire(&plan, &mut words[LEADING_WORDS..], &mut sets, track)
+    let tracks = &mut words[LEADING_WORDS..];
+    steps::fire(&plan, tracks, &mut sets, track, society)
 }
 
 /// Ready: bit n set exactly if track n may be fired.
@@ -90,7 +105,7 @@ pub fn entries<'a>(bytes: &[u8], words: &'a [u16], track: u16) -> &'a [u16] {
     &own[PAIRS..][..2 * usize::from(own[2])]
 }
 
-/// 2 to 16, 25 and 17: an accepted plan, and enough words for it.
+/// 2 to 16, 25, 27 and 17: an accepted plan, and enough words for it.
 #[inline(always)]
 fn accept<'a>(plan: &mut Plan<'a>, bytes: &'a [u8], words: &[u16]) -> Result<(), Refused> {
     plan.read(bytes)?;
@@ -100,8 +115,8 @@ fn accept<'a>(plan: &mut Plan<'a>, bytes: &'a [u8], words: &[u16]) -> Result<(),
     }
 }
 
-/// 2 to 16, 25, 17, 24 and 18: an accepted plan and its own and sound ledger,
-/// whose sets are the answer.
+/// 2 to 16, 25, 27, 17, 24 and 18: an accepted plan and its own and sound
+/// ledger, whose sets are the answer.
 #[inline(always)]
 fn check<'a>(plan: &mut Plan<'a>, bytes: &'a [u8], words: &[u16]) -> Result<Sets, Refused> {
     accept(plan, bytes, words)?;

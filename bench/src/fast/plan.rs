@@ -1,5 +1,6 @@
-//! Reading a plan: refusals 2 to 16 and 25. Each record is visited once. Numbers
-//! 8 to 16 and 25 are gathered as bits on the way, and the lowest one counts.
+//! Reading a plan: refusals 2 to 16, 25 and 27. Each record is visited once.
+//! Numbers 8 to 16, 25 and 27 are gathered as bits on the way, and the lowest one
+//! counts.
 
 use super::days::{FIRST_DAY, LAST_DAY};
 use super::Refused;
@@ -11,19 +12,33 @@ const MAX_TRACKS: usize = 32;
 const MAX_STATES: usize = 128;
 const MAX_TRANSITIONS: usize = 256;
 const MAX_HEIGHT: u8 = 8;
+const MAX_RIGHTS: usize = 64;
+
+/// What a society may do; a rights record has them added up.
+pub const MOVE: u16 = 1;
+pub const SIGNAL: u16 = 2;
+pub const FIRE: u16 = 4;
+const ALL: u16 = MOVE + SIGNAL + FIRE;
 
 /// Length and kind, as one number out of a record's first four bytes.
 const TRACK: u32 = 6 | 1 << 16;
 const STATE: u32 = 10 | 2 << 16;
 const TRANSITION: u32 = 14 | 3 << 16;
 const WINDOW: u32 = 14 | 5 << 16;
+const RIGHTS: u32 = 10 | 6 << 16;
 const END: u32 = 4 | 4 << 16;
 
 /// The length of a transition's record, and of a window's.
 const STEP_BYTES: usize = 14;
 
+/// The length of a rights record.
+const RIGHTS_BYTES: usize = 10;
+
 /// Places for transitions, at least half of them free.
 const PLACES: usize = 2 * MAX_TRANSITIONS;
+
+/// Places for pairs of society and root, at least three quarters of them free.
+const PAIR_PLACES: usize = 4 * MAX_RIGHTS;
 
 #[derive(Clone, Copy)]
 pub struct State {
@@ -48,6 +63,8 @@ pub struct Plan<'a> {
     transitions: &'a [u8],
     /// The records of the windows.
     windows: &'a [u8],
+    /// The rights records.
+    rights: &'a [u8],
     /// Each transition's window by its number, one more; 0 for none.
     window: [u16; MAX_TRANSITIONS],
     /// The tracks that have no host.
@@ -56,6 +73,8 @@ pub struct Plan<'a> {
     pub host: [u16; MAX_TRACKS],
     /// The track of the hosting state.
     pub above: [u8; MAX_TRACKS],
+    /// Of each root, itself and the tracks under it.
+    family: [u32; MAX_TRACKS],
     /// Each track's lowest-numbered state.
     pub first: [u16; MAX_TRACKS],
     state: [State; MAX_STATES],
@@ -79,10 +98,12 @@ impl<'a> Plan<'a> {
             states: 0,
             transitions: &[],
             windows: &[],
+            rights: &[],
             window: [0; MAX_TRANSITIONS],
             roots: 0,
             host: [NONE; MAX_TRACKS],
             above: [0; MAX_TRACKS],
+            family: [0; MAX_TRACKS],
             first: [NONE; MAX_TRACKS],
             state: [state; MAX_STATES],
             scope: [0; MAX_STATES],
@@ -136,22 +157,28 @@ impl<'a> Plan<'a> {
         &bytes[10 * self.states..]
     }
 
-    /// Puts each track into its host's scope; 8, 10, 11 and 16.
+    /// Puts each track into its host's scope and its root's family; 8, 10, 11
+    /// and 16.
     #[inline(always)]
     fn place_tracks(&mut self, faults: &mut Faults) {
         let mut depth = [1; MAX_TRACKS];
+        let mut root = [0; MAX_TRACKS];
         faults.add(8, self.tracks == 0);
         for track in 0..self.tracks.min(MAX_TRACKS) {
             let first = self.first[track];
             faults.add(11, first == NONE || self.is_last(first));
             let host = self.host[track];
             if host == NONE {
+                root[track] = track;
+                self.family[track] |= 1 << track;
                 continue;
             }
             let above = usize::from(self.state(host).track);
             faults.add(10, usize::from(host) >= self.states || above >= track);
             self.above[track] = above as u8;
             self.scope[usize::from(host) % MAX_STATES] |= 1 << track;
+            root[track] = root[above % MAX_TRACKS];
+            self.family[root[track]] |= 1 << track;
             depth[track] = depth[above % MAX_TRACKS] + 1;
             faults.add(16, depth[track] > MAX_HEIGHT);
         }
@@ -172,17 +199,14 @@ impl<'a> Plan<'a> {
         faults.add(12, wrong);
     }
 
-    /// The transitions, the windows and the end, which must be all that is left.
-    /// Whether the bytes have that shape.
+    /// The transitions, the windows, the rights and the end, which must be all
+    /// that is left. Whether the bytes have that shape.
     #[inline(always)]
     fn read_steps(&mut self, bytes: &'a [u8], faults: &mut Faults) -> bool {
-        let length = bytes.len().saturating_sub(4);
-        let (steps, end) = bytes.split_at(length);
-        if end.len() != 4 || head(end) != END || length % STEP_BYTES != 0 {
-            return false;
-        }
-        let windows = self.read_transitions(steps, faults);
-        self.read_windows(windows, faults)
+        let rest = self.read_transitions(bytes, faults);
+        let rest = self.read_windows(rest, faults);
+        let end = self.read_rights(rest, faults);
+        end.len() == 4 && head(end) == END
     }
 
     /// The transitions at the front, and the bytes after them; 13, 14 and 15.
@@ -201,16 +225,14 @@ impl<'a> Plan<'a> {
         rest
     }
 
-    /// The windows, which must be all that is left; 25. Whether they are. The
-    /// branches are those that an accepted plan never takes.
+    /// The windows at the front, and the bytes after them; 25. The branches are
+    /// those that an accepted plan never takes.
     #[inline(always)]
-    fn read_windows(&mut self, bytes: &'a [u8], faults: &mut Faults) -> bool {
-        self.windows = bytes;
+    fn read_windows(&mut self, bytes: &'a [u8], faults: &mut Faults) -> &'a [u8] {
         let transitions = self.transition_count();
-        for (number, record) in bytes.chunks_exact(STEP_BYTES).enumerate() {
-            if head(record) != WINDOW {
-                return false;
-            }
+        let mut count = 0;
+        let records = bytes.chunks_exact(STEP_BYTES);
+        for record in records.take_while(|record| head(record) == WINDOW) {
             let transition = usize::from(word(record, 4));
             let (first, last) = (signed(record, 6), signed(record, 10));
             let window = &mut self.window[transition % MAX_TRANSITIONS];
@@ -220,9 +242,46 @@ impl<'a> Plan<'a> {
             if first < FIRST_DAY || last < first || LAST_DAY < last {
                 faults.add(25, true);
             }
-            *window = (number as u16).wrapping_add(1);
+            count += 1;
+            *window = count as u16;
         }
-        true
+        let (windows, rest) = bytes.split_at(count * STEP_BYTES);
+        self.windows = windows;
+        rest
+    }
+
+    /// The rights at the front, and the bytes after them; 27. The branches are
+    /// those that an accepted plan never takes.
+    #[inline(always)]
+    fn read_rights(&mut self, bytes: &'a [u8], faults: &mut Faults) -> &'a [u8] {
+        let mut places = [0; PAIR_PLACES];
+        let mut count = 0;
+        let records = bytes.chunks_exact(RIGHTS_BYTES);
+        for record in records.take_while(|record| head(record) == RIGHTS) {
+            let (root, sum) = (word(record, 6), word(record, 8));
+            count += 1;
+            if root >= 32 || self.roots >> root & 1 == 0 || sum == 0 || sum > ALL {
+                faults.add(27, true);
+            }
+            if count > MAX_RIGHTS || !place_pair(&mut places, bytes, count) {
+                faults.add(27, true);
+            }
+        }
+        let (rights, rest) = bytes.split_at(count * RIGHTS_BYTES);
+        self.rights = rights;
+        rest
+    }
+
+    /// The tracks for which a society has a right, of an accepted plan; none
+    /// exactly if it has it nowhere.
+    #[inline(always)]
+    pub fn permitted(&self, society: u16, right: u16) -> u32 {
+        let records = self.rights.chunks_exact(RIGHTS_BYTES);
+        records.fold(0, |tracks, record| {
+            let given = word(record, 4) == society && word(record, 8) & right != 0;
+            let family = self.family[usize::from(word(record, 6)) % MAX_TRACKS];
+            tracks | if given { family } else { 0 }
+        })
     }
 
     /// 13 and 14.
@@ -327,7 +386,7 @@ impl<'a> Plan<'a> {
     }
 }
 
-/// The numbers 8 to 16 and 25 that apply, a bit for each.
+/// The numbers 8 to 16, 25 and 27 that apply, a bit for each.
 struct Faults(u32);
 
 impl Faults {
@@ -363,7 +422,8 @@ fn head(record: &[u8]) -> u32 {
     u32::from_le_bytes([record[0], record[1], record[2], record[3]])
 }
 
-/// Source and event of a transition, as one number.
+/// Source and event of a transition, or society and root of a rights record, as
+/// one number.
 #[inline(always)]
 fn key_of(record: &[u8]) -> u32 {
     u32::from_le_bytes([record[4], record[5], record[6], record[7]])
@@ -375,14 +435,33 @@ fn place(key: u32) -> usize {
     (key.wrapping_mul(0x9E37_79B1) >> (32 - PLACES.trailing_zeros())) as usize
 }
 
+/// Gives the pair of a rights record a place, that of the record whose number,
+/// one more, is given; `false` if another record has the same pair.
+#[inline(always)]
+fn place_pair(places: &mut [u8; PAIR_PLACES], rights: &[u8], number: usize) -> bool {
+    let pair = |number: usize| key_of(&rights[(number - 1) * RIGHTS_BYTES..]);
+    let key = pair(number);
+    let highest = key.wrapping_mul(0x9E37_79B1) >> (32 - PAIR_PLACES.trailing_zeros());
+    let mut place = highest as usize;
+    while places[place] != 0 {
+        if pair(usize::from(places[place])) == key {
+            return false;
+        }
+        place = (place + 1) % PAIR_PLACES;
+    }
+    places[place] = number as u8;
+    true
+}
+
 /// The first of 2 to 7, for bytes that are not tracks, states, transitions,
-/// windows and an end.
+/// windows, rights and an end.
 #[cold]
 fn out_of_shape(bytes: &[u8]) -> Refused {
-    let kinds = [1, 2, 3, 5, 4];
-    let lengths = [6, 10, 14, 14, 4];
-    // Any number of windows.
-    let mut left = [MAX_TRACKS, MAX_STATES, MAX_TRANSITIONS, usize::MAX, 1];
+    let kinds = [1, 2, 3, 5, 6, 4];
+    let lengths = [6, 10, 14, 14, 10, 4];
+    // Any number of windows and of rights records.
+    let any = usize::MAX;
+    let mut left = [MAX_TRACKS, MAX_STATES, MAX_TRANSITIONS, any, any, 1];
     let (mut rest, mut before) = (bytes, 0);
     loop {
         if rest.len() < 4 {

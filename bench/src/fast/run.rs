@@ -4,8 +4,8 @@
 
 use super::days::FIRST_DAY;
 use super::ledger::{plan_words, set_day, Sets, LEADING_WORDS, PLAN_WORDS, TRACK_WORDS};
-use super::plan::{Plan, NONE};
-use super::steps;
+use super::plan::{self, Plan, NONE};
+use super::steps::{self, Given};
 use super::Refused;
 
 /// The most bytes a plan file or a journal may have.
@@ -44,13 +44,14 @@ fn run(plan: &Plan, plan_words: [u16; PLAN_WORDS], journal: &[u8], text: &mut Te
     let [tracks, states, transitions] = [plan.tracks, plan.states, plan.transition_count()];
     text.line("PLAN", &[tracks as u16, states as u16, transitions as u16]);
     while !rest.is_empty() {
-        let done = next(&mut rest).and_then(|(kind, argument, day)| match kind {
-            EVENT => steps::event(plan, leading, words, &mut sets, argument, day)
-                .map(|figures| text.line("E", &[argument, figures.moved, figures.closed])),
-            SIGNAL => steps::signal(plan, words, &mut sets).map(|turned| text.line("S", &[turned])),
-            _ => {
-                let track = fired(kind, argument, &sets);
-                let entry = steps::fire(plan, words, &mut sets, track)?;
+        let done = next(&mut rest).and_then(|record| match record {
+            Record::Event(given) => steps::event(plan, leading, words, &mut sets, given)
+                .map(|figures| text.line("E", &[given.event, figures.moved, figures.closed])),
+            Record::Signal(society) => steps::signal(plan, words, &mut sets, society)
+                .map(|turned| text.line("S", &[turned])),
+            Record::Fire(track, society) => {
+                let track = track.unwrap_or_else(|| lowest_ready(plan, &sets, society));
+                let entry = steps::fire(plan, words, &mut sets, track, society)?;
                 firings += 1;
                 text.firing(track, entry.code, entry.deviation);
                 Ok(())
@@ -64,36 +65,51 @@ fn run(plan: &Plan, plan_words: [u16; PLAN_WORDS], journal: &[u8], text: &mut Te
     text.line("H", &[held, firings]);
 }
 
-/// The track named, or the lowest ready one; with none, one that no plan has.
-fn fired(kind: u16, argument: u16, sets: &Sets) -> u16 {
-    match kind {
-        FIRE_LOWEST => sets.ready().trailing_zeros() as u16,
-        _ => argument,
-    }
+/// The lowest ready track that the society may fire; with none, one that no
+/// plan has.
+fn lowest_ready(plan: &Plan, sets: &Sets, society: u16) -> u16 {
+    let ready = sets.ready() & plan.permitted(society, plan::FIRE);
+    ready.trailing_zeros() as u16
 }
 
-/// Takes a record from the front: its kind, its argument, if it has one, and
-/// an event's day. A broken one, 23, ends the reading.
-fn next(rest: &mut &[u8]) -> Result<(u16, u16, i32), Refused> {
+/// A journal record, its society last.
+enum Record {
+    Event(Given),
+    Signal(u16),
+    /// A track, or the lowest that may be fired.
+    Fire(Option<u16>, u16),
+}
+
+/// Takes a record from the front. A broken one, 23, ends the reading.
+fn next(rest: &mut &[u8]) -> Result<Record, Refused> {
     let bytes = *rest;
     let word = |at: usize| match bytes.get(at..at + 2) {
         Some(bytes) => u16::from_le_bytes([bytes[0], bytes[1]]),
         None => 0,
     };
     *rest = &[];
-    let (kind, argument) = (word(2), word(4));
+    let kind = word(2);
     let length = match kind {
-        EVENT => 10,
-        FIRE => 6,
-        SIGNAL | FIRE_LOWEST => 4,
+        EVENT => 12,
+        FIRE => 8,
+        SIGNAL | FIRE_LOWEST => 6,
         _ => return Err(Refused(23)),
     };
     if usize::from(word(0)) != length || bytes.len() < length {
         return Err(Refused(23));
     }
     *rest = &bytes[length..];
-    let day = (u32::from(word(8)) << 16 | u32::from(word(6))) as i32;
-    Ok((kind, argument, day))
+    let society = word(length - 2);
+    Ok(match kind {
+        EVENT => Record::Event(Given {
+            event: word(4),
+            day: (u32::from(word(8)) << 16 | u32::from(word(6))) as i32,
+            society,
+        }),
+        SIGNAL => Record::Signal(society),
+        FIRE => Record::Fire(Some(word(4)), society),
+        _ => Record::Fire(None, society),
+    })
 }
 
 /// Lines of text.

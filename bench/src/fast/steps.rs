@@ -4,7 +4,7 @@
 use super::days::in_range;
 use super::ledger::{self, finishes, members, open_scope, Sets};
 use super::ledger::{CAPACITY, FORWARD, PAIRS, TRACK_WORDS, UNDOING};
-use super::plan::{Plan, NONE};
+use super::plan::{Plan, FIRE, MOVE, NONE, SIGNAL};
 use super::{Entry, Moved, Refused};
 
 /// Begin: roots forward in their first states, others asleep.
@@ -80,6 +80,14 @@ fn overfills(words: &[u16], track: usize, code: u16) -> bool {
     code != 0 && words[track * TRACK_WORDS + 2] == CAPACITY
 }
 
+/// An event, its day, and the society whose event it is.
+#[derive(Clone, Copy, Debug, PartialEq, Eq)]
+pub struct Given {
+    pub event: u16,
+    pub day: i32,
+    pub society: u16,
+}
+
 /// What an event will do, chosen on the ledger before the call. The scopes that
 /// will close are known then, too: a scope that opens has no track in a final
 /// state, and a host whose scope closes is in none.
@@ -94,18 +102,18 @@ struct Chosen {
 }
 
 /// Event on a day, which it leaves in the leading words: tracks moved, scopes
-/// closed. It leaves undoing tracks as they are, so that those spent afterwards
-/// are those spent before.
+/// closed. It moves the society's tracks alone. It leaves undoing tracks as they
+/// are, so that those spent afterwards are those spent before.
 #[inline(always)]
 pub fn event(
     plan: &Plan,
     leading: &mut [u16],
     words: &mut [u16],
     sets: &mut Sets,
-    event: u16,
-    day: i32,
+    given: Given,
 ) -> Result<Moved, Refused> {
-    if event == 0 {
+    let day = given.day;
+    if given.event == 0 {
         return Err(Refused(19));
     }
     if !in_range(day) || day < ledger::day(leading) {
@@ -114,13 +122,17 @@ pub fn event(
     if sets.awake == 0 {
         return Err(Refused(20));
     }
+    let permitted = plan.permitted(given.society, MOVE);
+    if permitted == 0 {
+        return Err(Refused(28));
+    }
     let mut chosen = Chosen {
         moved: 0,
         moves: [0; 32],
         last: sets.last,
         closing: 0,
     };
-    chosen.choose_moves(plan, words, sets, event, day)?;
+    chosen.choose_moves(plan, words, sets.may_move() & permitted, given)?;
     let done = sets.forward & chosen.last;
     chosen.choose_closing(plan, words, sets, done)?;
     ledger::set_day(leading, day);
@@ -136,19 +148,18 @@ pub fn event(
 }
 
 impl Chosen {
-    /// The moves; 21 where one would install a 33rd entry.
+    /// The moves of these tracks; 21 where one would install a 33rd entry.
     #[inline(always)]
     fn choose_moves(
         &mut self,
         plan: &Plan,
         words: &[u16],
-        sets: &Sets,
-        event: u16,
-        day: i32,
+        tracks: u32,
+        given: Given,
     ) -> Result<(), Refused> {
-        for track in members(sets.may_move()) {
-            let number = plan.transition_number(words[track * TRACK_WORDS + 1], event);
-            if number == 0 || !plan.is_open(number, day) {
+        for track in members(tracks) {
+            let number = plan.transition_number(words[track * TRACK_WORDS + 1], given.event);
+            if number == 0 || !plan.is_open(number, given.day) {
                 continue;
             }
             let transition = plan.transition(number);
@@ -211,24 +222,37 @@ impl Chosen {
     }
 }
 
-/// Signal: every forward track turns; then abandoning, inner scopes first,
-/// whose hosts have the higher numbers. No root is forward then, so that none
-/// is done, and nothing finishes. Answers how many turned.
+/// Signal: every forward track of the society turns; then abandoning, inner
+/// scopes first, whose hosts have the higher numbers. Scopes that do not turn
+/// have nothing to abandon. Then finish, where another society's root is done.
+/// Answers how many turned.
 #[inline(always)]
-pub fn signal(plan: &Plan, words: &mut [u16], sets: &mut Sets) -> Result<u16, Refused> {
+pub fn signal(
+    plan: &Plan,
+    words: &mut [u16],
+    sets: &mut Sets,
+    society: u16,
+) -> Result<u16, Refused> {
     if sets.awake == 0 {
         return Err(Refused(20));
     }
-    let turned = sets.forward;
+    let permitted = plan.permitted(society, SIGNAL);
+    if permitted == 0 {
+        return Err(Refused(28));
+    }
+    let turned = sets.forward & permitted;
     for track in members(turned) {
         words[track * TRACK_WORDS] = UNDOING;
     }
-    sets.forward = 0;
-    let mut open = sets.open;
+    sets.forward &= !turned;
+    let mut open = sets.open & turned;
     while open != 0 {
         let host = 31 - open.leading_zeros() as usize;
         open &= !(1 << host);
         abandon(plan, words, sets, host);
+    }
+    if finishes(plan, sets.done(), sets.spent()) {
+        finish(plan, words, sets);
     }
     Ok(turned.count_ones() as u16)
 }
@@ -248,9 +272,19 @@ fn abandon(plan: &Plan, words: &mut [u16], sets: &mut Sets, host: usize) -> bool
 /// state that is not final, so that nothing finishes. Otherwise the last entry
 /// abandons its scope, and so on up; then finish. Answers the entry.
 #[inline(always)]
-pub fn fire(plan: &Plan, words: &mut [u16], sets: &mut Sets, track: u16) -> Result<Entry, Refused> {
+pub fn fire(
+    plan: &Plan,
+    words: &mut [u16],
+    sets: &mut Sets,
+    track: u16,
+    society: u16,
+) -> Result<Entry, Refused> {
     if sets.awake == 0 {
         return Err(Refused(20));
+    }
+    let exists = usize::from(track) < plan.tracks;
+    if exists && plan.permitted(society, FIRE) >> track & 1 == 0 {
+        return Err(Refused(28));
     }
     if track >= 32 || sets.ready() >> track & 1 == 0 {
         return Err(Refused(22));

@@ -10,29 +10,35 @@
 //! An event has a day. Day 0 is 1 January 1900; [`day_of_date`] and
 //! [`date_of_day`] go from dates to days and back.
 //!
+//! An event, a signal and a firing each have a society, which is a number. The
+//! plan's rights records say over which roots, and every track under them, a
+//! society may move, signal and fire; without a record nobody may.
+//!
 //! ```
 //! use retraction::{day_of_date, Date, Moved, Plan, Refusal};
 //!
 //! # fn main() -> Result<(), Refusal> {
 //! // One track, whose first step on event 10 is taken back by retraction 50. It
-//! // is taken in January 1900 alone.
+//! // is taken in January 1900 alone. Society 1 has every right, society 2 none.
 //! let plan = Plan::read([
 //!     6, 0, 1, 0, 255, 255, // track 0: a root
 //!     10, 0, 2, 0, 0, 0, 0, 0, 0, 0, // state 0 of track 0
 //!     10, 0, 2, 0, 0, 0, 0, 0, 0, 0, // state 1 of track 0
 //!     14, 0, 3, 0, 0, 0, 10, 0, 50, 0, 255, 255, 1, 0, // from 0 on event 10, code 50, to 1
 //!     14, 0, 5, 0, 0, 0, 0, 0, 0, 0, 30, 0, 0, 0, // transition 0 on days 0 to 30
+//!     10, 0, 6, 0, 1, 0, 0, 0, 7, 0, // society 1 over track 0: 1 move, 2 signal, 4 fire
 //!     4, 0, 4, 0, // end
 //! ])?;
 //! let mut ledger = plan.begin();
 //! let christmas = day_of_date(Date { year: 1899, month: 12, day: 25 })?;
-//! assert_eq!(ledger.event(10, christmas)?, Moved { moved: 0, closed: 0 });
-//! assert_eq!(ledger.event(10, 0)?, Moved { moved: 1, closed: 0 });
-//! assert_eq!(ledger.event(10, christmas), Err(Refusal::Day));
-//! assert_eq!(ledger.signal()?, 1);
+//! assert_eq!(ledger.event(10, christmas, 1)?, Moved { moved: 0, closed: 0 });
+//! assert_eq!(ledger.event(10, 0, 1)?, Moved { moved: 1, closed: 0 });
+//! assert_eq!(ledger.event(10, christmas, 1), Err(Refusal::Day));
+//! assert_eq!(ledger.signal(2), Err(Refusal::NoRight));
+//! assert_eq!(ledger.signal(1)?, 1);
 //! assert_eq!(ledger.ready().collect::<Vec<_>>(), [0]);
-//! assert_eq!(ledger.fire(0)?.code, 50);
-//! assert_eq!(ledger.fire(0), Err(Refusal::NotReady));
+//! assert_eq!(ledger.fire(0, 1)?.code, 50);
+//! assert_eq!(ledger.fire(0, 1), Err(Refusal::NotReady));
 //! # Ok(())
 //! # }
 //! ```
@@ -129,7 +135,7 @@ pub struct Plan {
 }
 
 impl Plan {
-    /// Reads a plan's bytes; refused as 2 to 16 or 25 where they do not
+    /// Reads a plan's bytes; refused as 2 to 16, 25 or 27 where they do not
     /// fit.
     ///
     /// ```
@@ -231,11 +237,12 @@ impl<'plan> Ledger<'plan> {
 
     /// Whether the ledger is over: every track is asleep.
     ///
-    /// An event or a firing leaves it over once each root is either forward in
-    /// a final state, or undoing with nothing held and no open scope, at least
-    /// one being forward in a final state. What is still held is then dropped
-    /// unfired, and the next event, signal or firing is refused as 20. Where
-    /// every root is taken back the ledger is not over.
+    /// An event, a signal or a firing leaves it over once each root is either
+    /// forward in a final state, or undoing with nothing held and no open scope,
+    /// at least one being forward in a final state. What is still held is then
+    /// dropped unfired, and the next event, signal or firing is refused as 20.
+    /// Where every root is taken back the ledger is not over. A signal comes to
+    /// it only where a root has ended that the society may not turn.
     ///
     /// ```
     /// # use retraction::{Plan, Refusal};
@@ -249,17 +256,19 @@ impl<'plan> Ledger<'plan> {
     ///     14, 0, 3, 0, 0, 0, 10, 0, 50, 0, 255, 255, 0, 0, // from 0 on event 10, code 50, to 0
     ///     14, 0, 3, 0, 1, 0, 10, 0, 60, 0, 1, 0, 1, 0, // from 1 on event 10, code 60, to 1
     ///     14, 0, 3, 0, 1, 0, 11, 0, 0, 0, 255, 255, 2, 0, // from 1 on event 11, no code, to 2
+    ///     10, 0, 6, 0, 1, 0, 0, 0, 7, 0, // society 1 over track 0: every right
+    ///     10, 0, 6, 0, 1, 0, 1, 0, 7, 0, // and over track 1
     ///     4, 0, 4, 0, // end
     /// ])?;
     /// let mut ledger = plan.begin();
-    /// assert_eq!(ledger.event(10, 0)?.moved, 2);
-    /// assert_eq!(ledger.signal()?, 2);
-    /// assert_eq!(ledger.fire(1)?.deviation, Some(1));
-    /// assert_eq!(ledger.event(11, 0)?.moved, 1);
+    /// assert_eq!(ledger.event(10, 0, 1)?.moved, 2);
+    /// assert_eq!(ledger.signal(1)?, 2);
+    /// assert_eq!(ledger.fire(1, 1)?.deviation, Some(1));
+    /// assert_eq!(ledger.event(11, 0, 1)?.moved, 1);
     /// assert!(!ledger.is_over());
-    /// assert_eq!(ledger.fire(0)?.code, 50);
+    /// assert_eq!(ledger.fire(0, 1)?.code, 50);
     /// assert!(ledger.is_over());
-    /// assert_eq!(ledger.signal(), Err(Refusal::Over));
+    /// assert_eq!(ledger.signal(1), Err(Refusal::Over));
     /// # Ok(())
     /// # }
     /// ```
@@ -268,33 +277,61 @@ impl<'plan> Ledger<'plan> {
         self.words[LEADING_WORDS..].iter().all(|&word| word == 0)
     }
 
-    /// An event on a day: each forward track without an open scope takes its
-    /// state's transition for it, if it has one and the day is within its
-    /// window. Accepted, it leaves its day in the ledger ([`Ledger::day`]), even
-    /// where no track moves; it may leave the ledger over
-    /// ([`Ledger::is_over`]). Refused as 19, 20 or 21, and as 26 where the day
-    /// is out of range or before the last accepted one.
-    pub fn event(&mut self, event: u16, day: i32) -> Result<Moved, Refusal> {
-        raw::event(&self.plan.bytes, &mut self.words, event, day)
+    /// A society's event on a day: each forward track without an open scope
+    /// takes its state's transition for it, if it has one, the day is within
+    /// its window, and the society has the move right over its root. Accepted,
+    /// it leaves its day in the ledger ([`Ledger::day`]), even where no track
+    /// moves; it may leave the ledger over ([`Ledger::is_over`]). Refused as
+    /// 19, 20 or 21, as 26 where the day is out of range or before the last
+    /// accepted one, and as 28 where the society has the move right nowhere.
+    pub fn event(&mut self, event: u16, day: i32, society: u16) -> Result<Moved, Refusal> {
+        raw::event(&self.plan.bytes, &mut self.words, event, day, society)
     }
 
-    /// A withdrawal: every forward track turns to undoing. Answers how many
-    /// turned. It never leaves the ledger over, since no root is forward
-    /// then. Refused as 20.
-    pub fn signal(&mut self) -> Result<u16, Refusal> {
-        raw::signal(&self.plan.bytes, &mut self.words)
+    /// A society's withdrawal: every forward track turns to undoing over whose
+    /// root the society has the signal right. Answers how many turned. It may
+    /// leave the ledger over ([`Ledger::is_over`]). Refused as 20, and as 28
+    /// where the society has the signal right nowhere.
+    ///
+    /// ```
+    /// # use retraction::{Plan, Refusal};
+    /// # fn main() -> Result<(), Refusal> {
+    /// // Two roots, one of each society. Event 10 takes root 1 to its end.
+    /// let plan = Plan::read([
+    ///     6, 0, 1, 0, 255, 255, 6, 0, 1, 0, 255, 255, // tracks 0 and 1
+    ///     10, 0, 2, 0, 0, 0, 0, 0, 0, 0, // state 0 of track 0
+    ///     10, 0, 2, 0, 1, 0, 0, 0, 0, 0, // state 1 of track 1
+    ///     10, 0, 2, 0, 1, 0, 1, 0, 0, 0, // state 2 of track 1, final
+    ///     14, 0, 3, 0, 1, 0, 10, 0, 60, 0, 255, 255, 2, 0, // from 1 on event 10, code 60, to 2
+    ///     10, 0, 6, 0, 1, 0, 0, 0, 7, 0, // society 1 over track 0: every right
+    ///     10, 0, 6, 0, 2, 0, 1, 0, 7, 0, // society 2 over track 1
+    ///     4, 0, 4, 0, // end
+    /// ])?;
+    /// let mut ledger = plan.begin();
+    /// assert_eq!(ledger.event(10, 0, 1)?.moved, 0);
+    /// assert_eq!(ledger.event(10, 0, 2)?.moved, 1);
+    /// // Root 0 has nothing to take back: with root 1 at its end all is done.
+    /// assert_eq!(ledger.signal(1)?, 1);
+    /// assert!(ledger.is_over());
+    /// # Ok(())
+    /// # }
+    /// ```
+    pub fn signal(&mut self, society: u16) -> Result<u16, Refusal> {
+        raw::signal(&self.plan.bytes, &mut self.words, society)
     }
 
-    /// Fires a track: its newest entry is removed, and answered. It may leave
-    /// the ledger over ([`Ledger::is_over`]): the entry is answered all the
-    /// same, and what other tracks still hold is dropped unfired. Refused as
-    /// 20 or 22.
-    pub fn fire(&mut self, track: u16) -> Result<Entry, Refusal> {
-        raw::fire(&self.plan.bytes, &mut self.words, track)
+    /// A society fires a track: its newest entry is removed, and answered. It
+    /// may leave the ledger over ([`Ledger::is_over`]): the entry is answered
+    /// all the same, and what other tracks still hold is dropped unfired.
+    /// Refused as 20 or 22, and as 28 where the track exists and the society
+    /// has no fire right over its root.
+    pub fn fire(&mut self, track: u16, society: u16) -> Result<Entry, Refusal> {
+        raw::fire(&self.plan.bytes, &mut self.words, track, society)
     }
 
-    /// The tracks that may be fired, the lowest first. The words are copied for
-    /// the call, which borrows them for writing and changes none.
+    /// The tracks that may be fired, the lowest first, whoever has the right to.
+    /// The words are copied for the call, which borrows them for writing and
+    /// changes none.
     pub fn ready(&self) -> impl Iterator<Item = u16> {
         let mut words = self.words.clone();
         let ready = raw::ready(&self.plan.bytes, &mut words);

@@ -7,6 +7,9 @@
 //! words; the calls after it refuse a ledger whose first two are not those of
 //! the plan as 24, and [`entries`] then gives the empty part. The next two hold
 //! the last accepted day, which an [`event`] writes.
+//!
+//! [`event`], [`signal`] and [`fire`] are each a society's, which comes last. The
+//! plan says what it may do; any number may be given.
 
 use crate::{Counts, Date, Entry, Moved, Refusal, NONE};
 
@@ -26,12 +29,14 @@ mod c {
             ledger_len: usize,
             event: u16,
             day: i32,
+            society: u16,
         ) -> u64;
         pub fn retraction_signal(
             plan: *const u8,
             plan_len: usize,
             ledger: *mut u16,
             ledger_len: usize,
+            society: u16,
         ) -> u64;
         pub fn retraction_fire(
             plan: *const u8,
@@ -39,6 +44,7 @@ mod c {
             ledger: *mut u16,
             ledger_len: usize,
             track: u16,
+            society: u16,
         ) -> u64;
         pub fn retraction_ready(
             plan: *const u8,
@@ -99,12 +105,19 @@ pub fn begin(plan: &[u8], ledger: &mut [u16]) -> Result<(), Refusal> {
     Ok(())
 }
 
-/// Tracks moved and scopes closed by an event on a day. It may leave the
-/// ledger over, as [`crate::Ledger::is_over`] has it.
-pub fn event(plan: &[u8], ledger: &mut [u16], event: u16, day: i32) -> Result<Moved, Refusal> {
+/// Tracks moved and scopes closed by a society's event on a day. It may leave
+/// the ledger over, as [`crate::Ledger::is_over`] has it.
+pub fn event(
+    plan: &[u8],
+    ledger: &mut [u16],
+    event: u16,
+    day: i32,
+    society: u16,
+) -> Result<Moved, Refusal> {
+    let (bytes, size) = (plan.as_ptr(), plan.len());
     let (words, len) = (ledger.as_mut_ptr(), ledger.len());
     // SAFETY: as under `begin`.
-    let answer = unsafe { c::retraction_event(plan.as_ptr(), plan.len(), words, len, event, day) };
+    let answer = unsafe { c::retraction_event(bytes, size, words, len, event, day, society) };
     let answer = accepted(answer)?;
     Ok(Moved {
         moved: bits(answer, 16),
@@ -112,26 +125,28 @@ pub fn event(plan: &[u8], ledger: &mut [u16], event: u16, day: i32) -> Result<Mo
     })
 }
 
-/// Tracks turned. It never leaves the ledger over.
-pub fn signal(plan: &[u8], ledger: &mut [u16]) -> Result<u16, Refusal> {
+/// Tracks turned by a society's signal. It may leave the ledger over, as
+/// [`crate::Ledger::is_over`] has it.
+pub fn signal(plan: &[u8], ledger: &mut [u16], society: u16) -> Result<u16, Refusal> {
     let (words, len) = (ledger.as_mut_ptr(), ledger.len());
     // SAFETY: as under `begin`.
-    let answer = unsafe { c::retraction_signal(plan.as_ptr(), plan.len(), words, len) };
+    let answer = unsafe { c::retraction_signal(plan.as_ptr(), plan.len(), words, len, society) };
     Ok(bits(accepted(answer)?, 16))
 }
 
-/// The entry fired. It may leave the ledger over, as
+/// The entry fired by a society. It may leave the ledger over, as
 /// [`crate::Ledger::is_over`] has it.
-pub fn fire(plan: &[u8], ledger: &mut [u16], track: u16) -> Result<Entry, Refusal> {
+pub fn fire(plan: &[u8], ledger: &mut [u16], track: u16, society: u16) -> Result<Entry, Refusal> {
+    let (bytes, size) = (plan.as_ptr(), plan.len());
     let (words, len) = (ledger.as_mut_ptr(), ledger.len());
     // SAFETY: as under `begin`.
-    let answer = unsafe { c::retraction_fire(plan.as_ptr(), plan.len(), words, len, track) };
+    let answer = unsafe { c::retraction_fire(bytes, size, words, len, track, society) };
     let answer = accepted(answer)?;
     Ok(entry(bits(answer, 16), bits(answer, 32)))
 }
 
-/// Bit n of the number is set exactly if track n may be fired. No word is
-/// changed.
+/// Bit n of the number is set exactly if track n may be fired, whoever has the
+/// right to. No word is changed.
 pub fn ready(plan: &[u8], ledger: &mut [u16]) -> Result<u32, Refusal> {
     let (words, len) = (ledger.as_mut_ptr(), ledger.len());
     // SAFETY: as under `begin`.

@@ -7,9 +7,9 @@ macro_rules! refusals {
     ($($name:ident = $number:literal, $text:literal;)*) => {
         /// Why a plan, a ledger or a call was refused. Its number is the
         /// paper's; `docs/REFUSALS.md` has an example of each, and what to
-        /// mend. The order of the numbers is that of the checks but for 25,
-        /// which comes after 16, 24, between 17 and 18, and 26, between 19
-        /// and 20.
+        /// mend. The order of the numbers is that of the checks but for 25
+        /// and 27, which come after 16, 24, between 17 and 18, 26, between 19
+        /// and 20, and 28, between 20 and 21.
         #[derive(Clone, Copy, Debug, PartialEq, Eq, PartialOrd, Ord, Hash)]
         #[non_exhaustive]
         #[repr(u16)]
@@ -35,7 +35,7 @@ macro_rules! refusals {
 refusals! {
     TooLong = 1, "the plan file or the journal is longer than 32768 bytes";
     NoRecord = 2, "fewer than 4 bytes remain where a record must start";
-    Kind = 3, "a record's kind is not 1 to 5, or falls in the order 1, 2, 3, 5, 4";
+    Kind = 3, "a record's kind is not 1 to 6, or falls in the order 1, 2, 3, 5, 6, 4";
     Length = 4, "a record's length is not that of its kind";
     CutShort = 5, "a record runs past the last byte";
     TooMany = 6, "there is a 33rd track, a 129th state or a 257th transition";
@@ -50,19 +50,21 @@ refusals! {
     SameEvent = 15, "two transitions share source and event";
     Height = 16, "a track's height is above 8";
     Window = 25, "a window names no transition, repeats one, ends before it begins or leaves the day range";
+    Rights = 27, "a rights record names no root, has a sum outside 1 to 7, repeats a pair or is the 65th";
     FewWords = 17, "the ledger has too few words for the plan";
     OtherPlan = 24, "the ledger's first two words are not those of this plan";
     Unsound = 18, "the ledger is not sound under this plan";
     EventZero = 19, "the event is 0";
     Day = 26, "the day or the date is out of range, or the event's day is before the last accepted one";
     Over = 20, "the ledger is over";
+    NoRight = 28, "the society has no fire right for the track, or no move or signal right anywhere";
     Full = 21, "a track that the event gives an entry holds 32 already";
     NotReady = 22, "the track may not be fired now, or does not exist";
     BrokenRecord = 23, "a journal record is broken";
 }
 
 impl Refusal {
-    /// The paper's number, 1 to 26.
+    /// The paper's number, 1 to 28.
     #[must_use]
     pub fn number(self) -> u16 {
         self as u16

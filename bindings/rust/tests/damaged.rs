@@ -6,7 +6,7 @@ mod sample_plan;
 use retraction::raw::{begin, entries, event, fire, ready, signal};
 use retraction::Refusal::{EventZero, FewWords, Over, Unsound};
 use retraction::{Moved, LEADING_WORDS, NONE, TRACK_WORDS};
-use sample_plan::{begun, plan, WORDS};
+use sample_plan::{begun, plan, SOCIETY, WORDS};
 
 const ASLEEP: u16 = 0;
 const FORWARD: u16 = 1;
@@ -19,7 +19,7 @@ fn opened() -> (Vec<u8>, Vec<u16>) {
         moved: 1,
         closed: 0,
     };
-    assert_eq!(event(&plan, &mut ledger, 10, 0), Ok(moved));
+    assert_eq!(event(&plan, &mut ledger, 10, 0, SOCIETY), Ok(moved));
     (plan, ledger)
 }
 
@@ -38,10 +38,10 @@ fn is_refused(damage: impl Fn(&mut [u16])) {
     let (plan, mut ledger) = opened();
     damage(&mut ledger);
     let before = ledger.clone();
-    assert_eq!(event(&plan, &mut ledger, 11, 0), Err(Unsound));
-    assert_eq!(event(&plan, &mut ledger, 0, 0), Err(Unsound));
-    assert_eq!(signal(&plan, &mut ledger), Err(Unsound));
-    assert_eq!(fire(&plan, &mut ledger, 0), Err(Unsound));
+    assert_eq!(event(&plan, &mut ledger, 11, 0, SOCIETY), Err(Unsound));
+    assert_eq!(event(&plan, &mut ledger, 0, 0, SOCIETY), Err(Unsound));
+    assert_eq!(signal(&plan, &mut ledger, SOCIETY), Err(Unsound));
+    assert_eq!(fire(&plan, &mut ledger, 0, SOCIETY), Err(Unsound));
     assert_eq!(ready(&plan, &mut ledger), Err(Unsound));
     assert_eq!(entries(&plan, &ledger, 0), []);
     assert_eq!(ledger, before);
@@ -153,10 +153,10 @@ fn all_asleep_is_over() {
     let (plan, mut ledger) = begun();
     ledger[LEADING_WORDS..].fill(0);
     let before = ledger.clone();
-    assert_eq!(event(&plan, &mut ledger, 0, 0), Err(EventZero));
-    assert_eq!(event(&plan, &mut ledger, 5, 0), Err(Over));
-    assert_eq!(signal(&plan, &mut ledger), Err(Over));
-    assert_eq!(fire(&plan, &mut ledger, 99), Err(Over));
+    assert_eq!(event(&plan, &mut ledger, 0, 0, SOCIETY), Err(EventZero));
+    assert_eq!(event(&plan, &mut ledger, 5, 0, SOCIETY), Err(Over));
+    assert_eq!(signal(&plan, &mut ledger, SOCIETY), Err(Over));
+    assert_eq!(fire(&plan, &mut ledger, 99, SOCIETY), Err(Over));
     assert_eq!(ready(&plan, &mut ledger), Ok(0));
     assert_eq!(entries(&plan, &ledger, 0), []);
     assert_eq!(ledger, before);
@@ -167,7 +167,7 @@ fn one_word_too_few() {
     let plan = plan();
     let mut ledger = vec![9; WORDS - 1];
     assert_eq!(begin(&plan, &mut ledger), Err(FewWords));
-    assert_eq!(event(&plan, &mut ledger, 0, 0), Err(FewWords));
+    assert_eq!(event(&plan, &mut ledger, 0, 0, SOCIETY), Err(FewWords));
     assert_eq!(ready(&plan, &mut ledger), Err(FewWords));
     assert_eq!(entries(&plan, &ledger, 0), []);
     assert_eq!(ledger, vec![9; WORDS - 1]);

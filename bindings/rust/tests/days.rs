@@ -8,11 +8,12 @@ use retraction::Refusal::{
 };
 use retraction::{date_of_day, day_of_date};
 use retraction::{Date, Moved, Plan, Refusal, FIRST_DAY, LAST_DAY, LEADING_WORDS, NONE};
-use sample_plan::{begun, plan, WORDS};
+use sample_plan::{begun, plan, SOCIETY, WORDS};
 
-/// Where plan P's transitions start, and where its end record does.
+/// Where plan P's transitions start, where its rights record does, and where its end record does.
 const TRANSITIONS: usize = 3 * 6 + 8 * 10;
-const END: usize = TRANSITIONS + 5 * 14;
+const RIGHTS: usize = TRANSITIONS + 5 * 14;
+const END: usize = RIGHTS + 10;
 
 /// Days that are none of the range.
 const OUTSIDE: [i32; 4] = [FIRST_DAY - 1, LAST_DAY + 1, i32::MIN, i32::MAX];
@@ -25,10 +26,10 @@ fn window((transition, first, last): (u16, i32, i32)) -> Vec<u8> {
     record
 }
 
-/// Plan P with windows, before its end.
+/// Plan P with windows, before its rights record.
 fn windowed(windows: &[(u16, i32, i32)]) -> Vec<u8> {
     let mut plan = plan();
-    plan.splice(END..END, windows.iter().copied().flat_map(window));
+    plan.splice(RIGHTS..RIGHTS, windows.iter().copied().flat_map(window));
     plan
 }
 
@@ -50,7 +51,7 @@ fn date(year: u16, month: u16, day: u16) -> Date {
 #[test]
 fn begin_writes_the_first_day() {
     let (_, ledger) = begun();
-    assert_eq!(ledger[..7], [172, 609, 21499, 65534, 1, 0, 0]);
+    assert_eq!(ledger[..7], [182, 633, 21499, 65534, 1, 0, 0]);
     assert_eq!(day(&ledger), FIRST_DAY);
 }
 
@@ -66,8 +67,8 @@ fn an_event_writes_its_day_low_word_first() {
         (LAST_DAY, [51548, 2]),
     ] {
         let (plan, mut ledger) = begun();
-        assert_eq!(event(&plan, &mut ledger, 10, number), moved(1, 0));
-        assert_eq!(ledger[..7], [172, 609, words[0], words[1], 1, 1, 1]);
+        assert_eq!(event(&plan, &mut ledger, 10, number, SOCIETY), moved(1, 0));
+        assert_eq!(ledger[..7], [182, 633, words[0], words[1], 1, 1, 1]);
         assert_eq!(ledger[WORDS..], [7; 5]);
     }
 }
@@ -87,7 +88,10 @@ fn a_window_restricts_its_transition() {
     ] {
         let mut ledger = vec![7; WORDS];
         assert_eq!(begin(&plan, &mut ledger), Ok(()));
-        assert_eq!(event(&plan, &mut ledger, 10, number), moved(tracks, 0));
+        assert_eq!(
+            event(&plan, &mut ledger, 10, number, SOCIETY),
+            moved(tracks, 0)
+        );
         assert_eq!(day(&ledger), number);
     }
 }
@@ -98,11 +102,11 @@ fn each_transition_has_its_own_window() {
     let plan = windowed(&[(4, -5, 29), (0, 0, 0), (3, 30, 30)]);
     let mut ledger = vec![7; WORDS];
     assert_eq!(begin(&plan, &mut ledger), Ok(()));
-    assert_eq!(event(&plan, &mut ledger, 10, 0), moved(1, 0));
-    assert_eq!(event(&plan, &mut ledger, 11, 29), moved(1, 0));
-    assert_eq!(event(&plan, &mut ledger, 12, 29), moved(0, 0));
-    assert_eq!(event(&plan, &mut ledger, 12, 30), moved(1, 0));
-    assert_eq!(event(&plan, &mut ledger, 14, 30), moved(0, 0));
+    assert_eq!(event(&plan, &mut ledger, 10, 0, SOCIETY), moved(1, 0));
+    assert_eq!(event(&plan, &mut ledger, 11, 29, SOCIETY), moved(1, 0));
+    assert_eq!(event(&plan, &mut ledger, 12, 29, SOCIETY), moved(0, 0));
+    assert_eq!(event(&plan, &mut ledger, 12, 30, SOCIETY), moved(1, 0));
+    assert_eq!(event(&plan, &mut ledger, 14, 30, SOCIETY), moved(0, 0));
     assert_eq!(entries(&plan, &ledger, 2), [52, NONE]);
 }
 
@@ -113,9 +117,9 @@ fn a_window_may_end_where_the_range_does() {
         let plan = windowed(&[(0, number, number)]);
         let mut ledger = vec![7; WORDS];
         assert_eq!(begin(&plan, &mut ledger), Ok(()));
-        assert_eq!(event(&plan, &mut ledger, 10, 0), moved(0, 0));
+        assert_eq!(event(&plan, &mut ledger, 10, 0, SOCIETY), moved(0, 0));
         assert_eq!(begin(&plan, &mut ledger), Ok(()));
-        assert_eq!(event(&plan, &mut ledger, 10, number), moved(1, 0));
+        assert_eq!(event(&plan, &mut ledger, 10, number, SOCIETY), moved(1, 0));
     }
 }
 
@@ -145,7 +149,7 @@ fn windows_have_no_limit_of_their_own() {
 }
 
 #[test]
-fn windows_stand_between_the_transitions_and_the_end() {
+fn windows_stand_between_the_transitions_and_the_rights() {
     let window = window((0, 0, 9));
     let with_window_at = |at: usize| {
         let mut plan = plan();
@@ -153,38 +157,43 @@ fn windows_stand_between_the_transitions_and_the_end() {
         read(&plan).map(|counts| counts.transitions)
     };
     assert_eq!(with_window_at(TRANSITIONS), Err(Kind));
-    assert_eq!(with_window_at(END - 14), Err(Kind));
-    assert_eq!(with_window_at(END), Ok(5));
+    assert_eq!(with_window_at(RIGHTS - 14), Err(Kind));
+    assert_eq!(with_window_at(RIGHTS), Ok(5));
+    assert_eq!(with_window_at(END), Err(Kind));
     assert_eq!(with_window_at(END + 4), Err(AfterEnd));
 }
 
 #[test]
 fn days_never_fall() {
     let (plan, mut ledger) = begun();
-    assert_eq!(event(&plan, &mut ledger, 10, -3), moved(1, 0));
-    assert_eq!(event(&plan, &mut ledger, 11, -3), moved(1, 0));
+    assert_eq!(event(&plan, &mut ledger, 10, -3, SOCIETY), moved(1, 0));
+    assert_eq!(event(&plan, &mut ledger, 11, -3, SOCIETY), moved(1, 0));
     let before = ledger.clone();
     for number in [-4, FIRST_DAY].into_iter().chain(OUTSIDE) {
-        assert_eq!(event(&plan, &mut ledger, 12, number), Err(Day), "{number}");
+        assert_eq!(
+            event(&plan, &mut ledger, 12, number, SOCIETY),
+            Err(Day),
+            "{number}"
+        );
         assert_eq!(ledger, before);
     }
-    assert_eq!(event(&plan, &mut ledger, 12, -2), moved(1, 0));
+    assert_eq!(event(&plan, &mut ledger, 12, -2, SOCIETY), moved(1, 0));
 }
 
 #[test]
 fn an_event_that_moves_none_keeps_its_day() {
     let (plan, mut ledger) = begun();
-    assert_eq!(event(&plan, &mut ledger, 13, 5), moved(0, 0));
-    assert_eq!(event(&plan, &mut ledger, 10, 4), Err(Day));
-    assert_eq!(event(&plan, &mut ledger, 10, 5), moved(1, 0));
+    assert_eq!(event(&plan, &mut ledger, 13, 5, SOCIETY), moved(0, 0));
+    assert_eq!(event(&plan, &mut ledger, 10, 4, SOCIETY), Err(Day));
+    assert_eq!(event(&plan, &mut ledger, 10, 5, SOCIETY), moved(1, 0));
 }
 
 #[test]
 fn signals_and_firings_leave_the_day() {
     let (plan, mut ledger) = begun();
-    assert_eq!(event(&plan, &mut ledger, 10, 40), moved(1, 0));
-    assert_eq!(signal(&plan, &mut ledger), Ok(3));
-    assert!(fire(&plan, &mut ledger, 0).is_ok());
+    assert_eq!(event(&plan, &mut ledger, 10, 40, SOCIETY), moved(1, 0));
+    assert_eq!(signal(&plan, &mut ledger, SOCIETY), Ok(3));
+    assert!(fire(&plan, &mut ledger, 0, SOCIETY).is_ok());
     assert_eq!(ready(&plan, &mut ledger), Ok(0));
     assert_eq!(day(&ledger), 40);
 }
@@ -194,31 +203,41 @@ fn signals_and_firings_leave_the_day() {
 fn after_19_and_before_20() {
     let (plan, mut ledger) = begun();
     for (number, at) in [(10, 1), (11, 2), (12, 3), (14, 4), (13, 5)] {
-        assert!(event(&plan, &mut ledger, number, at).is_ok());
+        assert!(event(&plan, &mut ledger, number, at, SOCIETY).is_ok());
     }
-    assert_eq!(signal(&plan, &mut ledger), Err(Over));
+    assert_eq!(signal(&plan, &mut ledger, SOCIETY), Err(Over));
     assert_eq!(day(&ledger), 5);
     let before = ledger.clone();
     for number in [4].into_iter().chain(OUTSIDE) {
-        assert_eq!(event(&plan, &mut ledger, 0, number), Err(EventZero));
-        assert_eq!(event(&plan, &mut ledger, 10, number), Err(Day));
+        assert_eq!(
+            event(&plan, &mut ledger, 0, number, SOCIETY),
+            Err(EventZero)
+        );
+        assert_eq!(event(&plan, &mut ledger, 10, number, SOCIETY), Err(Day));
     }
-    assert_eq!(event(&plan, &mut ledger, 10, 5), Err(Over));
+    assert_eq!(event(&plan, &mut ledger, 10, 5, SOCIETY), Err(Over));
     assert_eq!(ledger, before);
 }
 
 /// One root that loops by event 1 and installs code 7: the 33rd time is refused, and its day is not kept.
 #[test]
 fn a_refused_event_leaves_the_day() {
-    let words: [u16; 17] = [6, 1, NONE, 10, 2, 0, 0, 0, 14, 3, 0, 1, 7, NONE, 0, 4, 4];
+    let records: [&[u16]; 5] = [
+        &[6, 1, NONE],
+        &[10, 2, 0, 0, 0],
+        &[14, 3, 0, 1, 7, NONE, 0],
+        &[10, 6, SOCIETY, 0, 1],
+        &[4, 4],
+    ];
+    let words = records.concat();
     let plan: Vec<u8> = words.iter().flat_map(|word| word.to_le_bytes()).collect();
     let mut ledger = vec![7; LEADING_WORDS + 67];
     assert_eq!(begin(&plan, &mut ledger), Ok(()));
     for number in 1..=32 {
-        assert_eq!(event(&plan, &mut ledger, 1, number), moved(1, 0));
+        assert_eq!(event(&plan, &mut ledger, 1, number, SOCIETY), moved(1, 0));
     }
     let before = ledger.clone();
-    assert_eq!(event(&plan, &mut ledger, 1, 33), Err(Full));
+    assert_eq!(event(&plan, &mut ledger, 1, 33, SOCIETY), Err(Full));
     assert_eq!((day(&ledger), ledger), (32, before));
 }
 
@@ -226,11 +245,11 @@ fn a_refused_event_leaves_the_day() {
 fn is_refused(plan: &[u8], ledger: &[u16], refusal: Refusal) {
     let mut lent = ledger.to_vec();
     for number in [0, FIRST_DAY, i32::MAX] {
-        assert_eq!(event(plan, &mut lent, 10, number), Err(refusal));
-        assert_eq!(event(plan, &mut lent, 0, number), Err(refusal));
+        assert_eq!(event(plan, &mut lent, 10, number, SOCIETY), Err(refusal));
+        assert_eq!(event(plan, &mut lent, 0, number, SOCIETY), Err(refusal));
     }
-    assert_eq!(signal(plan, &mut lent), Err(refusal));
-    assert_eq!(fire(plan, &mut lent, 0), Err(refusal));
+    assert_eq!(signal(plan, &mut lent, SOCIETY), Err(refusal));
+    assert_eq!(fire(plan, &mut lent, 0, SOCIETY), Err(refusal));
     assert_eq!(ready(plan, &mut lent), Err(refusal));
     assert_eq!(entries(plan, &lent, 0), []);
     assert_eq!(lent, ledger);
@@ -255,10 +274,15 @@ fn a_ledger_tells_its_day() -> Result<(), Refusal> {
     let plan = Plan::read(windowed(&[(0, 59, 89)]))?;
     let mut ledger = plan.begin();
     assert_eq!(ledger.day(), FIRST_DAY);
-    assert_eq!(ledger.event(10, -1)?.moved, 0);
+    assert_eq!(ledger.event(10, -1, SOCIETY)?.moved, 0);
     assert_eq!(ledger.day(), -1);
-    assert_eq!(ledger.event(10, day_of_date(date(1900, 3, 1))?)?.moved, 1);
-    assert_eq!(ledger.event(11, 58), Err(Day));
+    assert_eq!(
+        ledger
+            .event(10, day_of_date(date(1900, 3, 1))?, SOCIETY)?
+            .moved,
+        1
+    );
+    assert_eq!(ledger.event(11, 58, SOCIETY), Err(Day));
     assert_eq!(plan.ledger(ledger.words())?.day(), 59);
     Ok(())
 }

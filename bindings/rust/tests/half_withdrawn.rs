@@ -1,8 +1,14 @@
-//! Links that end half withdrawn: one root is taken back, another deviates and reaches its final state.
+//! Links that end half withdrawn: one root is taken back, another deviates and reaches its final state; or another society's is left at its end
+//! when a signal takes the rest back.
 
 use retraction::raw::{begin, entries, event, fire, ready, signal};
-use retraction::Refusal::{EventZero, NotReady, Over, Unsound};
+use retraction::Refusal::{EventZero, NoRight, NotReady, Over, Unsound};
 use retraction::{Entry, Moved, Plan, Refusal, LEADING_WORDS, NONE, TRACK_WORDS};
+
+/// The society that has every right over both roots, one that has them over root 0 alone, and one over root 1.
+const SOCIETY: u16 = 1;
+const OF_ROOT_0: u16 = 2;
+const OF_ROOT_1: u16 = 3;
 
 const FORWARD: u16 = 1;
 const UNDOING: u16 = 2;
@@ -30,6 +36,10 @@ const RECORDS: &[&[u16]] = &[
     &[14, 3, 3, 13, 61, NONE, 4],
     &[14, 3, 5, 14, 51, NONE, 5],
     &[14, 3, 5, 15, 0, NONE, 6],
+    &[10, 6, SOCIETY, 0, 7],
+    &[10, 6, SOCIETY, 1, 7],
+    &[10, 6, OF_ROOT_0, 0, 7],
+    &[10, 6, OF_ROOT_1, 1, 7],
     &[4, 4],
 ];
 
@@ -51,16 +61,19 @@ fn withdrawn(events: &[(u16, u16)], turned: u16) -> (Vec<u8>, Vec<u16>) {
     let (plan, mut ledger) = (plan(), vec![7; WORDS + 1]);
     assert_eq!(begin(&plan, &mut ledger), Ok(()));
     for &(number, tracks) in events {
-        assert_eq!(event(&plan, &mut ledger, number, 0), moved(tracks, 0));
+        assert_eq!(
+            event(&plan, &mut ledger, number, 0, SOCIETY),
+            moved(tracks, 0)
+        );
     }
-    assert_eq!(signal(&plan, &mut ledger), Ok(turned));
+    assert_eq!(signal(&plan, &mut ledger, SOCIETY), Ok(turned));
     (plan, ledger)
 }
 
 /// Root 1, whose code 60 is its newest, deviates and ends: it then holds code 61.
 fn root_1_ends(plan: &[u8], ledger: &mut [u16]) {
-    assert_eq!(fire(plan, ledger, 1), fired(60, Some(3)));
-    assert_eq!(event(plan, ledger, 13, 0), moved(1, 0));
+    assert_eq!(fire(plan, ledger, 1, SOCIETY), fired(60, Some(3)));
+    assert_eq!(event(plan, ledger, 13, 0, SOCIETY), moved(1, 0));
 }
 
 /// The tracks are all asleep, the leading words are the plan's and the last event's day, 0, the word beyond is as it was, and every call that
@@ -73,13 +86,13 @@ fn is_over(plan: &[u8], ledger: &[u16]) {
     assert_eq!(ledger[LEADING_WORDS..WORDS], [0; 3 * TRACK_WORDS]);
     assert_eq!(ledger[WORDS..], [7]);
     let mut lent = ledger.to_vec();
-    assert_eq!(event(plan, &mut lent, 0, 0), Err(EventZero));
+    assert_eq!(event(plan, &mut lent, 0, 0, SOCIETY), Err(EventZero));
     for number in [10, 13] {
-        assert_eq!(event(plan, &mut lent, number, 0), Err(Over));
+        assert_eq!(event(plan, &mut lent, number, 0, SOCIETY), Err(Over));
     }
-    assert_eq!(signal(plan, &mut lent), Err(Over));
+    assert_eq!(signal(plan, &mut lent, SOCIETY), Err(Over));
     for track in [0, 1, 2, 99] {
-        assert_eq!(fire(plan, &mut lent, track), Err(Over));
+        assert_eq!(fire(plan, &mut lent, track, SOCIETY), Err(Over));
         assert_eq!(entries(plan, &lent, track), []);
     }
     assert_eq!(ready(plan, &mut lent), Ok(0));
@@ -94,14 +107,14 @@ fn the_last_firing_of_a_root_ends_it() {
     root_1_ends(&plan, &mut ledger);
     assert_eq!(entries(&plan, &ledger, 1), [61, NONE]);
     assert_eq!(ready(&plan, &mut ledger), Ok(0b001));
-    assert_eq!(fire(&plan, &mut ledger, 0), fired(50, None));
+    assert_eq!(fire(&plan, &mut ledger, 0, SOCIETY), fired(50, None));
     is_over(&plan, &ledger);
 }
 
 #[test]
 fn the_last_event_of_a_root_ends_it() {
     let (plan, mut ledger) = withdrawn(&[(10, 2)], 3);
-    assert_eq!(fire(&plan, &mut ledger, 0), fired(50, None));
+    assert_eq!(fire(&plan, &mut ledger, 0, SOCIETY), fired(50, None));
     assert_eq!(ready(&plan, &mut ledger), Ok(0b010));
     root_1_ends(&plan, &mut ledger);
     is_over(&plan, &ledger);
@@ -113,7 +126,7 @@ fn the_last_firing_of_a_branch_ends_it() {
     let (plan, mut ledger) = withdrawn(&[(11, 1), (10, 1), (14, 1)], 3);
     root_1_ends(&plan, &mut ledger);
     assert_eq!(ready(&plan, &mut ledger), Ok(0b100));
-    assert_eq!(fire(&plan, &mut ledger, 2), fired(51, None));
+    assert_eq!(fire(&plan, &mut ledger, 2, SOCIETY), fired(51, None));
     is_over(&plan, &ledger);
 }
 
@@ -121,13 +134,13 @@ fn the_last_firing_of_a_branch_ends_it() {
 fn a_firing_that_leaves_an_entry_does_not_end_it() {
     let (plan, mut ledger) = (plan(), vec![7; WORDS + 1]);
     assert_eq!(begin(&plan, &mut ledger), Ok(()));
-    assert_eq!(event(&plan, &mut ledger, 10, 0), moved(2, 0));
-    assert_eq!(event(&plan, &mut ledger, 15, 0), moved(1, 1));
-    assert_eq!(signal(&plan, &mut ledger), Ok(2));
+    assert_eq!(event(&plan, &mut ledger, 10, 0, SOCIETY), moved(2, 0));
+    assert_eq!(event(&plan, &mut ledger, 15, 0, SOCIETY), moved(1, 1));
+    assert_eq!(signal(&plan, &mut ledger, SOCIETY), Ok(2));
     root_1_ends(&plan, &mut ledger);
-    assert_eq!(fire(&plan, &mut ledger, 0), fired(90, None));
+    assert_eq!(fire(&plan, &mut ledger, 0, SOCIETY), fired(90, None));
     assert_eq!(ready(&plan, &mut ledger), Ok(0b001));
-    assert_eq!(fire(&plan, &mut ledger, 0), fired(50, None));
+    assert_eq!(fire(&plan, &mut ledger, 0, SOCIETY), fired(50, None));
     is_over(&plan, &ledger);
 }
 
@@ -135,15 +148,15 @@ fn a_firing_that_leaves_an_entry_does_not_end_it() {
 #[test]
 fn a_link_withdrawn_as_a_whole_is_not_over() {
     let (plan, mut ledger) = withdrawn(&[(10, 2)], 3);
-    assert_eq!(fire(&plan, &mut ledger, 0), fired(50, None));
-    assert_eq!(fire(&plan, &mut ledger, 1), fired(60, Some(3)));
-    assert_eq!(signal(&plan, &mut ledger), Ok(1));
+    assert_eq!(fire(&plan, &mut ledger, 0, SOCIETY), fired(50, None));
+    assert_eq!(fire(&plan, &mut ledger, 1, SOCIETY), fired(60, Some(3)));
+    assert_eq!(signal(&plan, &mut ledger, SOCIETY), Ok(1));
     assert_eq!(ready(&plan, &mut ledger), Ok(0));
     assert_eq!(ledger[LEADING_WORDS..][..3], [UNDOING, 1, 0]);
     assert_eq!(ledger[LEADING_WORDS + TRACK_WORDS..][..3], [UNDOING, 3, 0]);
-    assert_eq!(event(&plan, &mut ledger, 13, 0), moved(0, 0));
-    assert_eq!(signal(&plan, &mut ledger), Ok(0));
-    assert_eq!(fire(&plan, &mut ledger, 1), Err(NotReady));
+    assert_eq!(event(&plan, &mut ledger, 13, 0, SOCIETY), moved(0, 0));
+    assert_eq!(signal(&plan, &mut ledger, SOCIETY), Ok(0));
+    assert_eq!(fire(&plan, &mut ledger, 1, SOCIETY), Err(NotReady));
 }
 
 /// Root 1 has ended when the signal turns it back: code 61 is due again, and nothing is over.
@@ -151,12 +164,52 @@ fn a_link_withdrawn_as_a_whole_is_not_over() {
 fn a_signal_turns_back_a_root_that_has_ended() {
     let (plan, mut ledger) = withdrawn(&[(10, 2)], 3);
     root_1_ends(&plan, &mut ledger);
-    assert_eq!(signal(&plan, &mut ledger), Ok(1));
+    assert_eq!(signal(&plan, &mut ledger, SOCIETY), Ok(1));
     assert_eq!(ready(&plan, &mut ledger), Ok(0b011));
-    assert_eq!(fire(&plan, &mut ledger, 0), fired(50, None));
-    assert_eq!(fire(&plan, &mut ledger, 1), fired(61, None));
+    assert_eq!(fire(&plan, &mut ledger, 0, SOCIETY), fired(50, None));
+    assert_eq!(fire(&plan, &mut ledger, 1, SOCIETY), fired(61, None));
     assert_eq!(ready(&plan, &mut ledger), Ok(0));
-    assert_eq!(signal(&plan, &mut ledger), Ok(0));
+    assert_eq!(signal(&plan, &mut ledger, SOCIETY), Ok(0));
+}
+
+/// Root 1 is at its end, holding code 61, and root 0 at its begin: taken back by its own society, it leaves nothing to do, and code 61 is dropped.
+#[test]
+fn a_signal_over_one_root_ends_it() {
+    let (plan, mut ledger) = (plan(), vec![7; WORDS + 1]);
+    assert_eq!(begin(&plan, &mut ledger), Ok(()));
+    assert_eq!(event(&plan, &mut ledger, 13, 0, OF_ROOT_0), moved(0, 0));
+    assert_eq!(event(&plan, &mut ledger, 13, 0, OF_ROOT_1), moved(1, 0));
+    assert_eq!(entries(&plan, &ledger, 1), [61, NONE]);
+    assert_eq!(signal(&plan, &mut ledger, OF_ROOT_0), Ok(1));
+    is_over(&plan, &ledger);
+}
+
+/// The scope of root 0 is open and holds nothing: it is abandoned by the signal that ends the link.
+#[test]
+fn a_signal_that_abandons_a_scope_ends_it() {
+    let (plan, mut ledger) = (plan(), vec![7; WORDS + 1]);
+    assert_eq!(begin(&plan, &mut ledger), Ok(()));
+    assert_eq!(event(&plan, &mut ledger, 11, 0, OF_ROOT_0), moved(1, 0));
+    assert_eq!(event(&plan, &mut ledger, 13, 0, OF_ROOT_1), moved(1, 0));
+    assert_eq!(signal(&plan, &mut ledger, OF_ROOT_0), Ok(2));
+    is_over(&plan, &ledger);
+}
+
+/// Root 0 holds code 50 after the signal, so that its firing ends the link; over both roots a signal ends none.
+#[test]
+fn a_signal_that_leaves_something_held_does_not_end_it() {
+    let (plan, mut ledger) = (plan(), vec![7; WORDS + 1]);
+    assert_eq!(begin(&plan, &mut ledger), Ok(()));
+    assert_eq!(event(&plan, &mut ledger, 10, 0, OF_ROOT_0), moved(1, 0));
+    assert_eq!(event(&plan, &mut ledger, 13, 0, OF_ROOT_1), moved(1, 0));
+    let mut other = ledger.clone();
+    assert_eq!(signal(&plan, &mut ledger, OF_ROOT_0), Ok(2));
+    assert_eq!(ready(&plan, &mut ledger), Ok(0b001));
+    assert_eq!(fire(&plan, &mut ledger, 0, OF_ROOT_1), Err(NoRight));
+    assert_eq!(fire(&plan, &mut ledger, 0, OF_ROOT_0), fired(50, None));
+    is_over(&plan, &ledger);
+    assert_eq!(signal(&plan, &mut other, SOCIETY), Ok(3));
+    assert_eq!(ready(&plan, &mut other), Ok(0b011));
 }
 
 /// Mode and state of both roots, which hold nothing, and track 2 asleep.
@@ -181,9 +234,21 @@ fn finish_left_to_do_is_18() {
     ] {
         let before = standing(roots);
         let (plan, mut ledger) = (plan(), before.clone());
-        assert_eq!(event(&plan, &mut ledger, 10, 0), Err(Unsound), "{roots:?}");
-        assert_eq!(signal(&plan, &mut ledger), Err(Unsound), "{roots:?}");
-        assert_eq!(fire(&plan, &mut ledger, 0), Err(Unsound), "{roots:?}");
+        assert_eq!(
+            event(&plan, &mut ledger, 10, 0, SOCIETY),
+            Err(Unsound),
+            "{roots:?}"
+        );
+        assert_eq!(
+            signal(&plan, &mut ledger, SOCIETY),
+            Err(Unsound),
+            "{roots:?}"
+        );
+        assert_eq!(
+            fire(&plan, &mut ledger, 0, SOCIETY),
+            Err(Unsound),
+            "{roots:?}"
+        );
         assert_eq!(ready(&plan, &mut ledger), Err(Unsound), "{roots:?}");
         assert_eq!(ledger, before);
     }
@@ -205,15 +270,15 @@ fn no_finish_left_to_do_is_sound() {
 fn a_ledger_tells_that_it_is_over() -> Result<(), Refusal> {
     let plan = Plan::read(plan())?;
     let mut ledger = plan.begin();
-    assert_eq!(ledger.event(10, 0), moved(2, 0));
-    assert_eq!(ledger.signal(), Ok(3));
-    assert_eq!(ledger.fire(1), fired(60, Some(3)));
-    assert_eq!(ledger.event(13, 0), moved(1, 0));
+    assert_eq!(ledger.event(10, 0, SOCIETY), moved(2, 0));
+    assert_eq!(ledger.signal(SOCIETY), Ok(3));
+    assert_eq!(ledger.fire(1, SOCIETY), fired(60, Some(3)));
+    assert_eq!(ledger.event(13, 0, SOCIETY), moved(1, 0));
     assert!(!ledger.is_over());
-    assert_eq!(ledger.fire(0), fired(50, None));
+    assert_eq!(ledger.fire(0, SOCIETY), fired(50, None));
     assert!(ledger.is_over());
     assert_eq!(ledger.ready().count(), 0);
-    assert_eq!(ledger.fire(1), Err(Over));
+    assert_eq!(ledger.fire(1, SOCIETY), Err(Over));
     assert!(plan.ledger(ledger.words())?.is_over());
     assert_eq!(
         plan.ledger(standing([(UNDOING, 1), (FORWARD, 4)])),

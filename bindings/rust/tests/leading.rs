@@ -5,11 +5,11 @@ mod sample_plan;
 use retraction::raw::{begin, entries, event, fire, read, ready, signal};
 use retraction::Refusal::{FewWords, OtherPlan, Over, Unsound};
 use retraction::{Moved, Plan, Refusal, LEADING_WORDS, NONE};
-use sample_plan::{begun, plan, WORDS};
+use sample_plan::{begun, plan, SOCIETY, WORDS};
 
-/// Where plan P's transitions start, and where its end record does.
+/// Where plan P's transitions start, and where its rights record does.
 const TRANSITIONS: usize = 3 * 6 + 8 * 10;
-const END: usize = TRANSITIONS + 5 * 14;
+const RIGHTS: usize = TRANSITIONS + 5 * 14;
 
 /// Plan P with other codes, each after the number of its transition.
 fn recoded(codes: &[(usize, u16)]) -> Vec<u8> {
@@ -26,7 +26,7 @@ fn longer() -> Vec<u8> {
     let transition = [14u16, 3, 0, 15, 65505, NONE, 0];
     let mut plan = plan();
     plan.splice(
-        END..END,
+        RIGHTS..RIGHTS,
         transition.iter().flat_map(|word| word.to_le_bytes()),
     );
     plan
@@ -43,7 +43,7 @@ fn worked(plan: &[u8], events: &[u16]) -> Vec<u16> {
     assert_eq!(begin(plan, &mut ledger), Ok(()));
     for &number in events {
         assert!(matches!(
-            event(plan, &mut ledger, number, 0),
+            event(plan, &mut ledger, number, 0, SOCIETY),
             Ok(Moved { moved: 1, .. })
         ));
     }
@@ -54,11 +54,11 @@ fn worked(plan: &[u8], events: &[u16]) -> Vec<u16> {
 fn is_refused(plan: &[u8], ledger: &[u16], refusal: Refusal) {
     let mut lent = ledger.to_vec();
     for number in [0, 10, 13] {
-        assert_eq!(event(plan, &mut lent, number, 0), Err(refusal));
+        assert_eq!(event(plan, &mut lent, number, 0, SOCIETY), Err(refusal));
     }
-    assert_eq!(signal(plan, &mut lent), Err(refusal));
+    assert_eq!(signal(plan, &mut lent, SOCIETY), Err(refusal));
     for track in [0, 1, 99] {
-        assert_eq!(fire(plan, &mut lent, track), Err(refusal));
+        assert_eq!(fire(plan, &mut lent, track, SOCIETY), Err(refusal));
         assert_eq!(entries(plan, &lent, track), []);
     }
     assert_eq!(ready(plan, &mut lent), Err(refusal));
@@ -68,12 +68,12 @@ fn is_refused(plan: &[u8], ledger: &[u16], refusal: Refusal) {
 #[test]
 fn begin_writes_the_length_and_the_sum() {
     let (plan, ledger) = begun();
-    assert_eq!(ledger[..2], [172, 609]);
+    assert_eq!(ledger[..2], [182, 633]);
     assert_eq!(ledger[LEADING_WORDS..][..3], [1, 0, 0]);
-    assert_eq!(plan.len(), 172);
+    assert_eq!(plan.len(), 182);
     let [other_sum, longer] = neighbours();
-    assert_eq!(worked(&other_sum, &[])[..2], [172, 619]);
-    assert_eq!(worked(&longer, &[])[..2], [186, 609]);
+    assert_eq!(worked(&other_sum, &[])[..2], [182, 643]);
+    assert_eq!(worked(&longer, &[])[..2], [196, 633]);
 }
 
 #[test]
@@ -99,7 +99,7 @@ fn a_neighbours_ledger_is_24() {
 #[test]
 fn an_over_ledger_of_a_neighbour_is_24() {
     let mut over = worked(&plan(), &[10, 11, 12, 14, 13]);
-    assert_eq!(signal(&plan(), &mut over), Err(Over));
+    assert_eq!(signal(&plan(), &mut over, SOCIETY), Err(Over));
     for neighbour in neighbours() {
         is_refused(&neighbour, &over, OtherPlan);
     }
@@ -127,7 +127,7 @@ fn plans_alike_in_both_words_are_not_told_apart() {
     let alike = recoded(&[(2, 52), (3, 51)]);
     let mut ledger = worked(&plan(), &[10]);
     assert_eq!(worked(&alike, &[10]), ledger);
-    assert!(event(&alike, &mut ledger, 11, 0).is_ok());
+    assert!(event(&alike, &mut ledger, 11, 0, SOCIETY).is_ok());
     assert_eq!(entries(&plan(), &ledger, 1), [52, NONE]);
 }
 
@@ -135,7 +135,7 @@ fn plans_alike_in_both_words_are_not_told_apart() {
 fn a_stored_ledger_is_read_under_its_own_plan() -> Result<(), Refusal> {
     let own = Plan::read(plan())?;
     let stored = own.begin().words().to_vec();
-    assert_eq!(stored[..2], [172, 609]);
+    assert_eq!(stored[..2], [182, 633]);
     assert_eq!(own.ledger(stored.clone())?, own.begin());
     assert_eq!(own.ledger(&stored[LEADING_WORDS..]), Err(FewWords));
     for neighbour in neighbours() {

@@ -5,7 +5,7 @@ mod sample_plan;
 use retraction::raw::{begin, entries, event, fire, read, ready, signal};
 use retraction::{Counts, Entry, Moved, Plan, Refusal};
 use retraction::{FIRST_DAY, LAST_DAY, LEADING_WORDS, NONE, TRACK_WORDS};
-use sample_plan::{begun, plan, WORDS};
+use sample_plan::{begun, plan, SOCIETY, WORDS};
 
 fn fired(code: u16) -> Result<Entry, Refusal> {
     let deviation = None;
@@ -20,14 +20,14 @@ fn moved(moved: u16, closed: u16) -> Result<Moved, Refusal> {
 fn the_sample_is_taken_back() {
     let (plan, mut ledger) = begun();
     for number in [10, 11, 12] {
-        assert_eq!(event(&plan, &mut ledger, number, 0), moved(1, 0));
+        assert_eq!(event(&plan, &mut ledger, number, 0, SOCIETY), moved(1, 0));
     }
     assert_eq!(entries(&plan, &ledger, 1), [51, NONE]);
-    assert_eq!(signal(&plan, &mut ledger), Ok(3));
+    assert_eq!(signal(&plan, &mut ledger, SOCIETY), Ok(3));
     assert_eq!(ready(&plan, &mut ledger), Ok(0b110));
-    assert_eq!(fire(&plan, &mut ledger, 0), Err(Refusal::NotReady));
+    assert_eq!(fire(&plan, &mut ledger, 0, SOCIETY), Err(Refusal::NotReady));
     for (track, code) in [(1, 51), (2, 52), (0, 50)] {
-        assert_eq!(fire(&plan, &mut ledger, track), fired(code));
+        assert_eq!(fire(&plan, &mut ledger, track, SOCIETY), fired(code));
     }
     assert_eq!(ready(&plan, &mut ledger), Ok(0));
 }
@@ -36,14 +36,14 @@ fn the_sample_is_taken_back() {
 fn a_scope_that_closes_leaves_its_replacement() {
     let (plan, mut ledger) = begun();
     for number in [10, 11, 12] {
-        assert_eq!(event(&plan, &mut ledger, number, 0), moved(1, 0));
+        assert_eq!(event(&plan, &mut ledger, number, 0, SOCIETY), moved(1, 0));
     }
-    assert_eq!(event(&plan, &mut ledger, 14, 0), moved(1, 1));
+    assert_eq!(event(&plan, &mut ledger, 14, 0, SOCIETY), moved(1, 1));
     assert_eq!(entries(&plan, &ledger, 0), [50, NONE, 90, NONE]);
     assert_eq!(entries(&plan, &ledger, 1), []);
-    assert_eq!(event(&plan, &mut ledger, 13, 0), moved(1, 0));
-    assert_eq!(signal(&plan, &mut ledger), Err(Refusal::Over));
-    assert_eq!(ledger[..LEADING_WORDS], [172, 609, 0, 0]);
+    assert_eq!(event(&plan, &mut ledger, 13, 0, SOCIETY), moved(1, 0));
+    assert_eq!(signal(&plan, &mut ledger, SOCIETY), Err(Refusal::Over));
+    assert_eq!(ledger[..LEADING_WORDS], [182, 633, 0, 0]);
     let tracks = &ledger[LEADING_WORDS..WORDS];
     assert!(tracks.iter().all(|&word| word == 0));
 }
@@ -54,10 +54,16 @@ fn refused_calls_change_no_word() {
     let before = ledger.clone();
     let short = &mut ledger.clone()[..WORDS - 1];
     assert_eq!(begin(&[], &mut ledger), Err(Refusal::NoRecord));
-    assert_eq!(event(&plan, &mut ledger, 0, 0), Err(Refusal::EventZero));
-    assert_eq!(event(&plan, short, 10, 0), Err(Refusal::FewWords));
-    assert_eq!(signal(&plan[..45], &mut ledger), Err(Refusal::CutShort));
-    assert_eq!(fire(&plan, &mut ledger, 3), Err(Refusal::NotReady));
+    assert_eq!(
+        event(&plan, &mut ledger, 0, 0, SOCIETY),
+        Err(Refusal::EventZero)
+    );
+    assert_eq!(event(&plan, short, 10, 0, SOCIETY), Err(Refusal::FewWords));
+    assert_eq!(
+        signal(&plan[..45], &mut ledger, SOCIETY),
+        Err(Refusal::CutShort)
+    );
+    assert_eq!(fire(&plan, &mut ledger, 3, SOCIETY), Err(Refusal::NotReady));
     assert_eq!(ready(&[4, 0, 4, 0], &mut ledger), Err(Refusal::NoTrack));
     assert_eq!(entries(&plan, &ledger, 3), []);
     assert_eq!(short[..], before[..WORDS - 1]);
@@ -74,7 +80,7 @@ fn a_plan_tells_its_counts() {
         transitions: 5,
     };
     assert_eq!(read(&plan()), Ok(counts));
-    assert_eq!(read(&plan()[..171]), Err(Refusal::NoRecord));
+    assert_eq!(read(&plan()[..181]), Err(Refusal::NoRecord));
     let plan = Plan::read(plan()).expect("the sample");
     assert_eq!((plan.counts(), plan.ledger_words()), (counts, 205));
 }
@@ -84,19 +90,19 @@ fn a_ledger_is_stored_and_read_again() -> Result<(), Refusal> {
     let plan = Plan::read(plan())?;
     let mut ledger = plan.begin();
     for number in [10, 11, 12] {
-        assert_eq!(ledger.event(number, 0), moved(1, 0));
+        assert_eq!(ledger.event(number, 0, SOCIETY), moved(1, 0));
     }
     let mut again = plan.ledger(ledger.words())?;
     assert_eq!(again, ledger);
-    assert_eq!(again.signal(), Ok(3));
+    assert_eq!(again.signal(SOCIETY), Ok(3));
     assert_eq!(again.ready().collect::<Vec<u16>>(), [1, 2]);
     assert_eq!(again.entries(2).collect::<Vec<Entry>>(), [fired(52)?]);
     while let Some(track) = again.ready().next() {
-        let _ = again.fire(track)?;
+        let _ = again.fire(track, SOCIETY)?;
     }
     assert!(!again.is_over() && !ledger.is_over());
-    assert_eq!(ledger.event(14, 0), moved(1, 1));
-    assert_eq!(ledger.event(13, 0), moved(1, 0));
+    assert_eq!(ledger.event(14, 0, SOCIETY), moved(1, 1));
+    assert_eq!(ledger.event(13, 0, SOCIETY), moved(1, 0));
     assert!(ledger.is_over());
     Ok(())
 }
@@ -104,8 +110,8 @@ fn a_ledger_is_stored_and_read_again() -> Result<(), Refusal> {
 #[test]
 fn a_refusal_has_its_number_and_its_words() {
     let checked: Vec<u16> = (1..=16)
-        .chain([25, 17, 24, 18, 19, 26])
-        .chain(20..=23)
+        .chain([25, 27, 17, 24, 18, 19, 26, 20, 28])
+        .chain(21..=23)
         .collect();
     let numbers: Vec<u16> = Refusal::ALL
         .iter()

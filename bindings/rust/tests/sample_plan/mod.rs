@@ -3,6 +3,9 @@
 use retraction::raw::begin;
 use retraction::{LEADING_WORDS, NONE, TRACK_WORDS};
 
+/// The society that has every right under plan P, and the only one.
+pub const SOCIETY: u16 = 1;
+
 /// The words that a ledger of plan P has.
 pub const WORDS: usize = LEADING_WORDS + 3 * TRACK_WORDS;
 
@@ -24,6 +27,7 @@ const RECORDS: &[&[u16]] = &[
     &[14, 3, 3, 11, 51, NONE, 4],
     &[14, 3, 5, 12, 52, NONE, 6],
     &[14, 3, 6, 14, 54, NONE, 7],
+    &[10, 6, SOCIETY, 0, 7],
     &[4, 4],
 ];
 
