@@ -57,11 +57,6 @@ module _ (c : Counts) (ws : List ℕ) (o : Tidy ws (c .tracks)) (t : ℕ) where
       → (n ≡ cond (may && isForward (ledgerOf c ws t .mode)) 1 0) × (vs ≡ withConfiguration c ws t (turnedIf may (ledgerOf c ws t)))
   turn-may may n h = rw (not-false may n) h
 
--- one track turns at most once
-pub one-most : (b : Bool) → cond b 1 0 ≤ 1
-one-most true = omega arith
-one-most false = omega arith
-
 -- the passes write what the words can hold
 module _ (p : Plan) (society : ℕ) (c : Counts) (ws : List ℕ) (o : Tidy ws (c .tracks)) where
   abbrev may : ℕ → Bool

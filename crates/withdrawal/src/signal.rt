@@ -10,7 +10,7 @@ use rules::Mode;
 use rules::SignalAnswer;
 ghost use mathlib.Core.Path.{_≡_};
 ghost use mathlib.Core.Bool.{false, cond, _&&_};
-ghost use Prim.Native.Nat.{_<_};
+ghost use Prim.Native.Nat.{_<_, _≤_};
 ghost use Rattle.rules.specs.Fold.{countBelow};
 ghost use Rattle.rules.specs.Layout.{entryLimit};
 ghost use Rattle.rules.specs.Ledger.{isForward, written};
@@ -28,7 +28,7 @@ ghost use Rattle.withdrawal.specs.Turning.{turnedIf};
 fn turn_track(c: Counts, ledger: &mut [u16], may: bool, t: usize) -> u16
     requires { ⌜ Tidy (now ledger) (c .tracks) × (t < c .tracks) ⌝ }
     ensures { λ r. ⌜ (r ≡ cond (may && isForward (ledgerOf c (now (ledger .entry)) t .mode)) 1 0)
-        × (now (ledger .exit) ≡ withConfiguration c (now (ledger .entry)) t (turnedIf may (ledgerOf c (now (ledger .entry)) t))) ⌝ }
+        × (now (ledger .exit) ≡ withConfiguration c (now (ledger .entry)) t (turnedIf may (ledgerOf c (now (ledger .entry)) t))) × (r ≤ 1) ⌝ }
 {
     if !may {
         return 0;

@@ -1,11 +1,9 @@
 -- The invariant: the tracks passed have turned if they may, and the count is theirs. Assumes nothing.
 use mathlib.Core.Path.{_≡_, refl}
-use mathlib.Core.Bool.{false, _&&_}
+use mathlib.Core.Bool.{_&&_}
 use Prim.Native.Nat.{_≤_, _-_}
 use native.Mathlib.Omega.{arith}
 use borrow.Author.Needs.{needs}
-use denote.Ref.{now}
-use lib.ListN.{getD}
 use Rattle.rules.specs.Fold.{countBelow}
 use Rattle.rules.specs.Layout.{entryLimit}
 use Rattle.rules.specs.Plan.{planOf}
@@ -15,7 +13,7 @@ use Rattle.rules.specs.Signal.{turned}
 use Rattle.rules.proofs.Passes.{upTo}
 use Rattle.rules.proofs.Folds.{count-most}
 use Rattle.ledger.specs.Ladder.{ledgerOf}
-use Rattle.withdrawal.proofs.TrackVisits.{one-most, turn-count, turning-start, turning-orderly, turning-length, turning-old, turning-more, turning-end}
+use Rattle.withdrawal.proofs.TrackVisits.{turn-count, turning-start, turning-orderly, turning-length, turning-old, turning-more, turning-end}
 use Rattle.withdrawal.proofs.signal.turn_all.Statement.{statement}
 use Rattle.withdrawal.proofs.signal.turn_all.Tie as tie
 
@@ -39,7 +37,7 @@ add-count : tie.Need-add-count Inv-loop μ-loop
 add-count c =
     let a = c .before .before .before .before .before .before .before .before .before .args in
     let f = c .before .before .before .before .before .before .before .before .before .pre .0 .room .few in
-    omega (arith, c .before .before .before .before .before .before .loop .inv .1, count-most (c .before .before .before .before .before .before .loop .t) (λ t. isPermitted (planOf (a .plan .now) (a .c)) signalRight (a .society) t && isForward (ledgerOf (a .c) (a .ledger .now) t .mode)), c .before .before .turn-track .ensures .0, one-most (getD (now (c .before .before .before .before .before .before .before .before .before .args .may)) (c .before .before .before .before .before .before .loop .t) false && isForward (ledgerOf (a .c) (c .before .before .before .before .before .before .loop .ledger) (c .before .before .before .before .before .before .loop .t) .mode)))
+    omega (arith, c .before .before .before .before .before .before .loop .inv .1, count-most (c .before .before .before .before .before .before .loop .t) (λ t. isPermitted (planOf (a .plan .now) (a .c)) signalRight (a .society) t && isForward (ledgerOf (a .c) (a .ledger .now) t .mode)), c .before .before .turn-track .ensures .2)
 
 loop-again : tie.Need-loop-again Inv-loop μ-loop
 loop-again c =
