@@ -9,6 +9,7 @@ use Rattle.rules.specs.declared.ReadyAnswer.{ReadyAnswer}
 use Rattle.rules.specs.declared.Date.{Date}
 use Rattle.rules.specs.declared.DateAnswer.{DateAnswer}
 use Rattle.rules.specs.declared.DayAnswer.{DayAnswer}
+use Rattle.rules.specs.declared.LargestAnswer.{LargestAnswer}
 use Rattle.rules.specs.declared.PlanAnswer.the-variants as plan
 use Rattle.rules.specs.declared.BeginAnswer.the-variants as begin
 use Rattle.rules.specs.declared.EventAnswer.the-variants as event
@@ -17,6 +18,7 @@ use Rattle.rules.specs.declared.FireAnswer.the-variants as fire
 use Rattle.rules.specs.declared.ReadyAnswer.the-variants as ready
 use Rattle.rules.specs.declared.DateAnswer.the-variants as date
 use Rattle.rules.specs.declared.DayAnswer.the-variants as day
+use Rattle.rules.specs.declared.LargestAnswer.the-variants as largest
 use Rattle.rules.specs.Names.{Day}
 use Rattle.rules.specs.Acceptance.{Reading, turnedBack, accepted}
 use Rattle.rules.specs.Call.{Answer, refusal, done}
@@ -57,3 +59,8 @@ dateTold (date.Refused n) = converted.refusal n
 unfoldable pub dayTold : DayAnswer → Converted Day
 dayTold (day.Day z) = converted.found z
 dayTold (day.Refused n) = converted.refusal n
+
+-- the figures and the paths stand in arrays beside it
+unfoldable pub largestTold : LargestAnswer → Answer
+largestTold largest.Shown = done []
+largestTold (largest.Refused n) = refusal n

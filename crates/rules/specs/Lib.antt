@@ -1,4 +1,4 @@
--- Document 01, as the requests amend it, as definitions in its order: the plan file, the ledger, what each call does, refusals, the program, property 3, isolation.
+-- Document 01, as the requests amend it, as definitions in its order: the plan file, the ledger, what each call does, refusals, the program, property 3, isolation, the largest number of entries.
 pub mod Names
 pub mod Fold
 pub mod Signed
@@ -29,3 +29,4 @@ pub mod Books
 pub mod ReferenceRun
 pub mod History
 pub mod Isolation
+pub mod Largest

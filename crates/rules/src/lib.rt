@@ -77,3 +77,17 @@ pub enum DayAnswer {
     Day(i32),
     Refused(u8),
 }
+
+// Whether the largest numbers of entries are shown.
+pub enum LargestAnswer {
+    Shown,
+    Refused(u8),
+}
+
+// The largest number of entries of each track, how many transitions the path shown for it has, and these paths end to end. 65535 fills up.
+pub struct Largest {
+    pub answer: LargestAnswer,
+    pub figures: [u16; 32],
+    pub lengths: [u16; 32],
+    pub steps: [u16; 256],
+}
