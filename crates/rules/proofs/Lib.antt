@@ -11,6 +11,9 @@ pub mod Roots
 pub mod RightsLaws
 pub mod Heights
 pub mod Scopes
+pub mod Occurrences
+pub mod Paths
+pub mod Figures
 pub mod Opening
 pub mod Closing
 pub mod Abandoning
