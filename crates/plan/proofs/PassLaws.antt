@@ -19,7 +19,7 @@ use Rattle.plan.specs.Passes.{slots, stateSlots, firstAmong, firstMarks}
 use Rattle.plan.proofs.Hosting.{in-root, in-hosted, within}
 
 module _ {A : Type 0} (n : ℕ) (f g : ℕ → A) where
-  figures-same : ((i : ℕ) → i < n → f i ≡ g i) → tabulate n f ≡ tabulate n g
+  pub figures-same : ((i : ℕ) → i < n → f i ≡ g i) → tabulate n f ≡ tabulate n g
   figures-same h =
       ext-getD (f 0) (tabulate n f) (tabulate n g) (length-tabulate n f ∙ sym (length-tabulate n g))
       (λ i l.
@@ -27,7 +27,7 @@ module _ {A : Type 0} (n : ℕ) (f g : ℕ → A) where
       getD-tabulate n i f (f 0) k ∙ h i k ∙ sym (getD-tabulate n i g (f 0) k))
 
   -- one figure set
-  figures-set : (k : ℕ) (v : A) → k < n → v ≡ g k → ((i : ℕ) → i < n → (i ≡ k → ⊥) → f i ≡ g i) → set (tabulate n f) k v ≡ tabulate n g
+  pub figures-set : (k : ℕ) (v : A) → k < n → v ≡ g k → ((i : ℕ) → i < n → (i ≡ k → ⊥) → f i ≡ g i) → set (tabulate n f) k v ≡ tabulate n g
   figures-set k v lk e h =
       ext-getD (f 0) (set (tabulate n f) k v) (tabulate n g)
       (length-set (tabulate n f) k v ∙ length-tabulate n f ∙ sym (length-tabulate n g))

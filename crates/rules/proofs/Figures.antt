@@ -20,7 +20,7 @@ use Rattle.rules.proofs.Acceptance.{Accepted}
 use Rattle.rules.proofs.Paths.{leaves-told, path-parts, path-from, path-short, never-round}
 
 -- the greatest is 0, or some value below n
-greatest-met : (n : ℕ) (f : ℕ → ℕ) → (greatestBelow n f ≡ 0) ⊎ ((k : ℕ) × (k < n) × (greatestBelow n f ≡ f k))
+pub greatest-met : (n : ℕ) (f : ℕ → ℕ) → (greatestBelow n f ≡ 0) ⊎ ((k : ℕ) × (k < n) × (greatestBelow n f ≡ f k))
 unfolding greatestBelow
 greatest-met zero f = inl refl
 greatest-met (suc n) f =

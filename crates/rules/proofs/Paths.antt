@@ -12,7 +12,7 @@ use lib.Dec.{eqb, ltb}
 use borrow.Author.Tests.{eqb-true, eqb-false, eq-eqb, ltb-true, ltb-false, lt-ltb}
 use Rattle.rules.specs.Fold.{someBelow}
 use Rattle.rules.specs.Plan.{Plan, stateCount, transitionCount, transition, mover, isStateOf}
-use Rattle.rules.specs.Largest.{leaves, isPath, endOf, goesOn, hasCycle, Cycle}
+use Rattle.rules.specs.Largest.{leaves, isPath, endOf, Leads, goesOn, hasCycle, Cycle}
 use Rattle.rules.proofs.Tests.{look, clash, refuted, and-holds, and-both}
 use Rattle.rules.proofs.Folds.{some-at, some-not, some-find, some-none}
 use Rattle.rules.proofs.Acceptance.{Accepted}
@@ -70,6 +70,9 @@ module _ (p : Plan) where
   unfolding goesOn
   goes-through n s x a b = some-at (transitionCount p) _ x (leaves-told s x a .0) (and-both _ _ a b)
 
+  pub goes-less : (m n s : ℕ) → m ≤ n → goesOn p n s ≡ true → goesOn p m s ≡ true
+  goes-less m n s l h = let (xs, i, j) = goes-path n s h in goes-along m s xs i (omega arith)
+
   -- where no transition's destination lets one go on n times
   pub goes-nowhere : (n s : ℕ) → ((x : ℕ) → leaves p s x ≡ true → goesOn p n (transition p x .destination) ≡ false) → goesOn p (suc n) s ≡ false
   unfolding goesOn
@@ -87,22 +90,16 @@ module _ (p : Plan) where
   length-along s [] = refl
   length-along s (x ∷ xs) = ap suc (length-along (transition p x .destination) xs)
 
-  -- a path from s to u
-  pub record Leads (s u : ℕ) : Type 0 where
-    pub by : List ℕ
-    pub path : isPath p s by ≡ true
-    pub to : endOf p s by ≡ u
-
-  pub leads-none : (s : ℕ) → Leads s s
+  pub leads-none : (s : ℕ) → Leads p s s
   unfolding isPath endOf
   leads-none s = record { by = []; path = refl; to = refl }
 
-  pub leads-first : (s x u : ℕ) → leaves p s x ≡ true → Leads (transition p x .destination) u → Leads s u
+  pub leads-first : (s x u : ℕ) → leaves p s x ≡ true → Leads p (transition p x .destination) u → Leads p s u
   unfolding endOf
   leads-first s x u a w = record { by = x ∷ w .by; path = path-from s x (w .by) a (w .path); to = w .to }
 
   -- the states along a path are led to
-  along-led : (u s : ℕ) (xs : List ℕ) → isPath p s xs ≡ true → (occurrences u (along s xs) ≡ 0 → ⊥) → Leads s u
+  along-led : (u s : ℕ) (xs : List ℕ) → isPath p s xs ≡ true → (occurrences u (along s xs) ≡ 0 → ⊥) → Leads p s u
   unfolding along occurrences
   along-led u s [] h d =
       elim (look (eqb u s)) [
@@ -122,7 +119,7 @@ module _ (p : Plan) where
   -- a path from s to a cycle
   pub record Loops (s : ℕ) : Type 0 where
     pub cycle : Cycle p
-    pub to : Leads s (cycle .from)
+    pub to : Leads p s (cycle .from)
 
   twice-loops : (u s : ℕ) (xs : List ℕ) → isPath p s xs ≡ true → 1 < occurrences u (along s xs) → Loops s
   unfolding along occurrences endOf
@@ -166,7 +163,7 @@ module _ (p : Plan) where
       goes-along n s (t .by ++ xs) (path-append s (t .by) xs (t .path) (rw (t .to) h)) (omega arith)
 
   -- a transition that leads back to its source, at any remove
-  pub led-back : (s x : ℕ) → leaves p s x ≡ true → Leads (transition p x .destination) s → Loops s
+  pub led-back : (s x : ℕ) → leaves p s x ≡ true → Leads p (transition p x .destination) s → Loops s
   unfolding endOf
   led-back s x a w =
       record {
@@ -205,15 +202,20 @@ module _ (p : Plan) where
     pub ends-somewhere : (n s : ℕ) → s < stateCount p → goesOn p n s ≡ false → goesOn p (stateCount p) s ≡ false
     ends-somewhere n s l h = refuted _ (λ k. clash (loops-on s (long-loops s l k) n) h)
 
+    -- what lies behind a transition ends too
+    pub ends-behind : (s x : ℕ) → goesOn p (stateCount p) s ≡ false → leaves p s x ≡ true → goesOn p (stateCount p) (transition p x .destination) ≡ false
+    ends-behind s x h a = refuted _ (λ k. clash (goes-less (stateCount p) (suc (stateCount p)) s (omega arith) (goes-through (stateCount p) s x a k)) h)
+
     -- 29's test of a plan finds a cycle exactly where there is one
     pub cycle-exactly : (hasCycle p ≡ true) ↔ Cycle p
     unfolding hasCycle
-    cycle-exactly =
-        ((λ h. let (s, l, g) = some-find (stateCount p) _ h in long-loops s l g .cycle)
-        , (λ c.
-        let a = path-parts (c .from) (c .first) (c .others) (c .leads) .0 in
-        let w : Loops (c .from) = record { cycle = c; to = leads-none (c .from) } in
-        some-at (stateCount p) _ (c .from) (leaves-states (c .from) (c .first) a .0) (loops-on (c .from) w (stateCount p))))
+    cycle-exactly = (
+      (λ h. let (s, l, g) = some-find (stateCount p) _ h in long-loops s l g .cycle),
+      (λ c.
+          let a = path-parts (c .from) (c .first) (c .others) (c .leads) .0 in
+          let w : Loops (c .from) = record { cycle = c; to = leads-none (c .from) } in
+          some-at (stateCount p) _ (c .from) (leaves-states (c .from) (c .first) a .0) (loops-on (c .from) w (stateCount p))),
+    )
 
     pub never-round : hasCycle p ≡ false → (s : ℕ) → s < stateCount p → goesOn p (stateCount p) s ≡ false
     unfolding hasCycle

@@ -40,6 +40,12 @@ module _ (p : Plan) where
   endOf s [] = s
   endOf s (x ∷ xs) = endOf (transition p x .destination) xs
 
+  -- some path leads from one state to another
+  pub record Leads (s u : StateNumber) : Type 0 where
+    pub by : List TransitionNumber
+    pub path : isPath s by ≡ true
+    pub to : endOf s by ≡ u
+
   -- "the .. number of entries along" it, "its last state included"; the empty path has its one state's
   unfoldable pub entriesAlong : StateNumber → List TransitionNumber → ℕ
   entriesAlong s [] = ofState s

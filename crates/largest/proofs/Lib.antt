@@ -1,0 +1,8 @@
+-- Laws for the proofs of this crate.
+pub mod ChosenLaws
+pub mod EntriesLaws
+pub mod OutgoingLaws
+pub mod ExploreLaws
+pub mod FitLaws
+pub mod ShowingLaws
+pub mod AnswerLaws

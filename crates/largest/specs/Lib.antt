@@ -1,0 +1,3 @@
+-- What the contracts of this crate speak of beside the rules.
+pub mod Chosen
+pub mod Table
