@@ -29,3 +29,5 @@ pub mod Moves
 pub mod LedgerChecks
 pub mod Replaced
 pub mod Passes
+-- Paths of transitions.
+pub mod PathSteps
