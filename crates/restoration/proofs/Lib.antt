@@ -13,6 +13,10 @@ pub mod Days
 pub mod Rights
 pub mod Bound
 pub mod LiteralRuns
+-- The most that a track holds.
+pub mod Ways
+pub mod WaysKept
+pub mod HeldMost
 -- Books for the sample plan; what would be false.
 pub mod SampleTracks
 pub mod SampleBooks

@@ -1,0 +1,110 @@
+-- "No history, whatever its days and rights, makes the track hold more": along every list of calls from an accepted begin each track is on its way, so
+-- it holds no more than the path of its way has entries; and where the plan has no cycle, no path from its first state has more than `largest`.
+-- Assumes nothing.
+use mathlib.Core.Path.{_≡_, refl, ap, _∙_, subst}
+use mathlib.Core.Logic.{inl, inr}
+use mathlib.Core.Bool.{Bool, true, false, cond}
+use mathlib.Core.List.{List, [], _∷_}
+use Prim.Native.Nat.{ℕ, _<_, _≤_}
+use native.Mathlib.Omega.{arith}
+use lib.ListN.{length}
+use lib.Dec.{ltb}
+use borrow.Author.Tests.{ltb-true}
+use Rattle.rules.specs.declared.Counts.{Counts}
+use Rattle.rules.specs.Names.{Day}
+use Rattle.rules.specs.Day.{earliestDay}
+use Rattle.rules.specs.Plan.{Plan, trackCount, planOf, firstState}
+use Rattle.rules.specs.Acceptance.{Reading, turnedBack, accepted, readPlan}
+use Rattle.rules.specs.Ledger.{Ledger, isAwake, ledgerAt}
+use Rattle.rules.specs.Opening.{begun}
+use Rattle.rules.specs.Call.{done, Call, next, nextDay, callOutcome, beginOutcome}
+use Rattle.rules.specs.ReferenceRun.{wordsFrom, wordsAfter}
+use Rattle.rules.specs.Largest.{isPath, entriesAlong, largest, hasDeviation, hasCycle, isUnbounded, readBounded, HoldsNoMore}
+use Rattle.rules.proofs.Tests.{look, or-fails}
+use Rattle.rules.proofs.Acceptance.{Accepted, accepts}
+use Rattle.theory.proofs.SoundParts.{sleeping-held}
+use Rattle.restoration.proofs.Theorems01.{Kept}
+use Rattle.restoration.proofs.SoundWords.{Holds, begin-holds, call-holds}
+use Rattle.restoration.proofs.Ways.{Ways}
+use Rattle.restoration.proofs.WaysKept.{ways-begun, ways-next}
+
+-- a plan that is read as bounded is read, and has no deviation and no cycle
+pub bounded-read : (bs : List ℕ) (k : Counts) → readBounded bs ≡ accepted k
+    → (readPlan bs ≡ accepted k) × (hasDeviation (planOf bs k) ≡ false) × (hasCycle (planOf bs k) ≡ false)
+unfolding readBounded isUnbounded
+bounded-read bs k h = go (readPlan bs) refl
+  where
+    last : (c : Counts) (b : Bool) → isUnbounded (planOf bs c) ≡ b → cond b (turnedBack 29) (accepted c) ≡ accepted k
+        → (c ≡ k) × (isUnbounded (planOf bs c) ≡ false)
+    last c true e q = let z : _≡_ {A = ℕ} 0 1 = cc in absurd (omega arith)
+    last c false e q = (cc, e)
+
+    go : (r : Reading) → readPlan bs ≡ r
+        → (readPlan bs ≡ accepted k) × (hasDeviation (planOf bs k) ≡ false) × (hasCycle (planOf bs k) ≡ false)
+    go (turnedBack n) e =
+        let q : turnedBack n ≡ accepted k = rw (e, readBounded) at h in let z : _≡_ {A = ℕ} 0 1 = cc in absurd (omega arith)
+    go (accepted c) e =
+        let q : cond (isUnbounded (planOf bs c)) (turnedBack 29) (accepted c) ≡ accepted k = rw (e, readBounded) at h in
+        let (same, n) = last c (isUnbounded (planOf bs c)) refl q in
+        let (a, b) = or-fails (hasDeviation (planOf bs k)) (hasCycle (planOf bs k)) (subst (λ x. isUnbounded (planOf bs x) ≡ false) same n) in
+        (e ∙ ap accepted same, a, b)
+
+-- a path from the track's first state has no fewer entries than a track holds
+pub record Along (p : Plan) (l : Ledger) (t : ℕ) : Type 0 where
+  pub path : List ℕ
+  pub leads : isPath p (firstState p t) path ≡ true
+  pub enough : length (l t .held) ≤ entriesAlong p (firstState p t) path
+
+-- what sleeps holds nothing
+asleep-nothing : (limit : ℕ) (p : Plan) (l : Ledger) → Kept limit p l → (t : ℕ) → isAwake (l t .mode) ≡ false → l t .held ≡ []
+asleep-nothing limit p l (inl o) t a = ap (λ c. c .held) (o t) ∙ sleeping-held
+asleep-nothing limit p l (inr s) t a = ap (λ c. c .held) (s .formed .nested .blank t a) ∙ sleeping-held
+
+ways-along : (limit : ℕ) (p : Plan) (l : Ledger) → Kept limit p l → Ways p l → (t : ℕ) → Along p l t
+unfolding isPath
+ways-along limit p l k w t =
+    elim (look (isAwake (l t .mode))) [
+      | inl a ↦ let y = w t a in record { path = y .path; leads = y .leads; enough = omega (arith, y .room) }
+      | inr a ↦ record { path = []; leads = refl; enough = rw (asleep-nothing limit p l k t a) (omega arith) }
+    ]
+
+module _ (limit : ℕ) (bs : List ℕ) (k : Counts) (read : readPlan bs ≡ accepted k) (quiet : hasDeviation (planOf bs k) ≡ false) where
+  abbrev p : Plan
+  p = planOf bs k
+
+  list-along : (cs : List Call) (ws : List ℕ) (d : Day) (l : Ledger) → Holds limit bs k read ws d l → Ways p l
+      → (t : ℕ) → Along p (ledgerAt limit (wordsFrom limit bs ws cs) (trackCount p)) t
+  unfolding wordsFrom
+  list-along [] ws d l h w = rw (h .reads) (ways-along limit p l (h .kept) w)
+  list-along (c ∷ cs) ws d l h w =
+      list-along cs (callOutcome limit bs ws c .words) (nextDay limit p d l c) (next limit p d l c) (call-holds limit bs k read ws d l h c)
+      (ways-next limit p (accepts bs k read) quiet d l (h .kept) w c)
+
+  -- no history makes a track hold more than some path from its first state has entries
+  pub held-along : (lent : List ℕ) → beginOutcome limit bs lent .answer ≡ done [] → (cs : List Call)
+      → (t : ℕ) → Along p (ledgerAt limit (wordsAfter limit bs lent cs) (trackCount p)) t
+  unfolding wordsAfter
+  held-along lent b cs =
+      list-along cs (beginOutcome limit bs lent .words) earliestDay (begun p) (begin-holds limit bs k read lent b)
+      (ways-begun limit p (accepts bs k read) quiet)
+
+-- a track that does not exist holds nothing
+beyond-nothing : (limit : ℕ) (ws : List ℕ) (n t : ℕ) → ltb t n ≡ false → ledgerAt limit ws n t .held ≡ []
+unfolding ledgerAt
+beyond-nothing limit ws n t b = rw b sleeping-held
+
+-- "no path has more" than the figure of its track, where the plan has no cycle
+module _ (no-more : (p : Plan) → Accepted p → hasCycle p ≡ false → (t : ℕ) → t < trackCount p → (xs : List ℕ)
+    → isPath p (firstState p t) xs ≡ true → entriesAlong p (firstState p t) xs ≤ largest p t) where
+  pub held-most : (limit : ℕ) (bs : List ℕ) (k : Counts) → readBounded bs ≡ accepted k → (lent : List ℕ) → beginOutcome limit bs lent .answer ≡ done []
+      → (cs : List Call) → HoldsNoMore limit (planOf bs k) (wordsAfter limit bs lent cs)
+  unfolding HoldsNoMore
+  held-most limit bs k h lent b cs t =
+      let (read, quiet, acyclic) = bounded-read bs k h in
+      let p = planOf bs k in
+      let ws = wordsAfter limit bs lent cs in
+      let y = held-along limit bs k read quiet lent b cs t in
+      elim (look (ltb t (trackCount p))) [
+        | inl i ↦ omega (arith, y .enough, no-more p (accepts bs k read) acyclic t (ltb-true t (trackCount p) i) (y .path) (y .leads))
+        | inr i ↦ rw (beyond-nothing limit ws (trackCount p) t i) (omega arith)
+      ]
