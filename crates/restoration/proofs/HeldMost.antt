@@ -3,21 +3,22 @@
 -- Assumes nothing.
 use mathlib.Core.Path.{_≡_, refl, ap, _∙_, subst}
 use mathlib.Core.Logic.{inl, inr}
-use mathlib.Core.Bool.{Bool, true, false, cond}
+use mathlib.Core.Bool.{Bool, true, false, cond, _&&_}
 use mathlib.Core.List.{List, [], _∷_}
-use Prim.Native.Nat.{ℕ, _<_, _≤_}
+use Prim.Native.Nat.{ℕ, _*_, _<_, _≤_}
 use native.Mathlib.Omega.{arith}
-use lib.ListN.{length}
-use lib.Dec.{ltb}
+use lib.ListN.{length, drop, length-take}
+use lib.Dec.{eqb, ltb}
 use borrow.Author.Tests.{ltb-true}
 use Rattle.rules.specs.declared.Counts.{Counts}
 use Rattle.rules.specs.Names.{Day}
 use Rattle.rules.specs.Day.{earliestDay}
 use Rattle.rules.specs.Plan.{Plan, trackCount, planOf, firstState}
 use Rattle.rules.specs.Acceptance.{Reading, turnedBack, accepted, readPlan}
+use Rattle.rules.specs.Layout.{entryWidth, entriesPlace}
 use Rattle.rules.specs.Ledger.{Ledger, isAwake, ledgerAt}
 use Rattle.rules.specs.Opening.{begun}
-use Rattle.rules.specs.Call.{done, Call, next, nextDay, callOutcome, beginOutcome}
+use Rattle.rules.specs.Call.{done, Call, ledgerRefusal, next, nextDay, callOutcome, beginOutcome, heldPart, entriesPart}
 use Rattle.rules.specs.ReferenceRun.{wordsFrom, wordsAfter}
 use Rattle.rules.specs.Largest.{isPath, entriesAlong, largest, hasDeviation, hasCycle, isUnbounded, readBounded, HoldsNoMore}
 use Rattle.rules.proofs.Tests.{look, or-fails}
@@ -94,17 +95,33 @@ unfolding ledgerAt
 beyond-nothing limit ws n t b = rw b sleeping-held
 
 -- "no path has more" than the figure of its track, where the plan has no cycle
-module _ (no-more : (p : Plan) → Accepted p → hasCycle p ≡ false → (t : ℕ) → t < trackCount p → (xs : List ℕ)
-    → isPath p (firstState p t) xs ≡ true → entriesAlong p (firstState p t) xs ≤ largest p t) where
-  pub held-most : (limit : ℕ) (bs : List ℕ) (k : Counts) → readBounded bs ≡ accepted k → (lent : List ℕ) → beginOutcome limit bs lent .answer ≡ done []
-      → (cs : List Call) → HoldsNoMore limit (planOf bs k) (wordsAfter limit bs lent cs)
-  unfolding HoldsNoMore
-  held-most limit bs k h lent b cs t =
-      let (read, quiet, acyclic) = bounded-read bs k h in
-      let p = planOf bs k in
-      let ws = wordsAfter limit bs lent cs in
-      let y = held-along limit bs k read quiet lent b cs t in
-      elim (look (ltb t (trackCount p))) [
-        | inl i ↦ omega (arith, y .enough, no-more p (accepts bs k read) acyclic t (ltb-true t (trackCount p) i) (y .path) (y .leads))
-        | inr i ↦ rw (beyond-nothing limit ws (trackCount p) t i) (omega arith)
-      ]
+abbrev pub NoMore : Type 0
+NoMore =
+    (p : Plan) → Accepted p → hasCycle p ≡ false → (t : ℕ) → t < trackCount p → (xs : List ℕ) → isPath p (firstState p t) xs ≡ true
+    → entriesAlong p (firstState p t) xs ≤ largest p t
+
+pub held-most : NoMore → (limit : ℕ) (bs : List ℕ) (k : Counts) → readBounded bs ≡ accepted k
+    → (lent : List ℕ) → beginOutcome limit bs lent .answer ≡ done [] → (cs : List Call) → HoldsNoMore limit (planOf bs k) (wordsAfter limit bs lent cs)
+unfolding HoldsNoMore
+held-most no-more limit bs k h lent b cs t =
+    let (read, quiet, acyclic) = bounded-read bs k h in
+    let p = planOf bs k in
+    let y = held-along limit bs k read quiet lent b cs t in
+    elim (look (ltb t (trackCount p))) [
+      | inl i ↦ omega (arith, y .enough, no-more p (accepts bs k read) acyclic t (ltb-true t (trackCount p) i) (y .path) (y .leads))
+      | inr i ↦ rw (beyond-nothing limit (wordsAfter limit bs lent cs) (trackCount p) t i) (omega arith)
+    ]
+
+-- so the part that entries hands back has two words for each of them at most
+pub part-most : (limit : ℕ) (bs : List ℕ) (k : Counts) → readPlan bs ≡ accepted k → (ws : List ℕ) → HoldsNoMore limit (planOf bs k) ws
+    → (t : ℕ) → length (entriesPart limit bs ws t) ≤ 2 * largest (planOf bs k) t
+unfolding entriesPart heldPart entryWidth HoldsNoMore
+part-most limit bs k read ws h t =
+    rw (read, entriesPart)
+    (elim (look (eqb (ledgerRefusal limit bs p ws) 0 && ltb t (trackCount p))) [
+      | inl i ↦ rw i (omega (arith, h t, length-take (2 * length (ledgerAt limit ws (trackCount p) t .held)) (drop (entriesPlace limit t) ws)))
+      | inr i ↦ rw i (omega arith)
+    ])
+  where
+    p : Plan
+    p = planOf bs k

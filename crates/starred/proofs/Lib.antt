@@ -1,7 +1,9 @@
--- The starred runs, the leading words on the sample plan, links that end half withdrawn, days and windows, rights, and isolation.
+-- The starred runs, the leading words on the sample plan, links that end half withdrawn, days and windows, rights, isolation, and the largest
+-- numbers of entries.
 pub mod Starred
 pub mod LeadingRuns
 pub mod HalfWithdrawn
 pub mod DayRuns
 pub mod RightsRuns
 pub mod IsolationRuns
+pub mod LargestRuns
