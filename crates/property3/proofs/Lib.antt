@@ -5,6 +5,7 @@ pub mod EveryList
 pub mod Readings
 pub mod Calls
 pub mod WrongPlan
+pub mod HeldMost
 pub mod Isolation
 pub mod FreeBooks
 pub mod OneCall

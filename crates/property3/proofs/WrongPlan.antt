@@ -44,11 +44,11 @@ module _ (κs : Lfts 2) (a : ArgsD begin.signature κs) (r : ResD begin.signatur
   abbrev lent : List ℕ
   lent = now (a .1 .0)
 
-  begun : beginOutcome entryLimit bs lent .answer ≡ done []
+  pub begun : beginOutcome entryLimit bs lent .answer ≡ done []
   unfolding beginTold
   begun = sym (begin-meets κs a r s post .answered) ∙ ap beginTold done-begin
 
-  words : ws ≡ wordsAfter entryLimit bs lent cs
+  pub words : ws ≡ wordsAfter entryLimit bs lent cs
   words = property3-of-calls κs a r s post done-begin calls .2 .word-for-word
 
   module _ (k : Counts) (read : readPlan bs ≡ accepted k) (bs′ : List ℕ) (k′ : Counts) (read′ : readPlan bs′ ≡ accepted k′)

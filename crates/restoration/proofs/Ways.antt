@@ -49,7 +49,7 @@ length-install code deviation es = elim (look (eqb code 0)) [ inl e ↦ rw e (om
 module _ (p : Plan) where
   -- the entry that the scope of a state, if it is open, has still to give
   unfoldable pub due : Bool → ℕ → ℕ
-  due isOpen s = cond isOpen (ofState p s) 0
+  due o s = cond o (ofState p s) 0
 
   due-most : (o : Bool) (s : ℕ) → due o s ≤ ofState p s
   unfolding due
