@@ -21,11 +21,12 @@ use Rattle.rules.proofs.Folds.{length-tabulate, getD-tabulate}
 use Rattle.rules.proofs.Acceptance.{accepts}
 use Rattle.rules.proofs.Figures.{bounded-read}
 use Rattle.plan.proofs.PassLaws.{figures-same}
-use Rattle.plan.proofs.FieldLaws.{track-count}
+use Rattle.plan.proofs.FieldLaws.{track-count, transition-count}
 use Rattle.plan_reader.proofs.Reader.{accepted-holds}
 use Rattle.ledger.specs.Ladder.{Accepts}
 use Rattle.largest.specs.Chosen.{chosen, trackPath, shownPath}
 use Rattle.largest.proofs.ChosenLaws.{chosen-attains}
+use Rattle.largest.proofs.FitLaws.{paths-fit}
 use Rattle.largest.proofs.ShowingLaws.{upTo, Showing}
 
 -- How the plan is read for this call.
@@ -96,6 +97,7 @@ module _ (bs : List ℕ) (n : ℕ) (r : readBounded bs ≡ turnedBack n) where
         figures-are = f ∙ each 32 0 (largestOf bs) (λ i. sym (no-figure i));
         lengths-are = l ∙ each 32 0 (λ t. length (shownPath bs t)) (λ i. sym (ap length (no-path i)));
         steps-are = s ∙ ap padded (sym (joined-nothing 32 (shownPath bs) no-path));
+        fits = rw (joined-nothing 32 (shownPath bs) no-path) (omega arith);
       }
 
 module _ (bs : List ℕ) (c : Counts) (acc : Accepts bs c) (d : hasDeviation (planOf bs c) ≡ false) (h : hasCycle (planOf bs c) ≡ false) where
@@ -125,6 +127,11 @@ module _ (bs : List ℕ) (c : Counts) (acc : Accepts bs c) (d : hasDeviation (pl
   unfolding upTo
   length-of t = elim (look (ltb t (c .tracks))) [ inl l ↦ rw (path-of t, l) | inr l ↦ rw (path-of t, l) ]
 
+  paths-of : joined (c .tracks) (trackPath p) ≡ joined 32 (shownPath bs)
+  paths-of =
+      joined-same (c .tracks) (trackPath p) (shownPath bs) (λ i j. sym (path-there i j))
+      ∙ sym (joined-rest 32 (c .tracks) (shownPath bs) (acc .holds .tracks) path-beyond)
+
   -- all tracks
   pub shows-all : {told : Answer} {figures lengths steps : List ℕ} {at t : ℕ} → told ≡ done [] → c .tracks ≤ t
       → Showing p (c .tracks) figures lengths steps at t → Shows bs (shownPath bs) told figures lengths steps
@@ -142,12 +149,10 @@ module _ (bs : List ℕ) (c : Counts) (acc : Accepts bs c) (d : hasDeviation (pl
         lengths-are =
             w .lengths-are
             ∙ rw e (figures-same 32 (upTo (c .tracks) (λ i. length (trackPath p i))) (λ i. length (shownPath bs i)) (λ i j. sym (length-of i)));
-        steps-are =
-            w .steps-are
-            ∙ rw e
-            (ap padded
-            (joined-same (c .tracks) (trackPath p) (shownPath bs) (λ i j. sym (path-there i j))
-            ∙ sym (joined-rest 32 (c .tracks) (shownPath bs) (acc .holds .tracks) path-beyond)));
+        steps-are = w .steps-are ∙ rw e (ap padded paths-of);
+        fits =
+            rw (← paths-of)
+            (omega (arith, paths-fit p (accepts bs c (acc .read)) h (c .tracks) (rw track-count (omega arith)), transition-count bs c, acc .holds .transitions));
       }
     where
       accepted-same : {k : Counts} → accepted c ≡ accepted k → c ≡ k

@@ -18,7 +18,7 @@ use Rattle.rules.specs.Largest.{ofTransition, ofState, leaves, isPath, endOf, L
 use Rattle.rules.proofs.Tests.{look, clash, refuted}
 use Rattle.rules.proofs.Folds.{some-at, some-none}
 use Rattle.rules.proofs.Acceptance.{Accepted, accepts}
-use Rattle.rules.proofs.Paths.{leaves-told, leaves-states, path-parts, path-from, path-append, end-append, leads-none, leads-first, led-back, loops-on, goes-through, goes-nowhere, ends-somewhere}
+use Rattle.rules.proofs.Paths.{leaves-told, leaves-states, path-parts, path-from, path-longer, end-longer, leads-none, leads-first, led-back, loops-on, goes-through, goes-nowhere, ends-somewhere}
 use Rattle.rules.proofs.Figures.{most-few, state-most, transition-most}
 use Rattle.plan.specs.Passes.{Last, Chains}
 use Rattle.plan.proofs.Members.{ofMember, Walk, walk-start, walk-next, walk-end, Step}
@@ -314,13 +314,8 @@ module _ (bs : List ℕ) (c : Counts) (acc : Accepts bs c) where
 
   -- Coming to a state.
   leads-last : (u s x : ℕ) → leaves p s x ≡ true → Leads p u s → Leads p u (transition p x .destination)
-  unfolding isPath endOf
   leads-last u s x a w =
-      record {
-        by = w .by ++ (x ∷ []);
-        path = path-append p u (w .by) (x ∷ []) (w .path) (rw (w .to) (path-from p s x [] a refl));
-        to = end-append p u (w .by) (x ∷ []);
-      }
+      record { by = w .by ++ (x ∷ []); path = path-longer p u (w .by) x (w .path) (rw (w .to) a); to = end-longer p u (w .by) x }
 
   -- what leads to a state leads by some transition to where its own lead
   comes-on : (u s x : ℕ) → leaves p s x ≡ true → Leads p u s

@@ -6,3 +6,4 @@ pub mod ExploreLaws
 pub mod FitLaws
 pub mod ShowingLaws
 pub mod AnswerLaws
+pub mod LaidLaws

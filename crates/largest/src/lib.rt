@@ -3,6 +3,7 @@
 pub mod explore;
 pub mod outgoing;
 pub mod showing;
+pub mod steps;
 
 use crate::explore::explore_all;
 use crate::outgoing::chain_transitions;

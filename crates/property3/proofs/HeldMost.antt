@@ -17,7 +17,8 @@ use Rattle.rules.specs.Acceptance.{accepted}
 use Rattle.rules.specs.Layout.{entryLimit}
 use Rattle.rules.specs.Call.{Answer, Call, entriesPart}
 use Rattle.rules.specs.Largest.{largest, readBounded, HoldsNoMore}
-use Rattle.restoration.proofs.HeldMost.{bounded-read, NoMore, held-most, part-most}
+use Rattle.rules.proofs.Figures.{bounded-read}
+use Rattle.restoration.proofs.HeldMost.{held-most, part-most}
 use Rattle.manager.proofs.begin as begin
 use Rattle.manager.proofs.begin.Kinds as begin-kinds
 use Rattle.manager.proofs.begin.Reads as begin-reads
@@ -28,8 +29,7 @@ use Rattle.property3.proofs.Calls.{Calls}
 use Rattle.property3.proofs.WrongPlan.{begun, words}
 
 -- a begin that answered `Begun`, and the calls after it
-module _ (no-more : NoMore)
-    (κs : Lfts 2) (a : ArgsD begin.signature κs) (r : ResD begin.signature κs) (s : AtExit (endedOf 2 begin-kinds.ps begin-kinds.r) κs)
+module _ (κs : Lfts 2) (a : ArgsD begin.signature κs) (r : ResD begin.signature κs) (s : AtExit (endedOf 2 begin-kinds.ps begin-kinds.r) κs)
     (post : begin-reads.Post κs a r s) (done-begin : r ≡ Begun) {cs : List Call} {rs : List Answer} {ws : List ℕ}
     (calls : Calls (now (a .0)) (now (s .1 .0)) cs rs ws) (k : Counts) (read : readBounded (now (a .0)) ≡ accepted k) where
   abbrev bs : List ℕ
@@ -38,7 +38,7 @@ module _ (no-more : NoMore)
   pub held-most-of-calls : HoldsNoMore entryLimit (planOf bs k) ws
   held-most-of-calls =
       subst (HoldsNoMore entryLimit (planOf bs k)) (sym (words κs a r s post done-begin calls))
-      (held-most no-more entryLimit bs k read (now (a .1 .0)) (begun κs a r s post done-begin calls) cs)
+      (held-most entryLimit bs k read (now (a .1 .0)) (begun κs a r s post done-begin calls) cs)
 
   -- what entries, called on the words that they left, hands back of a track
   pub held-most-of-entries : (κs′ : Lfts 2) (a′ : ArgsD entries.signature κs′) (r′ : ResD entries.signature κs′)

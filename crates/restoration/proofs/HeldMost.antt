@@ -22,33 +22,13 @@ use Rattle.rules.specs.Call.{done, Call, ledgerRefusal, next, nextDay, callOutc
 use Rattle.rules.specs.ReferenceRun.{wordsFrom, wordsAfter}
 use Rattle.rules.specs.Largest.{isPath, entriesAlong, largest, hasDeviation, hasCycle, isUnbounded, readBounded, HoldsNoMore}
 use Rattle.rules.proofs.Tests.{look, or-fails}
-use Rattle.rules.proofs.Acceptance.{Accepted, accepts}
+use Rattle.rules.proofs.Acceptance.{accepts}
+use Rattle.rules.proofs.Figures.{no-more, bounded-read}
 use Rattle.theory.proofs.SoundParts.{sleeping-held}
 use Rattle.restoration.proofs.Theorems01.{Kept}
 use Rattle.restoration.proofs.SoundWords.{Holds, begin-holds, call-holds}
 use Rattle.restoration.proofs.Ways.{Ways}
 use Rattle.restoration.proofs.WaysKept.{ways-begun, ways-next}
-
--- a plan that is read as bounded is read, and has no deviation and no cycle
-pub bounded-read : (bs : List ℕ) (k : Counts) → readBounded bs ≡ accepted k
-    → (readPlan bs ≡ accepted k) × (hasDeviation (planOf bs k) ≡ false) × (hasCycle (planOf bs k) ≡ false)
-unfolding readBounded isUnbounded
-bounded-read bs k h = go (readPlan bs) refl
-  where
-    last : (c : Counts) (b : Bool) → isUnbounded (planOf bs c) ≡ b → cond b (turnedBack 29) (accepted c) ≡ accepted k
-        → (c ≡ k) × (isUnbounded (planOf bs c) ≡ false)
-    last c true e q = let z : _≡_ {A = ℕ} 0 1 = cc in absurd (omega arith)
-    last c false e q = (cc, e)
-
-    go : (r : Reading) → readPlan bs ≡ r
-        → (readPlan bs ≡ accepted k) × (hasDeviation (planOf bs k) ≡ false) × (hasCycle (planOf bs k) ≡ false)
-    go (turnedBack n) e =
-        let q : turnedBack n ≡ accepted k = rw (e, readBounded) at h in let z : _≡_ {A = ℕ} 0 1 = cc in absurd (omega arith)
-    go (accepted c) e =
-        let q : cond (isUnbounded (planOf bs c)) (turnedBack 29) (accepted c) ≡ accepted k = rw (e, readBounded) at h in
-        let (same, n) = last c (isUnbounded (planOf bs c)) refl q in
-        let (a, b) = or-fails (hasDeviation (planOf bs k)) (hasCycle (planOf bs k)) (subst (λ x. isUnbounded (planOf bs x) ≡ false) same n) in
-        (e ∙ ap accepted same, a, b)
 
 -- a path from the track's first state has no fewer entries than a track holds
 pub record Along (p : Plan) (l : Ledger) (t : ℕ) : Type 0 where
@@ -94,16 +74,10 @@ beyond-nothing : (limit : ℕ) (ws : List ℕ) (n t : ℕ) → ltb t n ≡ false
 unfolding ledgerAt
 beyond-nothing limit ws n t b = rw b sleeping-held
 
--- "no path has more" than the figure of its track, where the plan has no cycle
-abbrev pub NoMore : Type 0
-NoMore =
-    (p : Plan) → Accepted p → hasCycle p ≡ false → (t : ℕ) → t < trackCount p → (xs : List ℕ) → isPath p (firstState p t) xs ≡ true
-    → entriesAlong p (firstState p t) xs ≤ largest p t
-
-pub held-most : NoMore → (limit : ℕ) (bs : List ℕ) (k : Counts) → readBounded bs ≡ accepted k
+pub held-most : (limit : ℕ) (bs : List ℕ) (k : Counts) → readBounded bs ≡ accepted k
     → (lent : List ℕ) → beginOutcome limit bs lent .answer ≡ done [] → (cs : List Call) → HoldsNoMore limit (planOf bs k) (wordsAfter limit bs lent cs)
 unfolding HoldsNoMore
-held-most no-more limit bs k h lent b cs t =
+held-most limit bs k h lent b cs t =
     let (read, quiet, acyclic) = bounded-read bs k h in
     let p = planOf bs k in
     let y = held-along limit bs k read quiet lent b cs t in

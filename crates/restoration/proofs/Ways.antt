@@ -18,7 +18,7 @@ use Rattle.rules.specs.Event.{install}
 use Rattle.rules.specs.Fire.{newest, older}
 use Rattle.rules.specs.Largest.{ofTransition, ofState, leaves, isPath, endOf, entriesAlong}
 use Rattle.rules.proofs.Tests.{look, and-holds, and-both}
-use Rattle.rules.proofs.PathSteps.{path-longer, end-longer, entries-longer}
+use Rattle.rules.proofs.Paths.{path-longer, end-longer, entries-longer}
 use Rattle.theory.proofs.Nesting.{Awake}
 
 -- no entry held has a deviation

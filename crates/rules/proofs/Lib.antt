@@ -11,9 +11,6 @@ pub mod Roots
 pub mod RightsLaws
 pub mod Heights
 pub mod Scopes
-pub mod Occurrences
-pub mod Paths
-pub mod Figures
 pub mod Opening
 pub mod Closing
 pub mod Abandoning
@@ -30,4 +27,6 @@ pub mod LedgerChecks
 pub mod Replaced
 pub mod Passes
 -- Paths of transitions.
-pub mod PathSteps
+pub mod Occurrences
+pub mod Paths
+pub mod Figures

@@ -12,7 +12,7 @@ use lib.Dec.{eqb, ltb}
 use borrow.Author.Tests.{eqb-true, eqb-false, eq-eqb, ltb-true, ltb-false, lt-ltb}
 use Rattle.rules.specs.Fold.{someBelow}
 use Rattle.rules.specs.Plan.{Plan, stateCount, transitionCount, transition, mover, isStateOf}
-use Rattle.rules.specs.Largest.{leaves, isPath, endOf, Leads, goesOn, hasCycle, Cycle}
+use Rattle.rules.specs.Largest.{ofTransition, ofState, leaves, isPath, endOf, Leads, entriesAlong, goesOn, hasCycle, Cycle}
 use Rattle.rules.proofs.Tests.{look, clash, refuted, and-holds, and-both}
 use Rattle.rules.proofs.Folds.{some-at, some-not, some-find, some-none}
 use Rattle.rules.proofs.Acceptance.{Accepted}
@@ -43,10 +43,25 @@ module _ (p : Plan) where
       let (a, b) = path-parts s x xs h in
       path-from s x (xs ++ ys) a (path-append (transition p x .destination) xs ys b k)
 
-  pub end-append : (s : ℕ) (xs ys : List ℕ) → endOf p s (xs ++ ys) ≡ endOf p (endOf p s xs) ys
+  end-append : (s : ℕ) (xs ys : List ℕ) → endOf p s (xs ++ ys) ≡ endOf p (endOf p s xs) ys
   unfolding endOf
   end-append s [] ys = refl
   end-append s (x ∷ xs) ys = end-append (transition p x .destination) xs ys
+
+  -- a path made longer by one transition: it leads to that one's destination, and has its entries and the destination's more
+  pub path-longer : (s : ℕ) (xs : List ℕ) (x : ℕ) → isPath p s xs ≡ true → leaves p (endOf p s xs) x ≡ true → isPath p s (xs ++ (x ∷ [])) ≡ true
+  unfolding isPath
+  path-longer s xs x h a = path-append s xs (x ∷ []) h (path-from (endOf p s xs) x [] a refl)
+
+  pub end-longer : (s : ℕ) (xs : List ℕ) (x : ℕ) → endOf p s (xs ++ (x ∷ [])) ≡ transition p x .destination
+  unfolding endOf
+  end-longer s xs x = end-append s xs (x ∷ [])
+
+  pub entries-longer : (s : ℕ) (xs : List ℕ) (x : ℕ)
+      → entriesAlong p s (xs ++ (x ∷ [])) ≡ entriesAlong p s xs + (ofTransition p x + ofState p (transition p x .destination))
+  unfolding entriesAlong
+  entries-longer s [] x = refl
+  entries-longer s (y ∷ xs) x = omega (arith, entries-longer (transition p y .destination) xs x)
 
   -- one can go on n times from s exactly if some path from s is that long
   pub goes-along : (n s : ℕ) (xs : List ℕ) → isPath p s xs ≡ true → n ≤ length xs → goesOn p n s ≡ true

@@ -138,6 +138,8 @@ pub record Shows (bs : Bytes) (path : TrackNumber → List TransitionNumber) (to
   pub figures-are : figures ≡ tabulate mostTracks (largestOf bs)
   pub lengths-are : lengths ≡ tabulate mostTracks (λ t. length (path t))
   pub steps-are : steps ≡ padded (joined mostTracks path)
+  -- none is cut off
+  pub fits : length (joined mostTracks path) ≤ mostTransitions
 
 -- "No history, whatever its days and rights, makes the track hold more", of the ledger that words hold
 unfoldable pub HoldsNoMore : ℕ → Plan → Words → Type 0
