@@ -1,7 +1,8 @@
 /* Makes the calls that it reads from standard input, on lent buffers with guard words on both sides, and writes each answer with the words
- * afterwards. Makes each call a second time on buffers that end where memory may not be touched, so that reading too far ends the program,
- * and expects the same. Built with the sanitizers. Ends with status 0 at the end of its input, 1 where an input is broken or memory runs
- * out, 2 where a guard word or the plan was written to, or the second call differs. */
+ * afterwards, after a LARGEST also the steps of the path that it shows: a count, and as many answers. Makes each call a second time on
+ * buffers that end where memory may not be touched, so that reading too far ends the program, and expects the same. Built with the
+ * sanitizers. Ends with status 0 at the end of its input, 1 where an input is broken or memory runs out, 2 where a guard word or the plan
+ * was written to, or the second call differs. */
 #define _DEFAULT_SOURCE
 #include <stdio.h>
 #include <stdlib.h>
@@ -11,12 +12,13 @@
 
 #include "retraction.h"
 
-enum { BEGIN, EVENT, SIGNAL, FIRE, READY, ENTRIES, READ, DATE_OF_DAY, DAY_OF_DATE };
+enum { BEGIN, EVENT, SIGNAL, FIRE, READY, ENTRIES, READ, DATE_OF_DAY, DAY_OF_DATE, LARGEST, STEP };
 
 /* Guard words on each side. */
 enum { GUARDS = 64, GUARD_BYTES = 2 * GUARDS };
 
-/* The argument is an event or a track, or of a date the year and, 16 bits up, the month; its day is the date's then. */
+/* The argument is an event or a track, or of a date the year and, 16 bits up, the month; its day is the date's then. Of a step it is the
+ * track and, 16 bits up, the index. */
 struct request {
     uint32_t call;
     uint32_t argument;
@@ -87,6 +89,8 @@ static uint64_t answer(struct request r, const uint8_t *plan, uint16_t *ledger)
     case READ: return retraction_read(plan, r.plan_len);
     case DATE_OF_DAY: return retraction_date_of_day(r.day);
     case DAY_OF_DATE: return retraction_day_of_date((uint16_t)r.argument, (uint16_t)(r.argument >> 16), (uint16_t)r.day);
+    case LARGEST: return retraction_largest(plan, r.plan_len, (uint16_t)r.argument);
+    case STEP: return retraction_largest_step(plan, r.plan_len, (uint16_t)r.argument, (uint16_t)(r.argument >> 16));
     default: exit(1);
     }
 }
@@ -121,23 +125,64 @@ static uint8_t *at_edge(uint8_t *edge, struct lent lent)
     return memcpy(edge - lent.len, part(lent), lent.len);
 }
 
-/* Makes one call, twice. A plan is bytes, so every second one starts at an odd address. */
+/* What a call is given: guarded, and once more at the edge. */
+struct given {
+    struct lent plan, ledger;
+    const uint8_t *same_plan;
+    uint16_t *same_ledger;
+};
+
+/* Reads the plan, then the ledger. A plan is bytes, so every second one starts at an odd address. */
+static struct given give(struct request r, size_t number)
+{
+    struct given given;
+    given.plan = lend(r.plan_len, number % 2);
+    given.ledger = lend(2 * (size_t)r.ledger_len, 0);
+    given.same_plan = at_edge(plan_edge, given.plan);
+    given.same_ledger = (uint16_t *)(void *)at_edge(ledger_edge, given.ledger);
+    return given;
+}
+
+/* Makes one call, twice. */
+static uint64_t answer_twice(struct request r, struct given given, size_t number)
+{
+    struct lent plan = given.plan, ledger = given.ledger;
+    uint64_t first = answer(r, part(plan), (uint16_t *)(void *)part(ledger));
+    if (!guards_stand(plan) || !guards_stand(ledger) || memcmp(given.same_plan, part(plan), plan.len) != 0)
+        fail("wrote outside the ledger", number);
+    uint64_t second = answer(r, given.same_plan, given.same_ledger);
+    if (first != second || memcmp(given.same_plan, part(plan), plan.len) != 0 || memcmp(given.same_ledger, part(ledger), ledger.len) != 0)
+        fail("differs the second time", number);
+    return first;
+}
+
+/* Indices asked for at most, which no path has, whatever length it is said to have. */
+enum { MOST_STEPS = 300 };
+
+/* The steps of a path of so many, the two indices beyond and the greatest one. */
+static void write_steps(struct request r, struct given given, size_t number, uint16_t length)
+{
+    uint32_t track = r.argument, shown = length < MOST_STEPS ? length : MOST_STEPS, count = shown + 3;
+    r.call = STEP;
+    fwrite(&count, sizeof count, 1, stdout);
+    for (uint32_t at = 0; at < count; at++) {
+        uint32_t index = at + 1 < count ? at : 65535;
+        r.argument = track | index << 16;
+        uint64_t step = answer_twice(r, given, number);
+        fwrite(&step, sizeof step, 1, stdout);
+    }
+}
+
 static void serve(struct request r, size_t number)
 {
-    struct lent plan = lend(r.plan_len, number % 2);
-    struct lent ledger = lend(2 * (size_t)r.ledger_len, 0);
-    const uint8_t *same_plan = at_edge(plan_edge, plan);
-    uint16_t *same_ledger = (uint16_t *)(void *)at_edge(ledger_edge, ledger);
-    uint64_t first = answer(r, part(plan), (uint16_t *)(void *)part(ledger));
-    if (!guards_stand(plan) || !guards_stand(ledger) || memcmp(same_plan, part(plan), plan.len) != 0)
-        fail("wrote outside the ledger", number);
-    uint64_t second = answer(r, same_plan, same_ledger);
-    if (first != second || memcmp(same_plan, part(plan), plan.len) != 0 || memcmp(same_ledger, part(ledger), ledger.len) != 0)
-        fail("differs the second time", number);
+    struct given given = give(r, number);
+    uint64_t first = answer_twice(r, given, number);
     fwrite(&first, sizeof first, 1, stdout);
-    fwrite(part(ledger), 1, ledger.len, stdout);
-    free(plan.block);
-    free(ledger.block);
+    fwrite(part(given.ledger), 1, given.ledger.len, stdout);
+    if (r.call == LARGEST)
+        write_steps(r, given, number, retraction_second(first));
+    free(given.plan.block);
+    free(given.ledger.block);
 }
 
 int main(void)

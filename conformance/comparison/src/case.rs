@@ -6,11 +6,13 @@ use testing::generate::journals::Case as Journal;
 use testing::generate::singles::{self, Single};
 use testing::vectors;
 
-/// A call: a read, a begin, or another one.
+/// A call: a read, a begin, the largest number of entries of a track, or another
+/// one.
 #[derive(Clone, Copy, Debug, PartialEq, Eq)]
 pub enum Call {
     Read,
     Begin,
+    Largest(u16),
     Other(singles::Call),
 }
 
@@ -20,6 +22,7 @@ impl Call {
         match self {
             Call::Read => "P".to_string(),
             Call::Begin => "B".to_string(),
+            Call::Largest(track) => format!("M{track}"),
             Call::Other(call) => vectors::call_text(call),
         }
     }
@@ -29,6 +32,7 @@ impl Call {
         Some(Call::Other(match letter {
             "P" => return Some(Call::Read),
             "B" => return Some(Call::Begin),
+            "M" => return Some(Call::Largest(argument.parse().ok()?)),
             "E" => {
                 let (event, rest) = argument.split_once('@')?;
                 let (day, society) = rest.split_once(':')?;
@@ -77,6 +81,15 @@ impl From<Single> for Given {
 }
 
 impl Given {
+    /// The largest number of entries of a track, which is given no words.
+    pub fn largest(plan: Vec<u8>, track: u16) -> Given {
+        Given {
+            plan,
+            words: Vec::new(),
+            call: Call::Largest(track),
+        }
+    }
+
     /// A conversion, which is given no plan and no words.
     pub fn conversion(call: singles::Call) -> Given {
         Given {
@@ -156,6 +169,14 @@ mod tests {
             assert_eq!(line, format!("L;0400ff;0001ffff0000;{text}"));
             assert!(matches!(parse(&line), Some(Again::Call(same)) if same == given));
         }
+    }
+
+    #[test]
+    fn a_call_on_a_plan_alone_is_read_back_from_its_line() {
+        let given = Given::largest(vec![4, 0, 255], 65535);
+        let line = call_line(&given);
+        assert_eq!(line, "L;0400ff;;M65535");
+        assert!(matches!(parse(&line), Some(Again::Call(same)) if same == given));
     }
 
     #[test]

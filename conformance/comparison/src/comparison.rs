@@ -9,6 +9,7 @@ use second::journal;
 use second::plan::MAX_TRACKS;
 use testing::coverage::{Coverage, JOURNALS};
 use testing::generate::journals::{self, Case};
+use testing::generate::paths as bounds;
 use testing::generate::rng::Rng;
 use testing::generate::singles;
 
@@ -17,6 +18,7 @@ use crate::conversions;
 use crate::expected::{self, Done};
 use crate::guarded::{self, Answers, Requests};
 use crate::journals::Runner;
+use crate::paths;
 
 /// Of so many single calls one comes with a begin and a read on the same input.
 pub const BEGINS: u64 = 8;
@@ -85,6 +87,19 @@ impl Comparison {
             let single = singles::single(&mut Rng::for_case(seed, 2, index), MAX_TRACKS);
             coverage.single(&single);
             with_begin(index, Given::from(single))
+        });
+        compare_all(&self.calls, calls)
+    }
+
+    /// The largest numbers of entries of so many plans, for each track that there
+    /// may be and some that there are not.
+    pub fn plans(&mut self, seed: u64, count: u64) -> io::Result<Verdict> {
+        let coverage = &mut self.coverage;
+        let calls = (0..count).flat_map(|index| {
+            let plan = bounds::any_plan(&mut Rng::for_case(seed, 5, index));
+            coverage.plan(&plan);
+            let given = move |track| Given::largest(plan.clone(), track);
+            paths::tracks().map(given)
         });
         compare_all(&self.calls, calls)
     }
@@ -173,11 +188,20 @@ fn ask(
     Ok(())
 }
 
+/// Whether both answers are alike; a path is free among those with as many
+/// entries.
+fn agree(given: &Given, second: &Done, proved: &Done) -> bool {
+    match given.call {
+        Call::Largest(track) => paths::agree(&given.plan, track, second, proved),
+        _ => second == proved,
+    }
+}
+
 /// The answer of the proved call against the second program's.
 fn compare(answers: &mut Answers, given: &Given, expected: &Done) -> Verdict {
     let line = || case::call_line(given);
-    match answers.next(given.words.len()) {
-        Ok(done) if done == *expected => Verdict::Agree,
+    match answers.next(given) {
+        Ok(done) if agree(given, expected, &done) => Verdict::Agree,
         Ok(done) => Verdict::Differ(format!(
             "{}\n-- proved: {}\n-- second program: {}\n",
             line(),

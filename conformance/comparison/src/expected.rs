@@ -6,19 +6,25 @@ use second::plan;
 use testing::generate::singles;
 
 use crate::case::{Call, Given};
+use crate::paths;
 
-/// A call's answer and the words afterwards.
+/// A call's answer and the words afterwards, and the answers to the steps of a
+/// path that it shows: those of the path, two beyond, and the greatest index.
 #[derive(Clone, Debug, PartialEq, Eq)]
 pub struct Done {
     pub answer: u64,
     pub words: Vec<u16>,
+    pub steps: Vec<u64>,
 }
 
 impl Done {
-    /// The number and the words, in hex.
+    /// The number and the words, in hex, and the steps where there are some.
     pub fn text(&self) -> String {
         let words: String = self.words.iter().map(|w| format!("{w:04x}")).collect();
-        format!("{:#x}, words {words}", self.answer)
+        let steps: String = self.steps.iter().map(|s| format!(" {s:#x}")).collect();
+        let steps = Some(steps).filter(|steps| !steps.is_empty());
+        let steps = steps.map_or(String::new(), |steps| format!(", steps{steps}"));
+        format!("{:#x}, words {words}{steps}", self.answer)
     }
 }
 
@@ -29,9 +35,17 @@ pub fn answer(given: &Given) -> Done {
     let answer = match given.call {
         Call::Read => read(plan),
         Call::Begin => number(manager::begin(plan, &mut words), |()| 0),
+        Call::Largest(track) => {
+            let shown = paths::shown(plan, track);
+            return Done { words, ..shown };
+        }
         Call::Other(call) => other(plan, &mut words, call),
     };
-    Done { answer, words }
+    Done {
+        answer,
+        words,
+        steps: Vec::new(),
+    }
 }
 
 fn other(plan: &[u8], words: &mut [u16], call: singles::Call) -> u64 {
@@ -79,7 +93,7 @@ fn number<Figures>(answer: Answer<Figures>, figures: impl FnOnce(Figures) -> u64
 }
 
 /// Bits 16 to 31 and 32 to 47.
-fn pair(first: u16, second: u16) -> u64 {
+pub fn pair(first: u16, second: u16) -> u64 {
     u64::from(first) << 16 | u64::from(second) << 32
 }
 

@@ -11,11 +11,13 @@ use crate::case::{Call, Given};
 use crate::expected::Done;
 
 /// The program's number for a call, its argument, its day and its society. A
-/// date is its year and month, the month 16 bits up, and its day.
+/// date is its year and month, the month 16 bits up, and its day. The steps of a
+/// path are asked for by the program itself.
 fn code(call: Call) -> (u32, u32, i32, u16) {
     let call = match call {
         Call::Begin => return (0, 0, 0, 0),
         Call::Read => return (6, 0, 0, 0),
+        Call::Largest(track) => return (9, u32::from(track), 0, 0),
         Call::Other(call) => call,
     };
     match call {
@@ -74,16 +76,36 @@ impl Requests {
 pub struct Answers(BufReader<ChildStdout>);
 
 impl Answers {
-    /// The next answer, of a call on so many words.
-    pub fn next(&mut self, words: usize) -> io::Result<Done> {
-        let mut number = [0; 8];
-        self.0.read_exact(&mut number)?;
-        let mut bytes = vec![0; 2 * words];
+    /// The next answer, of this call.
+    pub fn next(&mut self, given: &Given) -> io::Result<Done> {
+        Ok(Done {
+            answer: self.number()?,
+            words: self.words(given.words.len())?,
+            steps: match given.call {
+                Call::Largest(_) => self.steps()?,
+                _ => Vec::new(),
+            },
+        })
+    }
+
+    fn number(&mut self) -> io::Result<u64> {
+        let mut bytes = [0; 8];
+        self.0.read_exact(&mut bytes)?;
+        Ok(u64::from_ne_bytes(bytes))
+    }
+
+    fn words(&mut self, count: usize) -> io::Result<Vec<u16>> {
+        let mut bytes = vec![0; 2 * count];
         self.0.read_exact(&mut bytes)?;
         let words = bytes.chunks_exact(2);
-        Ok(Done {
-            answer: u64::from_ne_bytes(number),
-            words: words.map(|w| u16::from_ne_bytes([w[0], w[1]])).collect(),
-        })
+        Ok(words.map(|w| u16::from_ne_bytes([w[0], w[1]])).collect())
+    }
+
+    /// A count, and as many answers.
+    fn steps(&mut self) -> io::Result<Vec<u64>> {
+        let mut count = [0; 4];
+        self.0.read_exact(&mut count)?;
+        let count = u32::from_ne_bytes(count);
+        (0..count).map(|_| self.number()).collect()
     }
 }

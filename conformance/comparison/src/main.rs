@@ -1,9 +1,10 @@
 //! The proved calls, the program `unwind` and the second program on the same
 //! random input, until a difference, or until as many cases as asked for agree.
 //!
-//! `comparison PROGRAMS run SEED JOURNALS CALLS` compares so many, and all
-//! conversions, and holds what happened to the floors of coverage. `comparison PROGRAMS on SEED` goes
-//! on with seed after seed until stopped. `comparison PROGRAMS stored FILE`
+//! `comparison PROGRAMS run SEED JOURNALS CALLS` compares so many, the largest
+//! numbers of entries of as many plans as journals, and all conversions, and
+//! holds what happened to the floors of coverage. `comparison PROGRAMS on SEED`
+//! goes on with seed after seed until stopped. `comparison PROGRAMS stored FILE`
 //! makes the stored calls of a file. `comparison PROGRAMS again FILE` runs the
 //! cases of a file of differences once more. PROGRAMS is a folder with the
 //! programs `calls` and `unwind`.
@@ -17,6 +18,7 @@ mod conversions;
 mod expected;
 mod guarded;
 mod journals;
+mod paths;
 
 use std::fs;
 use std::io;
@@ -46,6 +48,9 @@ fn run(programs: &Path, seed: u64, journals: u64, calls: u64) -> io::Result<bool
         verdict = comparison.singles(seed, calls)?;
     }
     if matches!(verdict, Verdict::Agree) {
+        verdict = comparison.plans(seed, journals)?;
+    }
+    if matches!(verdict, Verdict::Agree) {
         verdict = comparison.journals(seed, journals)?;
     }
     if let Verdict::Differ(text) = verdict {
@@ -54,9 +59,10 @@ fn run(programs: &Path, seed: u64, journals: u64, calls: u64) -> io::Result<bool
     }
     let covered = comparison.covers(journals.min(calls / SINGLES_PER_JOURNAL));
     let begins = (calls + BEGINS - 1) / BEGINS;
+    let tracks = paths::tracks().count();
     println!(
         "seed {seed}: {journals} journals, {calls} single calls, {begins} begins and reads, \
-        {conversions} conversions, 0 differences"
+        {journals} plans for {tracks} tracks each, {conversions} conversions, 0 differences"
     );
     Ok(covered)
 }

@@ -5,8 +5,9 @@
 //! - [`plan`]: the plan reader, refusals 2 to 16, 25 and 27; and who may do what.
 //! - [`ledger`]: leading words and tracks, and what makes a ledger sound.
 //! - [`rules`]: what the calls do, on an accepted plan and a sound ledger.
-//! - [`manager`]: the six calls, on plan bytes and lent words, and the two
-//!   conversions.
+//! - [`paths`]: how many entries a plan can ask for, refusal 29.
+//! - [`manager`]: the six calls, on plan bytes and lent words, the one on plan
+//!   bytes alone, and the two conversions.
 //! - [`journal`]: the program `unwind` as a function of bytes.
 //! - [`record`], [`refusal`]: a record's first four bytes, and the numbers.
 
@@ -14,6 +15,7 @@ pub mod days;
 pub mod journal;
 pub mod ledger;
 pub mod manager;
+pub mod paths;
 pub mod plan;
 pub mod record;
 pub mod refusal;

@@ -1,10 +1,12 @@
 //! The six calls, on plan bytes and lent words. Every call checks 2 to 16, 25,
 //! 27, 17, 24 and 18 first, begin 2 to 16, 25, 27 and 17. Refused calls change no
 //! word. Event, signal and fire are a society's; ready and entries anybody's.
-//! And the two conversions, which are given neither plan nor ledger.
+//! Largest is given the plan alone, and checks 2 to 16, 25, 27 and 29. And the
+//! two conversions, which are given neither plan nor ledger.
 
 use crate::days::{self, Date};
 use crate::ledger::{self, Entry, Ledger, PAIRS};
+use crate::paths::{self, Largest};
 use crate::plan::{self, Plan};
 use crate::refusal::{demand, Refusal};
 use crate::rules::{self, Moved};
@@ -64,6 +66,13 @@ pub fn entries<'a>(plan: &[u8], words: &'a [u16], track: u16) -> &'a [u16] {
         }
         _ => &[],
     }
+}
+
+/// Largest: the most entries that a track can ask for, and a path with so many.
+pub fn largest(plan: &[u8], track: u16) -> Answer<Largest> {
+    plan::read(plan)
+        .and_then(|plan| paths::largest(&plan, usize::from(track)))
+        .into()
 }
 
 /// The date of a day.

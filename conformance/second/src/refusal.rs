@@ -1,5 +1,6 @@
 //! The numbers under "Turned back, in checking order". 24 is checked between
-//! 17 and 18, 25 and then 27 after 16, 26 after 19, 28 after 20.
+//! 17 and 18, 25 and then 27 after 16, 26 after 19, 28 after 20. 29 is after 27,
+//! for one call alone.
 
 /// A refusal; its discriminant is the paper's number.
 #[derive(Clone, Copy, Debug, PartialEq, Eq, PartialOrd, Ord, Hash)]
@@ -65,6 +66,8 @@ pub enum Refusal {
     /// The society lacks the fire right for the track, or the move or signal
     /// right everywhere.
     NoRight = 28,
+    /// The plan has a deviation or a cycle of transitions.
+    Unbounded = 29,
 }
 
 impl Refusal {

@@ -2,7 +2,7 @@
 //! its answer and the words afterwards. They show what no run of `unwind` can
 //! show, since it begins its own ledger and keeps it sound: the leading words,
 //! and what soundness makes of a finish left to do or of a day out of range;
-//! and conversions.
+//! the largest number of entries; and conversions.
 
 use crate::generate::singles::Call::{self, DateOfDay, DayOfDate, Entries, Ready};
 use crate::samples::{
@@ -13,7 +13,7 @@ use crate::vectors;
 use second::days::{Date, Term};
 use second::ledger::{track_words_mut, words_needed};
 use second::manager;
-use second::plan::{self, Records, Rights, NONE};
+use second::plan::{self, Records, Rights, Transition, NONE};
 use second::record;
 
 /// Where they stand, from the repository's root.
@@ -53,6 +53,8 @@ pub fn all() -> Vec<Stored> {
         order_of_28(),
         unfit_rights(),
         without_rights(),
+        largest(),
+        unbounded(),
         conversions(),
     ];
     parts.into_iter().flatten().collect()
@@ -656,6 +658,102 @@ fn without_rights() -> Vec<Stored> {
         on("ready", Ready),
         on("society 0: 28", by(0, event(10))),
         on("society 65535: 28", by(65_535, event(10))),
+    ]
+}
+
+/// The largest number of entries of a track, asked of a plan alone.
+fn largest_of(shows: &str, plan: &[u8], track: u16) -> Stored {
+    Stored {
+        shows: shows.to_string(),
+        line: vectors::largest_line(plan, track),
+    }
+}
+
+/// One root with so many states, none of them final, and these transitions.
+fn one_root(states: usize, transitions: Vec<Transition>) -> Records {
+    Records {
+        tracks: vec![track(NONE)],
+        states: vec![state(0, 0, 0); states],
+        transitions,
+        windows: vec![],
+        rights: every_right(&[0]),
+    }
+}
+
+/// A way of states, each with so many transitions of this code to the next.
+fn way(states: u16, each: u16, code: u16) -> Records {
+    let steps = (0..states - 1).flat_map(|s| (1..=each).map(move |e| step(s, e, code, s + 1)));
+    one_root(usize::from(states), steps.collect())
+}
+
+/// The plan with a track that this state hosts, and with this replacement.
+fn hosting(mut plan: Records, host: u16, replacement: u16) -> Vec<u8> {
+    plan.states[usize::from(host)].replacement = replacement;
+    plan.states.push(state(1, 0, 0));
+    plan.tracks.push(track(host));
+    plan.encode()
+}
+
+fn largest() -> Vec<Stored> {
+    let of_p = |track: u16, shows: &str| largest_of(shows, &sample(), track);
+    let windowed = changed(|p| {
+        p.windows.push(window(3, 5, 5));
+        p.rights.clear();
+    });
+    let fork = || one_root(3, vec![step(0, 1, 0, 1), step(0, 2, 0, 2)]);
+    let late = one_root(
+        4,
+        vec![step(3, 1, 0, 2), step(2, 1, 7, 1), step(0, 1, 0, 3)],
+    );
+    let first = |replacement| hosting(way(1, 0, 0), 0, replacement);
+    let alone = |shows: &str, plan: &[u8]| {
+        let shows = format!("largest of a root {shows}");
+        largest_of(&shows, plan, 0)
+    };
+    vec![
+        of_p(0, "largest of P, track 0: a code and a replacement"),
+        of_p(1, "largest of P, track 1"),
+        of_p(2, "largest of P, track 2"),
+        of_p(3, "largest of P, no such track"),
+        of_p(65_535, "largest of P, track 65535, no such track"),
+        largest_of("largest of P with a window, without rights", &windowed, 2),
+        alone("of one state", &one_root(1, vec![]).encode()),
+        alone("whose first state has a replacement", &first(90)),
+        alone("whose first state has replacement 0", &first(0)),
+        alone(
+            "whose last state has a replacement",
+            &hosting(fork(), 2, 90),
+        ),
+        alone("with one code behind steps without", &late.encode()),
+        alone("of 128 states", &way(128, 1, 7).encode()),
+        alone("with 2 to the 127th equal paths", &way(128, 2, 7).encode()),
+        alone("of 128 states, without codes", &way(128, 1, 0).encode()),
+    ]
+}
+
+/// 29, after 27, whatever the track.
+fn unbounded() -> Vec<Stored> {
+    let deviating = changed(|p| p.transitions[0].deviation = 0);
+    let looped = changed(|p| p.transitions.push(step(6, 15, 0, 6)));
+    let led_back = changed(|p| p.transitions.push(step(1, 15, 0, 0)));
+    let apart = one_root(3, vec![step(1, 1, 7, 2), step(2, 1, 7, 1)]);
+    let unfit = changed(|p| {
+        p.transitions[0].deviation = 0;
+        p.rights[0].sum = 8;
+    });
+    let of = |shows: &str, plan: &[u8], track: u16| {
+        let shows = format!("largest of {shows}");
+        largest_of(&shows, plan, track)
+    };
+    vec![
+        of("P with a deviation, its own track: 29", &deviating, 0),
+        of("P with a deviation, another track: 29", &deviating, 2),
+        of("P with a deviation, no such track: 29", &deviating, 3),
+        of("P with a self-loop without a code: 29", &looped, 0),
+        of("P with a way back without a code: 29", &led_back, 0),
+        of("a root with a cycle not reached: 29", &apart.encode(), 0),
+        of("P with a deviation and a sum of 8: 27", &unfit, 0),
+        of("no bytes: 2", &[], 0),
     ]
 }
 

@@ -1,10 +1,14 @@
 //! Counts what happened over a generated batch, and holds it to floors.
 
 mod days;
+mod paths;
 mod rights;
+
+pub use paths::most_entries;
 
 use crate::faults;
 use crate::generate::journals::{self, Case};
+use crate::generate::paths as bounds;
 use crate::generate::rng::Rng;
 use crate::generate::singles::{self, Call, Single};
 use second::journal::{self, Outcome, Record, Records};
@@ -168,18 +172,36 @@ pub enum Happening {
     LowestOfAnother,
     Society0,
     Society65535,
+    LargestZero,
+    LargestAbove32,
+    BestEmpty,
+    BestEmptyWithEntry,
+    BestSeveral,
+    BestThousand,
+    BestFirstReplacement,
+    BestInnerReplacement,
+    BestLastReplacement,
+    BestCodeless,
+    BestLong,
+    BestFalling,
+    UnboundDeviation,
+    UnboundReached,
+    UnboundUnreached,
+    UnboundSelfLoop,
+    UnboundSeveral,
+    RightsBeforeUnbound,
 }
 
-const HAPPENINGS: usize = 140;
+const HAPPENINGS: usize = 158;
 
-/// Refusals 1 to 28.
-const REFUSALS: usize = 28;
+/// Refusals 1 to 29.
+const REFUSALS: usize = 29;
 
 /// Floors of the refusals for the default batch. What entries refuses is not
 /// among their counts, since it gives no number.
 const REFUSAL_FLOORS: [u64; REFUSALS] = [
     15, 300, 400, 400, 300, 200, 400, 200, 250, 200, 200, 200, 200, 200, 200, 200, 5_000, 40_000,
-    3_000, 15_000, 6_000, 12_000, 1_800, 10_000, 650, 9_500, 2_000, 2_000,
+    3_000, 15_000, 6_000, 12_000, 1_800, 10_000, 650, 9_500, 2_000, 2_000, 3_000,
 ];
 
 /// Names and floors of the happenings, in the order of the enum.
@@ -740,6 +762,64 @@ const HAPPENING_FLOORS: [(Happening, &str, u64); HAPPENINGS] = [
         "call of society 65535 accepted",
         13_000,
     ),
+    (Happening::LargestZero, "largest of 0", 15_000),
+    (Happening::LargestAbove32, "largest above 32", 600),
+    (Happening::BestEmpty, "best path empty", 17_000),
+    (
+        Happening::BestEmptyWithEntry,
+        "best path empty, with a replacement",
+        2_000,
+    ),
+    (Happening::BestSeveral, "several equal best paths", 22_000),
+    (
+        Happening::BestThousand,
+        "1,000 equal best paths or more",
+        1_500,
+    ),
+    (
+        Happening::BestFirstReplacement,
+        "best path, first state's replacement",
+        3_500,
+    ),
+    (
+        Happening::BestInnerReplacement,
+        "best path, replacement in its midst",
+        2_700,
+    ),
+    (
+        Happening::BestLastReplacement,
+        "best path, last state's replacement decides",
+        1_500,
+    ),
+    (
+        Happening::BestCodeless,
+        "best path, transition without a code",
+        5_000,
+    ),
+    (
+        Happening::BestLong,
+        "best path of 100 transitions or more",
+        120,
+    ),
+    (
+        Happening::BestFalling,
+        "best path of 3 or more, state numbers falling",
+        3_000,
+    ),
+    (Happening::UnboundDeviation, "29: a deviation alone", 800),
+    (Happening::UnboundReached, "29: a reached cycle alone", 350),
+    (
+        Happening::UnboundUnreached,
+        "29: an unreached cycle alone",
+        650,
+    ),
+    (Happening::UnboundSelfLoop, "29: a self-loop alone", 700),
+    (Happening::UnboundSeveral, "29 for several reasons", 600),
+    (
+        Happening::RightsBeforeUnbound,
+        "27 of a plan that would be 29",
+        330,
+    ),
 ];
 
 /// Floor of each clause violated alone for the default batch.
@@ -771,7 +851,8 @@ impl Default for Coverage {
     }
 }
 
-/// Generates a batch and counts what happens in it.
+/// Generates a batch and counts what happens in it: journals, single calls, and
+/// as many plans as journals for the largest number of entries.
 pub fn batch(seed: u64, journals: u64) -> Coverage {
     let mut coverage = Coverage::default();
     for index in 0..journals {
@@ -781,6 +862,10 @@ pub fn batch(seed: u64, journals: u64) -> Coverage {
     for index in 0..journals * SINGLES_PER_JOURNAL {
         let mut rng = Rng::for_case(seed, 2, index);
         coverage.single(&singles::single(&mut rng, MAX_TRACKS));
+    }
+    for index in 0..journals {
+        let mut rng = Rng::for_case(seed, 5, index);
+        coverage.plan(&bounds::any_plan(&mut rng));
     }
     coverage
 }

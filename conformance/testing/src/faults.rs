@@ -3,7 +3,7 @@
 
 use second::days::Term;
 use second::journal::Records as JournalRecords;
-use second::plan::{Records, Rights, Window, END, KINDS, MAX_RIGHTS, NONE};
+use second::plan::{Plan, Records, Rights, Transition, Window, END, KINDS, MAX_RIGHTS, NONE};
 use second::record::{Header, HEADER};
 
 /// The forms of 25.
@@ -78,6 +78,57 @@ fn repeats_pair(rights: &[Rights]) -> bool {
     let mut pairs: Vec<(u16, u16)> = rights.iter().map(|r| (r.society, r.root)).collect();
     pairs.sort_unstable();
     pairs.windows(2).any(|two| two[0] == two[1])
+}
+
+/// The forms of 29. A cycle has two states or more.
+#[derive(Clone, Copy, Debug, PartialEq, Eq)]
+pub enum Unbound {
+    Deviation,
+    SelfLoop,
+    /// A cycle that a first state leads to.
+    Reached,
+    /// One that no first state leads to.
+    Unreached,
+}
+
+/// The forms of 29 that an accepted plan has, each once.
+pub fn unbound(plan: &Plan) -> Vec<Unbound> {
+    let some = |fault: fn(&Transition) -> bool| plan.transitions().iter().any(fault);
+    let first: Vec<u16> = (0..plan.track_count())
+        .map(|t| plan.first_state(t))
+        .collect();
+    let reached = led_to(plan, &first);
+    let is_reached = |s: u16| first.contains(&s) || reached[usize::from(s)];
+    let round = |&s: &u16| led_to(plan, &[s])[usize::from(s)];
+    let (inside, outside): (Vec<u16>, Vec<u16>) = plan
+        .state_numbers()
+        .filter(round)
+        .partition(|&s| is_reached(s));
+    let forms = [
+        (Unbound::Deviation, some(|x| x.deviation != NONE)),
+        (Unbound::SelfLoop, some(|x| x.source == x.destination)),
+        (Unbound::Reached, !inside.is_empty()),
+        (Unbound::Unreached, !outside.is_empty()),
+    ];
+    let found = forms.into_iter().filter(|(_, found)| *found);
+    found.map(|(form, _)| form).collect()
+}
+
+/// The states that one transition or more leads to from these, self-loops left
+/// aside.
+fn led_to(plan: &Plan, from: &[u16]) -> Vec<bool> {
+    let mut led = vec![false; plan.state_count()];
+    let mut ahead = from.to_vec();
+    while let Some(state) = ahead.pop() {
+        for (x, _) in plan.transitions_from(state) {
+            let at = usize::from(x.destination);
+            if x.destination != state && !led[at] {
+                led[at] = true;
+                ahead.push(x.destination);
+            }
+        }
+    }
+    led
 }
 
 /// The kinds of a plan's records in order, as far as their lengths lead.

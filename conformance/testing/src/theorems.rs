@@ -11,6 +11,9 @@ pub fn statement(fields: &[&str]) -> Option<String> {
             format!("HistoryAgrees {given} {calls} {answers} {}", words(after)?)
         }
         ["P", plan, answer] => format!("PlanAgrees {} ({})", bytes(plan)?, reading(answer)?),
+        ["L", plan, "", called, answered, ""] if called.starts_with('M') => {
+            largest(&bytes(plan)?, called, answered)?
+        }
         ["L", plan, before, called, answered, after] => {
             let given = format!("{} {}", bytes(plan)?, words(before)?);
             single(&given, called, answered, &words(after)?)?
@@ -35,6 +38,16 @@ fn single(given: &str, called: &str, answered: &str, after: &str) -> Option<Stri
             let (called, answered) = (call(called)?, answer(answered)?);
             format!("CallAgrees {given} ({called}) ({answered}) {after}")
         }
+    })
+}
+
+/// The same for the largest number of entries of a track; the figure is 0 where
+/// the plan is refused.
+fn largest(plan: &str, called: &str, answered: &str) -> Option<String> {
+    let track = called.strip_prefix('M')?;
+    Some(match first_letter(answered)? {
+        ("D", figure) => format!("LargestAgrees {plan} {track} (done []) {figure}"),
+        _ => format!("LargestAgrees {plan} {track} ({}) 0", answer(answered)?),
     })
 }
 

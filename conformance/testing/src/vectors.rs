@@ -6,6 +6,7 @@ use std::fmt::Write;
 use crate::generate::damage;
 use crate::generate::journals::{self, Case};
 use crate::generate::ledgers;
+use crate::generate::paths;
 use crate::generate::plans;
 use crate::generate::rng::Rng;
 use crate::generate::singles::{self, Call};
@@ -14,6 +15,7 @@ use second::days::Date;
 use second::journal::{self, Record};
 use second::ledger::{Entry, Ledger};
 use second::manager::{self, Answer};
+use second::paths::Largest;
 use second::plan::{self, Plan};
 use second::rules::Moved;
 
@@ -84,6 +86,30 @@ pub fn begin_line(plan: &[u8], lent: &[u16]) -> String {
     let answer = begin(plan, &mut words);
     let (plan, lent) = (byte_hex(plan), word_hex(lent));
     format!("L;{plan};{lent};B;{answer};{}", word_hex(&words))
+}
+
+/// The same of the largest number of entries of a track, whose letter is `M`; it
+/// is given no words.
+pub fn largest_line(plan: &[u8], track: u16) -> String {
+    let answer = figure_text(manager::largest(plan, track));
+    format!("L;{};;M{track};{answer};", byte_hex(plan))
+}
+
+/// The largest number of entries of a track of a small plan, or of a plan that
+/// may be refused; now and then of no track.
+pub fn small_largest_line(rng: &mut Rng) -> String {
+    let plan = if rng.chance(92) {
+        paths::small_plan(rng)
+    } else {
+        damage::any_plan(rng, 2)
+    };
+    let tracks = plan::read(&plan).map_or(1, |plan| plan.track_count());
+    let track = if rng.chance(90) {
+        rng.below(tracks)
+    } else {
+        rng.pick(&[tracks, 32, 65_535]).unwrap_or(tracks)
+    };
+    largest_line(&plan, track as u16)
 }
 
 /// `U;plan;journal;output`: a whole run of `unwind`, now and then a short one
@@ -184,6 +210,14 @@ fn moved_text(answer: Answer<Moved>) -> String {
 fn fired_text(answer: Answer<Entry>) -> String {
     match answer {
         Answer::Done(entry) => format!("D{},{}", entry.code, entry.deviation),
+        Answer::Refused(refusal) => format!("R{}", refusal.number()),
+    }
+}
+
+/// The figure alone: its path is free, and so is the path's length.
+fn figure_text(answer: Answer<Largest>) -> String {
+    match answer {
+        Answer::Done(largest) => format!("D{}", largest.figure),
         Answer::Refused(refusal) => format!("R{}", refusal.number()),
     }
 }

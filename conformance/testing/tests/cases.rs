@@ -392,6 +392,26 @@ fn stored_calls_of_several_societies_are_answered_as_they_say() {
 }
 
 #[test]
+fn stored_calls_tell_the_largest_number_of_entries() {
+    assert_eq!(answers("largest of P, track 0"), ["D2"]);
+    assert_eq!(answers("largest of P, track 1"), ["D1"]);
+    assert_eq!(answers("largest of P, track 2"), ["D2"]);
+    assert_eq!(answers("largest of P, no such track"), ["D0"]);
+    assert_eq!(answers("largest of P, track 65535"), ["D0"]);
+    assert_eq!(answers("largest of P with a window"), ["D2"]);
+    let roots = ["D0", "D1", "D0", "D1", "D1", "D127", "D127", "D0"];
+    assert_eq!(
+        answers("largest of a root "),
+        [&roots[..], &["R29"]].concat()
+    );
+    let unbounded = ["R29", "R29", "R29", "R27"];
+    assert_eq!(answers("largest of P with a deviation"), unbounded);
+    assert_eq!(answers("largest of P with a self-loop"), ["R29"]);
+    assert_eq!(answers("largest of P with a way back"), ["R29"]);
+    assert_eq!(answers("largest of no bytes"), ["R2"]);
+}
+
+#[test]
 fn stored_runs_of_refused_plans_print_the_number_of_their_name_alone() {
     let mut refused = 0;
     for case in cases::all() {
@@ -417,7 +437,7 @@ fn stored_calls_are_refused_with_the_number_that_they_name() {
             named += 1;
         }
     }
-    assert_eq!(named, 98);
+    assert_eq!(named, 106);
 }
 
 #[test]

@@ -580,6 +580,28 @@ fn conversions_are_found_and_refused() {
 }
 
 #[test]
+fn largest_numbers_are_found_and_refused() {
+    let (mut found, mut unbounded, mut refused) = (0, 0, 0);
+    for index in 0..1_000 {
+        let line = vectors::small_largest_line(&mut Rng::for_case(7, 19, index));
+        let again = vectors::small_largest_line(&mut Rng::for_case(7, 19, index));
+        assert_eq!(line, again);
+        let fields: Vec<&str> = line.split(';').collect();
+        assert!(fields.len() == 6 && fields[3].starts_with('M'), "{line}");
+        match fields[4] {
+            "R29" => unbounded += 1,
+            answer if answer.starts_with('R') => refused += 1,
+            answer => {
+                assert!(answer.starts_with('D'), "{line}");
+                found += 1;
+            }
+        }
+    }
+    let least = found.min(unbounded);
+    assert!(least > 200 && refused > 20, "{found} {unbounded} {refused}");
+}
+
+#[test]
 fn lines_are_made_again_from_the_same_seed() {
     let lines: [fn(&mut Rng, usize) -> String; 4] = [
         vectors::history_line,
@@ -602,6 +624,6 @@ fn lines_are_made_again_from_the_same_seed() {
 fn a_small_batch_reaches_most_rows() {
     let rows = coverage::batch(3, 300).rows();
     let reached = rows.iter().filter(|row| row.count > 0).count();
-    assert_eq!(rows.len(), 186);
-    assert!(reached >= 178, "{reached}");
+    assert_eq!(rows.len(), 205);
+    assert!(reached >= 196, "{reached}");
 }

@@ -145,6 +145,22 @@ fn cases_that_rights_have_a_say_in_are_sorts_of_their_own() {
     assert!(!text.contains("(f 1 1) (refusal 28)"), "{text}");
 }
 
+#[test]
+fn largest_numbers_of_entries_are_an_answer_and_a_figure() {
+    let plan = "06000100ffff0a00020000000000000004000400";
+    let bytes = "6 ∷ 0 ∷ 1 ∷ 0 ∷ 255 ∷ 255 ∷ 10 ∷ 0 ∷ 2 ∷ 0 ∷ 0 ∷ 0 ∷ 0 ∷ 0 ∷ 0 ∷ 0 ∷ \
+                 4 ∷ 0 ∷ 4 ∷ 0 ∷ []";
+    let line = |call: &str, answer: &str| format!("L;{plan};;{call};{answer};\n");
+    let taken = theorems("largest", &line("M0", "D0")).expect("theorems");
+    let says = format!("pub case-0 : LargestAgrees ({bytes}) 0 (done []) 0\n");
+    assert!(taken.contains(&says), "{taken}");
+    assert!(taken.contains("\nunfolding computing bounds.ofTransition "));
+    assert!(taken.ends_with(" bounds.largestOf\ncase-0 = (refl, refl)\n"));
+    let refused = theorems("unbounded", &line("M65535", "R29")).expect("theorems");
+    let says = format!("LargestAgrees ({bytes}) 65535 (refusal 29) 0\n");
+    assert!(refused.contains(&says), "{refused}");
+}
+
 /// The theorem of one conversion.
 fn conversion(name: &str, line: &str) -> String {
     let text = theorems(name, line).expect("theorems");

@@ -1,6 +1,7 @@
-//! `coverage SEED COUNT`: counts what happens over COUNT journals and ten
-//! times as many single calls; fails where a row is below its floor.
-//! Floors stand for the default batch and shrink in proportion below it.
+//! `coverage SEED COUNT`: counts what happens over COUNT journals, ten times as
+//! many single calls, and as many plans for the largest number of entries; fails
+//! where a row is below its floor. Floors stand for the default batch and shrink
+//! in proportion below it.
 
 use std::process::ExitCode;
 
@@ -24,7 +25,7 @@ fn main() -> ExitCode {
     let seed = argument(1, 1);
     let journals = argument(2, JOURNALS);
     let singles = journals * SINGLES_PER_JOURNAL;
-    println!("seed {seed}: {journals} journals, {singles} single calls");
+    println!("seed {seed}: {journals} journals, {singles} single calls, {journals} plans");
     println!("{:<45} {:>9} {:>9}", "row", "count", "floor");
     let rows = coverage::batch(seed, journals).rows();
     let below = rows.iter().filter(|row| !print_row(row, journals)).count();

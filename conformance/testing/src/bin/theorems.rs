@@ -6,9 +6,9 @@
 //! damaged ledgers, and fewer histories that end half withdrawn, whole runs,
 //! accepted plans, calls on sound ledgers, on those with roots in both modes
 //! and on those of other plans, events that windows or days have a say in, calls
-//! that rights have a say in, plans refused for their rights, and conversions:
-//! of each sort as many different ones as there are. Cases too large to be
-//! computed quickly are dropped.
+//! that rights have a say in, plans refused for their rights, largest numbers of
+//! entries, plans that have none, and conversions: of each sort as many different
+//! ones as there are. Cases too large to be computed quickly are dropped.
 
 use std::collections::{BTreeSet, HashMap};
 use std::fs;
@@ -19,6 +19,7 @@ use std::process::ExitCode;
 use second::days::Term;
 use second::journal::{self, Record, Records};
 use second::ledger::{self, track_words, Clause, Ledger, Mode};
+use second::paths::{self, Largest};
 use second::plan::{self, Plan, Right};
 use second::rules;
 use testing::faults::{self, RightsFault};
@@ -35,11 +36,17 @@ use mathlib.Core.List.{[], _∷_}
 use lib.IntN.{pos, negsuc}
 use Rattle.rules.specs.Acceptance.{turnedBack}
 use Rattle.rules.specs.Call.{refusal, done}
+use Rattle.rules.specs.Largest as bounds
 use Rattle.starred.specs.Computing.{computing}
 use Rattle.agreement.specs.Statements.{e, f, s, acceptedWith, \
     HistoryAgrees, PlanAgrees, CallAgrees, ReadyAgrees, EntriesAgree, RunAgrees, \
-    DateIs, NoDate, DayIs, NoDay}
+    LargestAgrees, DateIs, NoDate, DayIs, NoDay}
 ";
+
+/// What is unfolded beside that where the largest number of entries is computed.
+const BOUNDS: &str = "bounds.ofTransition bounds.ofState bounds.leaves bounds.mostWithin \
+    bounds.largest bounds.hasDeviation bounds.goesOn bounds.hasCycle bounds.isUnbounded \
+    bounds.readBounded bounds.largestAnswer bounds.largestOf";
 
 /// The sorts of cases.
 #[derive(Clone, Copy, PartialEq)]
@@ -68,6 +75,12 @@ enum Sort {
     /// An event that leaves tracks which would move by right of all, or a signal
     /// that turns none of the forward ones.
     Left,
+    /// The largest number of entries of a track.
+    Largest,
+    /// A plan refused as 29.
+    Unbounded,
+    /// A plan refused otherwise where that number was asked for.
+    NoLargest,
     /// A conversion of a day or a date.
     Conversion,
     /// An event, a signal or a firing that is done with roots in both modes:
@@ -86,7 +99,7 @@ struct Share {
     limit: usize,
 }
 
-fn shares(histories: usize, plans: usize, ledgers: usize) -> [Share; 18] {
+fn shares(histories: usize, plans: usize, ledgers: usize) -> [Share; 21] {
     let share = |sort, name, wanted, limit| Share {
         sort,
         name,
@@ -142,6 +155,14 @@ fn shares(histories: usize, plans: usize, ledgers: usize) -> [Share; 18] {
         share(Sort::Undoing, "signals and firings done", ledgers / 5, 240),
         share(Sort::Other, "other calls", ledgers / 5, 200),
         share(Sort::Conversion, "conversions", ledgers / 10, 400),
+        share(
+            Sort::Largest,
+            "largest numbers of entries",
+            ledgers / 5,
+            240,
+        ),
+        share(Sort::Unbounded, "plans refused as 29", plans / 10, 240),
+        share(Sort::NoLargest, "plans refused before 29", plans / 40, 240),
     ]
 }
 
@@ -180,6 +201,14 @@ fn sort_of(fields: &[&str]) -> Option<(Sort, usize)> {
         ["P", _, _] => (Sort::Refused, plan),
         ["L", "", "", call, _, _] if call.starts_with(['D', 'G']) => {
             (Sort::Conversion, days_before(call))
+        }
+        ["L", _, "", call, answer, ""] if call.starts_with('M') => {
+            let sort = match answer {
+                "R29" => Sort::Unbounded,
+                _ if answer.starts_with('R') => Sort::NoLargest,
+                _ => Sort::Largest,
+            };
+            (sort, plan)
         }
         ["L", _, _, _, "R17" | "R18", _] => (Sort::Damaged, plan),
         ["L", _, _, _, "R28", _] => (Sort::NoRight, plan),
@@ -380,7 +409,8 @@ fn differing(plan: &str, words: &str) -> Vec<&'static str> {
 /// ending and its windows, a plan its refusal and what windows have to do with
 /// it, a call what it changes, how the roots stand where they are in both modes
 /// and the windows that it meets, the clauses violated or the leading words
-/// that are not the plan's, a conversion what sort of day or date it is given.
+/// that are not the plan's, a largest number of entries its path or why there is
+/// none, a conversion what sort of day or date it is given.
 fn shows(fields: &[&str]) -> String {
     match *fields {
         ["H", plan, _, calls, answers, _] => {
@@ -410,6 +440,9 @@ fn shows(fields: &[&str]) -> String {
             format!("{tracks} {has:?}")
         }
         ["L", "", "", call, answer, _] if call.starts_with(['D', 'G']) => conversion(call, answer),
+        ["L", plan, "", call, answer, ""] if call.starts_with('M') => {
+            largest(&numbers(plan, 2), call, answer)
+        }
         ["L", plan, before, call, "R24" | "", _] => {
             format!("{} {:?}", &call[..1], differing(plan, before))
         }
@@ -429,6 +462,29 @@ fn shows(fields: &[&str]) -> String {
             _ => outcome(call, answer),
         },
         _ => String::new(),
+    }
+}
+
+/// Of a track's largest number of entries: the figure, whether there is such a
+/// track, whether it is hosted, and of its path the length, the codes and the
+/// replacements; of a plan refused as 29 why it is.
+fn largest(plan: &[u8], call: &str, answer: &str) -> String {
+    let track: Option<usize> = call.strip_prefix('M').and_then(|t| t.parse().ok());
+    let (plan, track) = match (plan::read(plan), track) {
+        (Ok(plan), Some(track)) => (plan, track),
+        _ => return answer.to_string(),
+    };
+    let exists = track < plan.track_count();
+    match paths::largest(&plan, track) {
+        Ok(Largest { figure, path }) if exists => {
+            let steps = path.iter().map(|&n| &plan.transitions()[usize::from(n)]);
+            let passed = steps.map(|x| (x.code != 0, plan.replacement(x.destination) != 0));
+            let passed: Vec<(bool, bool)> = passed.collect();
+            let first = plan.replacement(plan.first_state(track)) != 0;
+            format!("{figure} {} {first} {passed:?}", plan.is_root(track))
+        }
+        Ok(_) => "no track".to_string(),
+        Err(_) => format!("{:?} {exists}", faults::unbound(&plan)),
     }
 }
 
@@ -583,17 +639,19 @@ fn choose(share: &Share, lines: &[Line]) -> (Vec<Case>, usize) {
 }
 
 /// A case's theorem, under the line that it comes from. A history's has two
-/// parts, its answers and its words.
+/// parts, its answers and its words, and so has a largest number's, its answer
+/// and its figure.
 fn theorem(sort: Sort, case: &Case) -> Option<String> {
     let Case { number, line, .. } = case;
     let says = statement(&fields_of(line))?;
-    let proof = match sort {
-        Sort::History | Sort::HalfWithdrawn => "(refl, refl)",
-        _ => "refl",
+    let (unfolded, proof) = match sort {
+        Sort::History | Sort::HalfWithdrawn => (String::new(), "(refl, refl)"),
+        Sort::Largest | Sort::Unbounded | Sort::NoLargest => (format!(" {BOUNDS}"), "(refl, refl)"),
+        _ => (String::new(), "refl"),
     };
     let name = format!("case-{number}");
     Some(format!(
-        "-- {line}\npub {name} : {says}\nunfolding computing\n{name} = {proof}\n"
+        "-- {line}\npub {name} : {says}\nunfolding computing{unfolded}\n{name} = {proof}\n"
     ))
 }
 

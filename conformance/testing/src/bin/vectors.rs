@@ -1,6 +1,7 @@
 //! `vectors SEED HISTORIES SINGLES DAMAGED [TRACKS]`: prints HISTORIES lines
-//! `H`, DAMAGED lines `P`, SINGLES lines `L`, HISTORIES lines `U` and HISTORIES
-//! lines `L` of conversions. TRACKS limits the tracks of the plans.
+//! `H`, DAMAGED lines `P`, SINGLES lines `L`, HISTORIES lines `U`, HISTORIES
+//! lines `L` of conversions and HISTORIES lines `L` of the largest number of
+//! entries. TRACKS limits the tracks of the plans but for the last.
 
 use std::io::{self, BufWriter, Write};
 use std::process::ExitCode;
@@ -43,6 +44,7 @@ fn print_all(numbers: &[u64]) -> io::Result<()> {
         vectors::unwind_line(r, limit)
     })?;
     print_lines(&mut out, (seed, 15), histories, vectors::conversion_line)?;
+    print_lines(&mut out, (seed, 16), histories, vectors::small_largest_line)?;
     out.flush()
 }
 

@@ -5,6 +5,7 @@ pub mod days;
 pub mod journals;
 pub mod ledgers;
 pub mod neighbours;
+pub mod paths;
 pub mod plans;
 pub mod rng;
 pub mod singles;
