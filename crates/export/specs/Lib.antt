@@ -1,2 +1,3 @@
 -- What the exported functions' contracts speak of beside the rules.
 pub mod Packed
+pub mod Shown

@@ -1,5 +1,5 @@
-// The calls for C and Rust, under include/retraction.h. Each is a call of `manager`, the plan reader or a conversion of `calendar`, its answer
-// packed into one number.
+// The calls for C and Rust, under include/retraction.h. Each is a call of `manager`, the plan reader, `largest` or a conversion of `calendar`, its
+// answer packed into one number.
 use ledger::layout;
 use rules::BeginAnswer;
 use rules::Counts;
@@ -8,6 +8,7 @@ use rules::DateAnswer;
 use rules::DayAnswer;
 use rules::EventAnswer;
 use rules::FireAnswer;
+use rules::LargestAnswer;
 use rules::PlanAnswer;
 use rules::ReadyAnswer;
 use rules::SignalAnswer;
@@ -18,6 +19,7 @@ ghost use Rattle.rules.specs.Acceptance.{readPlan};
 ghost use Rattle.rules.specs.Conversion.{dateOfDay, dayOfDate};
 ghost use Rattle.rules.specs.Call.{beginOutcome, eventOutcome, signalOutcome, fireOutcome, readyOutcome, entriesPart};
 ghost use Rattle.plan.specs.Holds.{Holds};
+ghost use Rattle.export.specs.Shown.{trackShown, stepShown};
 ghost use Rattle.export.specs.Packed.{bit16, bit32, bit48, packedReading, packed, packedReady, packedPart, packedDate, packedDay, Returns};
 
 // What a figure is multiplied by to stand at bit 16, at bit 32 and at bit 48.
@@ -156,6 +158,52 @@ pub extern "C" fn retraction_entries(plan: &[u8], ledger: &[u16], track: u16) ->
     }
     let from = layout::entry_place(layout::wide(track), 0);
     (count as u64) + (from as u64) * BIT16
+}
+
+// As many tracks as there can be.
+const MOST_TRACKS: u16 = 32;
+
+// Stands for no transition: the place is beyond the path.
+const NO_TRANSITION: u16 = 65535;
+
+#[no_mangle]
+pub extern "C" fn retraction_largest(plan: &[u8], track: u16) -> u64
+    ensures { λ r. ⌜ r ≡ packed (trackShown (now (plan .entry)) track) ⌝ }
+{
+    let shown = largest::of_plan(plan);
+    let answer = shown.answer;
+    match answer {
+        LargestAnswer::Refused(n) => at_bit0(n),
+        LargestAnswer::Shown => {
+            if MOST_TRACKS <= track {
+                return 0;
+            }
+            let t = layout::wide(track);
+            let figures = shown.figures;
+            let lengths = shown.lengths;
+            pair(figures[t], lengths[t])
+        }
+    }
+}
+
+#[no_mangle]
+pub extern "C" fn retraction_largest_step(plan: &[u8], track: u16, place: u16) -> u64
+    ensures { λ r. ⌜ r ≡ packed (stepShown (now (plan .entry)) track place) ⌝ }
+{
+    let shown = largest::of_plan(plan);
+    let answer = shown.answer;
+    match answer {
+        LargestAnswer::Refused(n) => at_bit0(n),
+        LargestAnswer::Shown => {
+            if MOST_TRACKS <= track {
+                return at_bit16(NO_TRANSITION);
+            }
+            let t = layout::wide(track);
+            let lengths = shown.lengths;
+            let steps = shown.steps;
+            at_bit16(largest::steps::step_at(&lengths, &steps, t, place))
+        }
+    }
 }
 
 #[no_mangle]

@@ -27,10 +27,11 @@ module _ (path : ℕ → List ℕ) where
   joined-at (suc n) t l =
       ⊎-elim (λ (e : t ≡ n). ([], rw e (ap (λ (r : List ℕ). joined n path ++ r) (sym (append-nil (path n))))))
       (λ (m : t < n).
-      let (rest, q) = joined-at n t m in
-      (rest ++ path n,
-      ap (λ (r : List ℕ). r ++ path n) q ∙ append-assoc (joined t path) (path t ++ rest) (path n)
-      ∙ ap (λ (r : List ℕ). joined t path ++ r) (append-assoc (path t) rest (path n))))
+      let (rest, q) = joined-at n t m in (
+        rest ++ path n,
+        ap (λ (r : List ℕ). r ++ path n) q ∙ append-assoc (joined t path) (path t ++ rest) (path n)
+            ∙ ap (λ (r : List ℕ). joined t path ++ r) (append-assoc (path t) rest (path n)),
+      ))
       (eq-or-lt-of-le (le-of-suc-le-suc l))
 
   pub start-more : (u : ℕ) (at v : ℕ) → at ≡ length (joined u path) → v ≡ length (path u) → at + v ≡ length (joined (u + 1) path)

@@ -1,5 +1,6 @@
 // Reading the paths that are shown: they stand end to end.
 use crate::explore::NO_STEP;
+use ledger::layout::wide;
 ghost use mathlib.Core.Path.{_≡_};
 ghost use mathlib.Core.List.{List};
 ghost use Prim.Native.Nat.{ℕ, _*_, _≤_, _<_};
@@ -17,7 +18,7 @@ fn start_of(lengths: &[u16; 32], t: usize) -> usize
     let mut at: usize = 0;
     let mut u: usize = 0;
     while u < t {
-        at += lengths[u] as usize;
+        at += wide(lengths[u]);
         u += 1;
     }
     at
@@ -26,10 +27,10 @@ fn start_of(lengths: &[u16; 32], t: usize) -> usize
 // The transition at a place of a track's path, 65535 beyond it.
 pub fn step_at(lengths: &[u16; 32], steps: &[u16; 256], t: usize, place: u16) -> u16
     requires { ⌜ (t < 32) × ((path : ℕ → List ℕ) × Laid (now lengths) (now steps) path) ⌝ }
-    ensures { λ r. ⌜ (path : ℕ → List ℕ) → Laid (now (lengths .entry)) (now (steps .entry)) path → r ≡ getD (path t) place noTransition ⌝ }
+    ensures { λ r. ⌜ ((path : ℕ → List ℕ) → Laid (now (lengths .entry)) (now (steps .entry)) path → r ≡ getD (path t) place noTransition) ⌝ }
 {
     if lengths[t] <= place {
         return NO_STEP;
     }
-    steps[start_of(lengths, t) + place as usize]
+    steps[start_of(lengths, t) + wide(place)]
 }
