@@ -1,3 +1,4 @@
 -- Laws of packed answers.
 pub mod Packing
 pub mod Unpacking
+pub mod Showing
