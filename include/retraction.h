@@ -1,7 +1,8 @@
 /* The retraction manager's calls. Link with libretraction.a: `pkg-config --cflags --libs retraction`.
  *
- * Every call but the two conversions is given the plan's bytes, and all of these but read the lent ledger: four leading words, then 67 for
- * each track of the plan; words beyond are never touched. Any bytes and any words may be given. A refused call changes no word.
+ * Every call but the two conversions is given the plan's bytes, and all of these but read, largest and largest step the lent ledger: four
+ * leading words, then 67 for each track of the plan; words beyond are never touched. Any bytes and any words may be given. A refused call
+ * changes no word.
  * docs/FORMATS.md says what the bytes and the words are, docs/REFUSALS.md what each refusal means.
  *
  *   word of a ledger   what it is
@@ -36,6 +37,14 @@
  * the ledger. A signal ends it only where a root has ended that the society may not turn. That call gives its answer as ever; the next event,
  * signal or firing is refused as 20, and ready gives 0. A ledger whose roots are all taken back is not over.
  *
+ * Largest and largest step tell how much a track can ever hold, before any ledger is begun. A path is transitions of the track, from its first
+ * state on, each leaving the state that the one before it leads to. It has one entry for each transition with a code and one for each hosting
+ * state with a replacement, its first and last state included. Largest gives the largest number of entries along any path and the length of
+ * such a path; largest step gives the transition at an index of it, from 0 on. Which of several paths with so many entries it is, is free; it
+ * is the same one in every call on the same plan. No history, whatever its days and rights, makes the track hold more. Figures above 32, the
+ * most that a track can hold, are told as they are. A plan with a deviation, or with a cycle of transitions, a step from a state to itself
+ * included and reached or not, is refused as 29 by these two calls and by no other, checked after 27.
+ *
  * What a caller owes: a pointer is not null, even where its length is 0, and holds so many bytes or words; the ledger's is at an even
  * address; the plan and the ledger do not overlap; and nothing else writes to either during a call. Plans alike in length and sum are not
  * told apart: among those a ledger is kept with the plan that it was begun under. A society is taken as it is given: whether the call is really
@@ -55,6 +64,8 @@
  *   ready         0                bits 32 to 63: bit n of that number is set exactly if track n may be fired
  *   date of day   year             month            day              (months and days are counted from 1)
  *   day of date   0                bits 32 to 63: the day as a signed 32-bit number
+ *   largest       entries          length of path   0                (0 and 0 where the track does not exist)
+ *   largest step  transition       0                0                (65535 beyond the path, or where the track does not exist)
  *
  * Entries answers otherwise: bits 0 to 15 are the count of words of the part of the ledger that holds the track's pairs of code and
  * deviation, oldest first, and bits 16 to 47 are the index of its first word. It is 0, the empty part, if the plan or the ledger is
@@ -73,8 +84,8 @@ extern "C" {
 #endif
 
 /* 10000 times the major version, 100 times the minor one, and the patch. */
-#define RETRACTION_VERSION 500
-#define RETRACTION_VERSION_TEXT "0.5.0"
+#define RETRACTION_VERSION 600
+#define RETRACTION_VERSION_TEXT "0.6.0"
 
 /* Words of a ledger: the leading ones, those of each track, and all of them with so many tracks. Read tells a plan's tracks. */
 #define RETRACTION_LEADING_WORDS 4
@@ -88,11 +99,11 @@ extern "C" {
 #define RETRACTION_FIRST_DAY (-109573)
 #define RETRACTION_LAST_DAY 182620
 
-/* A host, or a deviation, that is none. */
+/* A host, a deviation or a step of a path that is none. */
 #define RETRACTION_NONE 65535
 
-/* The refusals, in checking order: 25 and then 27 come after 16, 24 between 17 and 18, 26 between 19 and 20, 28 between 20 and 21. 1 and 23 are
- * the program's alone. */
+/* The refusals, in checking order: 25 and then 27 come after 16, 24 between 17 and 18, 26 between 19 and 20, 28 between 20 and 21. 29, after 27,
+ * is for largest and largest step alone. 1 and 23 are the program's alone. */
 enum retraction_refusals {
     RETRACTION_TOO_LONG = 1,
     RETRACTION_NO_RECORD = 2,
@@ -112,6 +123,7 @@ enum retraction_refusals {
     RETRACTION_HEIGHT = 16,
     RETRACTION_WINDOW = 25,
     RETRACTION_RIGHTS = 27,
+    RETRACTION_UNBOUNDED = 29,
     RETRACTION_FEW_WORDS = 17,
     RETRACTION_OTHER_PLAN = 24,
     RETRACTION_UNSOUND = 18,
@@ -133,6 +145,8 @@ uint64_t retraction_ready(const uint8_t *plan, size_t plan_len, uint16_t *ledger
 uint64_t retraction_entries(const uint8_t *plan, size_t plan_len, const uint16_t *ledger, size_t ledger_len, uint16_t track);
 uint64_t retraction_date_of_day(int32_t day);
 uint64_t retraction_day_of_date(uint16_t year, uint16_t month, uint16_t day);
+uint64_t retraction_largest(const uint8_t *plan, size_t plan_len, uint16_t track);
+uint64_t retraction_largest_step(const uint8_t *plan, size_t plan_len, uint16_t track, uint16_t index);
 
 /* The parts of an answer. */
 static inline uint16_t retraction_refusal(uint64_t answer) { return (uint16_t)answer; }
@@ -173,6 +187,7 @@ static inline const char *retraction_refusal_text(uint16_t refusal)
     case RETRACTION_HEIGHT: return "a track's height is above 8";
     case RETRACTION_WINDOW: return "a window names no transition, repeats one, ends before it begins or leaves the day range";
     case RETRACTION_RIGHTS: return "a rights record names no root, has a sum outside 1 to 7, repeats a pair or is the 65th";
+    case RETRACTION_UNBOUNDED: return "the plan has a deviation or a cycle of transitions";
     case RETRACTION_FEW_WORDS: return "the ledger has too few words for the plan";
     case RETRACTION_OTHER_PLAN: return "the ledger's first two words are not those of this plan";
     case RETRACTION_UNSOUND: return "the ledger is not sound under this plan";

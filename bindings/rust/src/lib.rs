@@ -14,6 +14,9 @@
 //! plan's rights records say over which roots, and every track under them, a
 //! society may move, signal and fire; without a record nobody may.
 //!
+//! [`Plan::largest`] tells how many entries a track can ever hold, of the plan
+//! alone.
+//!
 //! ```
 //! use retraction::{day_of_date, Date, Moved, Plan, Refusal};
 //!
@@ -94,6 +97,20 @@ pub struct Entry {
     pub deviation: Option<u16>,
 }
 
+/// How many entries a track can ask for, and how it comes to that.
+#[derive(Clone, Debug, PartialEq, Eq)]
+#[must_use]
+pub struct Largest {
+    /// The largest number of entries along any path of the track. A track can
+    /// hold 32; a figure above that is told as it is.
+    pub figure: u16,
+    /// A path with so many: transition numbers in order. The first leaves the
+    /// track's first state, each other one the state that the one before it
+    /// leads to. No path has more entries; which of several with as many it is,
+    /// is free.
+    pub path: Vec<u16>,
+}
+
 /// A date of the Gregorian calendar; months and days are counted from 1.
 #[derive(Clone, Copy, Debug, PartialEq, Eq, PartialOrd, Ord, Hash)]
 pub struct Date {
@@ -165,6 +182,53 @@ impl Plan {
     #[must_use]
     pub fn ledger_words(&self) -> usize {
         LEADING_WORDS + TRACK_WORDS * usize::from(self.counts.tracks)
+    }
+
+    /// How many entries a track can ask for: the largest number along any path
+    /// from its first state, one for each transition with a code and one for
+    /// each hosting state with a replacement, the first and the last state
+    /// included; with such a path. No history, whatever its days and rights,
+    /// makes the track hold more. A track that does not exist has figure 0 and
+    /// no path.
+    ///
+    /// Refused as 29 where the plan has a deviation or a cycle of transitions,
+    /// a step from a state to itself included, in whichever track. Every other
+    /// call takes such a plan.
+    ///
+    /// ```
+    /// # use retraction::{Plan, Refusal};
+    /// # fn main() -> Result<(), Refusal> {
+    /// // Two ways from state 0 to state 2: at once by code 50, or over state 1 by
+    /// // codes 51 and 52.
+    /// let plan = Plan::read([
+    ///     6, 0, 1, 0, 255, 255, // track 0: a root
+    ///     10, 0, 2, 0, 0, 0, 0, 0, 0, 0, // state 0
+    ///     10, 0, 2, 0, 0, 0, 0, 0, 0, 0, // state 1
+    ///     10, 0, 2, 0, 0, 0, 1, 0, 0, 0, // state 2, final
+    ///     14, 0, 3, 0, 0, 0, 10, 0, 50, 0, 255, 255, 2, 0, // transition 0, from 0 to 2
+    ///     14, 0, 3, 0, 0, 0, 11, 0, 51, 0, 255, 255, 1, 0, // transition 1, from 0 to 1
+    ///     14, 0, 3, 0, 1, 0, 11, 0, 52, 0, 255, 255, 2, 0, // transition 2, from 1 to 2
+    ///     4, 0, 4, 0, // end
+    /// ])?;
+    /// let largest = plan.largest(0)?;
+    /// assert_eq!((largest.figure, largest.path), (2, vec![1, 2]));
+    /// # Ok(())
+    /// # }
+    /// ```
+    pub fn largest(&self, track: u16) -> Result<Largest, Refusal> {
+        let (figure, length) = raw::largest(&self.bytes, track)?;
+        let step = |index| {
+            let step = raw::largest_step(&self.bytes, track, index);
+            step.map(|step| step.expect("an index of the path"))
+        };
+        let path = (0..length).map(step).collect::<Result<_, _>>()?;
+        Ok(Largest { figure, path })
+    }
+
+    /// The same of each track, in track order.
+    pub fn largest_of_all(&self) -> Result<Vec<Largest>, Refusal> {
+        let tracks = 0..self.counts.tracks;
+        tracks.map(|track| self.largest(track)).collect()
     }
 
     /// A ledger at its begin: led by the plan's length and sum and by the first

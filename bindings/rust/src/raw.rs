@@ -10,6 +10,8 @@
 //!
 //! [`event`], [`signal`] and [`fire`] are each a society's, which comes last. The
 //! plan says what it may do; any number may be given.
+//!
+//! [`largest`] and [`largest_step`] are given the plan alone, as [`read`] is.
 
 use crate::{Counts, Date, Entry, Moved, Refusal, NONE};
 
@@ -61,6 +63,13 @@ mod c {
         ) -> u64;
         pub fn retraction_date_of_day(day: i32) -> u64;
         pub fn retraction_day_of_date(year: u16, month: u16, day: u16) -> u64;
+        pub fn retraction_largest(plan: *const u8, plan_len: usize, track: u16) -> u64;
+        pub fn retraction_largest_step(
+            plan: *const u8,
+            plan_len: usize,
+            track: u16,
+            index: u16,
+        ) -> u64;
     }
 }
 
@@ -183,6 +192,28 @@ pub fn day_of_date(date: Date) -> Result<i32, Refusal> {
     // SAFETY: numbers are given, and a number is answered.
     let answer = accepted(unsafe { c::retraction_day_of_date(year, month, day) })?;
     Ok((answer >> 32) as i32)
+}
+
+/// The largest number of entries along any path of a track, from its first
+/// state on, and the length of such a path; 0 and 0 where there is no such
+/// track. Refused as 29 where the plan has a deviation or a cycle of
+/// transitions.
+pub fn largest(plan: &[u8], track: u16) -> Result<(u16, u16), Refusal> {
+    // SAFETY: as under `read`.
+    let answer = unsafe { c::retraction_largest(plan.as_ptr(), plan.len(), track) };
+    let answer = accepted(answer)?;
+    Ok((bits(answer, 16), bits(answer, 32)))
+}
+
+/// The transition at an index of the path of which [`largest`] gives the
+/// length, the same one in every call; `None` beyond it, and where there is no
+/// such track. Refused as [`largest`] is.
+pub fn largest_step(plan: &[u8], track: u16, index: u16) -> Result<Option<u16>, Refusal> {
+    let (bytes, size) = (plan.as_ptr(), plan.len());
+    // SAFETY: as under `read`.
+    let answer = unsafe { c::retraction_largest_step(bytes, size, track, index) };
+    let step = bits(accepted(answer)?, 16);
+    Ok(Some(step).filter(|&transition| transition != NONE))
 }
 
 pub(crate) fn entry(code: u16, deviation: u16) -> Entry {

@@ -9,7 +9,8 @@ macro_rules! refusals {
         /// paper's; `docs/REFUSALS.md` has an example of each, and what to
         /// mend. The order of the numbers is that of the checks but for 25
         /// and 27, which come after 16, 24, between 17 and 18, 26, between 19
-        /// and 20, and 28, between 20 and 21.
+        /// and 20, and 28, between 20 and 21; and for 29, after 27, which is
+        /// for the largest number of entries alone.
         #[derive(Clone, Copy, Debug, PartialEq, Eq, PartialOrd, Ord, Hash)]
         #[non_exhaustive]
         #[repr(u16)]
@@ -51,6 +52,7 @@ refusals! {
     Height = 16, "a track's height is above 8";
     Window = 25, "a window names no transition, repeats one, ends before it begins or leaves the day range";
     Rights = 27, "a rights record names no root, has a sum outside 1 to 7, repeats a pair or is the 65th";
+    Unbounded = 29, "the plan has a deviation or a cycle of transitions";
     FewWords = 17, "the ledger has too few words for the plan";
     OtherPlan = 24, "the ledger's first two words are not those of this plan";
     Unsound = 18, "the ledger is not sound under this plan";
@@ -64,7 +66,7 @@ refusals! {
 }
 
 impl Refusal {
-    /// The paper's number, 1 to 28.
+    /// The paper's number, 1 to 29.
     #[must_use]
     pub fn number(self) -> u16 {
         self as u16

@@ -110,7 +110,7 @@ fn a_ledger_is_stored_and_read_again() -> Result<(), Refusal> {
 #[test]
 fn a_refusal_has_its_number_and_its_words() {
     let checked: Vec<u16> = (1..=16)
-        .chain([25, 27, 17, 24, 18, 19, 26, 20, 28])
+        .chain([25, 27, 29, 17, 24, 18, 19, 26, 20, 28])
         .chain(21..=23)
         .collect();
     let numbers: Vec<u16> = Refusal::ALL
