@@ -1,6 +1,6 @@
 /* The paper's sample plan P and its journal, by the calls, with its events on day 0 and society 1 making them. Prints what `unwind` prints for
- * them, and then on which date the last event was, what an event the day before gets, what a society without the right gets, and what the ledger
- * gets under another plan. */
+ * them, and then on which date the last event was, what an event the day before gets, what a society without the right gets, how many entries each
+ * track can ask for, and what the ledger gets under another plan. */
 #include <stdio.h>
 
 #include "retraction.h"
@@ -111,6 +111,19 @@ static void print_without_the_right(void)
     printf("R %u: %s\n", refusal, retraction_refusal_text(refusal));
 }
 
+/* The most entries that each track can ask for, of the plan alone; and how track 2 comes to its own, by transition numbers. */
+static void print_largest(void)
+{
+    uint16_t steps = retraction_second(retraction_largest(plan, sizeof plan, 2));
+    printf("most entries:");
+    for (uint16_t track = 0; track < TRACKS; track++)
+        printf(" %u", retraction_first(retraction_largest(plan, sizeof plan, track)));
+    printf("\ntrack 2 by transitions:");
+    for (uint16_t index = 0; index < steps; index++)
+        printf(" %u", retraction_first(retraction_largest_step(plan, sizeof plan, 2, index)));
+    printf("\n");
+}
+
 /* A neighbour's plan differs from this one in a single code. The ledger, lent with it by mistake, is refused. */
 static void print_under_another_plan(void)
 {
@@ -142,6 +155,7 @@ int main(void)
     printf("H %u %u\n", entries_held(), firings);
     print_last_day();
     print_without_the_right();
+    print_largest();
     print_under_another_plan();
     return 0;
 }
