@@ -2,7 +2,7 @@
 
 use std::time::Instant;
 
-use bench::sides::{self, Call, Side};
+use bench::sides::{self, Call, Named, Side, SIDES};
 
 use crate::cases::Case;
 use crate::rounds::Rounds;
@@ -11,9 +11,7 @@ use crate::rounds::Rounds;
 pub const ROUNDS: usize = 201;
 
 /// Ledgers of a round, each called on once.
-const LEDGERS: usize = 32;
-
-pub const SIDES: [Side; 3] = [sides::proved, sides::second, sides::fast];
+pub const LEDGERS: usize = 32;
 
 /// A ledger and the call on it.
 #[derive(Clone, Debug)]
@@ -23,25 +21,32 @@ pub struct Given {
 }
 
 /// Nanoseconds a call over copies of the ledgers, made beforehand, and the sum
-/// of the answers.
+/// of what the sides agree on in the answers.
 fn round(plan: &[u8], given: &[Given], side: Side) -> (f64, u64) {
     let mut copies: Vec<Given> = given.iter().cycle().take(LEDGERS).cloned().collect();
     let mut sum = 0u64;
     let start = Instant::now();
     for copy in &mut copies {
-        sum = sum.wrapping_add(side(plan, &mut copy.words, copy.call));
+        let answer = side(plan, &mut copy.words, copy.call);
+        sum = sum.wrapping_add(sides::agreed(copy.call, answer));
     }
     (start.elapsed().as_nanos() as f64 / LEDGERS as f64, sum)
 }
 
-/// The medians of the three sides, in nanoseconds.
+/// The medians of the sides, in nanoseconds.
 ///
 /// # Panics
 /// If the sides give different answers.
-pub fn times(rounds: &mut Rounds, plan: &[u8], given: &[Given]) -> [f64; 3] {
-    let expected = round(plan, given, sides::second).1;
+pub fn times<const COUNT: usize>(
+    rounds: &mut Rounds,
+    plan: &[u8],
+    given: &[Given],
+    sides: [Named; COUNT],
+) -> [f64; COUNT] {
+    let (_, last) = sides[COUNT - 1];
+    let expected = round(plan, given, last).1;
     rounds.medians(ROUNDS, |number| {
-        let (time, sum) = round(plan, given, SIDES[number]);
+        let (time, sum) = round(plan, given, sides[number].1);
         assert_eq!(sum, expected, "the sides give different answers");
         time
     })
@@ -60,7 +65,7 @@ pub fn print(rounds: &mut Rounds, cases: &[Case]) {
             if given.is_empty() {
                 continue;
             }
-            let [proved, second, fast] = times(rounds, &case.plan, &given);
+            let [proved, second, fast] = times(rounds, &case.plan, &given, SIDES);
             let (label, to_second, to_fast) = (case.label(), proved / second, proved / fast);
             println!(
                 "| {label} | {name} | {proved:.0} | {second:.0} | {fast:.0} | {to_second:.2} | \
@@ -78,6 +83,11 @@ pub const FINISHING: &str = "fire, finishing";
 
 /// The name of a signal that does, which only plans of several societies have.
 pub const LAST_SIGNAL: &str = "signal, finishing";
+
+/// The names of the calls on the largest number of entries, which are lent no
+/// ledger and have a table of their own.
+pub const LARGEST: &str = "largest";
+pub const LARGEST_STEP: &str = "largest step";
 
 /// One round of the proved calls alone.
 pub fn one(cases: &[Case], plan: &str, call: &str) {

@@ -7,16 +7,17 @@ use std::fs;
 use std::io;
 use std::path::Path;
 
+use bench::fast;
 use bench::sides::Call;
 use second::journal::{self, Record, MAX_BYTES};
 use second::ledger::Ledger;
-use second::plan::{self, members, Plan, Right, MAX_RIGHTS};
+use second::plan::{self, members, Plan, Records, Right, MAX_RIGHTS};
 use second::rules;
 use testing::generate::rng::Rng;
 use testing::generate::{journals, plans, societies};
 use testing::samples;
 
-use crate::calls::{Given, CALLS, FINISHING, LAST_SIGNAL};
+use crate::calls::{Given, CALLS, FINISHING, LARGEST, LARGEST_STEP, LAST_SIGNAL};
 use crate::shapes;
 
 /// The day of all events.
@@ -56,6 +57,21 @@ impl Case {
             case.journal = case.lively_journal(MAX_BYTES);
         }
         Ok(cases)
+    }
+
+    /// Plans for the largest number of entries alone, with no journal: the
+    /// deepest one, 128 states in a row; the same with a cycle; and 32 rows.
+    pub fn rows() -> Vec<Case> {
+        let deepest = shapes::rows(1, 128, 256);
+        let closed = shapes::closed(deepest.clone());
+        let many = shapes::rows(32, 128, 256);
+        let plans = [
+            ("a row", deepest),
+            ("a row and back", closed),
+            ("32 rows", many),
+        ];
+        let case = |(name, plan): (&str, Records)| Case::new(name, plan.encode());
+        plans.into_iter().filter_map(case).collect()
     }
 
     fn new(name: &str, plan: Vec<u8>) -> Option<Case> {
@@ -126,8 +142,12 @@ impl Case {
 
     /// Ledgers on which the call is accepted and does something; at most so
     /// many, fewer where few histories lead to one. Few do to a firing or a
-    /// signal that finishes, so that more are tried.
+    /// signal that finishes, so that more are tried. The calls on the largest
+    /// number of entries are lent none, and made of each track.
     pub fn given(&self, call: &str, count: usize) -> Vec<Given> {
+        if call == LARGEST || call == LARGEST_STEP {
+            return self.largest(call);
+        }
         let mut given = Vec::new();
         let rare = [FINISHING, LAST_SIGNAL].contains(&call);
         let histories = if rare { 400 } else { 40 };
@@ -147,6 +167,26 @@ impl Case {
             }
         }
         given
+    }
+
+    /// The largest number of entries of each track, or the step halfway along
+    /// its path.
+    fn largest(&self, call: &str) -> Vec<Given> {
+        let tracks = 0..self.read.track_count() as u16;
+        let of_track = |track: u16| match fast::largest(&self.plan, track) {
+            Ok((_, length)) if call == LARGEST_STEP => Call::LargestStep(track, length / 2),
+            _ => Call::Largest(track),
+        };
+        let given = |track| Given {
+            words: Vec::new(),
+            call: of_track(track),
+        };
+        tracks.map(given).collect()
+    }
+
+    /// Whether the largest number of entries is refused.
+    pub fn is_unbounded(&self) -> bool {
+        fast::largest(&self.plan, 0).is_err()
     }
 
     /// The call, if it is worth timing here: an event that moves, a signal

@@ -3,11 +3,11 @@
 
 use std::time::Instant;
 
-use bench::sides::{self, Call, Side};
+use bench::sides::{self, Call, Side, SIDES};
 use second::days::{date_of_day, Term};
 use testing::generate::rng::Rng;
 
-use crate::calls::{ROUNDS, SIDES};
+use crate::calls::ROUNDS;
 use crate::rounds::Rounds;
 
 /// Conversions of a round.
@@ -50,7 +50,7 @@ pub fn print(rounds: &mut Rounds) {
     for (name, calls) in [("date of a day", to_dates), ("day of a date", to_days)] {
         let expected = round(&calls, sides::second).1;
         let [proved, second, fast] = rounds.medians(ROUNDS, |number| {
-            let (time, sum) = round(&calls, SIDES[number]);
+            let (time, sum) = round(&calls, SIDES[number].1);
             assert_eq!(sum, expected, "the sides give different answers");
             time
         });

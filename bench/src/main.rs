@@ -1,17 +1,19 @@
 //! Prints tables of times: the proved calls beside the second program's and
-//! the fast one's, the sum of a plan's bytes alone, days and dates, whole runs,
-//! and how each call grows. The sides make the same checks on each call; rounds
-//! alternate between them, and each figure is a median.
+//! the fast one's, the sum of a plan's bytes alone, days and dates, the largest
+//! number of entries, whole runs, and how each call grows. The sides make the
+//! same checks on each call; rounds alternate between them, and each figure is a
+//! median.
 //!
-//! `bench calls | sums | days | scaling`, `bench runs PROVED SECOND FAST` with
-//! three programs `unwind`, `bench all PROVED SECOND FAST` print tables, and in
-//! the last line whether the machine was disturbed. For a profiler: `bench one
-//! PLAN CALL` makes one round of the proved calls alone, `bench write PLAN
-//! FOLDER` writes the plan and its journal.
+//! `bench calls | sums | days | largest | scaling`, `bench runs PROVED SECOND
+//! FAST` with three programs `unwind`, `bench all PROVED SECOND FAST` print
+//! tables, and in the last line whether the machine was disturbed. For a
+//! profiler: `bench one PLAN CALL` makes one round of the proved calls alone,
+//! `bench write PLAN FOLDER` writes the plan and its journal.
 
 mod calls;
 mod cases;
 mod days;
+mod largest;
 mod rounds;
 mod runs;
 mod scaling;
@@ -24,8 +26,8 @@ use std::path::Path;
 use cases::Case;
 use rounds::Rounds;
 
-const USAGE: &str = "usage: bench calls | sums | days | scaling | runs PROVED SECOND FAST | \
-    all PROVED SECOND FAST | one PLAN CALL | write PLAN FOLDER";
+const USAGE: &str = "usage: bench calls | sums | days | largest | scaling | \
+    runs PROVED SECOND FAST | all PROVED SECOND FAST | one PLAN CALL | write PLAN FOLDER";
 
 fn main() -> io::Result<()> {
     let words: Vec<String> = std::env::args().skip(1).collect();
@@ -36,6 +38,7 @@ fn main() -> io::Result<()> {
         ["calls"] => calls::print(&mut rounds, &cases),
         ["sums"] => sums::print(&mut rounds, &cases),
         ["days"] => days::print(&mut rounds),
+        ["largest"] => largest::print(&mut rounds, &cases),
         ["scaling"] => scaling::print(&mut rounds),
         ["runs", proved, second, fast] => {
             runs::print(&mut rounds, &cases, [proved, second, fast])?;
@@ -47,12 +50,15 @@ fn main() -> io::Result<()> {
             println!();
             days::print(&mut rounds);
             println!();
+            largest::print(&mut rounds, &cases);
+            println!();
             runs::print(&mut rounds, &cases, [proved, second, fast])?;
             println!();
             scaling::print(&mut rounds);
         }
         ["one", plan, call] => {
             calls::one(&cases, plan, call);
+            calls::one(&Case::rows(), plan, call);
             return Ok(());
         }
         ["write", plan, folder] => {

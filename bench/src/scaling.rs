@@ -1,19 +1,20 @@
 //! Tables in which one thing grows and all else stays, so that the growth of
 //! each call shows.
 
-use bench::sides::Call;
+use bench::sides::{Call, Named, OF_LARGEST, SIDES};
 use second::ledger::{track_start, Entry, Ledger, Mode, Track};
 use second::plan::{self, Plan, Records, NONE};
 use second::rules;
 use testing::samples::SOCIETY;
 
-use crate::calls::{self, Given, CALLS, FINISHING};
+use crate::calls::{self, Given, CALLS, FINISHING, LARGEST, LARGEST_STEP};
 use crate::cases::finishes;
 use crate::rounds::Rounds;
 use crate::shapes::{self, Order};
 
-/// What grows, with rows of points.
-struct Table {
+/// What grows, with rows of points, and who makes the calls.
+struct Table<const COUNT: usize = 3> {
+    sides: [Named; COUNT],
     what: &'static str,
     /// One more of it.
     unit: &'static str,
@@ -41,16 +42,18 @@ pub fn print(rounds: &mut Rounds) {
     ] {
         table.print(rounds);
     }
+    largest().print(rounds);
 }
 
-impl Table {
+impl<const COUNT: usize> Table<COUNT> {
     fn print(&self, rounds: &mut Rounds) {
         self.print_heading();
         for row in &self.rows {
-            let times: Vec<[f64; 3]> = (row.points.iter())
-                .map(|(plan, given)| calls::times(rounds, plan, std::slice::from_ref(given)))
-                .collect();
-            for (number, side) in ["proved", "second", "fast"].iter().enumerate() {
+            let mut times_at = |(plan, given): &(Vec<u8>, Given)| {
+                calls::times(rounds, plan, std::slice::from_ref(given), self.sides)
+            };
+            let times: Vec<[f64; COUNT]> = row.points.iter().map(&mut times_at).collect();
+            for (number, (side, _)) in self.sides.iter().enumerate() {
                 let times: Vec<f64> = times.iter().map(|sides| sides[number]).collect();
                 println!("| {} | {side} | {} |", row.name, self.cells(&times));
             }
@@ -139,6 +142,7 @@ fn tracks() -> Table {
     let plan = |&tracks: &usize| (shapes::tree(tracks, 128, 256), 2);
     let rows = rows(&sizes.iter().map(plan).collect::<Vec<_>>());
     Table {
+        sides: SIDES,
         what: "Tracks, a tree of them; 128 states, 256 transitions",
         unit: "a track",
         sizes,
@@ -151,6 +155,7 @@ fn states() -> Table {
     let plan = |&states: &usize| (shapes::tree(4, states, 24), 2);
     let rows = rows(&sizes.iter().map(plan).collect::<Vec<_>>());
     Table {
+        sides: SIDES,
         what: "States; 4 tracks, 24 transitions",
         unit: "a state",
         sizes,
@@ -163,6 +168,7 @@ fn transitions() -> Table {
     let plan = |&transitions: &usize| (shapes::tree(1, 128, transitions), 2);
     let rows = rows(&sizes.iter().map(plan).collect::<Vec<_>>());
     Table {
+        sides: SIDES,
         what: "Transitions, of many states; 1 track, 128 states",
         unit: "a transition",
         sizes,
@@ -189,6 +195,7 @@ fn steps() -> Table {
         all.push(refused(&plans(order), name));
     }
     Table {
+        sides: SIDES,
         what: "Steps out of one state, their events rising unless said; 1 track, 2 states",
         unit: "a step",
         sizes,
@@ -223,6 +230,7 @@ fn windows() -> Table {
     let mut rows = rows(&plans);
     rows.push(repeated(&plans));
     Table {
+        sides: SIDES,
         what: "Windows, in any order; 32 tracks, all roots, 128 states, 256 transitions",
         unit: "a window",
         sizes,
@@ -257,6 +265,7 @@ fn rights() -> Table {
     let mut rows = rows(&plans);
     rows.push(repeated_pair(&plans));
     Table {
+        sides: SIDES,
         what: "Rights records, in any order; 32 tracks, all roots, 128 states, 256 transitions",
         unit: "a record",
         sizes,
@@ -289,6 +298,7 @@ fn entries() -> Table {
     let mut rows = rows(&plans);
     rows.push(finishing(&plans));
     Table {
+        sides: SIDES,
         what: "Entries held; 32 tracks, all roots, 128 states, 256 transitions",
         unit: "an entry",
         sizes: events.map(|held| 32 * held).to_vec(),
@@ -326,5 +336,34 @@ fn finishing(plans: &[(Records, usize)]) -> Row {
     Row {
         name: FINISHING.to_string(),
         points: plans.iter().map(point).collect(),
+    }
+}
+
+/// The calls on the largest number of entries, which are lent no ledger: of a
+/// root whose states stand in a row, and of one with a fan of steps. The paths
+/// through the row double with every state that has two ways on.
+fn largest() -> Table<{ OF_LARGEST.len() }> {
+    let sizes = vec![8, 16, 32, 64, 128, 256];
+    let row = |states: usize, name: &str, call: Call| Row {
+        name: name.to_string(),
+        points: (sizes.iter())
+            .map(|&transitions| {
+                let words = Vec::new();
+                let plan = shapes::rows(1, states, transitions);
+                (plan.encode(), Given { words, call })
+            })
+            .collect(),
+    };
+    let rows = vec![
+        row(128, LARGEST, Call::Largest(0)),
+        row(128, LARGEST_STEP, Call::LargestStep(0, 0)),
+        row(2, "largest, out of one state", Call::Largest(0)),
+    ];
+    Table {
+        sides: OF_LARGEST,
+        what: "Transitions without a cycle; 1 track, 128 states in a row, or 2",
+        unit: "a transition",
+        sizes,
+        rows,
     }
 }

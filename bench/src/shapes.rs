@@ -54,6 +54,38 @@ pub fn roots(tracks: usize, states: usize, transitions: usize) -> Records {
     led(plan)
 }
 
+/// Roots, each with as many states in a row, the last of them final, and with as
+/// many transitions: on event 1 from each state to the next one, then the same on
+/// event 2, and so on. Every other one has a code. There is no cycle.
+pub fn rows(tracks: usize, states: usize, transitions: usize) -> Records {
+    let (own, steps) = (states / tracks, transitions / tracks);
+    let mut plan = Records::default();
+    for number in 0..tracks {
+        let first = number * own;
+        plan.tracks.push(track(NONE));
+        for place in 0..own {
+            let last = u16::from(place == own - 1);
+            plan.states.push(state(number as u16, last, 0));
+        }
+        plan.transitions.extend((0..steps).map(|place| {
+            let (event, source) = (1 + place / (own - 1), first + place % (own - 1));
+            let code = 7 * (place % 2) as u16;
+            step(source as u16, event as u16, code, source as u16 + 1)
+        }));
+    }
+    led(plan)
+}
+
+/// The plan with its last transition leading back to the first one's source, so
+/// that there is a cycle if it is of one track and as deep as may be.
+pub fn closed(mut plan: Records) -> Records {
+    let first = plan.transitions[0].source;
+    if let Some(last) = plan.transitions.last_mut() {
+        last.destination = first;
+    }
+    plan
+}
+
 /// A root with so many steps out of its first state and back to it.
 pub fn fan(steps: usize, order: Order) -> Records {
     let mut transitions: Vec<Transition> = (1..=steps as u16).map(|e| step(0, e, 7, 0)).collect();

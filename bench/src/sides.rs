@@ -1,5 +1,6 @@
 //! A call by the proved library, by the second program and by the fast one,
-//! each answer packed into one number, as the calls for C have it.
+//! each answer packed into one number, as the calls for C have it. Of the path
+//! with the most entries each side shows its own; [`agreed`] leaves it out.
 
 use retraction::{raw, NONE};
 use second::days::Date;
@@ -7,7 +8,8 @@ use second::manager::{self, Answer};
 
 use crate::fast::{self, Refused};
 
-/// A call on lent words, or a conversion, which is given none.
+/// A call on lent words, on the plan alone, or a conversion, which is given
+/// neither.
 #[derive(Clone, Copy, Debug, PartialEq, Eq)]
 pub enum Call {
     Begin,
@@ -21,10 +23,34 @@ pub enum Call {
     Entries(u16),
     DateOfDay(i32),
     DayOfDate(Date),
+    /// The most entries that a track can ask for.
+    Largest(u16),
+    /// A track, and an index of a path with so many.
+    LargestStep(u16, u16),
 }
 
 /// Who makes a call: on the plan's bytes and the words lent.
 pub type Side = fn(&[u8], &mut [u16], Call) -> u64;
+
+/// A side and its name.
+pub type Named = (&'static str, Side);
+
+/// The three sides.
+pub const SIDES: [Named; 3] = [("proved", proved), ("second", second), ("fast", fast)];
+
+/// Those that make the calls on the largest number of entries. The second
+/// program's place is between the two, once `second_largest` is its call.
+pub const OF_LARGEST: [Named; 2] = [("proved", proved), ("fast", fast)];
+
+/// What the sides agree on in an answer: all of it, but where a path is free,
+/// its length and its steps.
+pub fn agreed(call: Call, answer: u64) -> u64 {
+    match call {
+        Call::Largest(_) => answer & 0xFFFF_FFFF,
+        Call::LargestStep(..) => answer & 0xFFFF,
+        _ => answer,
+    }
+}
 
 /// The call by the proved library.
 pub fn proved(plan: &[u8], words: &mut [u16], call: Call) -> u64 {
@@ -52,6 +78,14 @@ pub fn proved(plan: &[u8], words: &mut [u16], call: Call) -> u64 {
             let date = retraction::Date { year, month, day };
             number(raw::day_of_date(date).map_err(refused), signed)
         }
+        Call::Largest(track) => {
+            let done = raw::largest(plan, track).map_err(refused);
+            number(done, |(figure, length)| pair(figure, length))
+        }
+        Call::LargestStep(track, index) => {
+            let done = raw::largest_step(plan, track, index).map_err(refused);
+            number(done, |step| pair(step.unwrap_or(NONE), 0))
+        }
     }
 }
 
@@ -77,7 +111,21 @@ pub fn second(plan: &[u8], words: &mut [u16], call: Call) -> u64 {
             triple(d.year, d.month, d.day)
         }),
         Call::DayOfDate(date) => number(result(manager::day_of_date(date)), signed),
+        Call::Largest(track) => number(second_largest(plan, track), |(figure, path)| {
+            pair(figure, path.len() as u16)
+        }),
+        Call::LargestStep(track, index) => number(second_largest(plan, track), |(_, path)| {
+            pair(path.get(usize::from(index)).copied().unwrap_or(NONE), 0)
+        }),
     }
+}
+
+/// The figure and the path of a track by the second program, or its refusal.
+///
+/// THE SECOND PROGRAM'S CALL IS PLUGGED IN HERE, and its name into
+/// `OF_LARGEST`; until then nobody asks.
+fn second_largest(_plan: &[u8], _track: u16) -> Result<(u16, Vec<u16>), u16> {
+    unimplemented!("the second program's call on the largest number of entries")
 }
 
 /// The call by the fast program.
@@ -105,6 +153,14 @@ pub fn fast(plan: &[u8], words: &mut [u16], call: Call) -> u64 {
         Call::DayOfDate(Date { year, month, day }) => {
             let date = fast::days::Date { year, month, day };
             number(fast::days::day_of_date(date).map_err(refused), signed)
+        }
+        Call::Largest(track) => {
+            let done = fast::largest(plan, track).map_err(refused);
+            number(done, |(figure, length)| pair(figure, length))
+        }
+        Call::LargestStep(track, index) => {
+            let done = fast::largest_step(plan, track, index).map_err(refused);
+            number(done, |step| pair(step, 0))
         }
     }
 }

@@ -12,17 +12,20 @@
 //!   the tracks as sets.
 //! - [`days`]: days as dates, and dates as days.
 //! - [`steps`]: what the calls do, on an accepted plan and a sound ledger.
+//! - [`paths`]: how many entries a plan can ask for, refusal 29.
 //! - [`run`]: the program `unwind` as a function of bytes.
 
 pub mod days;
 pub mod ledger;
+pub mod paths;
 pub mod plan;
 pub mod run;
 pub mod steps;
 
 use days::FIRST_DAY;
 use ledger::{Sets, LEADING_WORDS, PAIRS, PLAN_WORDS, TRACK_WORDS};
-use plan::Plan;
+use paths::Paths;
+use plan::{Plan, NONE};
 use steps::Given;
 
 /// The paper's number of a refusal.
@@ -103,6 +106,32 @@ pub fn entries<'a>(bytes: &[u8], words: &'a [u16], track: u16) -> &'a [u16] {
     }
     let own = &words[LEADING_WORDS + track * TRACK_WORDS..][..TRACK_WORDS];
     &own[PAIRS..][..2 * usize::from(own[2])]
+}
+
+/// Largest: the most entries along any path of a track, and the length of such
+/// a path; 0 and 0 for a track that does not exist.
+pub fn largest(bytes: &[u8], track: u16) -> Result<(u16, u16), Refused> {
+    let mut plan = Plan::unread();
+    plan.read(bytes)?;
+    let paths = Paths::of(&plan)?;
+    if usize::from(track) >= plan.tracks {
+        return Ok((0, 0));
+    }
+    let length = paths.shown(&plan, track).count();
+    Ok((paths.most(&plan, track), length as u16))
+}
+
+/// Largest step: the transition at an index of that path; `NONE` beyond it, and
+/// for a track that does not exist.
+pub fn largest_step(bytes: &[u8], track: u16, index: u16) -> Result<u16, Refused> {
+    let mut plan = Plan::unread();
+    plan.read(bytes)?;
+    let paths = Paths::of(&plan)?;
+    if usize::from(track) >= plan.tracks {
+        return Ok(NONE);
+    }
+    let step = paths.shown(&plan, track).nth(usize::from(index));
+    Ok(step.unwrap_or(NONE))
 }
 
 /// 2 to 16, 25, 27 and 17: an accepted plan, and enough words for it.

@@ -9,8 +9,8 @@ use super::Refused;
 pub const NONE: u16 = 65535;
 
 const MAX_TRACKS: usize = 32;
-const MAX_STATES: usize = 128;
-const MAX_TRANSITIONS: usize = 256;
+pub const MAX_STATES: usize = 128;
+pub const MAX_TRANSITIONS: usize = 256;
 const MAX_HEIGHT: u8 = 8;
 const MAX_RIGHTS: usize = 64;
 
@@ -48,6 +48,7 @@ pub struct State {
 }
 
 pub struct Transition {
+    pub source: u16,
     pub code: u16,
     pub deviation: u16,
     pub destination: u16,
@@ -379,6 +380,7 @@ impl<'a> Plan<'a> {
     pub fn transition(&self, number: u16) -> Transition {
         let record = self.record(number);
         Transition {
+            source: word(record, 4),
             code: word(record, 8),
             deviation: word(record, 10),
             destination: word(record, 12),
