@@ -101,7 +101,7 @@ impl Paths {
 
     /// The transitions of such a path, in order.
     #[inline(always)]
-    pub fn shown<'a>(&'a self, plan: &'a Plan, track: u16) -> impl Iterator<Item = u16> + 'a {
+    pub fn shown<'a>(&'a self, plan: &'a Plan<'a>, track: u16) -> impl Iterator<Item = u16> + 'a {
         let mut number = self.first[first_state(plan, track)];
         std::iter::from_fn(move || {
             let shown = number.checked_sub(1)?;

@@ -315,7 +315,7 @@ fn after_27_and_for_these_calls_alone() {
     refused(&plan, Window);
 }
 
-/// A window in which nobody can act and a plan without rights change nothing.
+/// A window of one day changes nothing, nor does it that nobody has a right.
 #[test]
 fn windows_and_rights_do_not_count() {
     let mut plan = plan();
