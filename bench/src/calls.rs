@@ -2,7 +2,7 @@
 
 use std::time::Instant;
 
-use bench::sides::{self, Call, Named, Side, SIDES};
+use bench::sides::{self, Call, Side, SIDES};
 
 use crate::cases::Case;
 use crate::rounds::Rounds;
@@ -37,16 +37,10 @@ fn round(plan: &[u8], given: &[Given], side: Side) -> (f64, u64) {
 ///
 /// # Panics
 /// If the sides give different answers.
-pub fn times<const COUNT: usize>(
-    rounds: &mut Rounds,
-    plan: &[u8],
-    given: &[Given],
-    sides: [Named; COUNT],
-) -> [f64; COUNT] {
-    let (_, last) = sides[COUNT - 1];
-    let expected = round(plan, given, last).1;
+pub fn times(rounds: &mut Rounds, plan: &[u8], given: &[Given]) -> [f64; 3] {
+    let expected = round(plan, given, sides::second).1;
     rounds.medians(ROUNDS, |number| {
-        let (time, sum) = round(plan, given, sides[number].1);
+        let (time, sum) = round(plan, given, SIDES[number].1);
         assert_eq!(sum, expected, "the sides give different answers");
         time
     })
@@ -65,7 +59,7 @@ pub fn print(rounds: &mut Rounds, cases: &[Case]) {
             if given.is_empty() {
                 continue;
             }
-            let [proved, second, fast] = times(rounds, &case.plan, &given, SIDES);
+            let [proved, second, fast] = times(rounds, &case.plan, &given);
             let (label, to_second, to_fast) = (case.label(), proved / second, proved / fast);
             println!(
                 "| {label} | {name} | {proved:.0} | {second:.0} | {fast:.0} | {to_second:.2} | \

@@ -1,7 +1,7 @@
 //! Tables in which one thing grows and all else stays, so that the growth of
 //! each call shows.
 
-use bench::sides::{Call, Named, OF_LARGEST, SIDES};
+use bench::sides::{Call, SIDES};
 use second::ledger::{track_start, Entry, Ledger, Mode, Track};
 use second::plan::{self, Plan, Records, NONE};
 use second::rules;
@@ -12,9 +12,8 @@ use crate::cases::finishes;
 use crate::rounds::Rounds;
 use crate::shapes::{self, Order};
 
-/// What grows, with rows of points, and who makes the calls.
-struct Table<const COUNT: usize = 3> {
-    sides: [Named; COUNT],
+/// What grows, with rows of points.
+struct Table {
     what: &'static str,
     /// One more of it.
     unit: &'static str,
@@ -39,21 +38,20 @@ pub fn print(rounds: &mut Rounds) {
         windows(),
         rights(),
         entries(),
+        largest(),
     ] {
         table.print(rounds);
     }
-    largest().print(rounds);
 }
 
-impl<const COUNT: usize> Table<COUNT> {
+impl Table {
     fn print(&self, rounds: &mut Rounds) {
         self.print_heading();
         for row in &self.rows {
-            let mut times_at = |(plan, given): &(Vec<u8>, Given)| {
-                calls::times(rounds, plan, std::slice::from_ref(given), self.sides)
-            };
-            let times: Vec<[f64; COUNT]> = row.points.iter().map(&mut times_at).collect();
-            for (number, (side, _)) in self.sides.iter().enumerate() {
+            let times: Vec<[f64; 3]> = (row.points.iter())
+                .map(|(plan, given)| calls::times(rounds, plan, std::slice::from_ref(given)))
+                .collect();
+            for (number, (side, _)) in SIDES.iter().enumerate() {
                 let times: Vec<f64> = times.iter().map(|sides| sides[number]).collect();
                 println!("| {} | {side} | {} |", row.name, self.cells(&times));
             }
@@ -142,7 +140,6 @@ fn tracks() -> Table {
     let plan = |&tracks: &usize| (shapes::tree(tracks, 128, 256), 2);
     let rows = rows(&sizes.iter().map(plan).collect::<Vec<_>>());
     Table {
-        sides: SIDES,
         what: "Tracks, a tree of them; 128 states, 256 transitions",
         unit: "a track",
         sizes,
@@ -155,7 +152,6 @@ fn states() -> Table {
     let plan = |&states: &usize| (shapes::tree(4, states, 24), 2);
     let rows = rows(&sizes.iter().map(plan).collect::<Vec<_>>());
     Table {
-        sides: SIDES,
         what: "States; 4 tracks, 24 transitions",
         unit: "a state",
         sizes,
@@ -168,7 +164,6 @@ fn transitions() -> Table {
     let plan = |&transitions: &usize| (shapes::tree(1, 128, transitions), 2);
     let rows = rows(&sizes.iter().map(plan).collect::<Vec<_>>());
     Table {
-        sides: SIDES,
         what: "Transitions, of many states; 1 track, 128 states",
         unit: "a transition",
         sizes,
@@ -195,7 +190,6 @@ fn steps() -> Table {
         all.push(refused(&plans(order), name));
     }
     Table {
-        sides: SIDES,
         what: "Steps out of one state, their events rising unless said; 1 track, 2 states",
         unit: "a step",
         sizes,
@@ -230,7 +224,6 @@ fn windows() -> Table {
     let mut rows = rows(&plans);
     rows.push(repeated(&plans));
     Table {
-        sides: SIDES,
         what: "Windows, in any order; 32 tracks, all roots, 128 states, 256 transitions",
         unit: "a window",
         sizes,
@@ -265,7 +258,6 @@ fn rights() -> Table {
     let mut rows = rows(&plans);
     rows.push(repeated_pair(&plans));
     Table {
-        sides: SIDES,
         what: "Rights records, in any order; 32 tracks, all roots, 128 states, 256 transitions",
         unit: "a record",
         sizes,
@@ -298,7 +290,6 @@ fn entries() -> Table {
     let mut rows = rows(&plans);
     rows.push(finishing(&plans));
     Table {
-        sides: SIDES,
         what: "Entries held; 32 tracks, all roots, 128 states, 256 transitions",
         unit: "an entry",
         sizes: events.map(|held| 32 * held).to_vec(),
@@ -342,7 +333,7 @@ fn finishing(plans: &[(Records, usize)]) -> Row {
 /// The calls on the largest number of entries, which are lent no ledger: of a
 /// root whose states stand in a row, and of one with a fan of steps. The paths
 /// through the row double with every state that has two ways on.
-fn largest() -> Table<{ OF_LARGEST.len() }> {
+fn largest() -> Table {
     let sizes = vec![8, 16, 32, 64, 128, 256];
     let row = |states: usize, name: &str, call: Call| Row {
         name: name.to_string(),
@@ -360,7 +351,6 @@ fn largest() -> Table<{ OF_LARGEST.len() }> {
         row(2, "largest, out of one state", Call::Largest(0)),
     ];
     Table {
-        sides: OF_LARGEST,
         what: "Transitions without a cycle; 1 track, 128 states in a row, or 2",
         unit: "a transition",
         sizes,

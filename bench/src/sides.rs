@@ -38,10 +38,6 @@ pub type Named = (&'static str, Side);
 /// The three sides.
 pub const SIDES: [Named; 3] = [("proved", proved), ("second", second), ("fast", fast)];
 
-/// Those that make the calls on the largest number of entries. The second
-/// program's place is between the two, once `second_largest` is its call.
-pub const OF_LARGEST: [Named; 2] = [("proved", proved), ("fast", fast)];
-
 /// What the sides agree on in an answer: all of it, but where a path is free,
 /// its length and its steps.
 pub fn agreed(call: Call, answer: u64) -> u64 {
@@ -121,11 +117,8 @@ pub fn second(plan: &[u8], words: &mut [u16], call: Call) -> u64 {
 }
 
 /// The figure and the path of a track by the second program, or its refusal.
-///
-/// THE SECOND PROGRAM'S CALL IS PLUGGED IN HERE, and its name into
-/// `OF_LARGEST`; until then nobody asks.
-fn second_largest(_plan: &[u8], _track: u16) -> Result<(u16, Vec<u16>), u16> {
-    unimplemented!("the second program's call on the largest number of entries")
+fn second_largest(plan: &[u8], track: u16) -> Result<(u16, Vec<u16>), u16> {
+    result(manager::largest(plan, track)).map(|largest| (largest.figure, largest.path))
 }
 
 /// The call by the fast program.

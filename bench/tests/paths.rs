@@ -1,8 +1,8 @@
-//! The largest number of entries by each side that works it out: the figure is
-//! the one found here in another way, and the path, which is free, is a path
-//! with so many entries. Plans are made from fixed seeds.
+//! The largest number of entries by each side: the figure is the one found here
+//! in another way, and the path, which is free, is a path with so many entries.
+//! Plans are made from fixed seeds.
 
-use bench::sides::{Call, Named, OF_LARGEST};
+use bench::sides::{Call, Named, SIDES};
 use second::plan::{self, Plan, Records, Transition, MAX_TRACKS, NONE};
 use testing::generate::rng::Rng;
 use testing::generate::{damage, plans};
@@ -106,7 +106,7 @@ fn path(bytes: &[u8], (name, side): Named, track: u16, length: u16) -> Vec<u16> 
 fn ask(bytes: &[u8]) -> Result<Vec<u16>, u16> {
     let plan = plan::read(bytes).map_err(|refusal| u16::from(refusal.number()));
     let expected = plan.as_ref().map_err(|&refusal| refusal).and_then(expected);
-    for (name, side) in OF_LARGEST {
+    for (name, side) in SIDES {
         for track in (0..MAX_TRACKS as u16 + 2).chain([65_535]) {
             let answer = figures(side(bytes, &mut [], Call::Largest(track)));
             let (plan, wanted) = match (&plan, &expected) {
