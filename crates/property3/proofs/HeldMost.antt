@@ -1,27 +1,33 @@
 -- "No history, whatever its days and rights, makes the track hold more", of calls as the code made them: after a begin that answered `Begun` and any
--- calls under its plan, which has no deviation and no cycle, each track holds `largest` entries at most, and what entries hands back of it has two words
--- for each of them at most. The calls' own promises make the words those of the reference run, and of that it is proved. Assumes nothing.
-use mathlib.Core.Path.{_≡_, sym, ap₂, _∙_, subst}
+-- calls under its plan, which has no deviation and no cycle, each track holds `largest` entries at most, which is the figure that the call on the plan
+-- alone shows, and what entries hands back of it has two words for each of them at most. The calls' own promises make the words those of the reference run, and of that it is proved. Assumes nothing.
+use mathlib.Core.Path.{_≡_, sym, ap, ap₂, _∙_, subst}
 use mathlib.Core.List.{List}
-use Prim.Native.Nat.{ℕ, _*_, _≤_}
+use Prim.Native.Nat.{ℕ, _*_, _<_, _≤_}
+use native.Mathlib.Omega.{arith}
 use contract.Lifetimes.{Lfts}
 use denote.Ref.{now}
 use denote.Triple.Clauses.{AtExit}
 use borrow.Fn.Kinds.{endedOf}
 use borrow.Fn.World.{ArgsD, ResD}
-use lib.ListN.{length}
+use lib.ListN.{length, getD}
 use Rattle.rules.specs.declared.Counts.{Counts}
 use Rattle.rules.specs.declared.BeginAnswer.the-variants.{Begun}
-use Rattle.rules.specs.Plan.{planOf}
+use Rattle.rules.specs.Plan.{planOf, trackCount}
 use Rattle.rules.specs.Acceptance.{accepted}
 use Rattle.rules.specs.Layout.{entryLimit}
+use Rattle.rules.specs.Ledger.{ledgerAt}
 use Rattle.rules.specs.Call.{Answer, Call, entriesPart}
-use Rattle.rules.specs.Largest.{largest, readBounded, HoldsNoMore}
+use Rattle.rules.specs.Largest.{largest, largestOf, readBounded, HoldsNoMore}
+use Rattle.rules.proofs.Folds.{getD-tabulate}
 use Rattle.rules.proofs.Figures.{bounded-read}
 use Rattle.restoration.proofs.HeldMost.{held-most, part-most}
 use Rattle.manager.proofs.begin as begin
 use Rattle.manager.proofs.begin.Kinds as begin-kinds
 use Rattle.manager.proofs.begin.Reads as begin-reads
+use Rattle.largest.proofs.of_plan as of-plan
+use Rattle.largest.proofs.of_plan.Kinds as of-plan-kinds
+use Rattle.largest.proofs.of_plan.Reads as of-plan-reads
 use Rattle.manager.proofs.entries as entries
 use Rattle.manager.proofs.entries.Kinds as entries-kinds
 use Rattle.manager.proofs.entries.Reads as entries-reads
@@ -48,3 +54,14 @@ module _ (κs : Lfts 2) (a : ArgsD begin.signature κs) (r : ResD begin.signatur
       let t = a′ .1 .1 .0 in
       subst (λ v. length v ≤ 2 * largest (planOf bs k) t) (sym (p .held-as ∙ ap₂ (λ u v. entriesPart entryLimit u v t) e q))
       (part-most entryLimit bs k (bounded-read bs k read .0) ws held-most-of-calls t)
+
+  -- "The figure is shown": what the call on the plan alone showed, by its own promise
+  pub held-most-of-figures : (κs′ : Lfts 1) (a′ : ArgsD of-plan.signature κs′) (r′ : ResD of-plan.signature κs′)
+      (s′ : AtExit (endedOf 1 of-plan-kinds.ps of-plan-kinds.r) κs′) → of-plan-reads.Post κs′ a′ r′ s′ → now (a′ .0) ≡ bs → (t : ℕ) → t < 32
+      → length (ledgerAt entryLimit ws (trackCount (planOf bs k)) t .held) ≤ getD (r′ .figures) t 0
+  unfolding HoldsNoMore largestOf
+  held-most-of-figures κs′ a′ r′ s′ p e t l =
+      let shown : getD (r′ .figures) t 0 ≡ largestOf bs t =
+      ap (λ (xs : List ℕ). getD xs t 0) (p .figures-are) ∙ getD-tabulate 32 t (largestOf (now (a′ .0))) 0 l ∙ ap (λ (xs : List ℕ). largestOf xs t) e in
+      let figure : largestOf bs t ≡ largest (planOf bs k) t = rw (read, largestOf) in
+      omega (arith, held-most-of-calls t)
