@@ -1,5 +1,6 @@
 // The calls for C and Rust, under include/retraction.h. Each is a call of `manager`, the plan reader, `largest` or a conversion of `calendar`, its
 // answer packed into one number.
+use largest::explore::NO_TRANSITION;
 use ledger::layout;
 use rules::BeginAnswer;
 use rules::Counts;
@@ -162,9 +163,6 @@ pub extern "C" fn retraction_entries(plan: &[u8], ledger: &[u16], track: u16) ->
 
 // As many tracks as there can be.
 const MOST_TRACKS: u16 = 32;
-
-// Stands for no transition: the place is beyond the path.
-const NO_TRANSITION: u16 = 65535;
 
 #[no_mangle]
 pub extern "C" fn retraction_largest(plan: &[u8], track: u16) -> u64

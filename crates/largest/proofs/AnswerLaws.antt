@@ -1,33 +1,29 @@
 -- The answer as a whole: nothing beside a refusal; else every word is as the rules have it, for the paths shown. Assumes nothing.
 use mathlib.Core.Path.{_≡_, refl, sym, ap, _∙_}
-use mathlib.Core.Bool.{Bool, true, false, cond, _||_}
-use mathlib.Core.List.{List, [], _∷_, _++_, append-nil}
+use mathlib.Core.Bool.{true, false, cond}
+use mathlib.Core.List.{List, [], append-nil}
 use mathlib.Core.Logic.{inl, inr, ⊎-elim}
 use Prim.Native.Nat.{ℕ, zero, suc, _<_, _≤_}
 use native.Mathlib.Nat.{eq-or-lt-of-le}
 use native.Mathlib.Omega.{arith}
 use lib.Dec.{ltb}
-use lib.ListN.{length, replicate, length-replicate, getD-replicate}
-use lib.Seq.{ext-getD}
-use borrow.Author.Tests.{ltb-true, lt-ltb, le-ltb}
+use lib.ListN.{length, replicate}
+use borrow.Author.Tests.{lt-ltb, le-ltb}
 use Rattle.rules.specs.declared.Counts.{Counts}
-use Rattle.rules.specs.Fold.{tabulate}
-use Rattle.rules.specs.Plan.{Plan, planOf, trackCount, firstState}
-use Rattle.rules.specs.Acceptance.{Reading, turnedBack, accepted, readPlan}
+use Rattle.rules.specs.Plan.{Plan, planOf}
+use Rattle.rules.specs.Acceptance.{turnedBack, accepted, readPlan}
 use Rattle.rules.specs.Call.{Answer, refusal, done}
 use Rattle.rules.specs.Largest.{hasDeviation, hasCycle, isUnbounded, readBounded, largest, largestAnswer, largestOf, joined, padded, Shows}
 use Rattle.rules.proofs.Tests.{look}
-use Rattle.rules.proofs.Folds.{length-tabulate, getD-tabulate}
 use Rattle.rules.proofs.Acceptance.{accepts}
-use Rattle.rules.proofs.Figures.{bounded-read}
 use Rattle.plan.proofs.PassLaws.{figures-same}
 use Rattle.plan.proofs.FieldLaws.{track-count, transition-count}
 use Rattle.plan_reader.proofs.Reader.{accepted-holds}
 use Rattle.ledger.specs.Ladder.{Accepts}
-use Rattle.largest.specs.Chosen.{chosen, trackPath, shownPath}
+use Rattle.largest.specs.Chosen.{trackPath, shownPath}
 use Rattle.largest.proofs.ChosenLaws.{chosen-attains}
 use Rattle.largest.proofs.FitLaws.{paths-fit}
-use Rattle.largest.proofs.ShowingLaws.{upTo, Showing}
+use Rattle.largest.proofs.ShowingLaws.{upTo, each, Showing}
 
 -- How the plan is read for this call.
 pub read-accepts : (bs : List ℕ) (c : Counts) → readPlan bs ≡ accepted c → Accepts bs c
@@ -68,13 +64,6 @@ joined-rest zero m path l h = let e : m ≡ 0 = omega arith in rw e
 joined-rest (suc n) m path l h =
     ⊎-elim (λ (e : m ≡ suc n). rw e)
     (λ (k : m < suc n). rw (h n (omega arith)) (append-nil (joined n path) ∙ joined-rest n m path (omega arith) h)) (eq-or-lt-of-le l)
-
-each : (n v : ℕ) (f : ℕ → ℕ) → ((i : ℕ) → v ≡ f i) → replicate n v ≡ tabulate n f
-each n v f h =
-    ext-getD v (replicate n v) (tabulate n f) (length-replicate {A = ℕ} n v ∙ sym (length-tabulate n f))
-    (λ i l.
-    let k : i < n = rw (length-replicate {A = ℕ} n v) at l in
-    getD-replicate {A = ℕ} n i v v k ∙ h i ∙ sym (getD-tabulate n i f v k))
 
 module _ (bs : List ℕ) (n : ℕ) (r : readBounded bs ≡ turnedBack n) where
   no-path : (t : ℕ) → shownPath bs t ≡ []

@@ -1,22 +1,22 @@
 -- The path shown has as many entries as the figure. Where it ends, nothing more is to be had; else behind its next transition lies what is left.
 -- Assumes nothing.
 use mathlib.Core.Path.{_≡_, refl, sym, ap, _∙_}
-use mathlib.Core.Bool.{Bool, true, false, cond}
+use mathlib.Core.Bool.{Bool, true, false}
 use mathlib.Core.List.{List, [], _∷_}
 use mathlib.Core.Logic.{inl, inr}
-use mathlib.Core.Option.{Option, none, some}
-use Prim.Native.Nat.{ℕ, zero, suc, _+_, _<_, _≤_}
+use mathlib.Core.Option.{none, some}
+use Prim.Native.Nat.{ℕ, zero, suc, _+_, _<_}
 use native.Mathlib.Omega.{arith}
 use lib.Dec.{eqb, ltb}
 use borrow.Author.Tests.{eqb-true, eqb-false, eq-eqb, ne-eqb, ltb-true, ltb-false}
-use Rattle.rules.specs.Fold.{greatestBelow, firstBelow}
+use Rattle.rules.specs.Fold.{firstBelow}
 use Rattle.rules.specs.Plan.{Plan, trackCount, stateCount, transitionCount, transition, firstState}
-use Rattle.rules.specs.Largest.{noTransition, ofTransition, ofState, leaves, isPath, entriesAlong, mostWithin, goesOn, hasCycle, largest, Attains}
+use Rattle.rules.specs.Largest.{noTransition, ofTransition, ofState, leaves, isPath, entriesAlong, goesOn, hasCycle, largest, Attains}
 use Rattle.rules.proofs.Tests.{look, look-option, clash, none-some}
-use Rattle.rules.proofs.Folds.{some-at, some-not, first-found, first-none, first-lowest, greatest-at}
+use Rattle.rules.proofs.Folds.{some-not, first-found, first-none, first-lowest}
 use Rattle.rules.proofs.Acceptance.{Accepted}
-use Rattle.rules.proofs.Paths.{leaves-told, path-from, goes-through, ends-behind, never-round}
-use Rattle.rules.proofs.Figures.{behind, behind-left, behind-other, greatest-met, most-settled, no-more, first-state, largest-is}
+use Rattle.rules.proofs.Paths.{path-from, goes-through, ends-behind, never-round}
+use Rattle.rules.proofs.Figures.{behind, greatest-met, most-settled, no-more, first-state, largest-is}
 use Rattle.largest.specs.Chosen.{mostFrom, gain, bestGain, stepFrom, stepWord, chosenWithin, chosen}
 
 -- the lowest number that passes

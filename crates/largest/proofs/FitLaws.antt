@@ -1,18 +1,18 @@
 -- All paths together fit the room for them: a transition is on a path of its own track alone, and there once. Assumes nothing.
-use mathlib.Core.Path.{_≡_, refl, sym, ap, _∙_}
-use mathlib.Core.Bool.{Bool, true, false, _&&_}
-use mathlib.Core.List.{List, [], _∷_, _++_}
+use mathlib.Core.Path.{_≡_, refl, ap, _∙_}
+use mathlib.Core.Bool.{true, false}
+use mathlib.Core.List.{List, [], _∷_}
 use mathlib.Core.Logic.{inl, inr}
-use Prim.Native.Nat.{ℕ, zero, suc, _+_, _<_, _≤_}
+use Prim.Native.Nat.{ℕ, zero, suc, _<_, _≤_}
 use native.Mathlib.Omega.{arith}
 use lib.Dec.{eqb, ltb}
 use lib.ListN.{length}
-use borrow.Author.Tests.{eqb-true, eqb-false, ltb-true, ltb-false}
+use borrow.Author.Tests.{eqb-true, eqb-false}
 use Rattle.rules.specs.Plan.{Plan, trackCount, stateCount, transitionCount, transition, owner, mover, isStateOf, firstState}
 use Rattle.rules.specs.Largest.{isPath, hasCycle, joined}
 use Rattle.rules.proofs.Tests.{look, and-holds}
 use Rattle.rules.proofs.Acceptance.{Accepted}
-use Rattle.rules.proofs.Occurrences.{one, occurrences, one-same, one-other, occurrences-append, once-fits}
+use Rattle.rules.proofs.Occurrences.{occurrences, one-other, occurrences-append, once-fits}
 use Rattle.rules.proofs.Paths.{leaves-told, path-parts, never-round, once-on-path}
 use Rattle.rules.proofs.Figures.{first-state}
 use Rattle.largest.specs.Chosen.{trackPath}

@@ -2,7 +2,10 @@
 pub mod ChosenLaws
 pub mod EntriesLaws
 pub mod OutgoingLaws
+pub mod BestLaws
+pub mod FollowingLaws
 pub mod ExploreLaws
+pub mod StatesLaws
 pub mod FitLaws
 pub mod ShowingLaws
 pub mod AnswerLaws

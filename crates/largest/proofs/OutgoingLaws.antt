@@ -1,12 +1,11 @@
 -- A transition leaves one state, its source, which is one of the plan's. Assumes nothing.
 use mathlib.Core.Path.{_≡_, sym, _∙_}
-use mathlib.Core.Bool.{true}
 use mathlib.Core.List.{List}
 use Prim.Native.Nat.{ℕ, _+_, _<_}
 use native.Mathlib.Omega.{arith}
 use lib.ListN.{getD, set}
 use Rattle.rules.specs.declared.Counts.{Counts}
-use Rattle.rules.specs.Plan.{Plan, planOf, stateCount, transitionCount, transition}
+use Rattle.rules.specs.Plan.{planOf, transition}
 use Rattle.rules.specs.Largest.{leaves}
 use Rattle.rules.proofs.Acceptance.{accepts}
 use Rattle.rules.proofs.Paths.{leaves-told, leaves-shown}

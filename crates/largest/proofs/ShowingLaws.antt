@@ -1,21 +1,21 @@
 -- What is shown: a path is put step by step behind those before it, and after all tracks every word is as the rules have it. Assumes nothing.
-use mathlib.Core.Path.{_≡_, refl, sym, ap, _∙_, subst}
-use mathlib.Core.Bool.{Bool, true, false, cond, not, _&&_, _||_}
+use mathlib.Core.Path.{_≡_, refl, sym, ap, _∙_}
+use mathlib.Core.Bool.{true, false, cond}
 use mathlib.Core.List.{List, [], _∷_, _++_, append-nil, append-assoc}
 use mathlib.Core.Logic.{inl, inr}
-use mathlib.Core.Option.{Option, none, some}
-use Prim.Native.Nat.{ℕ, zero, suc, _+_, _-_, _<_, _≤_}
+use mathlib.Core.Option.{none, some}
+use Prim.Native.Nat.{ℕ, suc, _+_, _-_, _<_, _≤_}
 use native.Mathlib.Numerals.{add-one}
 use native.Mathlib.Omega.{arith}
-use lib.Dec.{eqb, ltb}
+use lib.Dec.{ltb}
 use lib.ListN.{length, getD, set, replicate, length-append, length-replicate, getD-replicate}
 use lib.Seq.{ext-getD, set-append-seam, append-snoc}
 use borrow.Author.Tests.{ltb-true, ltb-false, lt-ltb, le-ltb}
 use Rattle.rules.specs.declared.Counts.{Counts}
 use Rattle.rules.specs.Fold.{tabulate}
-use Rattle.rules.specs.Plan.{Plan, planOf, trackCount, stateCount, transitionCount, transition, firstState}
-use Rattle.rules.specs.Largest.{noTransition, mostTransitions, padded, joined, leaves, goesOn, hasDeviation, largest}
-use Rattle.rules.proofs.Tests.{look, look-option, clash}
+use Rattle.rules.specs.Plan.{Plan, planOf, stateCount, transition, firstState}
+use Rattle.rules.specs.Largest.{noTransition, padded, joined, hasDeviation, largest}
+use Rattle.rules.proofs.Tests.{look, look-option}
 use Rattle.rules.proofs.Folds.{length-tabulate, getD-tabulate}
 use Rattle.rules.proofs.Acceptance.{Accepted, accepts}
 use Rattle.rules.proofs.Paths.{leaves-states}
@@ -160,13 +160,17 @@ up-same t i f d =
       | inr l ↦ let m = ltb-false i t l in rw (l, le-ltb i (t + 1) (omega arith))
     ]
 
-each-none : (n : ℕ) (f : ℕ → ℕ) → replicate n 0 ≡ tabulate n (upTo 0 f)
-unfolding upTo
-each-none n f =
-    ext-getD 0 (replicate n 0) (tabulate n (upTo 0 f)) (length-replicate {A = ℕ} n 0 ∙ sym (length-tabulate n (upTo 0 f)))
+-- a table of one value
+pub each : (n v : ℕ) (f : ℕ → ℕ) → ((i : ℕ) → v ≡ f i) → replicate n v ≡ tabulate n f
+each n v f h =
+    ext-getD v (replicate n v) (tabulate n f) (length-replicate {A = ℕ} n v ∙ sym (length-tabulate n f))
     (λ i l.
-    let k : i < n = rw (length-replicate {A = ℕ} n 0) at l in
-    getD-replicate {A = ℕ} n i 0 0 k ∙ sym (getD-tabulate n i (upTo 0 f) 0 k ∙ rw (le-ltb i 0 (omega arith))))
+    let k : i < n = rw (length-replicate {A = ℕ} n v) at l in
+    getD-replicate {A = ℕ} n i v v k ∙ h i ∙ sym (getD-tabulate n i f v k))
+
+up-none : (f : ℕ → ℕ) (i : ℕ) → 0 ≡ upTo 0 f i
+unfolding upTo
+up-none f i = rw (le-ltb i 0 (omega arith))
 
 pub record Showing (p : Plan) (tracks : ℕ) (figures lengths steps : List ℕ) (at t : ℕ) : Type 0 where
   pub few : t ≤ tracks
@@ -180,8 +184,8 @@ unfolding joined
 show-start p tracks steps e =
     record {
       few = omega arith;
-      figures-are = each-none 32 (largest p);
-      lengths-are = each-none 32 (λ i. length (trackPath p i));
+      figures-are = each 32 0 (upTo 0 (largest p)) (up-none (largest p));
+      lengths-are = each 32 0 (upTo 0 (λ i. length (trackPath p i))) (up-none (λ i. length (trackPath p i)));
       steps-are = e;
       at-is = refl;
     }

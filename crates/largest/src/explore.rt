@@ -21,7 +21,7 @@ pub const UNKNOWN: u16 = 65535;
 const ENTERED: u16 = 65534;
 
 // Stands for no transition: a path ends there.
-pub const NO_STEP: u16 = 65535;
+pub const NO_TRANSITION: u16 = 65535;
 
 // The best transition so far of those that leave a state: how many entries lie behind it, and which it is. `ends` is false where one leads round.
 pub struct Best {
@@ -87,7 +87,7 @@ fn best_of(
     let mut best = Best {
         ends: true,
         entries: 0,
-        step: NO_STEP,
+        step: NO_TRANSITION,
     };
     let mut y = head[s] as usize;
     while y != 0 {
@@ -97,7 +97,7 @@ fn best_of(
             return Best {
                 ends: false,
                 entries: 0,
-                step: NO_STEP,
+                step: NO_TRANSITION,
             };
         }
         best = better(best, x, of_transition(plan, c, x) + most[d]);

@@ -25,7 +25,7 @@ ghost use Rattle.ledger.specs.Ladder.{Accepts};
 ghost use Rattle.lookup.specs.Figures.{Figures};
 ghost use Rattle.largest.specs.Chosen.{shownPath};
 
-// 29 knows no bounded number of entries.
+// The plan has a deviation or a cycle: no number bounds its entries.
 const UNBOUNDED: u8 = 29;
 
 // Whether a transition has a deviation.
@@ -44,7 +44,7 @@ fn some_deviation(plan: &[u8], c: Counts) -> bool
     false
 }
 
-// What is shown of an accepted plan without deviations.
+// What is shown of an accepted plan without a deviation: 29 where it has a cycle.
 fn of_undeviating(plan: &[u8], c: Counts, firsts: &[u16; 32]) -> Largest
     requires { ⌜ Accepts (now plan) c × (hasDeviation (planOf (now plan) c) ≡ false)
         × Figures 0 (now firsts) (c .tracks) (firstState (planOf (now plan) c)) ⌝ }
@@ -54,7 +54,7 @@ fn of_undeviating(plan: &[u8], c: Counts, firsts: &[u16; 32]) -> Largest
     let mut next: [u16; 256] = [0; 256];
     chain_transitions(plan, c, &mut head, &mut next);
     let mut most: [u16; 128] = [explore::UNKNOWN; 128];
-    let mut step: [u16; 128] = [explore::NO_STEP; 128];
+    let mut step: [u16; 128] = [explore::NO_TRANSITION; 128];
     if !explore_all(plan, c, &head, &next, &mut most, &mut step) {
         return refused(UNBOUNDED);
     }

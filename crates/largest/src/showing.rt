@@ -1,5 +1,5 @@
 // What the call shows: of each track its figure, the length of its path, and the paths end to end.
-use crate::explore::NO_STEP;
+use crate::explore::NO_TRANSITION;
 use plan::fields::destination_of;
 use rules::Counts;
 use rules::Largest;
@@ -27,7 +27,7 @@ pub fn refused(n: u8) -> Largest
         answer: LargestAnswer::Refused(n),
         figures: [0; 32],
         lengths: [0; 32],
-        steps: [NO_STEP; 256],
+        steps: [NO_TRANSITION; 256],
     }
 }
 
@@ -48,7 +48,7 @@ fn put_path(
 {
     let mut s = from;
     let mut end = at;
-    while step[s] != NO_STEP {
+    while step[s] != NO_TRANSITION {
         let x = step[s];
         steps[end] = x;
         end += 1;
@@ -72,7 +72,7 @@ pub fn show_all(
     let tracks = c.tracks;
     let mut figures: [u16; 32] = [0; 32];
     let mut lengths: [u16; 32] = [0; 32];
-    let mut steps: [u16; 256] = [NO_STEP; 256];
+    let mut steps: [u16; 256] = [NO_TRANSITION; 256];
     let mut at: usize = 0;
     let mut t: usize = 0;
     while t < tracks {

@@ -1,5 +1,5 @@
 // Reading the paths that are shown: they stand end to end.
-use crate::explore::NO_STEP;
+use crate::explore::NO_TRANSITION;
 use ledger::layout::wide;
 ghost use mathlib.Core.Path.{_≡_};
 ghost use mathlib.Core.List.{List};
@@ -30,7 +30,7 @@ pub fn step_at(lengths: &[u16; 32], steps: &[u16; 256], t: usize, place: u16) ->
     ensures { λ r. ⌜ ((path : ℕ → List ℕ) → Laid (now (lengths .entry)) (now (steps .entry)) path → r ≡ getD (path t) place noTransition) ⌝ }
 {
     if lengths[t] <= place {
-        return NO_STEP;
+        return NO_TRANSITION;
     }
     steps[start_of(lengths, t) + wide(place)]
 }

@@ -1,11 +1,11 @@
 -- "No history, whatever its days and rights, makes the track hold more": along every list of calls from an accepted begin each track is on its way, so
 -- it holds no more than the path of its way has entries; and where the plan has no cycle, no path from its first state has more than `largest`.
 -- Assumes nothing.
-use mathlib.Core.Path.{_≡_, refl, ap, _∙_, subst}
+use mathlib.Core.Path.{_≡_, refl, ap, _∙_}
 use mathlib.Core.Logic.{inl, inr}
-use mathlib.Core.Bool.{Bool, true, false, cond, _&&_}
+use mathlib.Core.Bool.{true, false, _&&_}
 use mathlib.Core.List.{List, [], _∷_}
-use Prim.Native.Nat.{ℕ, _*_, _<_, _≤_}
+use Prim.Native.Nat.{ℕ, _*_, _≤_}
 use native.Mathlib.Omega.{arith}
 use lib.ListN.{length, drop, length-take}
 use lib.Dec.{eqb, ltb}
@@ -14,14 +14,14 @@ use Rattle.rules.specs.declared.Counts.{Counts}
 use Rattle.rules.specs.Names.{Day}
 use Rattle.rules.specs.Day.{earliestDay}
 use Rattle.rules.specs.Plan.{Plan, trackCount, planOf, firstState}
-use Rattle.rules.specs.Acceptance.{Reading, turnedBack, accepted, readPlan}
+use Rattle.rules.specs.Acceptance.{accepted, readPlan}
 use Rattle.rules.specs.Layout.{entryWidth, entriesPlace}
 use Rattle.rules.specs.Ledger.{Ledger, isAwake, ledgerAt}
 use Rattle.rules.specs.Opening.{begun}
 use Rattle.rules.specs.Call.{done, Call, ledgerRefusal, next, nextDay, callOutcome, beginOutcome, heldPart, entriesPart}
 use Rattle.rules.specs.ReferenceRun.{wordsFrom, wordsAfter}
-use Rattle.rules.specs.Largest.{isPath, entriesAlong, largest, hasDeviation, hasCycle, isUnbounded, readBounded, HoldsNoMore}
-use Rattle.rules.proofs.Tests.{look, or-fails}
+use Rattle.rules.specs.Largest.{isPath, entriesAlong, largest, hasDeviation, readBounded, HoldsNoMore}
+use Rattle.rules.proofs.Tests.{look}
 use Rattle.rules.proofs.Acceptance.{accepts}
 use Rattle.rules.proofs.Figures.{no-more, bounded-read}
 use Rattle.theory.proofs.SoundParts.{sleeping-held}

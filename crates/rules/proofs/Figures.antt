@@ -1,10 +1,10 @@
 -- The largest number of entries: no path has more, and some path has as many. Where one cannot go on for ever from a state, the most from it is
 -- what the state adds and the most that lies behind one of its transitions. Assumes nothing.
-use mathlib.Core.Path.{_≡_, refl, sym, ap, _∙_}
-use mathlib.Core.Bool.{Bool, true, false, cond, not, _&&_, _||_}
+use mathlib.Core.Path.{_≡_, refl}
+use mathlib.Core.Bool.{Bool, true, false, cond, not, _&&_}
 use mathlib.Core.List.{List, [], _∷_}
 use mathlib.Core.Logic.{_⊎_, inl, inr}
-use Prim.Native.Nat.{ℕ, zero, suc, _+_, _*_, _<_, _≤_, max}
+use Prim.Native.Nat.{ℕ, zero, suc, _+_, _*_, _<_, _≤_}
 use native.Mathlib.Omega.{arith}
 use lib.ListN.{length}
 use lib.Dec.{eqb, ltb}
@@ -14,7 +14,7 @@ use Rattle.rules.specs.Fold.{greatestBelow}
 use Rattle.rules.specs.Plan.{Plan, planOf, trackCount, stateCount, transitionCount, transition, replacement, isHosting, isStateOf, firstState}
 use Rattle.rules.specs.Acceptance.{Reading, turnedBack, accepted, readPlan}
 use Rattle.rules.specs.Largest.{ofTransition, ofState, leaves, isPath, entriesAlong, mostWithin, goesOn, hasDeviation, hasCycle, isUnbounded, readBounded, largest}
-use Rattle.rules.proofs.Tests.{look, clash, and-holds, or-fails}
+use Rattle.rules.proofs.Tests.{look, and-holds, or-fails}
 use Rattle.rules.proofs.Folds.{greatest-at, greatest-le}
 use Rattle.rules.proofs.Acceptance.{Accepted}
 use Rattle.rules.proofs.Paths.{leaves-told, path-parts, path-from, path-short, never-round}

@@ -1,7 +1,7 @@
 -- Paths of transitions. A path with as many transitions as there are states comes to some state twice, so from its first state on one can go
 -- round for ever; where there is no cycle, no transition is on a path twice. Assumes nothing.
-use mathlib.Core.Path.{_≡_, refl, sym, ap, _∙_}
-use mathlib.Core.Bool.{Bool, true, false, _&&_}
+use mathlib.Core.Path.{_≡_, refl, ap, _∙_}
+use mathlib.Core.Bool.{true, false}
 use mathlib.Core.List.{List, [], _∷_, _++_}
 use mathlib.Core.Logic.{inl, inr, _↔_}
 use Prim.Native.Nat.{ℕ, zero, suc, _+_, _<_, _≤_}
@@ -10,13 +10,12 @@ use native.Mathlib.Omega.{arith}
 use lib.ListN.{length, length-append}
 use lib.Dec.{eqb, ltb}
 use borrow.Author.Tests.{eqb-true, eqb-false, eq-eqb, ltb-true, ltb-false, lt-ltb}
-use Rattle.rules.specs.Fold.{someBelow}
-use Rattle.rules.specs.Plan.{Plan, stateCount, transitionCount, transition, mover, isStateOf}
+use Rattle.rules.specs.Plan.{Plan, stateCount, transitionCount, transition, isStateOf}
 use Rattle.rules.specs.Largest.{ofTransition, ofState, leaves, isPath, endOf, Leads, entriesAlong, goesOn, hasCycle, Cycle}
 use Rattle.rules.proofs.Tests.{look, clash, refuted, and-holds, and-both}
 use Rattle.rules.proofs.Folds.{some-at, some-not, some-find, some-none}
 use Rattle.rules.proofs.Acceptance.{Accepted}
-use Rattle.rules.proofs.Occurrences.{one, occurrences, one-same, one-other, longer-twice}
+use Rattle.rules.proofs.Occurrences.{occurrences, one-same, one-other, longer-twice}
 
 module _ (p : Plan) where
   pub leaves-told : (s x : ℕ) → leaves p s x ≡ true → (x < transitionCount p) × (transition p x .source ≡ s)
@@ -151,7 +150,7 @@ module _ (p : Plan) where
             let z = one-same u s q in
             let w = along-led u (transition p x .destination) xs b (λ (n : occurrences u (along (transition p x .destination) xs) ≡ 0). omega arith) in
             record {
-              cycle = record { from = s; first = x; others = w .by; leads = path-from s x (w .by) a (w .path); back = w .to ∙ q };
+              cycle = record { from = s; first = x; leaving = a; back = record { by = w .by; path = w .path; to = w .to ∙ q } };
               to = leads-none s;
             }
         | inr e ↦
@@ -162,13 +161,14 @@ module _ (p : Plan) where
 
   -- round a cycle as often as one likes
   round : (c : Cycle p) (n : ℕ) → (xs : List ℕ) × (isPath p (c .from) xs ≡ true) × (n ≤ length xs)
-  unfolding isPath
+  unfolding isPath endOf
   round c zero = ([], refl, omega arith)
   round c (suc n) =
       let (xs, h, l) = round c n in
-      let ys : List ℕ = c .first ∷ c .others in
-      let m : length (ys ++ xs) ≡ suc (length (c .others)) + length xs = length-append ys xs in
-      (ys ++ xs, path-append (c .from) ys xs (c .leads) (rw (c .back) h), omega arith)
+      let w = c .back in
+      let ys : List ℕ = c .first ∷ w .by in
+      let m : length (ys ++ xs) ≡ suc (length (w .by)) + length xs = length-append ys xs in
+      (ys ++ xs, path-append (c .from) ys xs (path-from (c .from) (c .first) (w .by) (c .leaving) (w .path)) (rw (w .to) h), omega arith)
 
   pub loops-on : (s : ℕ) → Loops s → (n : ℕ) → goesOn p n s ≡ true
   loops-on s w n =
@@ -179,12 +179,7 @@ module _ (p : Plan) where
 
   -- a transition that leads back to its source, at any remove
   pub led-back : (s x : ℕ) → leaves p s x ≡ true → Leads p (transition p x .destination) s → Loops s
-  unfolding endOf
-  led-back s x a w =
-      record {
-        cycle = record { from = s; first = x; others = w .by; leads = path-from s x (w .by) a (w .path); back = w .to };
-        to = leads-none s;
-      }
+  led-back s x a w = record { cycle = record { from = s; first = x; leaving = a; back = w }; to = leads-none s }
 
   module _ (ok : Accepted p) where
     destination-state : (x : ℕ) → x < transitionCount p → transition p x .destination < stateCount p
@@ -227,9 +222,8 @@ module _ (p : Plan) where
     cycle-exactly = (
       (λ h. let (s, l, g) = some-find (stateCount p) _ h in long-loops s l g .cycle),
       (λ c.
-          let a = path-parts (c .from) (c .first) (c .others) (c .leads) .0 in
           let w : Loops (c .from) = record { cycle = c; to = leads-none (c .from) } in
-          some-at (stateCount p) _ (c .from) (leaves-states (c .from) (c .first) a .0) (loops-on (c .from) w (stateCount p))),
+          some-at (stateCount p) _ (c .from) (leaves-states (c .from) (c .first) (c .leaving) .0) (loops-on (c .from) w (stateCount p))),
     )
 
     pub never-round : hasCycle p ≡ false → (s : ℕ) → s < stateCount p → goesOn p (stateCount p) s ≡ false

@@ -1,6 +1,6 @@
 -- How many entries a plan can ask for: the paths of a track, the entries along them, and what the call shows of each track. Assumes nothing.
 use mathlib.Core.Path.{_≡_}
-use mathlib.Core.Bool.{Bool, true, false, cond, not, _&&_, _||_}
+use mathlib.Core.Bool.{Bool, true, cond, not, _&&_, _||_}
 use mathlib.Core.List.{List, [], _∷_, _++_}
 use Prim.Native.Nat.{ℕ, zero, suc, _+_, _-_, _≤_, _<_}
 use lib.ListN.{length, replicate}
@@ -74,13 +74,12 @@ module _ (p : Plan) where
   unfoldable pub hasDeviation : Bool
   hasDeviation = someBelow (transitionCount p) (λ x. not (eqb (transition p x .deviation) noState))
 
-  -- a "cycle of transitions": one or more that lead from a state back to it
+  -- a "cycle of transitions": one that leaves a state, and a path from there that leads back
   pub record Cycle : Type 0 where
     pub from : StateNumber
     pub first : TransitionNumber
-    pub others : List TransitionNumber
-    pub leads : isPath from (first ∷ others) ≡ true
-    pub back : endOf from (first ∷ others) ≡ from
+    pub leaving : leaves from first ≡ true
+    pub back : Leads (transition p first .destination) from
 
   -- some path from s has n transitions
   unfoldable pub goesOn : ℕ → StateNumber → Bool

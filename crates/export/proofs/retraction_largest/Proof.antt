@@ -1,5 +1,5 @@
 -- The call's own promise about all tracks, told of one. Assumes nothing.
-use mathlib.Core.Path.{sym, ap, _∙_, refl}
+use mathlib.Core.Path.{ap, _∙_, refl}
 use Rattle.rules.specs.Answers.{largestTold}
 use Rattle.export.proofs.Showing.{track-refused, track-missing, track-told}
 use borrow.Author.Needs.{needs}

@@ -1,5 +1,5 @@
 -- The call's own promise about all tracks, told of one place of one path. Assumes nothing.
-use mathlib.Core.Path.{sym, ap, _∙_, refl}
+use mathlib.Core.Path.{ap, _∙_}
 use Rattle.rules.specs.Answers.{largestTold}
 use Rattle.rules.specs.Largest.{noTransition}
 use Rattle.export.proofs.Showing.{step-refused, step-missing, step-told, laid}

@@ -1,5 +1,5 @@
 -- The plan is read; a refusal is the answer, and a deviation is 29. Assumes nothing.
-use mathlib.Core.Path.{_≡_, sym, ap, _∙_}
+use mathlib.Core.Path.{sym, ap, _∙_}
 use Rattle.rules.specs.Answers.{planTold}
 use Rattle.opening.proofs.FirstStates.{first-figures}
 use Rattle.largest.proofs.AnswerLaws.{read-accepts, unread, deviating, shows-refused}

@@ -1,5 +1,4 @@
 -- A cycle is 29; else all states are known. Assumes nothing.
-use mathlib.Core.Path.{_≡_}
 use borrow.Author.Tests.{not-true, not-false}
 use Rattle.largest.proofs.AnswerLaws.{going-round, shows-refused}
 use borrow.Author.Needs.{needs}

@@ -1,12 +1,11 @@
 -- Exploring a state and following its transitions call each other: following hands on the transitions that are left, exploring one less, so
 -- 2 * left + 1 and 2 * left fall. The loop goes along the chain of the state's transitions. Assumes nothing.
-use mathlib.Core.Path.{_≡_, refl, sym, ap, _∙_}
-use native.Mathlib.Omega.{arith}
 use Rattle.rules.proofs.Tests.{clash}
 use borrow.Author.Needs.{needs}
 use borrow.Author.Tests.{not-true, not-false}
 use Rattle.rules.specs.Plan.{planOf}
-use Rattle.largest.proofs.ExploreLaws.{Passing, pass-start, pass-here, pass-low, pass-round, pass-on, pass-end, done-few, come-to, come-known, come-round, come-far, enter, leave-round, found-few, leave}
+use Rattle.largest.proofs.FollowingLaws.{Passing, pass-start, pass-here, pass-low, pass-round, pass-on, pass-end, done-few}
+use Rattle.largest.proofs.ExploreLaws.{come-to, come-known, come-round, come-far, enter, leave-round, found-few, leave}
 use Prim.Native.Nat.{ℕ, _+_, _*_, _<_}
 use borrow.Fn.Kinds.{In}
 use borrow.Fn.PlainCycle.{Measures, is, falls, and}
@@ -42,7 +41,7 @@ abbrev explore-below : ℕ → In 5 explore-kinds.ps
 explore-below t = and 5 explore-kinds.ps (falls 5 explore-kinds.ps _<_ μ-explore t) explore.Pre
 
 abbrev best-of-Inv-loop : best-of-lts.InvT-loop
-best-of-Inv-loop plan c head next s left most₀ step₀ best₀ y₀ most step best y = Passing (planOf plan c) (c .states) (c .transitions) s most₀ most step best y
+best-of-Inv-loop plan c head next s left most₀ step₀ best₀ y₀ most step best y = Passing (planOf plan c) (c .transitions) s most₀ most step best y
 
 abbrev best-of-μ-loop : best-of-lts.MeasureT-loop
 best-of-μ-loop plan c head next s left most₀ step₀ best₀ y₀ most step best y = y

@@ -1,6 +1,5 @@
 -- The two tests are those of the definition. Assumes nothing.
 use borrow.Author.Tests.{eq-eqb, ne-eqb, lt-ltb, le-ltb}
-use native.Mathlib.Omega.{arith}
 use Rattle.largest.specs.Table.{betterOf}
 use borrow.Author.Needs.{needs}
 use Rattle.largest.proofs.explore.better.Statement.{statement}

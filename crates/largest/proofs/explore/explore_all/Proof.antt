@@ -2,13 +2,13 @@
 use Prim.Native.Nat.{_-_}
 use borrow.Author.Tests.{not-true, not-false}
 use Rattle.rules.specs.Plan.{planOf}
-use Rattle.largest.proofs.ExploreLaws.{Exploring-all, all-start, all-next, all-more, all-round, all-end}
+use Rattle.largest.proofs.StatesLaws.{Exploring-all, all-start, all-next, all-more, all-round, all-end}
 use borrow.Author.Needs.{needs}
 use Rattle.largest.proofs.explore.explore_all.Statement.{statement}
 use Rattle.largest.proofs.explore.explore_all.Tie as tie
 
 abbrev Inv-loop : tie.InvT-loop
-Inv-loop plan c head next most₀ step₀ states s₀ most step s = Exploring-all (planOf plan c) (c .states) (c .transitions) s most step
+Inv-loop plan c head next most₀ step₀ states s₀ most step s = Exploring-all (planOf plan c) (c .states) s most step
 
 abbrev μ-loop : tie.MeasureT-loop
 μ-loop plan c head next most₀ step₀ states s₀ most step s = states - s

@@ -1,7 +1,6 @@
 -- The invariant: what is put and what is left make up the path. The measure is the room left. Assumes nothing.
 use mathlib.Core.Path.{refl}
 use Prim.Native.Nat.{_-_}
-use native.Mathlib.Omega.{arith}
 use Rattle.rules.specs.Plan.{planOf}
 use Rattle.largest.proofs.ShowingLaws.{Putting, put-start, put-on, put-end}
 use borrow.Author.Needs.{needs}

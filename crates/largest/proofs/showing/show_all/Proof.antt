@@ -1,7 +1,6 @@
 -- The invariant: the figures, the lengths and the paths of the tracks so far. The measure is the tracks left. Assumes nothing.
 use mathlib.Core.Path.{refl}
 use Prim.Native.Nat.{_-_}
-use native.Mathlib.Omega.{arith}
 use Rattle.rules.specs.Plan.{planOf}
 use Rattle.rules.specs.Answers.{largestTold}
 use Rattle.rules.specs.Largest.{noTransition, padded}

@@ -1,6 +1,4 @@
 -- Beyond the path there is no transition; else it stands so far behind where the path starts. Assumes nothing.
-use mathlib.Core.Path.{_≡_}
-use native.Mathlib.Omega.{arith}
 use Rattle.rules.specs.Largest.{noTransition}
 use Rattle.largest.proofs.LaidLaws.{step-beyond, step-low, step-here}
 use borrow.Author.Needs.{needs}
