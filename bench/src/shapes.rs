@@ -32,6 +32,15 @@ pub fn tree(tracks: usize, states: usize, transitions: usize) -> Records {
     led(plan)
 }
 
+/// Adds a root with so many states, the last of them final.
+fn add_root(plan: &mut Records, number: usize, states: usize) {
+    plan.tracks.push(track(NONE));
+    for place in 0..states {
+        let last = u16::from(place == states - 1);
+        plan.states.push(state(number as u16, last, 0));
+    }
+}
+
 /// Roots, each with as many states, the last of them final, and with as many
 /// transitions: on event 1 from each state to the next one and back to the
 /// first, then the same on event 2, and so on.
@@ -40,11 +49,7 @@ pub fn roots(tracks: usize, states: usize, transitions: usize) -> Records {
     let mut plan = Records::default();
     for number in 0..tracks {
         let first = number * own;
-        plan.tracks.push(track(NONE));
-        for place in 0..own {
-            let last = u16::from(place == own - 1);
-            plan.states.push(state(number as u16, last, 0));
-        }
+        add_root(&mut plan, number, own);
         let around = |place: usize| (first + place % (own - 1)) as u16;
         plan.transitions.extend((0..steps).map(|place| {
             let event = 1 + place / (own - 1);
@@ -62,11 +67,7 @@ pub fn rows(tracks: usize, states: usize, transitions: usize) -> Records {
     let mut plan = Records::default();
     for number in 0..tracks {
         let first = number * own;
-        plan.tracks.push(track(NONE));
-        for place in 0..own {
-            let last = u16::from(place == own - 1);
-            plan.states.push(state(number as u16, last, 0));
-        }
+        add_root(&mut plan, number, own);
         plan.transitions.extend((0..steps).map(|place| {
             let (event, source) = (1 + place / (own - 1), first + place % (own - 1));
             let code = 7 * (place % 2) as u16;

@@ -1,6 +1,6 @@
 // The calls for C and Rust, under include/retraction.h. Each is a call of `manager`, the plan reader, `largest` or a conversion of `calendar`, its
 // answer packed into one number.
-use largest::explore::NO_TRANSITION;
+use largest::NO_TRANSITION;
 use ledger::layout;
 use rules::BeginAnswer;
 use rules::Counts;

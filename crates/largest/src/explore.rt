@@ -1,5 +1,6 @@
 // The most entries from each state on, by a walk that goes down every transition once: a state is entered, each of its transitions is followed,
 // and then it is known what lies behind the best of them. A state that is come to while it is still entered is on a cycle.
+use crate::NO_TRANSITION;
 use plan::fields::code_of;
 use plan::fields::destination_of;
 use plan::fields::replacement_of;
@@ -19,9 +20,6 @@ ghost use Rattle.largest.specs.Table.{Exploring, Explored, Entering, Beh
 pub const UNKNOWN: u16 = 65535;
 
 const ENTERED: u16 = 65534;
-
-// Stands for no transition: a path ends there.
-pub const NO_TRANSITION: u16 = 65535;
 
 // The best transition so far of those that leave a state: how many entries lie behind it, and which it is. `ends` is false where one leads round.
 pub struct Best {

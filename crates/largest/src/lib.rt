@@ -1,8 +1,8 @@
 // How many entries a plan can ask for: for each track the largest number of entries along any path from its first state, with such a path. It is
 // given the plan alone, and takes any bytes.
-pub mod explore;
-pub mod outgoing;
-pub mod showing;
+mod explore;
+mod outgoing;
+mod showing;
 pub mod steps;
 
 use crate::explore::explore_all;
@@ -24,6 +24,9 @@ ghost use Rattle.plan.specs.Holds.{Holds};
 ghost use Rattle.ledger.specs.Ladder.{Accepts};
 ghost use Rattle.lookup.specs.Figures.{Figures};
 ghost use Rattle.largest.specs.Chosen.{shownPath};
+
+// Stands for no transition: a path ends there.
+pub const NO_TRANSITION: u16 = 65535;
 
 // The plan has a deviation or a cycle: no number bounds its entries.
 const UNBOUNDED: u8 = 29;
@@ -54,7 +57,7 @@ fn of_undeviating(plan: &[u8], c: Counts, firsts: &[u16; 32]) -> Largest
     let mut next: [u16; 256] = [0; 256];
     chain_transitions(plan, c, &mut head, &mut next);
     let mut most: [u16; 128] = [explore::UNKNOWN; 128];
-    let mut step: [u16; 128] = [explore::NO_TRANSITION; 128];
+    let mut step: [u16; 128] = [NO_TRANSITION; 128];
     if !explore_all(plan, c, &head, &next, &mut most, &mut step) {
         return refused(UNBOUNDED);
     }

@@ -1,5 +1,5 @@
 // What the call shows: of each track its figure, the length of its path, and the paths end to end.
-use crate::explore::NO_TRANSITION;
+use crate::NO_TRANSITION;
 use plan::fields::destination_of;
 use rules::Counts;
 use rules::Largest;

@@ -1,5 +1,5 @@
 // Reading the paths that are shown: they stand end to end.
-use crate::explore::NO_TRANSITION;
+use crate::NO_TRANSITION;
 use ledger::layout::wide;
 ghost use mathlib.Core.Path.{_≡_};
 ghost use mathlib.Core.List.{List};
