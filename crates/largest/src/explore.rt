@@ -28,7 +28,7 @@ pub struct Best {
     pub step: u16,
 }
 
-// The better of two, of equal ones the second. None is better than one behind which nothing lies.
+// The better of two, of equal ones the second. One behind which nothing lies is never taken.
 fn better(b: Best, x: usize, entries: u16) -> Best
     requires { ⌜ x < 256 ⌝ }
     ensures { λ r. ⌜ r ≡ betterOf b x entries ⌝ }
@@ -104,7 +104,8 @@ fn best_of(
     best
 }
 
-// Whether every path from a state ends: then what lies along it is known. `left` is more than the transitions that a path can still have.
+// Whether every path from a state ends: then what lies behind it is known. `left` falls along a path: one that uses it up has as many transitions as
+// there are states, and goes round.
 fn explore(
     plan: &[u8],
     c: Counts,

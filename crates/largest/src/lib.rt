@@ -64,7 +64,8 @@ fn of_undeviating(plan: &[u8], c: Counts, firsts: &[u16; 32]) -> Largest
     show_all(plan, c, firsts, &most, &step)
 }
 
-// The largest number of entries of each track, and a path that has as many, or the refusal 2 to 16, 25, 27 or 29.
+// The largest number of entries of each track, and a path that has as many, or the refusal 2 to 16, 25, 27 or 29. Which of several equal paths is
+// shown is free: `Shows` asks of any that it attains the figure. This one is `shownPath`, the same in every call.
 pub fn of_plan(plan: &[u8]) -> Largest
     ensures { λ r. ⌜ Shows (now (plan .entry)) (shownPath (now (plan .entry))) (largestTold (r .answer)) (r .figures) (r .lengths) (r .steps) ⌝ }
 {
