@@ -18,10 +18,11 @@ use Rattle.rules.specs.Event.{EventArguments}
 use Rattle.rules.specs.Call.{Answer, SignalArguments, FireArguments, Call, beginOutcome, callOutcome, eventOutcome, signalOutcome, fireOutcome, Meets}
 use Rattle.rules.specs.Call as paper
 use Rattle.rules.specs.Answers.{beginTold, eventTold, signalTold, fireTold}
+use Rattle.rules.specs.Transcript.{firingsIn}
 use Rattle.rules.specs.ReferenceRun.{wordsFrom, answersFrom}
 use Rattle.rules.specs.History as history
 use Rattle.rules.specs.History.{History, Property3}
-use Rattle.restoration.specs.Firings.{firingsIn, isEventDone, isWithout}
+use Rattle.restoration.specs.Firings.{isEventDone, isWithout}
 use Rattle.manager.proofs.begin as begin
 use Rattle.manager.proofs.begin.Kinds as begin-kinds
 use Rattle.manager.proofs.begin.Reads as begin-reads

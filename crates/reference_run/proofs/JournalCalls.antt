@@ -11,9 +11,8 @@ use Rattle.rules.specs.Plan.{Plan}
 use Rattle.rules.specs.Layout.{entryLimit}
 use Rattle.rules.specs.Call.{Answer, Outcome, Call, event, signal, fire, callOutcome}
 use Rattle.rules.specs.Journal.{Item, ended, broken, fireLowest, called, itemAt, fireLowestCall}
-use Rattle.rules.specs.Transcript.{callLine, firingsOf, ledgerOf, lastLine, callText, replay}
+use Rattle.rules.specs.Transcript.{callLine, firingsOf, firingsIn, ledgerOf, lastLine, callText, replay}
 use Rattle.rules.specs.ReferenceRun as clerk
-use Rattle.restoration.specs.Firings.{firingsIn}
 use Rattle.journal.specs.Records.{sizeOf}
 use Rattle.journal.proofs.Records.{stands}
 use Rattle.replay.specs.Left as left

@@ -21,9 +21,8 @@ use Rattle.rules.specs.Plan.{planOf}
 use Rattle.rules.specs.Acceptance.{accepted, readPlan}
 use Rattle.rules.specs.Layout.{entryLimit, wordCount}
 use Rattle.rules.specs.Call.{Answer, Outcome, Call, beginOutcome}
-use Rattle.rules.specs.Transcript.{planLine, ledgerOf, lastLine, mostBytes, transcript}
+use Rattle.rules.specs.Transcript.{planLine, ledgerOf, lastLine, mostBytes, transcript, firingsIn}
 use Rattle.rules.specs.ReferenceRun.{wordsAfter, answersAfter, ledgerAfter}
-use Rattle.restoration.specs.Firings.{firingsIn}
 use Rattle.journal.specs.Writing.{writtenAt}
 use Rattle.property3.proofs.Property3.{from-run}
 use Rattle.replay.specs.declared.RunAnswer.{RunAnswer}

@@ -8,10 +8,9 @@ use Rattle.rules.specs.declared.Counts.{Counts}
 use Rattle.rules.specs.Plan.{Plan, planOf}
 use Rattle.rules.specs.Layout.{entryLimit}
 use Rattle.rules.specs.Call.{Answer, Call, beginOutcome}
-use Rattle.rules.specs.Transcript.{planLine, tallyLine, heldTotal}
+use Rattle.rules.specs.Transcript.{planLine, tallyLine, heldTotal, firingsIn}
 use Rattle.rules.specs.ReferenceRun.{wordsAfter, answersAfter, ledgerAfter}
 use Rattle.rules.specs.History.{Property3}
-use Rattle.restoration.specs.Firings.{firingsIn}
 use Rattle.reference_run.specs.JournalCalls.{callLines, brokenLine, endsBroken, callsFrom}
 
 module _ (bs js : Bytes) (c : Counts) (lent : List ℕ) where

@@ -15,12 +15,12 @@ use Rattle.rules.specs.Layout.{entryLimit}
 use Rattle.rules.specs.Ledger.{Ledger}
 use Rattle.rules.specs.Call.{Answer, refusal, done, Call, event, signal, fire, refusedOr, ledgerRefusal, callRefusals, callRefusal, callOutcome}
 use Rattle.rules.specs.Leading.{lastDay}
-use Rattle.rules.specs.Transcript.{firingsOf}
-use Rattle.rules.specs.ReferenceRun.{answersFrom}
+use Rattle.rules.specs.Transcript.{firingsOf, firingsIn}
+use Rattle.rules.specs.ReferenceRun.{wordsFrom, answersFrom}
 use Rattle.rules.proofs.Acceptance.{Accepted, accepts}
 use Rattle.theory.specs.Seams as seam
 use Rattle.theory.specs.Runs.{firingsFrom, isEventless}
-use Rattle.restoration.specs.Firings.{firingsIn, isEventDone, isDeviation, isWithout}
+use Rattle.restoration.specs.Firings.{isEventDone, isDeviation, isWithout}
 use Rattle.theory.proofs.FiringsFall as theorem
 use Rattle.restoration.proofs.Document01.{document01, asRules, asTheory, there-and-back, laws01}
 use Rattle.rules.proofs.LedgerChecks.{none-passes, refused-first}
@@ -40,7 +40,7 @@ same-event (event a) fs = refl
 same-event (signal a) fs = refl
 same-event (fire a) fs = refl
 
-refused-firing : (c : Call) (r : ℕ) → firingsOf c (refusal r) ≡ 0
+pub refused-firing : (c : Call) (r : ℕ) → firingsOf c (refusal r) ≡ 0
 unfolding firingsOf
 refused-firing (event a) r = refl
 refused-firing (signal a) r = refl
@@ -97,13 +97,15 @@ module _ (limit : ℕ) (bs : List ℕ) (k : Counts) (read : readPlan bs ≡ acce
   same-eventless (c ∷ cs) ws d l h =
       ap₂ (λ x y. not x && y) (step ws d l h c .1) (same-eventless cs (callOutcome limit bs ws c .words) _ _ (next-holds limit bs k read ws d l h c))
 
-  -- words that do not pass the checks: every call is refused
-  refused-all : (cs : List Call) (ws : List ℕ) (r : ℕ) → ledgerRefusal limit bs p ws ≡ suc r → firingsIn cs (answers ws cs) ≡ 0
-  unfolding firingsIn answersFrom firingsOf refusedOr
-  refused-all [] ws r h = refl
+  -- words that do not pass the checks: every call is refused, so they stay
+  pub refused-all : (cs : List Call) (ws : List ℕ) (r : ℕ) → ledgerRefusal limit bs p ws ≡ suc r
+      → (wordsFrom limit bs ws cs ≡ ws) × (firingsIn cs (answers ws cs) ≡ 0)
+  unfolding wordsFrom answersFrom firingsIn refusedOr
+  refused-all [] ws r h = (refl, refl)
   refused-all (c ∷ cs) ws r h =
-      let i = refused-all cs ws r h in
-      rw (outcome limit bs k read ws c (suc r) (refused-first limit bs p ws r h (callRefusals limit p (lastDay ws) (theLedger limit bs k read ws) c))) (omega arith)
+      let (e, n) = refused-all cs ws r h in
+      rw (outcome limit bs k read ws c (suc r) (refused-first limit bs p ws r h (callRefusals limit p (lastDay ws) (theLedger limit bs k read ws) c)))
+      (e, omega (arith, n, refused-firing c (suc r)))
 
   -- in any list without an accepted event, from any words, at most `limit` firings for each track are accepted
   pub firings-bounded : (ws : List ℕ) (cs : List Call) → isWithout isEventDone cs (answersFrom limit bs ws cs) ≡ true
@@ -116,7 +118,7 @@ module _ (limit : ℕ) (bs : List ℕ) (k : Counts) (read : readPlan bs ≡ acce
           let h = passes-holds limit bs k read ws (none-passes limit bs p ws e) in
           rw (same-firings cs ws (lastDay ws) l h)
           (theorem.firings-bounded laws01 limit p ok (listed cs) (lastDay ws) l (h .kept) (sym (same-eventless cs ws (lastDay ws) l h) ∙ n))
-      go (suc r) e = let z = refused-all cs ws r e in omega arith
+      go (suc r) e = let z = refused-all cs ws r e .1 in omega arith
 
 -- "No firings beyond 32 times the number of tracks follow one another without an event or a deviation."
 pub no-firings-beyond : (bs : List ℕ) (k : Counts) → readPlan bs ≡ accepted k → (ws : List ℕ) (cs : List Call)

@@ -23,7 +23,7 @@ use Rattle.rules.specs.Finish.{isFinishing}
 use Rattle.rules.specs.Signal.{turned, abandoned, afterSignal}
 use Rattle.rules.specs.Fire.{newest, mayFire, deviatesTo, fired, afterFire}
 use Rattle.rules.specs.Call.{Answer, refusal, done, SignalArguments, FireArguments, Call, signal, fire, after, callRefusal, next, nextDay, callOutcome, beginOutcome}
-use Rattle.rules.specs.Transcript.{heldTotal, firingsOf}
+use Rattle.rules.specs.Transcript.{heldTotal, firingsOf, firingsIn}
 use Rattle.rules.specs.Books.{Books}
 use Rattle.rules.specs.ReferenceRun.{wordsFrom, wordsAfter, answersFrom, booksAfter, ledgerAfter, AllWithdrawn}
 use Rattle.rules.proofs.Tests.{look, look-option, clash, refuted, strong}
@@ -43,7 +43,6 @@ use Rattle.theory.proofs.SoundBegin.{root-zero}
 use Rattle.theory.proofs.SoundKept.{sound-not-over, kept-sound}
 use Rattle.theory.proofs.Progress.{some-firing}
 use Rattle.theory.proofs.FiringsFall.{call-fewer, most-held}
-use Rattle.restoration.specs.Firings.{firingsIn}
 use Rattle.restoration.specs.Continuation.{MayWithdraw, withdrawing}
 use Rattle.restoration.proofs.Document01.{next-accepted, laws01}
 use Rattle.restoration.proofs.Theorems01.{Sound, signal-sound, signal-forward, signal-unended, fire-sound}

@@ -2,7 +2,7 @@
 -- nothing. So all that is dropped is held by ended roots. A signal finishes only where a root that it leaves has ended before and every root that
 -- it turns holds nothing; no event that closes a scope finishes, and no firing that deviates: each leaves a root that neither has ended nor is bare.
 -- Assumes nothing.
-use mathlib.Core.Path.{_≡_, sym, ap, _∙_, subst, fun-ext}
+use mathlib.Core.Path.{_≡_, sym, ap, _∙_, subst}
 use mathlib.Core.Logic.{inl, inr}
 use mathlib.Core.Bool.{Bool, true, false, not, and-false, _&&_}
 use mathlib.Core.Option.{none, some}
@@ -17,7 +17,7 @@ use Rattle.rules.specs.Ledger.{Configuration, Ledger, isAwake, isForward, isUnd
 use Rattle.rules.specs.Scope.{hasOpenScope, isEnded, isBare}
 use Rattle.rules.specs.Finish.{isFinishing}
 use Rattle.rules.specs.Event.{EventArguments, moved, isClosing, isClosed, closed}
-use Rattle.rules.specs.Signal.{turnedTrack, turned, abandoned}
+use Rattle.rules.specs.Signal.{turned, abandoned}
 use Rattle.rules.specs.Call.{SignalArguments}
 use Rattle.rules.specs.Fire.{newest, mayFire, removed, deviatesTo, fired}
 use Rattle.rules.proofs.Tests.{look, look-option, clash, refuted, and-holds, and-both, or-holds, strong}
@@ -37,7 +37,7 @@ use Rattle.theory.proofs.FiringNested.{fired-is, deviates-here}
 use Rattle.theory.proofs.ClosingNested.{closing-open, final-free}
 use Rattle.theory.proofs.SoundRetraction.{fired-root}
 use Rattle.restoration.proofs.Document01.{laws01}
-use Rattle.restoration.proofs.Theorems01.{Sound, moved-nested, closed-nested, turned-held, signal-forward}
+use Rattle.restoration.proofs.Theorems01.{Sound, moved-nested, closed-nested, turned-held, turned-same, signal-forward}
 
 module _ (p : Plan) (ok : Accepted p) (m : Ledger) (n : Nested p m) (f : isFinishing p m ≡ true) where
   done : Done p m
@@ -132,14 +132,7 @@ module _ (limit : ℕ) (p : Plan) (ok : Accepted p) (l : Ledger) (s : Sound limi
     -- where no forward root is the society's to turn, nothing is turned: a hosted track has the mode of its host's track
     none-turned : ((t : ℕ) → t < trackCount p → host p t ≡ none → isPermitted p signalRight (a .society) t ≡ true → isForward (l t .mode) ≡ false)
         → turned p (a .society) l ≡ l
-    unfolding turned turnedTrack
-    none-turned n =
-        fun-ext
-        (λ t.
-        elim (look (isPermitted p signalRight (a .society) t)) [
-          | inr y ↦ rw y
-          | inl y ↦ rw (y, unforward t y)
-        ])
+    none-turned n = turned-same p ok a l unforward
       where
         unforward : (t : ℕ) → isPermitted p signalRight (a .society) t ≡ true → isForward (l t .mode) ≡ false
         unforward =

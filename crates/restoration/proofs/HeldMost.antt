@@ -25,7 +25,7 @@ use Rattle.rules.proofs.Tests.{look}
 use Rattle.rules.proofs.Acceptance.{accepts}
 use Rattle.rules.proofs.Figures.{no-more, bounded-read}
 use Rattle.theory.proofs.SoundParts.{sleeping-held}
-use Rattle.restoration.proofs.Theorems01.{Kept}
+use Rattle.restoration.proofs.Theorems01.{Kept, asleep-nothing}
 use Rattle.restoration.proofs.SoundWords.{Holds, begin-holds, call-holds}
 use Rattle.restoration.proofs.Ways.{Ways}
 use Rattle.restoration.proofs.WaysKept.{ways-begun, ways-next}
@@ -35,11 +35,6 @@ pub record Along (p : Plan) (l : Ledger) (t : ℕ) : Type 0 where
   pub path : List ℕ
   pub leads : isPath p (firstState p t) path ≡ true
   pub enough : length (l t .held) ≤ entriesAlong p (firstState p t) path
-
--- what sleeps holds nothing
-asleep-nothing : (limit : ℕ) (p : Plan) (l : Ledger) → Kept limit p l → (t : ℕ) → isAwake (l t .mode) ≡ false → l t .held ≡ []
-asleep-nothing limit p l (inl o) t a = ap (λ c. c .held) (o t) ∙ sleeping-held
-asleep-nothing limit p l (inr s) t a = ap (λ c. c .held) (s .formed .nested .blank t a) ∙ sleeping-held
 
 ways-along : (limit : ℕ) (p : Plan) (l : Ledger) → Kept limit p l → Ways p l → (t : ℕ) → Along p l t
 unfolding isPath

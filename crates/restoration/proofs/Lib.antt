@@ -13,10 +13,13 @@ pub mod Days
 pub mod Rights
 pub mod Bound
 pub mod LiteralRuns
--- The most that a track holds.
+-- What is held: the most, and the firings still due.
+pub mod Plain
 pub mod Ways
 pub mod WaysKept
 pub mod HeldMost
+pub mod Withdrawing
+pub mod FiringsDue
 -- Books for the sample plan; what would be false.
 pub mod SampleTracks
 pub mod SampleBooks

@@ -1,7 +1,7 @@
 -- The theory's theorems for document 01, about the rules' own functions: what is taken, recorded, closed, turned and kept there. Each is the
 -- theorem of that name at the instance. Assumes nothing.
 use mathlib.Core.Path.{_≡_, refl, sym, ap, _∙_, subst, fun-ext}
-use mathlib.Core.Logic.{_⊎_}
+use mathlib.Core.Logic.{_⊎_, inl, inr}
 use mathlib.Core.Bool.{true, false, _&&_}
 use mathlib.Core.List.{List, [], _∷_, _++_}
 use mathlib.Core.Option.{Option, none, some}
@@ -15,12 +15,12 @@ use Rattle.rules.specs.Scope.{hasOpenScope, isOver}
 use Rattle.rules.specs.Opening.{enter}
 use Rattle.rules.specs.Event.{EventArguments, install, installed, destinationOf, installedBy, move, moved, isClosing, isClosed, closed}
 use Rattle.rules.specs.Finish.{isFinishing}
-use Rattle.rules.specs.Signal.{turned, isAbandoning, abandoned}
+use Rattle.rules.specs.Signal.{turnedTrack, turned, isAbandoning, abandoned}
 use Rattle.rules.specs.Fire.{mayFire, fired}
 use Rattle.rules.specs.Call.{SignalArguments, Call, event, signal, fire, callRefusal, next}
 use Rattle.rules.specs.Books.{act}
 use Rattle.rules.specs.FinishedRun.{Reached, start, then, Running, by-begin, by-call, over-event, over-signal, over-fire, Finished}
-use Rattle.rules.proofs.Tests.{clash, refuted}
+use Rattle.rules.proofs.Tests.{look, clash, refuted}
 use Rattle.rules.proofs.Modes.{forward-awake}
 use Rattle.rules.proofs.Acceptance.{Accepted}
 use Rattle.rules.proofs.Closing.{closed-done}
@@ -46,7 +46,7 @@ use Rattle.theory.proofs.Effects as effects
 use Rattle.theory.proofs.Effects.{Effect}
 use Rattle.restoration.proofs.Runs01.{same-act, from-reached, from-finished}
 use Rattle.restoration.proofs.Document01.{document01, asTheory, there-and-back, same-by, turned-is, laws01, unfinished01}
-pub use Rattle.theory.proofs.SoundParts.{Over, sleeping-asleep}
+pub use Rattle.theory.proofs.SoundParts.{Over, sleeping-asleep, sleeping-held}
 pub use Rattle.theory.proofs.MovingNested.{to-none, to-destination, to-some, has-code}
 pub use Rattle.theory.proofs.SoundKept.{over-is}
 pub use Rattle.restoration.proofs.Document01.{move-takes, move-for, move-day, move-permitted, next-accepted, next-refused, day-accepted, day-refused, event-accepted, event-day, signal-accepted, fire-accepted}
@@ -57,6 +57,11 @@ Sound = theory.Sound document01
 
 abbrev pub Kept : ℕ → Plan → Ledger → Type 0
 Kept = kept.Kept document01
+
+-- what sleeps holds nothing
+pub asleep-nothing : (limit : ℕ) (p : Plan) (l : Ledger) → Kept limit p l → (t : ℕ) → isAwake (l t .mode) ≡ false → l t .held ≡ []
+asleep-nothing limit p l (inl o) t a = ap (λ c. c .held) (o t) ∙ sleeping-held
+asleep-nothing limit p l (inr s) t a = ap (λ c. c .held) (s .formed .nested .blank t a) ∙ sleeping-held
 
 -- Changes one after the other.
 pub act-append : {B : Type 0} (f : ℕ → B → B) (w v : List ℕ) (b : B) → act f (w ++ v) b ≡ act f v (act f w b)
@@ -162,6 +167,12 @@ module _ (p : Plan) (ok : Accepted p) (a : SignalArguments) (l : Ledger) where
   pub turned-kept : (t : ℕ) → isPermitted p signalRight (a .society) t ≡ false → turned p (a .society) l t ≡ l t
   unfolding turned
   turned-kept t h = rw h
+
+  -- and where it may turn no forward track, all do
+  pub turned-same : ((t : ℕ) → isPermitted p signalRight (a .society) t ≡ true → isForward (l t .mode) ≡ false) → turned p (a .society) l ≡ l
+  unfolding turned turnedTrack
+  turned-same n =
+      fun-ext (λ t. elim (look (isPermitted p signalRight (a .society) t)) [ inr y ↦ rw y | inl y ↦ rw (y, n t y) ])
 
   -- so what is forward after a signal is not the society's to turn, and is as it was
   pub signal-forward : (t : ℕ) → isForward (abandoned p T t .mode) ≡ true → (isPermitted p signalRight (a .society) t ≡ false) × (abandoned p T t ≡ l t)

@@ -16,30 +16,12 @@ use Rattle.rules.specs.Scope.{isOpen}
 use Rattle.rules.specs.Opening.{fresh}
 use Rattle.rules.specs.Event.{install}
 use Rattle.rules.specs.Fire.{newest, older}
+use Rattle.rules.specs.FiringsDue.{isPlain}
 use Rattle.rules.specs.Largest.{ofTransition, ofState, leaves, isPath, endOf, entriesAlong}
 use Rattle.rules.proofs.Tests.{look, and-holds, and-both}
 use Rattle.rules.proofs.Paths.{path-longer, end-longer, entries-longer}
 use Rattle.theory.proofs.Nesting.{Awake}
-
--- no entry held has a deviation
-unfoldable pub isPlain : List Entry → Bool
-isPlain [] = true
-isPlain (e ∷ es) = eqb (e .deviation) noState && isPlain es
-
-plain-install : (code deviation : ℕ) (es : List Entry) → deviation ≡ noState → isPlain es ≡ true → isPlain (install code deviation es) ≡ true
-unfolding isPlain install
-plain-install code deviation es d h =
-    elim (look (eqb code 0)) [ inl e ↦ rw e h | inr e ↦ rw e (and-both (eqb deviation noState) (isPlain es) (eq-eqb deviation noState d) h) ]
-
-pub plain-older : (es : List Entry) → isPlain es ≡ true → isPlain (older es) ≡ true
-unfolding isPlain older
-plain-older [] h = h
-plain-older (e ∷ es) h = and-holds (eqb (e .deviation) noState) (isPlain es) h .1
-
-pub plain-newest : (es : List Entry) → isPlain es ≡ true → newest es .deviation ≡ noState
-unfolding isPlain newest
-plain-newest [] h = refl
-plain-newest (e ∷ es) h = eqb-true (e .deviation) noState (and-holds (eqb (e .deviation) noState) (isPlain es) h .0)
+use Rattle.restoration.proofs.Plain.{plain-none, plain-install}
 
 -- a code other than 0 is one entry more
 length-install : (code deviation : ℕ) (es : List Entry) → length (install code deviation es) ≡ length es + cond (eqb code 0) 0 1
@@ -70,8 +52,8 @@ module _ (p : Plan) where
     pub plain : isPlain (c .held) ≡ true
 
   pub way-fresh : (t : ℕ) (o : Bool) → Way t o (fresh p t)
-  unfolding fresh isPath endOf entriesAlong isPlain
-  way-fresh t o = record { path = []; leads = refl; to = refl; room = omega (arith, due-most o (firstState p t)); plain = refl }
+  unfolding fresh isPath endOf entriesAlong
+  way-fresh t o = record { path = []; leads = refl; to = refl; room = omega (arith, due-most o (firstState p t)); plain = plain-none }
 
   -- no scope opens
   pub way-shut : (t : ℕ) (o q : Bool) (c : Configuration) → (q ≡ true → o ≡ true) → Way t o c → Way t q c

@@ -17,28 +17,30 @@ use Rattle.rules.specs.Scope.{isOpen, isOver}
 use Rattle.rules.specs.Opening.{wakes, begun}
 use Rattle.rules.specs.Event.{EventArguments, move, moved, isClosing, closesScope, closed}
 use Rattle.rules.specs.Signal.{turned, abandoned}
-use Rattle.rules.specs.Fire.{newest, mayFire, removed, deviatesTo, fired}
+use Rattle.rules.specs.Fire.{mayFire, removed, fired}
 use Rattle.rules.specs.Call.{SignalArguments, Call, event, signal, fire, callRefusal, next}
+use Rattle.rules.specs.FiringsDue.{isPlain}
 use Rattle.rules.specs.Largest.{leaves, hasDeviation}
 use Rattle.rules.proofs.Tests.{look, look-option, clash, none-some, refuted, and-both}
 use Rattle.rules.proofs.Folds.{some-at, some-not}
 use Rattle.rules.proofs.Acceptance.{Accepted}
 use Rattle.rules.proofs.Scopes.{host-in, open-at, open-find}
-use Rattle.rules.proofs.Opening.{enter-to, enter-none}
+use Rattle.rules.proofs.Opening.{enter-to}
 use Rattle.rules.proofs.Closing.{closed-host, closed-replaced, closed-kept}
 use Rattle.rules.proofs.Abandoning.{awake-kept, undoing-awake}
 use Rattle.rules.proofs.Ready.{may-fire}
 use Rattle.theory.proofs.Nesting.{Awake, Nested, state-of}
 use Rattle.theory.proofs.EnteringNested.{Fate, enters, wakens, stays, fate, woken-host, woken-asleep}
 use Rattle.theory.proofs.Entries.{older-length}
-use Rattle.theory.proofs.FiringNested.{fired-is, removed-state, removed-awake, removed-here, removed-other, deviates-not}
+use Rattle.theory.proofs.FiringNested.{removed-state, removed-awake, removed-here, removed-other}
 use Rattle.theory.proofs.MovingNested as moving
 use Rattle.theory.proofs.ClosingNested.{closing-open, closes-known}
 use Rattle.theory.proofs.SoundBegin.{begun-fresh}
 use Rattle.theory.proofs.SoundKept.{kept-sound}
 use Rattle.restoration.proofs.Document01.{laws01, move-takes}
 use Rattle.restoration.proofs.Theorems01.{Sound, Kept, sleeping-asleep, to-none, to-destination, to-some, by-some, installed-held, installed-state, recorded, goes, moved-is, recorded-awake, mover-awake, recorded-nested, goes-free, moved-still, closed-awake, turned-awake, turned-state, turned-held, fire-accepted, work, next-cases, next-refused, over-refused}
-use Rattle.restoration.proofs.Ways.{isPlain, plain-older, plain-newest, Way, way-fresh, way-shut, way-fewer, way-longer, way-replaced, Ways}
+use Rattle.restoration.proofs.Plain.{plain-removed, fired-plain}
+use Rattle.restoration.proofs.Ways.{Way, way-fresh, way-shut, way-fewer, way-longer, way-replaced, Ways}
 
 -- a plan without deviations
 pub no-deviation : (p : Plan) → hasDeviation p ≡ false → (x : ℕ) → x < transitionCount p → transition p x .deviation ≡ noState
@@ -81,17 +83,11 @@ module _ (p : Plan) (ok : Accepted p) (l : Ledger) where
         plain = λ i. rw h i;
       })
 
-  -- a firing: without a deviation it removes an entry, and no more
-  fired-plain : (t : ℕ) → newest (l t .held) .deviation ≡ noState → fired p l t ≡ removed l t
-  unfolding optional
-  fired-plain t d =
-      fired-is p l t
-      ∙ enter-none p ok (deviatesTo l t) (removed l t) (deviates-not p l t (rw (eq-eqb (newest (l t .held) .deviation) noState d)))
-
+  -- a firing
   pub ways-fired : (t : ℕ) → mayFire p l t ≡ true → Ways p l → Ways p (abandoned p (fired p l t))
   ways-fired t may w =
       let up = undoing-awake (l t .mode) (may-fire p l t may .1) in
-      let is = fired-plain t (plain-newest (l t .held) (w t up .plain)) in
+      let is = fired-plain p l t ok (w t up .plain) in
       ways-fewer p l (abandoned p (fired p l t))
       (λ u a.
       let q = awake-kept p ok (fired p l t) u a .1 ∙ ap (λ (m : Ledger). m u) is in
@@ -99,7 +95,7 @@ module _ (p : Plan) (ok : Accepted p) (l : Ledger) where
         awake = sym (removed-awake p l t u) ∙ ap (λ (c : Configuration). isAwake (c .mode)) (sym q) ∙ a;
         state = ap (λ (c : Configuration). c .state) q ∙ removed-state p l t u;
         held = rw q (removed-fewer u);
-        plain = λ i. rw q (removed-plain u i);
+        plain = λ i. rw q (plain-removed p l t u i);
       })
       w
     where
@@ -108,13 +104,6 @@ module _ (p : Plan) (ok : Accepted p) (l : Ledger) where
           elim (look (eqb u t)) [
             | inl e ↦ rw (removed-here p l t u e) (older-length (l u .held))
             | inr e ↦ rw (removed-other p l t u e) (omega arith)
-          ]
-
-      removed-plain : (u : ℕ) → isPlain (l u .held) ≡ true → isPlain (removed l t u .held) ≡ true
-      removed-plain u i =
-          elim (look (eqb u t)) [
-            | inl e ↦ rw (removed-here p l t u e) (plain-older (l u .held) i)
-            | inr e ↦ rw (removed-other p l t u e) i
           ]
 
 -- The moves of an event.

@@ -1,19 +1,11 @@
--- "No firings beyond 32 times the number of tracks follow one another without an event or a deviation.": the firings along a list of calls
--- and its answers, and the lists without an event or a deviation. Assumes nothing.
+-- "No firings beyond 32 times the number of tracks follow one another without an event or a deviation.": lists of calls, with their answers,
+-- without an event or a deviation. Assumes nothing.
 use mathlib.Core.Bool.{Bool, true, false, not, _&&_}
 use mathlib.Core.List.{List, [], _∷_}
-use Prim.Native.Nat.{ℕ, _+_}
 use lib.ListN.{getD}
 use lib.Dec.{eqb}
 use Rattle.rules.specs.Plan.{noState}
 use Rattle.rules.specs.Call.{Answer, refusal, done, Call, event, signal, fire}
-use Rattle.rules.specs.Transcript.{firingsOf}
-
--- how many firings were done
-unfoldable pub firingsIn : List Call → List Answer → ℕ
-firingsIn [] rs = 0
-firingsIn (c ∷ cs) [] = 0
-firingsIn (c ∷ cs) (r ∷ rs) = firingsOf c r + firingsIn cs rs
 
 -- "without an event": one that was accepted
 unfoldable pub isEventDone : Call → Answer → Bool

@@ -1,4 +1,4 @@
--- What the theorems of this crate say beside the rules: the count of firings, a way on to a withdrawn ledger, books for the sample plan, and
+-- What the theorems of this crate say beside the rules: firings in a row, a way on to a withdrawn ledger, books for the sample plan, and
 -- weaker conditions.
 pub mod Firings
 pub mod Continuation

@@ -1,7 +1,7 @@
 -- Laws of tests, counts and searches below n: each by induction on n. The laws at `n + 1` are for loops that count up.
 -- Assumes nothing.
-use mathlib.Core.Path.{_≡_, refl, sym, ap, _∙_}
-use mathlib.Core.Logic.{_⊎_, ⊎-elim}
+use mathlib.Core.Path.{_≡_, refl, sym, ap, _∙_, subst}
+use mathlib.Core.Logic.{_⊎_, inl, inr, ⊎-elim}
 use mathlib.Core.Bool.{Bool, true, false, cond, _&&_, _||_}
 use mathlib.Core.Option.{Option, none, some}
 use Prim.Native.Nat.{ℕ, zero, suc, _+_, _<_, _≤_, max, min}
@@ -9,6 +9,8 @@ use native.Mathlib.Nat.{add-zero, zero-add, add-suc, suc-add, le-of-suc-le-suc, 
 use native.Mathlib.Numerals.{add-one}
 use native.Mathlib.Omega.{arith}
 use lib.ListN.{length, getD}
+use lib.Dec.{eqb}
+use borrow.Author.Tests.{eqb-true, eqb-false, ne-eqb}
 use Rattle.rules.specs.Fold.{someBelow, everyBelow, countBelow, sumBelow, greatestBelow, firstBelow, tabulateFrom, tabulate}
 use Rattle.rules.proofs.Tests.{look, clash, and-holds, or-holds, or-right}
 
@@ -93,6 +95,37 @@ sum-same (suc n) f g h = rw (sum-same n f g (λ k lt. h k (omega arith)), h n (o
 pub sum-more : (n : ℕ) (f : ℕ → ℕ) → sumBelow (n + 1) f ≡ sumBelow n f + f n
 unfolding sumBelow
 sum-more n f = rw add-one
+
+-- a sum is 0 exactly where each of its numbers is
+pub sum-none : (n : ℕ) (f : ℕ → ℕ) → ((k : ℕ) → k < n → f k ≡ 0) → sumBelow n f ≡ 0
+unfolding sumBelow
+sum-none zero f h = refl
+sum-none (suc n) f h = omega (arith, sum-none n f (λ k lt. h k (omega arith)), h n (omega arith))
+
+pub sum-at : (n : ℕ) (f : ℕ → ℕ) (k : ℕ) → k < n → f k ≤ sumBelow n f
+unfolding sumBelow
+sum-at zero f k b = absurd (omega arith)
+sum-at (suc n) f k b =
+    elim (look (eqb k n)) [
+      | inl e ↦ let q : f k ≡ f n = ap f (eqb-true k n e) in omega arith
+      | inr e ↦ let d : k ≡ n → ⊥ = eqb-false k n e in omega (arith, sum-at n f k (omega arith))
+    ]
+
+-- one of its numbers lower by 1
+pub sum-one : (n : ℕ) (f g : ℕ → ℕ) (k : ℕ) → k < n → suc (f k) ≡ g k → ((i : ℕ) → eqb i k ≡ false → f i ≡ g i) → suc (sumBelow n f) ≡ sumBelow n g
+unfolding sumBelow
+sum-one zero f g k b e h = absurd (omega arith)
+sum-one (suc n) f g k b e h =
+    elim (look (eqb n k)) [
+      | inl q ↦
+          let same : n ≡ k = eqb-true n k q in
+          let low : sumBelow n f ≡ sumBelow n g = sum-same n f g (λ i c. h i (ne-eqb i k (λ x. omega (arith, c, same)))) in
+          let here : suc (f n) ≡ g n = subst (λ i. suc (f i) ≡ g i) (sym same) e in
+          omega (arith, low, here)
+      | inr q ↦
+          let d : n ≡ k → ⊥ = eqb-false n k q in
+          omega (arith, sum-one n f g k (omega arith) e h, h n q)
+    ]
 
 -- The greatest value below n.
 pub greatest-same : (n : ℕ) (f g : ℕ → ℕ) → ((k : ℕ) → k < n → f k ≡ g k) → greatestBelow n f ≡ greatestBelow n g

@@ -1,9 +1,10 @@
--- Who may be fired, in facts; so an over ledger allows no firing. Assumes nothing.
+-- Who may be fired, in facts; ready is 0 exactly where nobody may, as on an over ledger. Assumes nothing.
 use mathlib.Core.Path.{_≡_, refl, _∙_}
 use mathlib.Core.Bool.{Bool, true, false, cond, not, _&&_}
 use Prim.Native.Nat.{ℕ, zero, suc, _<_, _^_}
 use native.Mathlib.Omega.{arith}
 use lib.Dec.{ltb}
+use lib.Pow.{pow-pos}
 use borrow.Author.Tests.{not-true, ltb-true, lt-ltb}
 use Rattle.rules.specs.Fold.{sumBelow}
 use Rattle.rules.specs.Plan.{Plan, trackCount}
@@ -11,13 +12,8 @@ use Rattle.rules.specs.Ledger.{Ledger, isAwake, isUndoing, isEmpty}
 use Rattle.rules.specs.Scope.{hasOpenScope, isOver}
 use Rattle.rules.specs.Fire.{mayFire, ready}
 use Rattle.rules.proofs.Tests.{clash, refuted, and-holds}
-use Rattle.rules.proofs.Folds.{every-at, sum-same}
+use Rattle.rules.proofs.Folds.{every-at, sum-none, sum-at}
 use Rattle.rules.proofs.Abandoning.{undoing-awake}
-
-sum-none : (n : ℕ) → sumBelow n (λ t. 0) ≡ 0
-unfolding sumBelow
-sum-none zero = refl
-sum-none (suc n) = let i = sum-none n in omega arith
 
 module _ (p : Plan) (l : Ledger) where
   -- what a track that may be fired is
@@ -46,10 +42,19 @@ module _ (p : Plan) (l : Ledger) where
       refuted (isOver p l)
       (λ o. clash (undoing-awake (l t .mode) u) (not-true (isAwake (l t .mode)) (every-at (trackCount p) (λ t. not (isAwake (l t .mode))) o t b)))
 
+  -- ready is 0 exactly where no track may be fired
+  pub none-ready : ((t : ℕ) → t < trackCount p → mayFire p l t ≡ false) → ready p l ≡ 0
+  unfolding ready
+  none-ready n = sum-none (trackCount p) (λ t. cond (mayFire p l t) (2 ^ t) 0) (λ t b. rw (n t b))
+
+  pub ready-none : ready p l ≡ 0 → (t : ℕ) → mayFire p l t ≡ false
+  unfolding ready
+  ready-none z t =
+      refuted (mayFire p l t)
+      (λ m.
+      let bit : cond (mayFire p l t) (2 ^ t) 0 ≡ 2 ^ t = rw m in
+      let le = sum-at (trackCount p) (λ t. cond (mayFire p l t) (2 ^ t) 0) t (may-fire t m .0) in omega (arith, bit, le, z, pow-pos t))
+
   -- "an over ledger gives 0"
   pub over-ready : isOver p l ≡ true → ready p l ≡ 0
-  unfolding ready
-  over-ready o =
-      sum-same (trackCount p) (λ t. cond (mayFire p l t) (2 ^ t) 0) (λ t. 0)
-      (λ t b. rw (refuted (mayFire p l t) (λ h. clash o (fireable-not-over t h))))
-      ∙ sum-none (trackCount p)
+  over-ready o = none-ready (λ t b. refuted (mayFire p l t) (λ h. clash o (fireable-not-over t h)))

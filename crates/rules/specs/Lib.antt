@@ -1,4 +1,4 @@
--- Document 01, as the requests amend it, as definitions in its order: the plan file, the ledger, what each call does, refusals, the program, property 3, isolation, the largest number of entries.
+-- Document 01, as the requests amend it, as definitions in its order: the plan file, the ledger, what each call does, refusals, the program, property 3, isolation, the largest number of entries, the firings still due.
 pub mod Names
 pub mod Fold
 pub mod Signed
@@ -30,3 +30,4 @@ pub mod ReferenceRun
 pub mod History
 pub mod Isolation
 pub mod Largest
+pub mod FiringsDue

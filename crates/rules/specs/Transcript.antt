@@ -50,6 +50,12 @@ firingsOf (event a) (done figures) = 0
 firingsOf (signal a) (done figures) = 0
 firingsOf (fire a) (done figures) = 1
 
+-- and how many a list of calls
+unfoldable pub firingsIn : List Call → List Answer → ℕ
+firingsIn [] rs = 0
+firingsIn (c ∷ cs) [] = 0
+firingsIn (c ∷ cs) (r ∷ rs) = firingsOf c r + firingsIn cs rs
+
 -- the entries that all tracks hold
 unfoldable pub heldTotal : Plan → Ledger → ℕ
 heldTotal p l = sumBelow (trackCount p) (λ t. length (l t .held))

@@ -1,30 +1,30 @@
--- The bound on firings, on ledgers: an accepted firing removes an entry, a signal adds none, and a ledger holds at most `limit` entries for
--- each track; so without an accepted event no more firings are accepted than entries were held. Assumes nothing.
-use mathlib.Core.Path.{_≡_, refl, ap, subst}
+-- The bound on firings, on ledgers: an accepted firing removes an entry, a signal leaves them all but where it finishes, and a ledger holds at most
+-- `limit` entries for each track; so without an accepted event no more firings are accepted than entries were held. Assumes nothing.
+use mathlib.Core.Path.{_≡_, refl, sym, ap, _∙_}
 use mathlib.Core.Logic.{inl, inr}
 use mathlib.Core.Bool.{true, false, not, _&&_}
 use mathlib.Core.List.{List, [], _∷_}
 use Prim.Native.Nat.{ℕ, zero, suc, _+_, _*_, _<_, _≤_}
 use native.Mathlib.Omega.{arith}
-use native.Mathlib.Nat.{not-suc-le-zero}
 use lib.ListN.{length}
 use lib.Dec.{eqb}
 use borrow.Author.Tests.{eqb-true, eqb-false, eq-eqb, not-true}
 use Rattle.rules.specs.Fold.{sumBelow}
-use Rattle.rules.specs.Plan.{Plan, trackCount}
-use Rattle.rules.specs.Ledger.{Ledger}
+use Rattle.rules.specs.Plan.{Plan, trackCount, host}
+use Rattle.rules.specs.Ledger.{Entry, Configuration, Ledger, isEmpty}
 use Rattle.rules.specs.Opening.{enter}
 use Rattle.rules.specs.Signal.{isAbandoned, abandoned}
-use Rattle.rules.specs.Fire.{mayFire, older, removed, deviatesTo, fired}
+use Rattle.rules.specs.Fire.{mayFire, removed, deviatesTo, fired}
 use Rattle.rules.specs.Transcript.{heldTotal}
-use Rattle.rules.proofs.Tests.{look, clash, and-holds}
+use Rattle.rules.proofs.Tests.{look, look-option, clash, and-holds}
+use Rattle.rules.proofs.Folds.{sum-same, sum-one}
 use Rattle.rules.proofs.Acceptance.{Accepted}
-use Rattle.rules.proofs.Abandoning.{left-asleep, left-kept}
+use Rattle.rules.proofs.Abandoning.{spent-parts, abandoned-root, left-asleep, left-kept, abandoned-spent}
 use Rattle.rules.proofs.Ready.{may-fire}
 use Rattle.theory.specs.Seams.{Seams, Call, event, signal, fire, isEvent, firingsOf, turned, work}
 use Rattle.theory.specs.Runs.{firingsFrom, isEventless}
 use Rattle.theory.proofs.EnteringNested.{Fate, enters, wakens, stays, fate, fresh-held}
-use Rattle.theory.proofs.Entries.{older-length, older-less}
+use Rattle.theory.proofs.Entries.{older-less, empty-nil}
 use Rattle.theory.proofs.FiringNested.{fired-is, removed-here, removed-other}
 use Rattle.theory.proofs.SoundParts.{sleeping-held}
 use Rattle.theory.proofs.Laws.{Laws}
@@ -38,19 +38,6 @@ unfolding sumBelow
 sum-mono zero f g h = omega arith
 sum-mono (suc n) f g h = let i = sum-mono n f g h in let k = h n in omega arith
 
-sum-drop : (n : ℕ) (f g : ℕ → ℕ) (t : ℕ) → t < n → ((u : ℕ) → f u ≤ g u) → f t < g t → sumBelow n f < sumBelow n g
-unfolding sumBelow
-sum-drop zero f g t l h k = absurd (not-suc-le-zero l)
-sum-drop (suc n) f g t l h k =
-    elim (look (eqb t n)) [
-      | inl e ↦
-          let i = sum-mono n f g h in
-          let j : f n < g n = subst (λ z. f z < g z) (eqb-true t n e) k in omega arith
-      | inr e ↦
-          let d : t ≡ n → ⊥ = eqb-false t n e in
-          let i = sum-drop n f g t (omega arith) h k in let j = h n in omega arith
-    ]
-
 sum-most : (n m : ℕ) (f : ℕ → ℕ) → ((t : ℕ) → f t ≤ m) → sumBelow n f ≤ m * n
 unfolding sumBelow
 sum-most zero m f h = omega arith
@@ -58,19 +45,32 @@ sum-most (suc n) m f h = let i = sum-most n m f h in let j = h n in omega arith
 
 -- What each part of a signal and of a firing does to the entries held.
 module _ (p : Plan) (ok : Accepted p) (l : Ledger) where
-  abandoned-fewer : (t : ℕ) → length (abandoned p l t .held) ≤ length (l t .held)
-  abandoned-fewer t =
+  -- what abandoning sends to sleep holds nothing
+  pub abandoned-held : (t : ℕ) → abandoned p l t .held ≡ l t .held
+  abandoned-held t =
       elim (look (isAbandoned p l t)) [
-        | inl c ↦ rw (left-asleep p ok l t c, sleeping-held) (omega arith)
-        | inr c ↦ rw (left-kept p ok l t c) (omega arith)
+        | inr c ↦ ap (λ (k : Configuration). k .held) (left-kept p ok l t c)
+        | inl c ↦
+            ap (λ (k : Configuration). k .held) (left-asleep p ok l t c) ∙ sleeping-held
+            ∙ sym (empty-nil (l t .held) (spent-parts p ok l t (hosted-low t c) (abandoned-spent p ok l t c) .empty))
       ]
+    where
+      hosted-low : (t : ℕ) → isAbandoned p l t ≡ true → t < trackCount p
+      hosted-low t c =
+          elim (look-option (host p t)) [ inl e ↦ clash c (abandoned-root p ok l t e) | inr e ↦ ok .hosted t (e .0) (e .1) ]
 
-  removed-fewer : (t u : ℕ) → length (removed l t u .held) ≤ length (l u .held)
-  removed-fewer t u =
-      elim (look (eqb u t)) [
-        | inl e ↦ rw (removed-here p l t u e) (older-length (l u .held))
-        | inr e ↦ rw (removed-other p l t u e) (omega arith)
-      ]
+  pub abandoned-total : heldTotal p (abandoned p l) ≡ heldTotal p l
+  unfolding heldTotal
+  abandoned-total =
+      sum-same (trackCount p) (λ t. length (abandoned p l t .held)) (λ t. length (l t .held)) (λ t b. ap length (abandoned-held t))
+
+  -- the newest entry of a track removed
+  pub removed-one : (t : ℕ) → t < trackCount p → isEmpty (l t .held) ≡ false → suc (heldTotal p (removed l t)) ≡ heldTotal p l
+  unfolding heldTotal
+  removed-one t b e =
+      sum-one (trackCount p) (λ u. length (removed l t u .held)) (λ u. length (l u .held)) t b
+      (ap (λ (es : List Entry). suc (length es)) (removed-here p l t t (eq-eqb t t refl)) ∙ older-less (l t .held) e)
+      (λ u n. ap (λ (k : Configuration). length (k .held)) (removed-other p l t u n))
 
   fired-fewer : (t u : ℕ) → length (fired p l t u .held) ≤ length (removed l t u .held)
   fired-fewer t u = rw (fired-is p l t) (go (fate p ok (removed l t) (deviatesTo l t) u))
@@ -83,25 +83,18 @@ module _ (p : Plan) (ok : Accepted p) (l : Ledger) where
 module _ {σ : Seams} (ω : Laws σ) (limit : ℕ) (p : Plan) (ok : Accepted p) where
   open Seams σ using (Head, nextHead, refusal, next)
 
-  signal-fewer : (l : Ledger) (a : σ .Signal) → heldTotal p (abandoned p (turned σ p l a)) ≤ heldTotal p l
+  signal-leaves : (l : Ledger) (a : σ .Signal) → heldTotal p (abandoned p (turned σ p l a)) ≡ heldTotal p l
   unfolding heldTotal
-  signal-fewer l a =
-      sum-mono (trackCount p) (λ t. length (abandoned p (turned σ p l a) t .held)) (λ t. length (l t .held))
-      (λ t. let b = abandoned-fewer p ok (turned σ p l a) t in let e = ap length (turned-held ω p l a t) in omega arith)
+  signal-leaves l a =
+      abandoned-total p ok (turned σ p l a)
+      ∙ sum-same (trackCount p) (λ t. length (turned σ p l a t .held)) (λ t. length (l t .held)) (λ t b. ap length (turned-held ω p l a t))
 
   fire-fewer : (l : Ledger) (t : ℕ) → mayFire p l t ≡ true → heldTotal p (abandoned p (fired p l t)) < heldTotal p l
   unfolding heldTotal
   fire-fewer l t m =
       let (b, u, e, f) = may-fire p l t m in
-      sum-drop (trackCount p) (λ u. length (abandoned p (fired p l t) u .held)) (λ u. length (l u .held)) t b
-      (λ u.
-      let x = abandoned-fewer p ok (fired p l t) u in
-      let y = fired-fewer p ok l t u in
-      let z = removed-fewer p ok l t u in omega arith)
-      (let x = abandoned-fewer p ok (fired p l t) t in
-      let y = fired-fewer p ok l t t in
-      let z : length (removed l t t .held) ≡ length (older (l t .held)) = ap length (removed-here p l t t (eq-eqb t t refl)) in
-      let w = older-less (l t .held) e in omega arith)
+      let x = sum-mono (trackCount p) (λ u. length (fired p l t u .held)) (λ u. length (removed l t u .held)) (fired-fewer p ok l t) in
+      omega (arith, abandoned-total p ok (fired p l t), x, removed-one p ok l t b e)
 
   -- settling adds nothing
   settled-fewer : (h : Head) (l : Ledger) (c : Call σ) → refusal limit p h l c ≡ 0 → heldTotal p (next limit p h l c) ≤ heldTotal p (work σ p l c)
@@ -118,7 +111,7 @@ module _ {σ : Seams} (ω : Laws σ) (limit : ℕ) (p : Plan) (ok : Accepted p) 
   pub call-fewer : (h : Head) (l : Ledger) (c : Call σ) → refusal limit p h l c ≡ 0 → isEvent c ≡ false
       → firingsOf c + heldTotal p (next limit p h l c) ≤ heldTotal p l
   call-fewer h l (event a) z n = clash refl n
-  call-fewer h l (signal a) z n = let x = signal-fewer l a in let y = settled-fewer h l (signal a) z in omega arith
+  call-fewer h l (signal a) z n = omega (arith, signal-leaves l a, settled-fewer h l (signal a) z)
   call-fewer h l (fire a) z n =
       let x = fire-fewer l (σ .track a) (ω .fire-accepted limit p h l a z .1) in
       let y = settled-fewer h l (fire a) z in omega arith
