@@ -6,6 +6,7 @@ pub mod Readings
 pub mod Calls
 pub mod WrongPlan
 pub mod HeldMost
+pub mod FiringsDue
 pub mod Isolation
 pub mod FreeBooks
 pub mod OneCall

@@ -39,7 +39,7 @@ use Rattle.restoration.proofs.Allowed.{fire-allowed}
 use Rattle.restoration.proofs.Bound.{refused-firing, refused-all}
 use Rattle.restoration.proofs.Withdrawing.{Withdrawing, withdrawing, withdrawing-is, unended, none-held, all-fired, event-still, signal-still, fired-withdrawing, fired-one, signalled-sound, signalled-withdrawing, signalled-held, some-order}
 
--- an order has as many firings as calls
+-- An order has as many firings as calls, and its calls are as many as its tracks.
 pub order-length : (cs : List Call) (rs : List Answer) → isFiringOrder cs rs ≡ true → firingsIn cs rs ≡ length cs
 unfolding isFiringOrder firingsIn
 order-length [] rs o = refl
@@ -47,6 +47,11 @@ order-length (c ∷ cs) (r ∷ rs) o =
     let (x, y) = and-holds (eqb (firingsOf c r) 1) (isFiringOrder cs rs) o in
     omega (arith, eqb-true (firingsOf c r) 1 x, order-length cs rs y)
 order-length (c ∷ cs) [] o = clash o refl
+
+pub calls-length : (firer : ℕ → ℕ) (ts : List ℕ) → length (firingCalls firer ts) ≡ length ts
+unfolding firingCalls
+calls-length firer [] = refl
+calls-length firer (t ∷ ts) = ap suc (calls-length firer ts)
 
 module _ (limit : ℕ) (bs : List ℕ) (k : Counts) (read : readPlan bs ≡ accepted k) where
   abbrev p : Plan
@@ -155,11 +160,19 @@ module _ (limit : ℕ) (bs : List ℕ) (k : Counts) (read : readPlan bs ≡ acce
           ap (heldTotal p) (r .holds .reads)
           ∙ all-fired limit p ok (r .ledger) (r .back) (ready-none p (r .ledger) (ap (ready p) (sym (r .holds .reads)) ∙ z))
 
-      none-ready′ : (figures : List ℕ) → readyOutcome limit bs end .answer ≡ done figures → heldBy limit bs p end ≡ 0 → NoneReady limit bs p end
+      nothing-ready : (figures : List ℕ) → readyOutcome limit bs end .answer ≡ done figures → heldBy limit bs p end ≡ 0 → NoneReady limit bs p end
       unfolding heldBy
-      none-ready′ fs e z =
+      nothing-ready fs e z =
           let l = theLedger limit bs k read end in
           ready-told end (ready-passes end fs e) ∙ ap (λ x. done (x ∷ [])) (none-ready p l (λ t b. none-held p l z t))
+
+      later : (noneForward p (theLedger limit bs k read end) ≡ true) × (holdsNoDeviation p (theLedger limit bs k read end) ≡ true)
+      later = go (ledgerRefusal limit bs p ws) refl
+        where
+          go : (r : ℕ) → ledgerRefusal limit bs p ws ≡ r
+              → (noneForward p (theLedger limit bs k read end) ≡ true) × (holdsNoDeviation p (theLedger limit bs k read end) ≡ true)
+          go zero z = let r = along (none-passes limit bs p ws z) in rw (r .holds .reads) (withdrawing-is limit p ok (r .ledger) (r .back))
+          go (suc r) z = rw (refused-all limit bs k read cs ws r z .0) (f, n)
 
       pub counted : Counted limit bs p ws cs (answersFrom limit bs ws cs) end
       counted =
@@ -167,7 +180,9 @@ module _ (limit : ℕ) (bs : List ℕ) (k : Counts) (read : readPlan bs ≡ acce
             exactly = λ o e. omega (arith, due, none-due e, order-length cs (answersFrom limit bs ws cs) o);
             still-due = due;
             none-due = none-due;
-            none-ready = none-ready′;
+            none-ready = nothing-ready;
+            unforward = later .0;
+            plain = later .1;
           }
 
   -- a call that was done had nothing to refuse it

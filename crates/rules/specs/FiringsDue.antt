@@ -82,3 +82,6 @@ module _ (limit : ℕ) (bs : Bytes) (p : Plan) where
     -- ready, where it is not refused, is 0 exactly where none is due
     pub none-due : NoneReady end → heldBy end ≡ 0
     pub none-ready : (figures : List ℕ) → readyOutcome limit bs end .answer ≡ done figures → heldBy end ≡ 0 → NoneReady end
+    -- and what is asked of the ledger holds of the one that is left: so it can be counted from there again
+    pub unforward : noneForward p (ledgerAt limit end (trackCount p)) ≡ true
+    pub plain : holdsNoDeviation p (ledgerAt limit end (trackCount p)) ≡ true

@@ -1,0 +1,150 @@
+-- "Firings exactly, not at most.", of calls as the code made them, from whatever words: where no track is forward and no entry held carries a deviation,
+-- a list of firings, each of them done, after which ready answers 0, has as many as entries were held, and there is such a list. "After a signal that
+-- turns every forward track" the entries are those that were held before it. Of each call nothing is told but its own promise: so words and answers are
+-- those of the reference run, and of that it is proved. Assumes nothing.
+use mathlib.Core.Path.{_≡_, sym, ap, ap₂, _∙_, subst}
+use mathlib.Core.Bool.{true}
+use mathlib.Core.List.{List, [], _∷_}
+use Prim.Native.Nat.{ℕ, _+_, _<_}
+use native.Mathlib.Omega.{arith}
+use contract.Lifetimes.{Lfts}
+use denote.Ref.{now}
+use denote.Triple.Clauses.{AtExit}
+use borrow.Fn.Kinds.{endedOf}
+use borrow.Fn.World.{ArgsD, ResD}
+use lib.ListN.{length}
+use Rattle.rules.specs.declared.Counts.{Counts}
+use Rattle.rules.specs.declared.BeginAnswer.the-variants.{Begun}
+use Rattle.rules.specs.declared.SignalAnswer.the-variants.{Turned}
+use Rattle.rules.specs.declared.ReadyAnswer.the-variants.{Ready}
+use Rattle.rules.specs.Plan.{Plan, trackCount, planOf}
+use Rattle.rules.specs.Acceptance.{accepted, readPlan}
+use Rattle.rules.specs.Rights.{fireRight, isPermitted}
+use Rattle.rules.specs.Layout.{entryLimit}
+use Rattle.rules.specs.Ledger.{Ledger, ledgerAt}
+use Rattle.rules.specs.Call.{Answer, done, SignalArguments, Call, callOutcome, readyOutcome}
+use Rattle.rules.specs.Call as paper
+use Rattle.rules.specs.Answers.{signalTold, readyTold}
+use Rattle.rules.specs.Transcript.{firingsIn}
+use Rattle.rules.specs.ReferenceRun.{wordsFrom, answersFrom}
+use Rattle.rules.specs.FiringsDue.{holdsNoDeviation, noneForward, turnsEvery, isFiringOrder, firingCalls, heldBy, NoneReady, Counted}
+use Rattle.rules.proofs.LedgerChecks.{Passes}
+use Rattle.restoration.proofs.FiringsDue.{calls-length, counted, Signalled, signalled, order-there}
+use Rattle.restoration.proofs.Restoration.{history-holds}
+use Rattle.restoration.proofs.SoundWords.{holds-passes}
+use Rattle.manager.proofs.begin as begin
+use Rattle.manager.proofs.begin.Kinds as begin-kinds
+use Rattle.manager.proofs.begin.Reads as begin-reads
+use Rattle.manager.proofs.signal as signal
+use Rattle.manager.proofs.signal.Kinds as signal-kinds
+use Rattle.manager.proofs.signal.Reads as signal-reads
+use Rattle.manager.proofs.ready as ready
+use Rattle.manager.proofs.ready.Kinds as ready-kinds
+use Rattle.manager.proofs.ready.Reads as ready-reads
+use Rattle.property3.proofs.Readings.{signal-meets}
+use Rattle.property3.proofs.Calls.{Calls, calls-follow}
+use Rattle.property3.proofs.WrongPlan.{begun, words}
+
+-- ready was called on these words and answered 0, by its own promise
+pub record ReadyIsZero (bs ws : List ℕ) : Type 0 where
+  pub κs : Lfts 2
+  pub a : ArgsD ready.signature κs
+  pub r : ResD ready.signature κs
+  pub s : AtExit (endedOf 2 ready-kinds.ps ready-kinds.r) κs
+  pub promise : ready-reads.Post κs a r s
+  pub plan : now (a .0) ≡ bs
+  pub ledger : now (a .1 .0) ≡ ws
+  pub answer : r ≡ Ready 0
+
+ready-zero : (bs ws : List ℕ) (p : Plan) → ReadyIsZero bs ws → NoneReady entryLimit bs p ws
+unfolding readyTold
+ready-zero bs ws p z =
+    sym (z .promise .answered ∙ ap₂ (λ u v. readyOutcome entryLimit u v .answer) (z .plan) (z .ledger)) ∙ ap readyTold (z .answer)
+
+module _ (bs : List ℕ) (k : Counts) (read : readPlan bs ≡ accepted k) where
+  abbrev p : Plan
+  p = planOf bs k
+
+  abbrev ledger : List ℕ → Ledger
+  ledger ws = ledgerAt entryLimit ws (trackCount p)
+
+  abbrev held : List ℕ → ℕ
+  held ws = heldBy entryLimit bs p ws
+
+  -- any calls, whoever made them, refused ones too
+  module _ {ws end : List ℕ} {cs : List Call} {rs : List Answer} (calls : Calls bs ws cs rs end)
+      (f : noneForward p (ledger ws) ≡ true) (n : holdsNoDeviation p (ledger ws) ≡ true) where
+    pub counted-of-calls : Counted entryLimit bs p ws cs rs end
+    counted-of-calls =
+        let (e, q) = calls-follow bs calls in rw (e, q) (counted entryLimit bs k read ws f n cs)
+
+    -- "any allowed firing order that goes on until ready is 0 has exactly as many firings as there were entries held"
+    pub exactly-of-calls : isFiringOrder cs rs ≡ true → ReadyIsZero bs end → length cs ≡ held ws
+    exactly-of-calls o z = counted-of-calls .exactly o (ready-zero bs end p z)
+
+-- "After a signal that turns every forward track", whose society is who it may be
+module _ (κs : Lfts 2) (a : ArgsD signal.signature κs) (r : ResD signal.signature κs) (s : AtExit (endedOf 2 signal-kinds.ps signal-kinds.r) κs)
+    (post : signal-reads.Post κs a r s) (n : ℕ) (done-signal : r ≡ Turned n) (k : Counts) (read : readPlan (now (a .0)) ≡ accepted k)
+    (all : turnsEvery (planOf (now (a .0)) k) (a .1 .1 .0) (ledgerAt entryLimit (now (a .1 .0)) (trackCount (planOf (now (a .0)) k))) ≡ true)
+    (plain : holdsNoDeviation (planOf (now (a .0)) k) (ledgerAt entryLimit (now (a .1 .0)) (trackCount (planOf (now (a .0)) k))) ≡ true) where
+  abbrev bs : List ℕ
+  bs = now (a .0)
+
+  abbrev before : List ℕ
+  before = now (a .1 .0)
+
+  abbrev after : List ℕ
+  after = now (s .1 .0)
+
+  -- no track is forward, no entry carries a deviation, all are held that were, and the ledger is not over
+  pub signalled-of-call : Signalled entryLimit bs k read before after
+  unfolding signalTold
+  signalled-of-call =
+      let m = signal-meets κs a r s post in
+      let x : SignalArguments = record { society = a .1 .1 .0 } in
+      subst (Signalled entryLimit bs k read before) (sym (m .left))
+      (signalled entryLimit bs k read before x (n ∷ []) (sym (m .answered) ∙ ap signalTold done-signal) all plain)
+
+  module _ {end : List ℕ} {cs : List Call} {rs : List Answer} (calls : Calls bs after cs rs end) where
+    counted-after : Counted entryLimit bs (planOf bs k) after cs rs end
+    counted-after = counted-of-calls bs k read calls (signalled-of-call .unforward) (signalled-of-call .plain)
+
+    pub still-due-after-signal : firingsIn cs rs + heldBy entryLimit bs (planOf bs k) end ≡ heldBy entryLimit bs (planOf bs k) before
+    still-due-after-signal = counted-after .still-due ∙ signalled-of-call .held
+
+    pub exactly-after-signal : isFiringOrder cs rs ≡ true → ReadyIsZero bs end → length cs ≡ heldBy entryLimit bs (planOf bs k) before
+    exactly-after-signal o z = counted-after .exactly o (ready-zero bs end (planOf bs k) z) ∙ signalled-of-call .held
+
+-- There is such a list, after a begin that answered `Begun` and any calls, where each track may be fired by somebody
+module _ (κs : Lfts 2) (a : ArgsD begin.signature κs) (r : ResD begin.signature κs) (s : AtExit (endedOf 2 begin-kinds.ps begin-kinds.r) κs)
+    (post : begin-reads.Post κs a r s) (done-begin : r ≡ Begun) {cs : List Call} {rs : List Answer} {ws : List ℕ}
+    (calls : Calls (now (a .0)) (now (s .1 .0)) cs rs ws) (k : Counts) (read : readPlan (now (a .0)) ≡ accepted k)
+    (f : noneForward (planOf (now (a .0)) k) (ledgerAt entryLimit ws (trackCount (planOf (now (a .0)) k))) ≡ true)
+    (n : holdsNoDeviation (planOf (now (a .0)) k) (ledgerAt entryLimit ws (trackCount (planOf (now (a .0)) k))) ≡ true)
+    (firer : ℕ → ℕ) (able : (t : ℕ) → t < trackCount (planOf (now (a .0)) k) → isPermitted (planOf (now (a .0)) k) fireRight (firer t) t ≡ true) where
+  abbrev plan-bytes : List ℕ
+  plan-bytes = now (a .0)
+
+  abbrev the-plan : Plan
+  the-plan = planOf plan-bytes k
+
+  passes : Passes entryLimit plan-bytes the-plan ws
+  passes =
+      subst (Passes entryLimit plan-bytes the-plan) (sym (words κs a r s post done-begin calls))
+      (holds-passes entryLimit plan-bytes k read _ _ _
+      (history-holds entryLimit plan-bytes k read (now (a .1 .0)) cs (begun κs a r s post done-begin calls)))
+
+  -- as many firings as entries are held; whoever makes these calls has each of them done, and ready is 0 after them
+  pub order-of-calls : (ts : List ℕ) × (length ts ≡ heldBy entryLimit plan-bytes the-plan ws)
+      × ((ss : List Answer) (end : List ℕ) → Calls plan-bytes ws (firingCalls firer ts) ss end
+      → (isFiringOrder (firingCalls firer ts) ss ≡ true) × NoneReady entryLimit plan-bytes the-plan end)
+  order-of-calls =
+      let (ts, o, z) = order-there entryLimit plan-bytes k read firer able ws passes f n in
+      let fs = firingCalls firer ts in
+      (
+        ts,
+        sym (calls-length firer ts) ∙ counted entryLimit plan-bytes k read ws f n fs .exactly o z,
+        λ ss end h.
+            let (e, q) = calls-follow plan-bytes h in
+            (ap (isFiringOrder fs) q ∙ o, ap (λ v. readyOutcome entryLimit plan-bytes v .answer) e ∙ z),
+      )
