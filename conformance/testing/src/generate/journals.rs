@@ -497,7 +497,7 @@ pub fn busiest(plan: &Plan, ledger: &Ledger, events: &[u16]) -> Option<u16> {
 /// A record that need not do anything: any event of the plan, event 0, an
 /// unknown event, on any day, any track, a missing track, a signal, a firing, by
 /// any society.
-fn useless(rng: &mut Rng, plan: &Plan, ledger: &Ledger) -> Record {
+pub fn useless(rng: &mut Rng, plan: &Plan, ledger: &Ledger) -> Record {
     let day = if rng.chance(75) {
         later_day(rng, plan, ledger.day)
     } else {

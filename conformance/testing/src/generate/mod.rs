@@ -10,3 +10,4 @@ pub mod plans;
 pub mod rng;
 pub mod singles;
 pub mod societies;
+pub mod withdrawals;
