@@ -168,6 +168,19 @@ pub fn scoped_links(code: u16) -> Records {
     plan
 }
 
+/// The same without a deviation, with codes 60 and 70 on the ways into both
+/// scopes, and with a second branch: track 4, hosted by state 4 beside track 2,
+/// with states 11 and 12 (final), which event 9 ends with code 95.
+pub fn branching_links() -> Records {
+    let mut plan = scoped_links(60);
+    plan.tracks.push(track(4));
+    plan.states.extend([state(4, 0, 0), state(4, 1, 0)]);
+    plan.transitions[0].deviation = NONE;
+    plan.transitions[5].code = 70;
+    plan.transitions.push(step(11, 9, 95, 12));
+    plan
+}
+
 /// `looping` with event 9, which deviates to the first state, and a second root
 /// with one state.
 pub fn looping_link() -> Records {
