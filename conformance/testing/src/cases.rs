@@ -3,9 +3,9 @@
 
 use crate::generate::plans;
 use crate::samples::{
-    brothers, event, event_on, every_right, fire, journal, looping, looping_link, lowest, rights,
-    sample, sample_records, scoped_links, signal, state, step, three_links, track, two_links,
-    window,
+    branching_links, brothers, event, event_on, every_right, fire, journal, looping, looping_link,
+    lowest, rights, sample, sample_records, scoped_links, signal, state, step, three_links, track,
+    two_links, window,
 };
 use second::days::Term;
 use second::journal::Record;
@@ -47,6 +47,7 @@ pub fn all() -> Vec<Case> {
         societies(),
         divided_calls(),
         rights_of_each_sort(),
+        firings(),
         lacking(),
         order_of_28(),
         unread_rights(),
@@ -773,6 +774,33 @@ fn rights_of_each_sort() -> Vec<Case> {
         case("rights_reach_under_a_root", &under, &inner),
         case("full_track_of_another", &loops, &full),
         case("day_kept_for_other_societies", &divided(), &kept),
+    ]
+}
+
+/// Firings until none is ready: as many as there are entries held, and fewer
+/// where a root is left forward or a deviation is held.
+fn firings() -> Vec<Case> {
+    let events = [1, 5, 6, 6, 9].map(event);
+    let turned = [&events[..], &[event(2), signal()]].concat();
+    let mut mixed = turned.clone();
+    mixed.extend([fire(3), fire(0), fire(2), fire(4), fire(3)]);
+    mixed.extend([lowest(), lowest(), fire(1), lowest()]);
+    let mut shared = branching_links();
+    shared.rights = divided().rights;
+    let mut partial = vec![event(1)];
+    partial.extend(all_by(2, &events));
+    partial.push(by(2, signal()));
+    partial.extend([by(2, lowest()); 6]);
+    partial.extend([lowest(), fire(0)]);
+    let mut deviating = branching_links();
+    deviating.transitions[1].deviation = 0;
+    let mut kept = turned;
+    kept.extend([lowest(); 7]);
+    kept.push(fire(0));
+    vec![
+        case("firings_as_many_as_held", &branching_links(), &mixed),
+        case("firings_fewer_with_a_forward_root", &shared, &partial),
+        case("firings_fewer_with_a_deviation", &deviating, &kept),
     ]
 }
 

@@ -3,7 +3,9 @@
 use std::fs;
 use std::path::PathBuf;
 
-use second::journal;
+use second::journal::{self, Record, Records};
+use second::plan;
+use second::rules;
 use testing::calls;
 use testing::cases::{self, Case};
 
@@ -375,6 +377,73 @@ fn stored_runs_of_several_societies_print_what_their_names_say() {
     assert_eq!(full, ["R 28", "R 21", "R 28", "H 32 0"]);
     let another = lines("full_track_of_another").split_off(33);
     assert_eq!(another, ["R 21", "E 1 1 0", "R 21", "H 33 0"]);
+}
+
+/// The entries held before the first signal of a stored run.
+fn held_before_signal(name: &str) -> usize {
+    let folder = format!("conformance/cases/{name}");
+    let case = cases::all().into_iter().find(|c| c.folder == folder);
+    let case = case.expect("stored");
+    let plan = plan::read(&case.plan.expect("a plan")).expect("accepted");
+    let mut ledger = rules::begin(&plan);
+    for record in Records::new(&case.journal) {
+        let record = record.expect("a whole record");
+        if matches!(record, Record::Signal(_)) {
+            break;
+        }
+        journal::perform(&plan, &mut ledger, record);
+    }
+    ledger.total_held()
+}
+
+/// The `F` lines of a stored run.
+fn fired(name: &str) -> usize {
+    let lines = lines(name).into_iter();
+    lines.filter(|line| line.starts_with("F ")).count()
+}
+
+#[test]
+fn stored_runs_of_firings_have_as_many_as_entries_held_or_fewer() {
+    let counts = [
+        ("sample", 3, 3),
+        ("firings_as_many_as_held", 7, 7),
+        ("firings_fewer_with_a_forward_root", 6, 5),
+        ("firings_fewer_with_a_deviation", 7, 6),
+    ];
+    for (name, held, firings) in counts {
+        assert_eq!(held_before_signal(name), held, "{name}");
+        assert_eq!(fired(name), firings, "{name}");
+        let last = format!("H {} {firings}", held - firings);
+        assert_eq!(lines(name).last(), Some(&last), "{name}");
+    }
+    let runs: [(&str, &[&str]); 3] = [
+        (
+            "firings_as_many_as_held",
+            &[
+                "S 5", "F 3 90 -", "F 0 51 -", "R 22", "F 4 95 -", "F 3 90 -", "F 0 50 -",
+                "F 2 70 -", "F 1 60 -", "R 22", "H 0 7",
+            ],
+        ),
+        (
+            "firings_fewer_with_a_forward_root",
+            &[
+                "S 4", "F 3 90 -", "F 3 90 -", "F 2 70 -", "F 4 95 -", "F 1 60 -", "R 22", "R 22",
+                "R 22", "H 1 5",
+            ],
+        ),
+        (
+            "firings_fewer_with_a_deviation",
+            &[
+                "S 5", "F 0 51 0", "F 3 90 -", "F 3 90 -", "F 2 70 -", "F 4 95 -", "F 1 60 -",
+                "R 22", "R 22", "H 1 6",
+            ],
+        ),
+    ];
+    for (name, expected) in runs {
+        let lines = lines(name);
+        let from = lines.len() - expected.len();
+        assert_eq!(lines[from..], *expected, "{name}");
+    }
 }
 
 #[test]
