@@ -285,7 +285,7 @@ fn a_deviation_of_a_root_s_oldest_entry_leaves_none() {
 #[test]
 fn other_calls_between_the_firings_make_no_odds() {
     let other = [
-        event_on(1, 9),
+        event_on(6, 9),
         fire(1),
         fire(5),
         Record::Fire(3, 2),
@@ -299,7 +299,7 @@ fn other_calls_between_the_firings_make_no_odds() {
     records.push(fire(1));
     let lines = run(&branching_links().encode(), &records);
     let count = |line: &str| lines.iter().filter(|l| l.as_str() == line).count();
-    assert_eq!(count("E 1 0 0"), 6);
+    assert_eq!(count("E 6 0 0"), 6);
     assert_eq!(count("S 0"), 6);
     assert_eq!(count("R 22"), 12);
     assert_eq!(count("R 28"), 6);
