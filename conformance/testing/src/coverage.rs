@@ -3,6 +3,7 @@
 mod days;
 mod paths;
 mod rights;
+mod withdrawals;
 
 pub use paths::most_entries;
 
@@ -190,9 +191,16 @@ pub enum Happening {
     UnboundSelfLoop,
     UnboundSeveral,
     RightsBeforeUnbound,
+    WithdrawalBegun,
+    WithdrawalMany,
+    WithdrawalHosted,
+    WithdrawalPartial,
+    WithdrawalDeviation,
+    WithdrawnWhole,
+    NoneReadyHeld,
 }
 
-const HAPPENINGS: usize = 158;
+const HAPPENINGS: usize = 165;
 
 /// Refusals 1 to 29.
 const REFUSALS: usize = 29;
@@ -820,6 +828,41 @@ const HAPPENING_FLOORS: [(Happening, &str, u64); HAPPENINGS] = [
         "27 of a plan that would be 29",
         330,
     ),
+    (
+        Happening::WithdrawalBegun,
+        "withdrawal begun, entries held",
+        4_000,
+    ),
+    (
+        Happening::WithdrawalMany,
+        "withdrawal begun, 5 entries or more",
+        1_200,
+    ),
+    (
+        Happening::WithdrawalHosted,
+        "withdrawal begun, entries in hosted tracks",
+        2_500,
+    ),
+    (
+        Happening::WithdrawalPartial,
+        "withdrawal begun, some roots turned before",
+        350,
+    ),
+    (
+        Happening::WithdrawalDeviation,
+        "all turned, a deviation held",
+        4_300,
+    ),
+    (
+        Happening::WithdrawnWhole,
+        "withdrawn to the last entry",
+        3_200,
+    ),
+    (
+        Happening::NoneReadyHeld,
+        "firing that leaves none ready, entries held",
+        1_700,
+    ),
 ];
 
 /// Floor of each clause violated alone for the default batch.
@@ -1135,6 +1178,7 @@ impl Coverage {
 
     fn signal(&mut self, change: &Change) {
         self.count(Happening::Signal);
+        self.withdrawal_begun(change);
         self.abandoning(change);
         let before = Roots::of(change.plan, change.before);
         let after = Roots::of(change.plan, change.after);
@@ -1163,6 +1207,7 @@ impl Coverage {
         let hosting = change.plan.scope(deviation) != 0;
         self.count_if(hosting, Happening::DeviationIntoHosting);
         self.finish_by_firing(change, deviation);
+        self.withdrawn(change);
         self.abandoning(change);
         let climb = change.climb(&change.fallen_asleep());
         self.count_if(climb > 0, Happening::AbandoningByFiring);
