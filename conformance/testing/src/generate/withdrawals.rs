@@ -71,12 +71,10 @@ fn history(rng: &mut Rng, plan: &Plan, ledger: &mut Ledger) -> Vec<Record> {
     if rng.chance(65) {
         return onwards(rng, plan, ledger);
     }
-    let mut records = journals::history(rng, plan).0;
-    records.truncate(rng.between(1, records.len().max(1)));
-    let kept = records.iter().take_while(|r| goes_on(plan, ledger, **r));
-    let kept = kept.count();
-    records.truncate(kept);
-    records
+    let records = journals::history(rng, plan).0;
+    let most = rng.between(1, records.len().max(1));
+    let start = records.into_iter().take(most);
+    start.take_while(|&r| goes_on(plan, ledger, r)).collect()
 }
 
 /// Events that move tracks, as long as there is one.
