@@ -159,6 +159,7 @@ fn are_above(floors: &[(u32, u32)]) -> bool {
 #[derive(Debug, Default)]
 struct Seen {
     withdrawals: u32,
+    entries: u32,
     with_entries: u32,
     turning: u32,
     five_entries: u32,
@@ -181,6 +182,7 @@ impl Seen {
         let holding = |&t: &usize| after.tracks[t].held() > 0;
         let holding: Vec<usize> = (0..plan.track_count()).filter(holding).collect();
         self.withdrawals += 1;
+        self.entries += held as u32;
         self.with_entries += u32::from(held > 0);
         self.turning += u32::from(turned.turns && held > 0);
         self.five_entries += u32::from(held >= 5);
@@ -217,6 +219,7 @@ impl Seen {
     fn reaches_its_floors(&self) {
         let floors = [
             (self.withdrawals, 5_000),
+            (self.entries, 24_000),
             (self.with_entries, 3_800),
             (self.turning, 3_600),
             (self.five_entries, 1_300),
