@@ -40,8 +40,8 @@ struct Turned {
     fired: usize,
     /// Whether it turned some track.
     turns: bool,
-    /// Whether it did so after a signal of another society that had left it
-    /// forward.
+    /// Whether it did so after a signal of another society that had turned some
+    /// tracks and left others forward.
     shared: bool,
 }
 
