@@ -83,3 +83,9 @@ module _ (limit : ℕ) (bs : List ℕ) (k : Counts) (read : readPlan bs ≡ acce
         | inl b ↦ rw (read, entriesPart, passes-none limit bs p ws h, b) (held-words t (ltb-true t (trackCount p) b))
         | inr b ↦ rw (read, entriesPart, passes-none limit bs p ws h, b)
       ]
+
+  -- two words for each entry
+  pub part-length : (t : ℕ) → t < trackCount p → length (entriesPart limit bs ws t) ≡ 2 * length (l t .held)
+  unfolding entryWidth
+  part-length t b =
+      ap length (entries-told t) ∙ (rw (lt-ltb t (trackCount p) b) (length-heldWords (l t .held)))

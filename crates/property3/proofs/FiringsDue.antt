@@ -5,7 +5,7 @@
 use mathlib.Core.Path.{_≡_, sym, ap, ap₂, _∙_, subst}
 use mathlib.Core.Bool.{true}
 use mathlib.Core.List.{List, [], _∷_}
-use Prim.Native.Nat.{ℕ, _+_, _<_}
+use Prim.Native.Nat.{ℕ, zero, suc, _+_, _*_, _<_}
 use native.Mathlib.Omega.{arith}
 use contract.Lifetimes.{Lfts}
 use denote.Ref.{now}
@@ -19,19 +19,20 @@ use Rattle.rules.specs.declared.SignalAnswer.the-variants.{Turned}
 use Rattle.rules.specs.declared.ReadyAnswer.the-variants.{Ready}
 use Rattle.rules.specs.Plan.{Plan, trackCount, planOf}
 use Rattle.rules.specs.Acceptance.{accepted, readPlan}
+use Rattle.rules.specs.Fold.{sumBelow}
 use Rattle.rules.specs.Rights.{fireRight, isPermitted}
 use Rattle.rules.specs.Layout.{entryLimit}
 use Rattle.rules.specs.Ledger.{Ledger, ledgerAt}
-use Rattle.rules.specs.Call.{Answer, done, SignalArguments, Call, callOutcome, readyOutcome}
-use Rattle.rules.specs.Call as paper
+use Rattle.rules.specs.Call.{Answer, done, SignalArguments, Call, readyOutcome, entriesPart}
 use Rattle.rules.specs.Answers.{signalTold, readyTold}
-use Rattle.rules.specs.Transcript.{firingsIn}
-use Rattle.rules.specs.ReferenceRun.{wordsFrom, answersFrom}
+use Rattle.rules.specs.Transcript.{firingsIn, heldTotal}
 use Rattle.rules.specs.FiringsDue.{holdsNoDeviation, noneForward, turnsEvery, isFiringOrder, firingCalls, heldBy, NoneReady, Counted}
+use Rattle.rules.proofs.Folds.{sum-same}
 use Rattle.rules.proofs.LedgerChecks.{Passes}
-use Rattle.restoration.proofs.FiringsDue.{calls-length, counted, Signalled, signalled, order-there}
+use Rattle.restoration.proofs.FiringsDue.{calls-length, ready-passes, counted, Signalled, signalled, order-there}
 use Rattle.restoration.proofs.Restoration.{history-holds}
 use Rattle.restoration.proofs.SoundWords.{holds-passes}
+use Rattle.isolation.proofs.Readings.{part-length}
 use Rattle.manager.proofs.begin as begin
 use Rattle.manager.proofs.begin.Kinds as begin-kinds
 use Rattle.manager.proofs.begin.Reads as begin-reads
@@ -41,9 +42,18 @@ use Rattle.manager.proofs.signal.Reads as signal-reads
 use Rattle.manager.proofs.ready as ready
 use Rattle.manager.proofs.ready.Kinds as ready-kinds
 use Rattle.manager.proofs.ready.Reads as ready-reads
+use Rattle.manager.proofs.entries as entries
+use Rattle.manager.proofs.entries.Kinds as entries-kinds
+use Rattle.manager.proofs.entries.Reads as entries-reads
 use Rattle.property3.proofs.Readings.{signal-meets}
 use Rattle.property3.proofs.Calls.{Calls, calls-follow}
 use Rattle.property3.proofs.WrongPlan.{begun, words}
+
+-- twice each is twice the sum
+sum-twice : (n : ℕ) (f : ℕ → ℕ) → sumBelow n (λ t. 2 * f t) ≡ 2 * sumBelow n f
+unfolding sumBelow
+sum-twice zero f = omega arith
+sum-twice (suc n) f = omega (arith, sum-twice n f)
 
 -- ready was called on these words and answered 0, by its own promise
 pub record ReadyIsZero (bs ws : List ℕ) : Type 0 where
@@ -60,6 +70,23 @@ ready-zero : (bs ws : List ℕ) (p : Plan) → ReadyIsZero bs ws → NoneReady e
 unfolding readyTold
 ready-zero bs ws p z =
     sym (z .promise .answered ∙ ap₂ (λ u v. readyOutcome entryLimit u v .answer) (z .plan) (z .ledger)) ∙ ap readyTold (z .answer)
+
+-- entries was called for this track of the words and handed back this part, by its own promise
+pub record PartIs (bs ws : List ℕ) (t : ℕ) (part : List ℕ) : Type 0 where
+  pub κs : Lfts 2
+  pub a : ArgsD entries.signature κs
+  pub r : ResD entries.signature κs
+  pub s : AtExit (endedOf 2 entries-kinds.ps entries-kinds.r) κs
+  pub promise : entries-reads.Post κs a r s
+  pub plan : now (a .0) ≡ bs
+  pub ledger : now (a .1 .0) ≡ ws
+  pub track : a .1 .1 .0 ≡ t
+  pub handed : now r ≡ part
+
+part-is : (bs ws : List ℕ) (t : ℕ) (part : List ℕ) → PartIs bs ws t part → part ≡ entriesPart entryLimit bs ws t
+part-is bs ws t part e =
+    sym (e .handed) ∙ e .promise .held-as ∙ ap₂ (λ u v. entriesPart entryLimit u v (e .a .1 .1 .0)) (e .plan) (e .ledger)
+    ∙ ap (entriesPart entryLimit bs ws) (e .track)
 
 module _ (bs : List ℕ) (k : Counts) (read : readPlan bs ≡ accepted k) where
   abbrev p : Plan
@@ -81,6 +108,16 @@ module _ (bs : List ℕ) (k : Counts) (read : readPlan bs ≡ accepted k) where
     -- "any allowed firing order that goes on until ready is 0 has exactly as many firings as there were entries held"
     pub exactly-of-calls : isFiringOrder cs rs ≡ true → ReadyIsZero bs end → length cs ≡ held ws
     exactly-of-calls o z = counted-of-calls .exactly o (ready-zero bs end p z)
+
+  -- The entries held can be counted by entries: what it hands back of all tracks has two words for each, on words that ready does not refuse
+  pub held-of-entries : (ws : List ℕ) (parts : ℕ → List ℕ) → ((t : ℕ) → t < trackCount p → PartIs bs ws t (parts t))
+      → (figures : List ℕ) → readyOutcome entryLimit bs ws .answer ≡ done figures → sumBelow (trackCount p) (λ t. length (parts t)) ≡ 2 * held ws
+  unfolding heldBy heldTotal
+  held-of-entries ws parts told fs e =
+      let h = ready-passes entryLimit bs k read ws fs e in
+      sum-same (trackCount p) (λ t. length (parts t)) (λ t. 2 * length (ledger ws t .held))
+      (λ t b. ap length (part-is bs ws t (parts t) (told t b)) ∙ part-length entryLimit bs k read ws h t b)
+      ∙ sum-twice (trackCount p) (λ t. length (ledger ws t .held))
 
 -- "After a signal that turns every forward track", whose society is who it may be
 module _ (κs : Lfts 2) (a : ArgsD signal.signature κs) (r : ResD signal.signature κs) (s : AtExit (endedOf 2 signal-kinds.ps signal-kinds.r) κs)
@@ -140,8 +177,7 @@ module _ (κs : Lfts 2) (a : ArgsD begin.signature κs) (r : ResD begin.signatur
       → (isFiringOrder (firingCalls firer ts) ss ≡ true) × NoneReady entryLimit plan-bytes the-plan end)
   order-of-calls =
       let (ts, o, z) = order-there entryLimit plan-bytes k read firer able ws passes f n in
-      let fs = firingCalls firer ts in
-      (
+      let fs = firingCalls firer ts in (
         ts,
         sym (calls-length firer ts) ∙ counted entryLimit plan-bytes k read ws f n fs .exactly o z,
         λ ss end h.

@@ -254,8 +254,7 @@ module _ (limit : ℕ) (bs : List ℕ) (k : Counts) (read : readPlan bs ≡ acce
         let l = theLedger limit bs k read ws in
         let (ts, o, z) = some-order limit p ok (heldTotal p l) l (back ws f n h) (omega arith) in
         let (x, (d, g)) = order-done ts ws (lastDay ws) l (passes-holds limit bs k read ws h) o in
-        let end = wordsFrom limit bs ws (firingCalls firer ts) in
-        (
+        let end = wordsFrom limit bs ws (firingCalls firer ts) in (
           ts,
           x,
           ready-told end (holds-passes limit bs k read end d (afterOrder p l ts) g) ∙ ap (λ v. done (v ∷ [])) (ap (ready p) (g .reads) ∙ z),

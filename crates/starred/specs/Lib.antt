@@ -1,5 +1,6 @@
--- The sample plan and its journal, plans with windows, plans with rights records, and the key that lets runs be computed.
+-- The sample plan and its journal, plans with windows, plans with rights records, a plan with branches, and the key that lets runs be computed.
 pub mod SamplePlan
 pub mod WindowPlans
 pub mod RightsPlans
+pub mod BranchingPlans
 pub mod Computing
