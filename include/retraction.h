@@ -37,6 +37,10 @@
  * the ledger. A signal ends it only where a root has ended that the society may not turn. That call gives its answer as ever; the next event,
  * signal or firing is refused as 20, and ready gives 0. A ledger whose roots are all taken back is not over.
  *
+ * How many firings are still due can be counted ahead. Where no track is forward, as after a signal that turned every forward track, and no
+ * entry held has a deviation, there are exactly as many firings as entries held, in whatever order the tracks are fired, until ready gives 0;
+ * and so at any later point. Entries of each track tells how many those are.
+ *
  * Largest and largest step tell how much a track can ever hold, before any ledger is begun. A path is transitions of the track, from its first
  * state on, each leaving the state that the one before it leads to. It has one entry for each transition with a code and one for each hosting
  * state with a replacement, its first and last state included. Largest gives the largest number of entries along any path and the length of

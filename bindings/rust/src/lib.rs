@@ -404,7 +404,9 @@ impl<'plan> Ledger<'plan> {
     }
 
     /// The entries that a track holds, the oldest first; none where there is no
-    /// such track.
+    /// such track. Where no track is forward, as after a signal that turned every
+    /// forward track, and no entry held has a deviation, exactly as many firings
+    /// are due as all tracks together hold entries, in whatever order.
     pub fn entries(&self, track: u16) -> impl DoubleEndedIterator<Item = Entry> + '_ {
         let pairs = raw::entries(&self.plan.bytes, &self.words, track).chunks_exact(2);
         pairs.map(|pair| raw::entry(pair[0], pair[1]))

@@ -32,6 +32,31 @@ fn the_sample_is_taken_back() {
     assert_eq!(ready(&plan, &mut ledger), Ok(0));
 }
 
+/// The entries that all tracks hold.
+fn held(plan: &[u8], ledger: &[u16]) -> usize {
+    (0..3).map(|t| entries(plan, ledger, t).len() / 2).sum()
+}
+
+#[test]
+fn as_many_firings_are_due_as_entries_are_held() {
+    let (plan, mut ledger) = begun();
+    for number in [10, 11, 12] {
+        assert_eq!(event(&plan, &mut ledger, number, 0, SOCIETY), moved(1, 0));
+    }
+    assert_eq!(held(&plan, &ledger), 3);
+    assert_eq!(signal(&plan, &mut ledger, SOCIETY), Ok(3));
+    for order in [[1, 2, 0], [2, 1, 0]] {
+        let mut ledger = ledger.clone();
+        for (done, track) in order.into_iter().enumerate() {
+            assert_eq!(held(&plan, &ledger), 3 - done);
+            assert_ne!(ready(&plan, &mut ledger), Ok(0));
+            assert!(fire(&plan, &mut ledger, track, SOCIETY).is_ok());
+        }
+        assert_eq!(held(&plan, &ledger), 0);
+        assert_eq!(ready(&plan, &mut ledger), Ok(0));
+    }
+}
+
 #[test]
 fn a_scope_that_closes_leaves_its_replacement() {
     let (plan, mut ledger) = begun();

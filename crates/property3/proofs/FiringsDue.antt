@@ -55,8 +55,8 @@ unfolding sumBelow
 sum-twice zero f = omega arith
 sum-twice (suc n) f = omega (arith, sum-twice n f)
 
--- ready was called on these words and answered 0, by its own promise
-pub record ReadyIsZero (bs ws : List ℕ) : Type 0 where
+-- ready was called on these words and answered so, by its own promise
+pub record ReadyIs (bs ws : List ℕ) (bits : ℕ) : Type 0 where
   pub κs : Lfts 2
   pub a : ArgsD ready.signature κs
   pub r : ResD ready.signature κs
@@ -64,11 +64,11 @@ pub record ReadyIsZero (bs ws : List ℕ) : Type 0 where
   pub promise : ready-reads.Post κs a r s
   pub plan : now (a .0) ≡ bs
   pub ledger : now (a .1 .0) ≡ ws
-  pub answer : r ≡ Ready 0
+  pub answer : r ≡ Ready bits
 
-ready-zero : (bs ws : List ℕ) (p : Plan) → ReadyIsZero bs ws → NoneReady entryLimit bs p ws
+ready-is : (bs ws : List ℕ) (bits : ℕ) → ReadyIs bs ws bits → readyOutcome entryLimit bs ws .answer ≡ done (bits ∷ [])
 unfolding readyTold
-ready-zero bs ws p z =
+ready-is bs ws bits z =
     sym (z .promise .answered ∙ ap₂ (λ u v. readyOutcome entryLimit u v .answer) (z .plan) (z .ledger)) ∙ ap readyTold (z .answer)
 
 -- entries was called for this track of the words and handed back this part, by its own promise
@@ -96,7 +96,7 @@ module _ (bs : List ℕ) (k : Counts) (read : readPlan bs ≡ accepted k) where
   ledger ws = ledgerAt entryLimit ws (trackCount p)
 
   abbrev held : List ℕ → ℕ
-  held ws = heldBy entryLimit bs p ws
+  held ws = heldBy entryLimit p ws
 
   -- any calls, whoever made them, refused ones too
   module _ {ws end : List ℕ} {cs : List Call} {rs : List Answer} (calls : Calls bs ws cs rs end)
@@ -106,15 +106,15 @@ module _ (bs : List ℕ) (k : Counts) (read : readPlan bs ≡ accepted k) where
         let (e, q) = calls-follow bs calls in rw (e, q) (counted entryLimit bs k read ws f n cs)
 
     -- "any allowed firing order that goes on until ready is 0 has exactly as many firings as there were entries held"
-    pub exactly-of-calls : isFiringOrder cs rs ≡ true → ReadyIsZero bs end → length cs ≡ held ws
-    exactly-of-calls o z = counted-of-calls .exactly o (ready-zero bs end p z)
+    pub exactly-of-calls : isFiringOrder cs rs ≡ true → ReadyIs bs end 0 → length cs ≡ held ws
+    exactly-of-calls o z = counted-of-calls .exactly o (ready-is bs end 0 z)
 
   -- The entries held can be counted by entries: what it hands back of all tracks has two words for each, on words that ready does not refuse
-  pub held-of-entries : (ws : List ℕ) (parts : ℕ → List ℕ) → ((t : ℕ) → t < trackCount p → PartIs bs ws t (parts t))
-      → (figures : List ℕ) → readyOutcome entryLimit bs ws .answer ≡ done figures → sumBelow (trackCount p) (λ t. length (parts t)) ≡ 2 * held ws
+  pub held-of-entries : (ws : List ℕ) (bits : ℕ) → ReadyIs bs ws bits → (parts : ℕ → List ℕ) → ((t : ℕ) → t < trackCount p → PartIs bs ws t (parts t))
+      → sumBelow (trackCount p) (λ t. length (parts t)) ≡ 2 * held ws
   unfolding heldBy heldTotal
-  held-of-entries ws parts told fs e =
-      let h = ready-passes entryLimit bs k read ws fs e in
+  held-of-entries ws bits z parts told =
+      let h = ready-passes entryLimit bs k read ws (bits ∷ []) (ready-is bs ws bits z) in
       sum-same (trackCount p) (λ t. length (parts t)) (λ t. 2 * length (ledger ws t .held))
       (λ t b. ap length (part-is bs ws t (parts t) (told t b)) ∙ part-length entryLimit bs k read ws h t b)
       ∙ sum-twice (trackCount p) (λ t. length (ledger ws t .held))
@@ -146,11 +146,11 @@ module _ (κs : Lfts 2) (a : ArgsD signal.signature κs) (r : ResD signal.signat
     counted-after : Counted entryLimit bs (planOf bs k) after cs rs end
     counted-after = counted-of-calls bs k read calls (signalled-of-call .unforward) (signalled-of-call .plain)
 
-    pub still-due-after-signal : firingsIn cs rs + heldBy entryLimit bs (planOf bs k) end ≡ heldBy entryLimit bs (planOf bs k) before
+    pub still-due-after-signal : firingsIn cs rs + heldBy entryLimit (planOf bs k) end ≡ heldBy entryLimit (planOf bs k) before
     still-due-after-signal = counted-after .still-due ∙ signalled-of-call .held
 
-    pub exactly-after-signal : isFiringOrder cs rs ≡ true → ReadyIsZero bs end → length cs ≡ heldBy entryLimit bs (planOf bs k) before
-    exactly-after-signal o z = counted-after .exactly o (ready-zero bs end (planOf bs k) z) ∙ signalled-of-call .held
+    pub exactly-after-signal : isFiringOrder cs rs ≡ true → ReadyIs bs end 0 → length cs ≡ heldBy entryLimit (planOf bs k) before
+    exactly-after-signal o z = counted-after .exactly o (ready-is bs end 0 z) ∙ signalled-of-call .held
 
 -- There is such a list, after a begin that answered `Begun` and any calls, where each track may be fired by somebody
 module _ (κs : Lfts 2) (a : ArgsD begin.signature κs) (r : ResD begin.signature κs) (s : AtExit (endedOf 2 begin-kinds.ps begin-kinds.r) κs)
@@ -171,10 +171,10 @@ module _ (κs : Lfts 2) (a : ArgsD begin.signature κs) (r : ResD begin.signatur
       (holds-passes entryLimit plan-bytes k read _ _ _
       (history-holds entryLimit plan-bytes k read (now (a .1 .0)) cs (begun κs a r s post done-begin calls)))
 
-  -- as many firings as entries are held; whoever makes these calls has each of them done, and ready is 0 after them
-  pub order-of-calls : (ts : List ℕ) × (length ts ≡ heldBy entryLimit plan-bytes the-plan ws)
+  -- as many firings as entries are held; whoever makes these calls has each of them done, and what ready promises of the words they leave is 0
+  pub order-of-calls : (ts : List ℕ) × (length ts ≡ heldBy entryLimit the-plan ws)
       × ((ss : List Answer) (end : List ℕ) → Calls plan-bytes ws (firingCalls firer ts) ss end
-      → (isFiringOrder (firingCalls firer ts) ss ≡ true) × NoneReady entryLimit plan-bytes the-plan end)
+      → (isFiringOrder (firingCalls firer ts) ss ≡ true) × NoneReady entryLimit plan-bytes end)
   order-of-calls =
       let (ts, o, z) = order-there entryLimit plan-bytes k read firer able ws passes f n in
       let fs = firingCalls firer ts in (

@@ -133,13 +133,13 @@ module _ (limit : ℕ) (bs : List ℕ) (k : Counts) (read : readPlan bs ≡ acce
       along : Passes limit bs p ws → Along ws (theLedger limit bs k read ws) cs
       along h = list-due cs ws (lastDay ws) (theLedger limit bs k read ws) (passes-holds limit bs k read ws h) (back h)
 
-      due : firingsIn cs (answersFrom limit bs ws cs) + heldBy limit bs p end ≡ heldBy limit bs p ws
+      due : firingsIn cs (answersFrom limit bs ws cs) + heldBy limit p end ≡ heldBy limit p ws
       unfolding heldBy
       due = go (ledgerRefusal limit bs p ws) refl
         where
-          go : (r : ℕ) → ledgerRefusal limit bs p ws ≡ r → firingsIn cs (answersFrom limit bs ws cs) + heldBy limit bs p end ≡ heldBy limit bs p ws
+          go : (r : ℕ) → ledgerRefusal limit bs p ws ≡ r → firingsIn cs (answersFrom limit bs ws cs) + heldBy limit p end ≡ heldBy limit p ws
           go zero z = let r = along (none-passes limit bs p ws z) in omega (arith, r .due, ap (heldTotal p) (r .holds .reads))
-          go (suc r) z = let (e, q) = refused-all limit bs k read cs ws r z in omega (arith, q, ap (heldBy limit bs p) e)
+          go (suc r) z = let (e, q) = refused-all limit bs k read cs ws r z in omega (arith, q, ap (heldBy limit p) e)
 
       -- where ready is answered, the words passed the checks in the beginning
       passed : (figures : List ℕ) → readyOutcome limit bs end .answer ≡ done figures → Passes limit bs p ws
@@ -151,7 +151,7 @@ module _ (limit : ℕ) (bs : List ℕ) (k : Counts) (read : readPlan bs ≡ acce
               let same = refused-all limit bs k read cs ws r z .0 in
               ready-passes ws fs (ap (λ v. readyOutcome limit bs v .answer) (sym same) ∙ e)
 
-      none-due : NoneReady limit bs p end → heldBy limit bs p end ≡ 0
+      none-due : NoneReady limit bs end → heldBy limit p end ≡ 0
       unfolding heldBy
       none-due e =
           let r = along (passed (0 ∷ []) e) in
@@ -160,7 +160,7 @@ module _ (limit : ℕ) (bs : List ℕ) (k : Counts) (read : readPlan bs ≡ acce
           ap (heldTotal p) (r .holds .reads)
           ∙ all-fired limit p ok (r .ledger) (r .back) (ready-none p (r .ledger) (ap (ready p) (sym (r .holds .reads)) ∙ z))
 
-      nothing-ready : (figures : List ℕ) → readyOutcome limit bs end .answer ≡ done figures → heldBy limit bs p end ≡ 0 → NoneReady limit bs p end
+      nothing-ready : (figures : List ℕ) → readyOutcome limit bs end .answer ≡ done figures → heldBy limit p end ≡ 0 → NoneReady limit bs end
       unfolding heldBy
       nothing-ready fs e z =
           let l = theLedger limit bs k read end in
@@ -202,7 +202,7 @@ module _ (limit : ℕ) (bs : List ℕ) (k : Counts) (read : readPlan bs ≡ acce
   pub record Signalled (ws ws′ : List ℕ) : Type 0 where
     pub unforward : noneForward p (theLedger limit bs k read ws′) ≡ true
     pub plain : holdsNoDeviation p (theLedger limit bs k read ws′) ≡ true
-    pub held : heldBy limit bs p ws′ ≡ heldBy limit bs p ws
+    pub held : heldBy limit p ws′ ≡ heldBy limit p ws
     pub going : isOver p (theLedger limit bs k read ws′) ≡ false
 
   pub signalled : (ws : List ℕ) (a : SignalArguments) (figures : List ℕ) → callOutcome limit bs ws (signal a) .answer ≡ done figures
@@ -249,7 +249,7 @@ module _ (limit : ℕ) (bs : List ℕ) (k : Counts) (read : readPlan bs ≡ acce
     pub order-there : (ws : List ℕ) → Passes limit bs p ws
         → noneForward p (theLedger limit bs k read ws) ≡ true → holdsNoDeviation p (theLedger limit bs k read ws) ≡ true
         → (ts : List ℕ) × (isFiringOrder (firingCalls firer ts) (answersFrom limit bs ws (firingCalls firer ts)) ≡ true)
-        × NoneReady limit bs p (wordsFrom limit bs ws (firingCalls firer ts))
+        × NoneReady limit bs (wordsFrom limit bs ws (firingCalls firer ts))
     order-there ws h f n =
         let l = theLedger limit bs k read ws in
         let (ts, o, z) = some-order limit p ok (heldTotal p l) l (back ws f n h) (omega arith) in

@@ -64,24 +64,23 @@ unfoldable pub firingCalls : (TrackNumber → Society) → List TrackNumber → 
 firingCalls firer [] = []
 firingCalls firer (t ∷ ts) = fire (record { track = t; society = firer t }) ∷ firingCalls firer ts
 
-module _ (limit : ℕ) (bs : Bytes) (p : Plan) where
-  -- "entries held"
-  unfoldable pub heldBy : Words → ℕ
-  heldBy ws = heldTotal p (ledgerAt limit ws (trackCount p))
+-- "entries held"
+unfoldable pub heldBy : ℕ → Plan → Words → ℕ
+heldBy limit p ws = heldTotal p (ledgerAt limit ws (trackCount p))
 
-  -- "ready is 0"
-  abbrev pub NoneReady : Words → Type 0
-  NoneReady ws = readyOutcome limit bs ws .answer ≡ done (0 ∷ [])
+-- "ready is 0"
+abbrev pub NoneReady : ℕ → Bytes → Words → Type 0
+NoneReady limit bs ws = readyOutcome limit bs ws .answer ≡ done (0 ∷ [])
 
-  -- The claim about a list of calls on the words ws, answered rs, that left the words end
-  pub record Counted (ws : Words) (cs : List Call) (rs : List Answer) (end : Words) : Type 0 where
-    -- "any allowed firing order that goes on until ready is 0 has exactly as many firings as there were entries held"
-    pub exactly : isFiringOrder cs rs ≡ true → NoneReady end → length cs ≡ heldBy ws
-    -- "the number of retractions still due", at any point: other calls between the firings, refused ones too, change nothing here
-    pub still-due : firingsIn cs rs + heldBy end ≡ heldBy ws
-    -- ready, where it is not refused, is 0 exactly where none is due
-    pub none-due : NoneReady end → heldBy end ≡ 0
-    pub none-ready : (figures : List ℕ) → readyOutcome limit bs end .answer ≡ done figures → heldBy end ≡ 0 → NoneReady end
-    -- and what is asked of the ledger holds of the one that is left: so it can be counted from there again
-    pub unforward : noneForward p (ledgerAt limit end (trackCount p)) ≡ true
-    pub plain : holdsNoDeviation p (ledgerAt limit end (trackCount p)) ≡ true
+-- The claim about a list of calls on the words ws, answered rs, that left the words end
+pub record Counted (limit : ℕ) (bs : Bytes) (p : Plan) (ws : Words) (cs : List Call) (rs : List Answer) (end : Words) : Type 0 where
+  -- "any allowed firing order that goes on until ready is 0 has exactly as many firings as there were entries held"
+  pub exactly : isFiringOrder cs rs ≡ true → NoneReady limit bs end → length cs ≡ heldBy limit p ws
+  -- "the number of retractions still due", at any point: other calls between the firings, refused ones too, change nothing here
+  pub still-due : firingsIn cs rs + heldBy limit p end ≡ heldBy limit p ws
+  -- ready, where it is not refused, is 0 exactly where none is due
+  pub none-due : NoneReady limit bs end → heldBy limit p end ≡ 0
+  pub none-ready : (figures : List ℕ) → readyOutcome limit bs end .answer ≡ done figures → heldBy limit p end ≡ 0 → NoneReady limit bs end
+  -- and what is asked of the ledger holds of the one that is left: so it can be counted from there again
+  pub unforward : noneForward p (ledgerAt limit end (trackCount p)) ≡ true
+  pub plain : holdsNoDeviation p (ledgerAt limit end (trackCount p)) ≡ true

@@ -43,13 +43,13 @@ module _ (bs : List ℕ) (p : Plan) (ws : List ℕ) where
 
   -- that no track is forward, that no entry carries a deviation, and how many are held
   abbrev Holding : Bool → Bool → ℕ → Type 0
-  Holding backward plain n = (noneForward p ledger ≡ backward) × (holdsNoDeviation p ledger ≡ plain) × (heldBy entryLimit bs p ws ≡ n)
+  Holding backward plain n = (noneForward p ledger ≡ backward) × (holdsNoDeviation p ledger ≡ plain) × (heldBy entryLimit p ws ≡ n)
 
   -- the tracks fired in this order, each by this society: each firing is accepted, and ready is 0 after them
   abbrev Fired : ℕ → List ℕ → Type 0
   Fired society ts =
       (isFiringOrder (firingCalls (λ t. society) ts) (answersFrom entryLimit bs ws (firingCalls (λ t. society) ts)) ≡ true)
-      × NoneReady entryLimit bs p (wordsFrom entryLimit bs ws (firingCalls (λ t. society) ts))
+      × NoneReady entryLimit bs (wordsFrom entryLimit bs ws (firingCalls (λ t. society) ts))
 
 -- Plan P, after the events of the sample, and its signal.
 abbrev P : Plan
@@ -62,7 +62,7 @@ abbrev turnedP : List ℕ
 turnedP = 182 ∷ 633 ∷ 0 ∷ 0 ∷ undoingWith 1 50 ++ undoingWith 4 51 ++ undoingWith 6 52 ++ 7 ∷ 7 ∷ []
 
 -- the signal turns every forward track and drops no entry
-pub turned-P : (turnsEvery P 1 (ledger planP P eventsP) ≡ true) × (heldBy entryLimit planP P eventsP ≡ 3)
+pub turned-P : (turnsEvery P 1 (ledger planP P eventsP) ≡ true) × (heldBy entryLimit P eventsP ≡ 3)
     × (wordsFrom entryLimit planP eventsP (s 1 ∷ []) ≡ turnedP) × Holding planP P turnedP true true 3
 unfolding computing
 turned-P = (refl, refl, refl, (refl, refl, refl))
