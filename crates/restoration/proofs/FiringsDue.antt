@@ -1,11 +1,10 @@
 -- "Firings exactly, not at most.", on words: along every list of calls on words whose ledger has no forward track and holds no deviation, the firings done
 -- and the entries still held are those that were held, and ready is 0 exactly where none is. Words that are refused allow no firing. "After a signal that
 -- turns every forward track" is such a ledger, with all entries of the one before. Assumes nothing.
-use mathlib.Core.Path.{_≡_, refl, sym, ap, ap₂, _∙_, subst}
-use mathlib.Core.Logic.{inl, inr}
-use mathlib.Core.Bool.{true, false, not, _&&_, _||_}
+use mathlib.Core.Path.{_≡_, refl, sym, ap, _∙_, subst}
+use mathlib.Core.Bool.{true, false}
 use mathlib.Core.List.{List, [], _∷_}
-use Prim.Native.Nat.{ℕ, zero, suc, _+_, _<_, _≤_}
+use Prim.Native.Nat.{ℕ, zero, suc, _+_, _<_}
 use native.Mathlib.Omega.{arith}
 use lib.ListN.{length}
 use lib.Dec.{eqb}
@@ -14,30 +13,26 @@ use Rattle.rules.specs.declared.Counts.{Counts}
 use Rattle.rules.specs.Names.{Day}
 use Rattle.rules.specs.Plan.{Plan, trackCount, planOf}
 use Rattle.rules.specs.Acceptance.{accepted, readPlan}
-use Rattle.rules.specs.Rights.{signalRight, fireRight, isPermitted}
-use Rattle.rules.specs.Ledger.{Configuration, Ledger, isForward, ledgerAt}
+use Rattle.rules.specs.Rights.{fireRight, isPermitted}
+use Rattle.rules.specs.Ledger.{Ledger}
 use Rattle.rules.specs.Scope.{isOver}
-use Rattle.rules.specs.Signal.{turned, abandoned, afterSignal}
+use Rattle.rules.specs.Signal.{afterSignal}
 use Rattle.rules.specs.Fire.{mayFire, ready, afterFire}
 use Rattle.rules.specs.Leading.{lastDay}
-use Rattle.rules.specs.Call.{Answer, refusal, done, SignalArguments, FireArguments, Call, event, signal, fire, refusedOr, underPlan, ledgerRefusal, callRefusals, callRefusal, after, next, nextDay, callOutcome, readyOutcome}
+use Rattle.rules.specs.Call.{Answer, refusal, done, SignalArguments, FireArguments, Call, event, signal, fire, refusedOr, underPlan, ledgerRefusal, callRefusal, after, next, nextDay, callOutcome, readyOutcome}
 use Rattle.rules.specs.Transcript.{firingsOf, firingsIn, heldTotal}
 use Rattle.rules.specs.ReferenceRun.{wordsFrom, answersFrom}
-use Rattle.rules.specs.FiringsDue.{isPlain, holdsNoDeviation, noneForward, turnsEvery, isOrder, afterOrder, isFiringOrder, firingCalls, heldBy, NoneReady, Counted}
-use Rattle.rules.proofs.Tests.{look, clash, refuted, and-holds, and-both, implies}
-use Rattle.rules.proofs.Modes.{forward-awake}
-use Rattle.rules.proofs.Folds.{every-at}
+use Rattle.rules.specs.FiringsDue.{holdsNoDeviation, noneForward, turnsEvery, isOrder, afterOrder, isFiringOrder, firingCalls, heldBy, NoneReady, Counted}
+use Rattle.rules.proofs.Tests.{clash, refuted, and-holds, and-both}
 use Rattle.rules.proofs.Acceptance.{Accepted, accepts}
-use Rattle.rules.proofs.Finishing.{finish-not}
 use Rattle.rules.proofs.Ready.{may-fire, none-ready, ready-none}
-use Rattle.rules.proofs.LedgerChecks.{Passes, none-passes, passes-none, refused-first}
-use Rattle.theory.proofs.FiringsFall.{abandoned-held, abandoned-total}
+use Rattle.rules.proofs.LedgerChecks.{Passes, none-passes, passes-none}
 use Rattle.theory.proofs.SoundKept.{kept-sound, sound-not-over}
-use Rattle.restoration.proofs.Theorems01.{Sound, Kept, over-refused, turned-held, signal-forward, signal-sound, fire-accepted, next-accepted, next-refused}
-use Rattle.restoration.proofs.SoundWords.{theLedger, Holds, passes-holds, holds-passes, done-passes, outcome, call-accepted, call-refused, call-holds}
+use Rattle.restoration.proofs.Theorems01.{Sound, over-refused, fire-accepted, next-accepted, next-refused}
+use Rattle.restoration.proofs.SoundWords.{theLedger, Holds, passes-holds, holds-passes, done-passes, call-accepted, call-refused, call-holds}
 use Rattle.restoration.proofs.Allowed.{fire-allowed}
 use Rattle.restoration.proofs.Bound.{refused-firing, refused-all}
-use Rattle.restoration.proofs.Withdrawing.{Withdrawing, withdrawing, withdrawing-is, unended, none-held, all-fired, event-still, signal-still, fired-withdrawing, fired-one, signalled-sound, signalled-withdrawing, signalled-held, some-order}
+use Rattle.restoration.proofs.Withdrawing.{Withdrawing, withdrawing, withdrawing-is, none-held, all-fired, event-still, signal-still, fired-withdrawing, fired-one, signalled-sound, signalled-withdrawing, signalled-held, some-order}
 
 -- An order has as many firings as calls, and its calls are as many as its tracks.
 pub order-length : (cs : List Call) (rs : List Answer) → isFiringOrder cs rs ≡ true → firingsIn cs rs ≡ length cs

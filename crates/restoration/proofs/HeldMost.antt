@@ -1,7 +1,7 @@
 -- "No history, whatever its days and rights, makes the track hold more": along every list of calls from an accepted begin each track is on its way, so
 -- it holds no more than the path of its way has entries; and where the plan has no cycle, no path from its first state has more than `largest`.
 -- Assumes nothing.
-use mathlib.Core.Path.{_≡_, refl, ap, _∙_}
+use mathlib.Core.Path.{_≡_, refl}
 use mathlib.Core.Logic.{inl, inr}
 use mathlib.Core.Bool.{true, false, _&&_}
 use mathlib.Core.List.{List, [], _∷_}

@@ -3,22 +3,20 @@
 -- firing leads no track off its path. Assumes nothing.
 use mathlib.Core.Path.{_≡_, refl}
 use mathlib.Core.Logic.{inl, inr}
-use mathlib.Core.Bool.{Bool, true, false, cond, _&&_}
+use mathlib.Core.Bool.{Bool, true, false, cond}
 use mathlib.Core.List.{List, [], _∷_, _++_}
 use Prim.Native.Nat.{ℕ, _+_, _≤_}
 use native.Mathlib.Omega.{arith}
 use lib.ListN.{length}
 use lib.Dec.{eqb}
-use borrow.Author.Tests.{eqb-true, eq-eqb}
 use Rattle.rules.specs.Plan.{Plan, noState, transition, replacement, isHosting, firstState}
 use Rattle.rules.specs.Ledger.{Entry, Configuration, Ledger}
 use Rattle.rules.specs.Scope.{isOpen}
 use Rattle.rules.specs.Opening.{fresh}
 use Rattle.rules.specs.Event.{install}
-use Rattle.rules.specs.Fire.{newest, older}
 use Rattle.rules.specs.FiringsDue.{isPlain}
 use Rattle.rules.specs.Largest.{ofTransition, ofState, leaves, isPath, endOf, entriesAlong}
-use Rattle.rules.proofs.Tests.{look, and-holds, and-both}
+use Rattle.rules.proofs.Tests.{look}
 use Rattle.rules.proofs.Paths.{path-longer, end-longer, entries-longer}
 use Rattle.theory.proofs.Nesting.{Awake}
 use Rattle.restoration.proofs.Plain.{plain-none, plain-install}

@@ -11,7 +11,7 @@ use lib.ListN.{length}
 use lib.Dec.{eqb, ltb}
 use borrow.Author.Tests.{eqb-true, eqb-false, eq-eqb, lt-ltb, not-false}
 use Rattle.rules.specs.Names.{Day}
-use Rattle.rules.specs.Plan.{Plan, trackCount, transitionCount, noState, optional, transition, replacement, host, owner, isIn, isHosting}
+use Rattle.rules.specs.Plan.{Plan, trackCount, transitionCount, noState, transition, replacement, host, owner, isIn, isHosting}
 use Rattle.rules.specs.Ledger.{Configuration, Ledger, isAwake}
 use Rattle.rules.specs.Scope.{isOpen, isOver}
 use Rattle.rules.specs.Opening.{wakes, begun}

@@ -6,7 +6,7 @@ use mathlib.Core.Logic.{inl, inr}
 use mathlib.Core.Bool.{true, false, not, _&&_, _||_}
 use mathlib.Core.List.{List, [], _∷_, _++_}
 use mathlib.Core.Option.{none}
-use Prim.Native.Nat.{ℕ, zero, suc, _+_, _<_, _≤_}
+use Prim.Native.Nat.{ℕ, zero, suc, _+_, _≤_}
 use native.Mathlib.Omega.{arith}
 use lib.ListN.{length}
 use lib.Dec.{ltb}
@@ -15,7 +15,6 @@ use Rattle.rules.specs.Fold.{someBelow}
 use Rattle.rules.specs.Plan.{Plan, trackCount, isFinal}
 use Rattle.rules.specs.Rights.{signalRight, isPermitted}
 use Rattle.rules.specs.Ledger.{Configuration, Ledger, isAwake, isForward, isEmpty, sleeping}
-use Rattle.rules.specs.Scope.{isOver}
 use Rattle.rules.specs.Finish.{isFinishing, finished}
 use Rattle.rules.specs.Event.{EventArguments, move, moved, closed, afterEvent}
 use Rattle.rules.specs.Signal.{turned, abandoned, afterSignal}
