@@ -119,6 +119,34 @@ module _ (bs : List ℕ) (k : Counts) (read : readPlan bs ≡ accepted k) where
       (λ t b. ap length (part-is bs ws t (parts t) (told t b)) ∙ part-length entryLimit bs k read ws h t b)
       ∙ sum-twice (trackCount p) (λ t. length (ledger ws t .held))
 
+  -- for each track a society that may fire it
+  abbrev pub MayFire : (ℕ → ℕ) → Type 0
+  MayFire firer = (t : ℕ) → t < trackCount p → isPermitted p fireRight (firer t) t ≡ true
+
+  -- There is an order of as many firings as entries are held: whoever makes these calls has each of them done, and ready promises 0 after them
+  abbrev pub OrderFrom : List ℕ → (ℕ → ℕ) → Type 0
+  OrderFrom ws firer =
+      (ts : List ℕ) × (length ts ≡ held ws)
+      × ((rs : List Answer) (end : List ℕ) → Calls bs ws (firingCalls firer ts) rs end
+      → (isFiringOrder (firingCalls firer ts) rs ≡ true) × NoneReady entryLimit bs end)
+
+  order-from : (ws : List ℕ) → Passes entryLimit bs p ws → noneForward p (ledger ws) ≡ true → holdsNoDeviation p (ledger ws) ≡ true
+      → (firer : ℕ → ℕ) → MayFire firer → OrderFrom ws firer
+  order-from ws h f n firer able =
+      let (ts, o, z) = order-there entryLimit bs k read firer able ws h f n in
+      let fs = firingCalls firer ts in (
+        ts,
+        sym (calls-length firer ts) ∙ counted entryLimit bs k read ws f n fs .exactly o z,
+        λ rs end made.
+            let (e, q) = calls-follow bs made in
+            (ap (isFiringOrder fs) q ∙ o, ap (λ v. readyOutcome entryLimit bs v .answer) e ∙ z),
+      )
+
+  -- on any words that ready does not refuse
+  pub order-of-calls : (ws : List ℕ) (bits : ℕ) → ReadyIs bs ws bits → noneForward p (ledger ws) ≡ true → holdsNoDeviation p (ledger ws) ≡ true
+      → (firer : ℕ → ℕ) → MayFire firer → OrderFrom ws firer
+  order-of-calls ws bits z = order-from ws (ready-passes entryLimit bs k read ws (bits ∷ []) (ready-is bs ws bits z))
+
 -- "After a signal that turns every forward track", whose society is who it may be
 module _ (κs : Lfts 2) (a : ArgsD signal.signature κs) (r : ResD signal.signature κs) (s : AtExit (endedOf 2 signal-kinds.ps signal-kinds.r) κs)
     (post : signal-reads.Post κs a r s) (n : ℕ) (done-signal : r ≡ Turned n) (k : Counts) (read : readPlan (now (a .0)) ≡ accepted k)
@@ -152,35 +180,15 @@ module _ (κs : Lfts 2) (a : ArgsD signal.signature κs) (r : ResD signal.signat
     pub exactly-after-signal : isFiringOrder cs rs ≡ true → ReadyIs bs end 0 → length cs ≡ heldBy entryLimit (planOf bs k) before
     exactly-after-signal o z = counted-after .exactly o (ready-is bs end 0 z) ∙ signalled-of-call .held
 
--- There is such a list, after a begin that answered `Begun` and any calls, where each track may be fired by somebody
+-- There is such a list, after a begin that answered `Begun` and any calls
 module _ (κs : Lfts 2) (a : ArgsD begin.signature κs) (r : ResD begin.signature κs) (s : AtExit (endedOf 2 begin-kinds.ps begin-kinds.r) κs)
     (post : begin-reads.Post κs a r s) (done-begin : r ≡ Begun) {cs : List Call} {rs : List Answer} {ws : List ℕ}
-    (calls : Calls (now (a .0)) (now (s .1 .0)) cs rs ws) (k : Counts) (read : readPlan (now (a .0)) ≡ accepted k)
-    (f : noneForward (planOf (now (a .0)) k) (ledgerAt entryLimit ws (trackCount (planOf (now (a .0)) k))) ≡ true)
-    (n : holdsNoDeviation (planOf (now (a .0)) k) (ledgerAt entryLimit ws (trackCount (planOf (now (a .0)) k))) ≡ true)
-    (firer : ℕ → ℕ) (able : (t : ℕ) → t < trackCount (planOf (now (a .0)) k) → isPermitted (planOf (now (a .0)) k) fireRight (firer t) t ≡ true) where
-  abbrev plan-bytes : List ℕ
-  plan-bytes = now (a .0)
-
-  abbrev the-plan : Plan
-  the-plan = planOf plan-bytes k
-
-  passes : Passes entryLimit plan-bytes the-plan ws
-  passes =
-      subst (Passes entryLimit plan-bytes the-plan) (sym (words κs a r s post done-begin calls))
-      (holds-passes entryLimit plan-bytes k read _ _ _
-      (history-holds entryLimit plan-bytes k read (now (a .1 .0)) cs (begun κs a r s post done-begin calls)))
-
-  -- as many firings as entries are held; whoever makes these calls has each of them done, and what ready promises of the words they leave is 0
-  pub order-of-calls : (ts : List ℕ) × (length ts ≡ heldBy entryLimit the-plan ws)
-      × ((ss : List Answer) (end : List ℕ) → Calls plan-bytes ws (firingCalls firer ts) ss end
-      → (isFiringOrder (firingCalls firer ts) ss ≡ true) × NoneReady entryLimit plan-bytes end)
-  order-of-calls =
-      let (ts, o, z) = order-there entryLimit plan-bytes k read firer able ws passes f n in
-      let fs = firingCalls firer ts in (
-        ts,
-        sym (calls-length firer ts) ∙ counted entryLimit plan-bytes k read ws f n fs .exactly o z,
-        λ ss end h.
-            let (e, q) = calls-follow plan-bytes h in
-            (ap (isFiringOrder fs) q ∙ o, ap (λ v. readyOutcome entryLimit plan-bytes v .answer) e ∙ z),
-      )
+    (calls : Calls (now (a .0)) (now (s .1 .0)) cs rs ws) (k : Counts) (read : readPlan (now (a .0)) ≡ accepted k) where
+  pub order-after-begin : noneForward (planOf (now (a .0)) k) (ledgerAt entryLimit ws (trackCount (planOf (now (a .0)) k))) ≡ true
+      → holdsNoDeviation (planOf (now (a .0)) k) (ledgerAt entryLimit ws (trackCount (planOf (now (a .0)) k))) ≡ true
+      → (firer : ℕ → ℕ) → MayFire (now (a .0)) k read firer → OrderFrom (now (a .0)) k read ws firer
+  order-after-begin =
+      order-from (now (a .0)) k read ws
+      (subst (Passes entryLimit (now (a .0)) (planOf (now (a .0)) k)) (sym (words κs a r s post done-begin calls))
+      (holds-passes entryLimit (now (a .0)) k read _ _ _
+      (history-holds entryLimit (now (a .0)) k read (now (a .1 .0)) cs (begun κs a r s post done-begin calls))))
