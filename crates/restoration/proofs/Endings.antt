@@ -27,7 +27,7 @@ use Rattle.rules.proofs.Acceptance.{Accepted}
 use Rattle.rules.proofs.Scopes.{open-find, busy-at, root-of, root-none}
 use Rattle.rules.proofs.Opening.{enter-to}
 use Rattle.rules.proofs.Closing.{closing-final, closed-host, closed-root, closed-alike}
-use Rattle.rules.proofs.Abandoning.{bare-parts, left-kept, abandoned-root, abandoned-steady}
+use Rattle.rules.proofs.Abandoning.{bare-parts, left-kept, abandoned-root}
 use Rattle.rules.proofs.RightsLaws.{permitted-up}
 use Rattle.rules.proofs.Finishing.{Done, finishing-done, goes-on}
 use Rattle.rules.proofs.Ready.{may-fire}
@@ -37,7 +37,7 @@ use Rattle.theory.proofs.FiringNested.{fired-is, deviates-here}
 use Rattle.theory.proofs.ClosingNested.{closing-open, final-free}
 use Rattle.theory.proofs.SoundRetraction.{fired-root}
 use Rattle.restoration.proofs.Document01.{laws01}
-use Rattle.restoration.proofs.Theorems01.{Sound, moved-nested, closed-nested, turned-held, turned-same, signal-forward}
+use Rattle.restoration.proofs.Theorems01.{Sound, moved-nested, closed-nested, turned-held, turned-same, signal-forward, steady}
 
 module _ (p : Plan) (ok : Accepted p) (m : Ledger) (n : Nested p m) (f : isFinishing p m ≡ true) where
   done : Done p m
@@ -182,7 +182,7 @@ module _ (limit : ℕ) (p : Plan) (ok : Accepted p) (l : Ledger) (s : Sound limi
               (λ w.
               clash (and-both (isRoot p t) _ (root-of p t e) (and-both (isPermitted p signalRight (a .society) t) (isForward (l t .mode)) y w))
               (some-not (trackCount p) test x t b))))
-              ∙ abandoned-steady p ok l (λ z t u e g w. s .formed .nested .whole u t z g e ∙ w) (s .abandoning) in
+              ∙ steady limit p ok l s in
               clash (ap (isFinishing p) (sym same) ∙ f) (s .finish)
         ]
 

@@ -24,7 +24,7 @@ use Rattle.rules.proofs.Tests.{look, clash, refuted}
 use Rattle.rules.proofs.Modes.{forward-awake}
 use Rattle.rules.proofs.Acceptance.{Accepted}
 use Rattle.rules.proofs.Closing.{closed-done}
-use Rattle.rules.proofs.Abandoning.{awake-kept, abandoned-done}
+use Rattle.rules.proofs.Abandoning.{awake-kept, abandoned-done, abandoned-steady}
 use Rattle.rules.proofs.Finishing.{none-ended}
 use Rattle.rules.proofs.Ready as fireable
 use Rattle.theory.specs.Seams as seam
@@ -223,6 +223,10 @@ pub record Worked (p : Plan) (l : Ledger) : Type 0 where
   pub abandoning : (s : ℕ) → isAbandoning p l s ≡ false
 
 module _ (limit : ℕ) (p : Plan) (ok : Accepted p) (l : Ledger) (s : Sound limit p l) where
+  -- nothing is left to abandon
+  pub steady : abandoned p l ≡ l
+  steady = abandoned-steady p ok l (λ z t u e g a. s .formed .nested .whole u t z g e ∙ a) (s .abandoning)
+
   pub signal-sound : (a : SignalArguments) → isFinishing p (abandoned p (turned p (a .society) l)) ≡ false
       → Sound limit p (abandoned p (turned p (a .society) l))
   signal-sound a =

@@ -29,7 +29,7 @@ use Rattle.rules.proofs.Acceptance.{Accepted}
 use Rattle.rules.proofs.Moves.{move-idle}
 use Rattle.rules.proofs.Opening.{enter-none}
 use Rattle.rules.proofs.Closing.{closed-steady}
-use Rattle.rules.proofs.Abandoning.{awake-kept, abandoned-steady}
+use Rattle.rules.proofs.Abandoning.{awake-kept}
 use Rattle.rules.proofs.Finishing.{none-ended, finish-not}
 use Rattle.rules.proofs.Ready.{may-fire, fireable-not-over, none-ready, ready-none}
 use Rattle.theory.proofs.Entries.{older-less, empty-nil}
@@ -38,7 +38,7 @@ use Rattle.theory.proofs.FiringsFall.{abandoned-held, abandoned-total, removed-
 use Rattle.theory.proofs.SoundKept.{kept-sound}
 use Rattle.theory.proofs.Histories.{kept-progress}
 use Rattle.restoration.proofs.Document01.{laws01, unfinished01}
-use Rattle.restoration.proofs.Theorems01.{Sound, Kept, sleeping-asleep, sleeping-held, asleep-nothing, by-none, to-none, recorded, goes, moved-is, turned-held, turned-same, signal-forward, signal-sound, fire-sound}
+use Rattle.restoration.proofs.Theorems01.{Sound, Kept, sleeping-asleep, sleeping-held, asleep-nothing, by-none, to-none, recorded, goes, moved-is, turned-held, turned-same, signal-forward, steady, signal-sound, fire-sound}
 use Rattle.restoration.proofs.SoundLive.{kept-storable}
 use Rattle.restoration.proofs.Plain.{plain-none, plain-removed, fired-plain}
 
@@ -117,9 +117,6 @@ module _ (limit : ℕ) (p : Plan) (ok : Accepted p) where
 
     -- no event and no signal changes a track
     module _ (s : Sound limit p l) where
-      steady : abandoned p l ≡ l
-      steady = abandoned-steady p ok l (λ z t u e g a. s .formed .nested .whole u t z g e ∙ a) (s .abandoning)
-
       pub event-still : (a : EventArguments) → afterEvent p l a ≡ l
       unfolding afterEvent
       event-still a =
@@ -133,7 +130,7 @@ module _ (limit : ℕ) (p : Plan) (ok : Accepted p) where
       unfolding afterSignal
       signal-still society =
           ap (λ m. finished p (abandoned p m)) (turned-same p ok (record { society = society }) l (λ t y. w .backward t))
-          ∙ ap (finished p) steady ∙ finish-not p l (s .finish)
+          ∙ ap (finished p) (steady limit p ok l s) ∙ finish-not p l (s .finish)
 
     -- a firing removes an entry
     module _ (t : ℕ) (may : mayFire p l t ≡ true) where
