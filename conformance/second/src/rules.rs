@@ -209,6 +209,11 @@ pub fn fire(plan: &Plan, ledger: &mut Ledger, track: u16, society: u16) -> Resul
     let exists = track < plan.track_count();
     let entitled = !exists || plan.allows(society, Right::Fire, track);
     demand(entitled, Refusal::NoRight)?;
+    fire_freely(plan, ledger, track)
+}
+
+/// The same with rights left aside; none of an over ledger may be fired.
+pub fn fire_freely(plan: &Plan, ledger: &mut Ledger, track: usize) -> Result<Entry, Refusal> {
     demand(may_fire(plan, ledger, track), Refusal::NotReady)?;
     let entry = ledger.tracks[track].remove().ok_or(Refusal::NotReady)?;
     if entry.deviation != NONE {

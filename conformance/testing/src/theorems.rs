@@ -22,8 +22,42 @@ pub fn statement(fields: &[&str]) -> Option<String> {
             let given = format!("{} {}", bytes(plan)?, bytes(journal)?);
             format!("RunAgrees {given} {}", bytes(output)?)
         }
+        ["W", plan, counts, before, society, tests, held] => {
+            let given = read(plan, counts, before)?;
+            format!(
+                "WithdrawalAgrees {given} {society} {} {held}",
+                truths(tests)?
+            )
+        }
+        ["O", plan, counts, before, tracks, "no"] => {
+            let given = read(plan, counts, before)?;
+            format!("NoOrder {given} {}", numbers(tracks)?)
+        }
+        ["O", plan, counts, before, tracks, left] => {
+            let given = read(plan, counts, before)?;
+            let left = left.strip_prefix('D')?.replace(',', " ");
+            format!("OrderAgrees {given} {} {left}", numbers(tracks)?)
+        }
         _ => return None,
     })
+}
+
+/// A plan, its counts and the words of a ledger.
+fn read(plan: &str, counts: &str, before: &str) -> Option<String> {
+    let counts = counts.strip_prefix('A')?.replace(',', " ");
+    let (plan, before) = (bytes(plan)?, words(before)?);
+    Some(format!("{plan} (countsOf {counts}) {before}"))
+}
+
+/// 1 is true, 0 is false.
+fn truths(text: &str) -> Option<String> {
+    let truth = |digit| match digit {
+        "1" => Some("true"),
+        "0" => Some("false"),
+        _ => None,
+    };
+    let truths: Option<Vec<&str>> = parts(text, ',').map(truth).collect();
+    Some(truths?.join(" "))
 }
 
 /// The same for a single call, with the plan and the ledger it was given; a

@@ -10,14 +10,16 @@ use crate::generate::paths;
 use crate::generate::plans;
 use crate::generate::rng::Rng;
 use crate::generate::singles::{self, Call};
+use crate::generate::societies;
+use crate::generate::withdrawals;
 use crate::samples;
 use second::days::Date;
 use second::journal::{self, Record};
-use second::ledger::{Entry, Ledger};
+use second::ledger::{Entry, Ledger, Mode, Track};
 use second::manager::{self, Answer};
 use second::paths::Largest;
-use second::plan::{self, Plan};
-use second::rules::Moved;
+use second::plan::{self, Plan, Right, NONE};
+use second::rules::{self, Moved};
 
 /// Percent of histories and runs that are short and end half withdrawn.
 const HALF_WITHDRAWN: usize = 6;
@@ -125,6 +127,60 @@ pub fn unwind_line(rng: &mut Rng, limit: usize) -> String {
     let output = journal::unwind(&case.plan, &case.journal);
     let (plan, journal) = (byte_hex(&case.plan), byte_hex(&case.journal));
     format!("U;{plan};{journal};{}", byte_hex(&output))
+}
+
+/// `W;plan;counts;words;society;tests;held`: of a sound ledger whether no entry
+/// held carries a deviation, whether no track is forward, whether the society may
+/// turn every forward one, and how many entries are held.
+pub fn withdrawal_line(rng: &mut Rng, limit: usize) -> String {
+    let (bytes, ledger) = withdrawals::small(rng, limit);
+    let plan = plan::read(&bytes).expect("a good plan is accepted");
+    let society = if rng.chance(80) {
+        societies::any(rng, &plan)
+    } else {
+        societies::stranger(rng, &plan)
+    };
+    let words = word_hex(&ledgers::lend(rng, &ledger));
+    let tests = tests_text(&plan, &ledger, society);
+    let (bytes, counts) = (byte_hex(&bytes), accepted_text(&plan));
+    let held = ledger.total_held();
+    format!("W;{bytes};{counts};{words};{society};{tests};{held}")
+}
+
+/// The three tests, 1 where it is so and 0 where not.
+fn tests_text(plan: &Plan, ledger: &Ledger, society: u16) -> String {
+    let mut entries = ledger.tracks.iter().flat_map(Track::entries);
+    let free = entries.all(|entry| entry.deviation == NONE);
+    let forward = |&t: &usize| ledger.tracks[t].mode == Mode::Forward;
+    let forward: Vec<usize> = (0..plan.track_count()).filter(forward).collect();
+    let turns = |&t: &usize| plan.allows(society, Right::Signal, t);
+    let tests = [free, forward.is_empty(), forward.iter().all(turns)];
+    tests.map(|test| u8::from(test).to_string()).join(",")
+}
+
+/// `O;plan;counts;words;tracks;answer`: whether the tracks can be fired one after
+/// the other, rights aside: ready's number and the entries held after that, or
+/// `no`.
+pub fn order_line(rng: &mut Rng, limit: usize) -> String {
+    let (bytes, ledger) = withdrawals::small(rng, limit);
+    let plan = plan::read(&bytes).expect("a good plan is accepted");
+    let tracks = withdrawals::order(rng, &plan, &ledger);
+    let words = word_hex(&ledgers::lend(rng, &ledger));
+    let answer = order_text(&plan, ledger, &tracks);
+    let (bytes, counts) = (byte_hex(&bytes), accepted_text(&plan));
+    let tracks: Vec<String> = tracks.iter().map(u16::to_string).collect();
+    format!("O;{bytes};{counts};{words};{};{answer}", tracks.join(","))
+}
+
+/// What firing the tracks leaves.
+fn order_text(plan: &Plan, mut ledger: Ledger, tracks: &[u16]) -> String {
+    for &track in tracks {
+        if rules::fire_freely(plan, &mut ledger, usize::from(track)).is_err() {
+            return "no".to_string();
+        }
+    }
+    let ready = rules::ready(plan, &ledger);
+    format!("D{ready},{}", ledger.total_held())
 }
 
 fn begin(plan: &[u8], words: &mut [u16]) -> String {

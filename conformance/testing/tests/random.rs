@@ -1,5 +1,7 @@
 //! Generated cases against what must hold of all of them.
 
+use std::collections::BTreeMap;
+
 use second::days::Term;
 use second::journal::{self, Outcome, Record};
 use second::ledger::{self, Clause, Ledger, Mode, Track};
@@ -10,7 +12,7 @@ use second::rules;
 use testing::coverage;
 use testing::generate::rng::Rng;
 use testing::generate::singles::{self, Call, Single};
-use testing::generate::{damage, journals, ledgers, neighbours, plans, societies};
+use testing::generate::{damage, journals, ledgers, neighbours, plans, societies, withdrawals};
 use testing::vectors;
 
 #[test]
@@ -602,14 +604,89 @@ fn largest_numbers_are_found_and_refused() {
 }
 
 #[test]
+fn ledgers_of_withdrawals_are_of_every_sort() {
+    let mut sorts: BTreeMap<(String, bool), u32> = BTreeMap::new();
+    for index in 0..2_000 {
+        let line = vectors::withdrawal_line(&mut Rng::for_case(7, 20, index), 3);
+        let fields: Vec<&str> = line.split(';').collect();
+        let sort = (fields[5].to_string(), fields[6] == "0");
+        *sorts.entry(sort).or_default() += 1;
+    }
+    // Where nothing is held no deviation is, and where none is forward all are
+    // turned.
+    assert_eq!(sorts.len(), 9, "{sorts:?}");
+    assert!(sorts.values().all(|&count| count > 30), "{sorts:?}");
+}
+
+#[test]
+fn orders_of_firing_go_on_stop_and_are_none() {
+    let (mut ended, mut long, mut early, mut none) = (0, 0, 0, 0);
+    for index in 0..2_000 {
+        let line = vectors::order_line(&mut Rng::for_case(7, 21, index), 3);
+        let fields: Vec<&str> = line.split(';').collect();
+        match fields[5] {
+            "no" => none += 1,
+            answer if answer.starts_with("D0,") => {
+                ended += 1;
+                long += u32::from(fields[4].split(',').count() >= 3);
+            }
+            _ => early += 1,
+        }
+    }
+    assert!(ended > 800 && long > 100, "{ended} {long}");
+    assert!(early > 100 && none > 500, "{early} {none}");
+}
+
+/// Why the first of these tracks that may not be fired may not; none where all
+/// may, one after the other.
+fn obstacle(plan: &Plan, mut ledger: Ledger, tracks: &[u16]) -> Option<&'static str> {
+    for (fired, &track) in tracks.iter().enumerate() {
+        let track = usize::from(track);
+        if rules::fire_freely(plan, &mut ledger, track).is_ok() {
+            continue;
+        }
+        return Some(match ledger.tracks.get(track) {
+            None => "no track",
+            Some(own) if own.mode == Mode::Asleep => "asleep",
+            Some(own) if own.mode == Mode::Forward => "forward",
+            Some(own) if own.held() > 0 => "a host before its branches",
+            _ if fired > 0 && rules::ready(plan, &ledger) == 0 => "one too many",
+            _ => "nothing held",
+        });
+    }
+    None
+}
+
+#[test]
+fn small_ledgers_are_sound_and_orders_fail_in_every_way() {
+    let mut obstacles = BTreeMap::new();
+    for index in 0..4_000 {
+        let mut rng = Rng::for_case(7, 22, index);
+        let limit = rng.between(1, 4);
+        let (bytes, ledger) = withdrawals::small(&mut rng, limit);
+        let plan = plan::read(&bytes).expect("accepted");
+        assert!(plan.track_count() <= limit);
+        assert!(ledger::is_sound(&plan, &ledger.words()));
+        let tracks = withdrawals::order(&mut rng, &plan, &ledger);
+        let obstacle = obstacle(&plan, ledger, &tracks);
+        *obstacles.entry(obstacle).or_insert(0) += 1;
+    }
+    assert_eq!(obstacles.len(), 7, "{obstacles:?}");
+    let rarest = obstacles.values().min();
+    assert!(rarest > Some(&25), "{obstacles:?}");
+}
+
+#[test]
 fn lines_are_made_again_from_the_same_seed() {
-    let lines: [fn(&mut Rng, usize) -> String; 4] = [
+    let lines: [fn(&mut Rng, usize) -> String; 6] = [
         vectors::history_line,
         vectors::plan_line,
         vectors::single_line,
         vectors::unwind_line,
+        vectors::withdrawal_line,
+        vectors::order_line,
     ];
-    let fields = [6, 3, 6, 4];
+    let fields = [6, 3, 6, 4, 7, 6];
     for (line, fields) in lines.into_iter().zip(fields) {
         for index in 0..50 {
             let first = line(&mut Rng::for_case(1, 9, index), 4);

@@ -161,6 +161,46 @@ fn largest_numbers_of_entries_are_an_answer_and_a_figure() {
     assert!(refused.contains(&says), "{refused}");
 }
 
+#[test]
+fn withdrawals_are_three_tests_and_a_number() {
+    let line = "W;0400;A2,6,5,0,2;00010002;65535;1,0,1;33\n";
+    let expected = format!(
+        "-- {line}\
+         pub case-0 : WithdrawalAgrees (4 ∷ 0 ∷ []) (countsOf 2 6 5 0 2) (1 ∷ 2 ∷ []) \
+         65535 true false true 33\n\
+         unfolding computing\ncase-0 = (refl, refl, refl, refl)\n"
+    );
+    assert_eq!(theorems("withdrawal", line), Some(expected));
+    assert_eq!(theorems("no-test", "W;;A1,1,0,0,0;;1;1,2,1;0\n"), None);
+}
+
+#[test]
+fn orders_of_firing_leave_two_numbers_or_are_none() {
+    let given = "0400;A2,6,5,0,2;00010002";
+    let says = "(4 ∷ 0 ∷ []) (countsOf 2 6 5 0 2) (1 ∷ 2 ∷ [])";
+    let lines = format!("O;{given};1,0,1;D2,3\nO;{given};0,65535;no\n");
+    let text = theorems("orders", &lines).expect("theorems");
+    let order = format!("pub case-0 : OrderAgrees {says} (1 ∷ 0 ∷ 1 ∷ []) 2 3\n");
+    assert!(text.contains(&order), "{text}");
+    assert!(text.contains("\ncase-0 = (refl, refl, refl)\n"), "{text}");
+    let none = format!("pub case-1 : NoOrder {says} (0 ∷ 65535 ∷ [])\n");
+    assert!(text.contains(&none), "{text}");
+    assert!(text.ends_with("\ncase-1 = refl\n"), "{text}");
+    let empty = theorems("empty-order", &format!("O;{given};;D0,0\n"));
+    let says = format!("OrderAgrees {says} ([]) 0 0\n");
+    assert!(empty.expect("theorems").contains(&says));
+}
+
+#[test]
+fn orders_with_many_firings_are_dropped() {
+    let plan = "06000100ffff0a00020000000000000004000400";
+    let line = |tracks: &str| format!("O;{plan};A1,1,0,0,0;;{tracks};no\n");
+    let many = ["0"; 50].join(",");
+    let text = theorems("many", &(line(&many) + &line("0"))).expect("theorems");
+    assert_eq!(text.matches("pub case-").count(), 1);
+    assert!(text.contains("pub case-1 : NoOrder"), "{text}");
+}
+
 /// The theorem of one conversion.
 fn conversion(name: &str, line: &str) -> String {
     let text = theorems(name, line).expect("theorems");

@@ -7,7 +7,8 @@
 //! accepted plans, calls on sound ledgers, on those with roots in both modes
 //! and on those of other plans, events that windows or days have a say in, calls
 //! that rights have a say in, plans refused for their rights, largest numbers of
-//! entries, plans that have none, and conversions: of each sort as many different
+//! entries, plans that have none, what is asked of withdrawals, orders of firing,
+//! lists of tracks that are none, and conversions: of each sort as many different
 //! ones as there are. Cases too large to be computed quickly are dropped.
 
 use std::collections::{BTreeSet, HashMap};
@@ -20,7 +21,7 @@ use second::days::Term;
 use second::journal::{self, Record, Records};
 use second::ledger::{self, track_words, Clause, Ledger, Mode};
 use second::paths::{self, Largest};
-use second::plan::{self, Plan, Right};
+use second::plan::{self, Plan, Right, NONE};
 use second::rules;
 use testing::faults::{self, RightsFault};
 use testing::generate::journals::windows_met;
@@ -33,14 +34,15 @@ const FILE: usize = 30;
 const IMPORTS: &str = "\
 use mathlib.Core.Path.{refl}
 use mathlib.Core.List.{[], _∷_}
+use mathlib.Core.Bool.{true, false}
 use lib.IntN.{pos, negsuc}
 use Rattle.rules.specs.Acceptance.{turnedBack}
 use Rattle.rules.specs.Call.{refusal, done}
 use Rattle.rules.specs.Largest as bounds
 use Rattle.starred.specs.Computing.{computing}
-use Rattle.agreement.specs.Statements.{e, f, s, acceptedWith, \
+use Rattle.agreement.specs.Statements.{e, f, s, countsOf, acceptedWith, \
     HistoryAgrees, PlanAgrees, CallAgrees, ReadyAgrees, EntriesAgree, RunAgrees, \
-    LargestAgrees, DateIs, NoDate, DayIs, NoDay}
+    LargestAgrees, WithdrawalAgrees, OrderAgrees, NoOrder, DateIs, NoDate, DayIs, NoDay}
 ";
 
 /// What is unfolded beside that where the largest number of entries is computed.
@@ -81,6 +83,12 @@ enum Sort {
     Unbounded,
     /// A plan refused otherwise where that number was asked for.
     NoLargest,
+    /// What is asked of a ledger in a withdrawal.
+    Withdrawal,
+    /// An order of firing.
+    Order,
+    /// Tracks that are no order of firing.
+    NoOrder,
     /// A conversion of a day or a date.
     Conversion,
     /// An event, a signal or a firing that is done with roots in both modes:
@@ -99,7 +107,7 @@ struct Share {
     limit: usize,
 }
 
-fn shares(histories: usize, plans: usize, ledgers: usize) -> [Share; 21] {
+fn shares(histories: usize, plans: usize, ledgers: usize) -> [Share; 24] {
     let share = |sort, name, wanted, limit| Share {
         sort,
         name,
@@ -163,6 +171,14 @@ fn shares(histories: usize, plans: usize, ledgers: usize) -> [Share; 21] {
         ),
         share(Sort::Unbounded, "plans refused as 29", plans / 10, 240),
         share(Sort::NoLargest, "plans refused before 29", plans / 40, 240),
+        share(
+            Sort::Withdrawal,
+            "ledgers of withdrawals",
+            ledgers / 10,
+            240,
+        ),
+        share(Sort::Order, "orders of firing", ledgers / 8, 1000),
+        share(Sort::NoOrder, "no orders of firing", ledgers / 10, 1000),
     ]
 }
 
@@ -179,7 +195,7 @@ fn fields_of(line: &str) -> Vec<&str> {
 }
 
 /// The sort of a case and its size: the bytes of the plan, read once for
-/// the begin and once for each call; for the date of a day, the days before it.
+/// the begin and once for each call, or once more for each firing of an order; for the date of a day, the days before it.
 fn sort_of(fields: &[&str]) -> Option<(Sort, usize)> {
     let plan = fields.get(1)?.len() / 2;
     Some(match *fields {
@@ -227,6 +243,12 @@ fn sort_of(fields: &[&str]) -> Option<(Sort, usize)> {
         }
         ["L", _, _, call, answer, _] if is_undoing(call, answer) => (Sort::Undoing, plan),
         ["L", _, _, _, _, _] => (Sort::Other, plan),
+        ["W", _, _, _, _, _, _] => (Sort::Withdrawal, plan),
+        ["O", _, _, _, tracks, answer] => {
+            let none = answer == "no";
+            let sort = if none { Sort::NoOrder } else { Sort::Order };
+            (sort, plan * (1 + parts(tracks, ',').count()))
+        }
         _ => return None,
     })
 }
@@ -410,7 +432,9 @@ fn differing(plan: &str, words: &str) -> Vec<&'static str> {
 /// it, a call what it changes, how the roots stand where they are in both modes
 /// and the windows that it meets, the clauses violated or the leading words
 /// that are not the plan's, a largest number of entries its path or why there is
-/// none, a conversion what sort of day or date it is given.
+/// none, a withdrawal its tests, how much is held and by whom, an order what its
+/// firings do or why it is none, a conversion what sort of day or date it is
+/// given.
 fn shows(fields: &[&str]) -> String {
     match *fields {
         ["H", plan, _, calls, answers, _] => {
@@ -461,7 +485,69 @@ fn shows(fields: &[&str]) -> String {
             Ok(plan) if answer == "R28" => right_lacked(&plan, &numbers(before, 4), call),
             _ => outcome(call, answer),
         },
+        ["W", plan, _, words, _, tests, _] => {
+            let read = read(plan, words);
+            read.map_or(String::new(), |(plan, ledger)| {
+                format!("{tests} {}", holding(&plan, &ledger))
+            })
+        }
+        ["O", plan, _, words, tracks, _] => {
+            let tracks = parts(tracks, ',').filter_map(|t| t.parse().ok());
+            let read = read(plan, words);
+            read.map_or(String::new(), |(plan, ledger)| {
+                firings(&plan, ledger, &tracks.collect::<Vec<usize>>())
+            })
+        }
         _ => String::new(),
+    }
+}
+
+/// A plan and a ledger of it.
+fn read(plan: &str, words: &str) -> Option<(Plan, Ledger)> {
+    let plan = plan::read(&numbers(plan, 2)).ok()?;
+    let ledger = Ledger::decode(&plan, &numbers(words, 4));
+    Some((plan, ledger))
+}
+
+/// Whether a ledger is over, holds no entry, one or more, and holds some in a
+/// hosted track.
+fn holding(plan: &Plan, ledger: &Ledger) -> String {
+    let held = ledger.total_held().min(2);
+    let mut tracks = 0..plan.track_count();
+    let hosted = tracks.any(|t| !plan.is_root(t) && ledger.tracks[t].held() > 0);
+    format!("{} {held} {hosted}", ledger.is_over())
+}
+
+/// Of firings one after the other: how many there are, whether some are of hosted
+/// tracks, deviate or put tracks to sleep, and whether the last leaves none ready
+/// or the ledger over; of the first that may not be done, why it may not.
+fn firings(plan: &Plan, mut ledger: Ledger, tracks: &[usize]) -> String {
+    let awake = |ledger: &Ledger| ledger.tracks.iter().filter(|t| t.is_awake()).count();
+    let before = awake(&ledger);
+    let mut deviates = false;
+    for (fired, &track) in tracks.iter().enumerate() {
+        match rules::fire_freely(plan, &mut ledger, track) {
+            Ok(entry) => deviates |= entry.deviation != NONE,
+            Err(_) => return format!("{} {}", obstacle(plan, &ledger, track), fired > 0),
+        }
+    }
+    let firings = tracks.len().min(3);
+    let hosted = tracks.iter().any(|&t| !plan.is_root(t));
+    let (none, over) = (rules::ready(plan, &ledger) == 0, ledger.is_over());
+    let sleeps = awake(&ledger) < before;
+    format!("{firings} {hosted} {deviates} {sleeps} {none} {over}")
+}
+
+/// Why a track may not be fired.
+fn obstacle(plan: &Plan, ledger: &Ledger, track: usize) -> String {
+    if track >= plan.track_count() {
+        return "no track".to_string();
+    }
+    let own = &ledger.tracks[track];
+    let open = ledger.has_open_scope(plan, track);
+    match own.mode {
+        Mode::Undoing => format!("{} {open}", own.held() > 0),
+        mode => format!("{mode:?}"),
     }
 }
 
@@ -640,13 +726,16 @@ fn choose(share: &Share, lines: &[Line]) -> (Vec<Case>, usize) {
 
 /// A case's theorem, under the line that it comes from. A history's has two
 /// parts, its answers and its words, and so has a largest number's, its answer
-/// and its figure.
+/// and its figure. A withdrawal's has four, three tests and a number, an order's
+/// three, that it is one, ready's number and the entries held.
 fn theorem(sort: Sort, case: &Case) -> Option<String> {
     let Case { number, line, .. } = case;
     let says = statement(&fields_of(line))?;
     let (unfolded, proof) = match sort {
         Sort::History | Sort::HalfWithdrawn => (String::new(), "(refl, refl)"),
         Sort::Largest | Sort::Unbounded | Sort::NoLargest => (format!(" {BOUNDS}"), "(refl, refl)"),
+        Sort::Withdrawal => (String::new(), "(refl, refl, refl, refl)"),
+        Sort::Order => (String::new(), "(refl, refl, refl)"),
         _ => (String::new(), "refl"),
     };
     let name = format!("case-{number}");

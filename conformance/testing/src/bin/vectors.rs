@@ -1,7 +1,8 @@
 //! `vectors SEED HISTORIES SINGLES DAMAGED [TRACKS]`: prints HISTORIES lines
 //! `H`, DAMAGED lines `P`, SINGLES lines `L`, HISTORIES lines `U`, HISTORIES
-//! lines `L` of conversions and HISTORIES lines `L` of the largest number of
-//! entries. TRACKS limits the tracks of the plans but for the last.
+//! lines `L` of conversions, HISTORIES lines `L` of the largest number of entries,
+//! HISTORIES lines `W` and HISTORIES lines `O`. TRACKS limits the tracks of the
+//! plans but for those of the largest numbers.
 
 use std::io::{self, BufWriter, Write};
 use std::process::ExitCode;
@@ -45,6 +46,12 @@ fn print_all(numbers: &[u64]) -> io::Result<()> {
     })?;
     print_lines(&mut out, (seed, 15), histories, vectors::conversion_line)?;
     print_lines(&mut out, (seed, 16), histories, vectors::small_largest_line)?;
+    print_lines(&mut out, (seed, 17), histories, |r| {
+        vectors::withdrawal_line(r, limit)
+    })?;
+    print_lines(&mut out, (seed, 18), histories, |r| {
+        vectors::order_line(r, limit)
+    })?;
     out.flush()
 }
 
