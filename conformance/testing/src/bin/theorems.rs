@@ -194,8 +194,9 @@ fn fields_of(line: &str) -> Vec<&str> {
     line.split(';').collect()
 }
 
-/// The sort of a case and its size: the bytes of the plan, read once for
-/// the begin and once for each call, or once more for each firing of an order; for the date of a day, the days before it.
+/// The sort of a case and its size: the bytes of the plan, read once for the
+/// begin and once for each call, and taken once more for each firing of an
+/// order; for the date of a day, the days before it.
 fn sort_of(fields: &[&str]) -> Option<(Sort, usize)> {
     let plan = fields.get(1)?.len() / 2;
     Some(match *fields {
@@ -245,8 +246,8 @@ fn sort_of(fields: &[&str]) -> Option<(Sort, usize)> {
         ["L", _, _, _, _, _] => (Sort::Other, plan),
         ["W", _, _, _, _, _, _] => (Sort::Withdrawal, plan),
         ["O", _, _, _, tracks, answer] => {
-            let none = answer == "no";
-            let sort = if none { Sort::NoOrder } else { Sort::Order };
+            let is_order = answer != "no";
+            let sort = if is_order { Sort::Order } else { Sort::NoOrder };
             (sort, plan * (1 + parts(tracks, ',').count()))
         }
         _ => return None,
