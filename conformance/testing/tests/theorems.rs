@@ -193,8 +193,10 @@ fn orders_of_firing_leave_two_numbers_or_are_none() {
 
 #[test]
 fn orders_with_many_firings_are_dropped() {
+    // One root in one state, and a ledger that is over.
     let plan = "06000100ffff0a00020000000000000004000400";
-    let line = |tracks: &str| format!("O;{plan};A1,1,0,0,0;;{tracks};no\n");
+    let zeros = "0000".repeat(71);
+    let line = |tracks: &str| format!("O;{plan};A1,1,0,0,0;{zeros};{tracks};no\n");
     let many = ["0"; 50].join(",");
     let text = theorems("many", &(line(&many) + &line("0"))).expect("theorems");
     assert_eq!(text.matches("pub case-").count(), 1);
