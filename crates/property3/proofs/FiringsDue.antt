@@ -26,10 +26,10 @@ use Rattle.rules.specs.Ledger.{Ledger, ledgerAt}
 use Rattle.rules.specs.Call.{Answer, done, SignalArguments, Call, readyOutcome, entriesPart}
 use Rattle.rules.specs.Answers.{signalTold, readyTold}
 use Rattle.rules.specs.Transcript.{firingsIn, heldTotal}
-use Rattle.rules.specs.FiringsDue.{holdsNoDeviation, noneForward, turnsEvery, isFiringOrder, firingCalls, heldBy, NoneReady, Counted}
+use Rattle.rules.specs.FiringsDue.{holdsNoDeviation, noneForward, turnsEvery, isFiringOrder, firingCalls, heldBy, NoneReady, FiresExactly, Counted}
 use Rattle.rules.proofs.Folds.{sum-same}
 use Rattle.rules.proofs.LedgerChecks.{Passes}
-use Rattle.restoration.proofs.FiringsDue.{calls-length, ready-passes, counted, Signalled, signalled, order-there}
+use Rattle.restoration.proofs.FiringsDue.{calls-length, ready-passes, counted, fires-exactly-of-words, Signalled, signalled, order-there}
 use Rattle.restoration.proofs.Restoration.{history-holds}
 use Rattle.restoration.proofs.SoundWords.{holds-passes}
 use Rattle.isolation.proofs.Readings.{part-length}
@@ -118,6 +118,12 @@ module _ (bs : List ℕ) (k : Counts) (read : readPlan bs ≡ accepted k) where
       sum-same (trackCount p) (λ t. length (parts t)) (λ t. 2 * length (ledger ws t .held))
       (λ t b. ap length (part-is bs ws t (parts t) (told t b)) ∙ part-length entryLimit bs k read ws h t b)
       ∙ sum-twice (trackCount p) (λ t. length (ledger ws t .held))
+
+  -- rights aside: every order on words that ready does not refuse
+  pub fires-exactly-of-ready : (ws : List ℕ) (bits : ℕ) → ReadyIs bs ws bits → noneForward p (ledger ws) ≡ true → holdsNoDeviation p (ledger ws) ≡ true
+      → FiresExactly p (ledger ws)
+  fires-exactly-of-ready ws bits z =
+      fires-exactly-of-words entryLimit bs k read ws (ready-passes entryLimit bs k read ws (bits ∷ []) (ready-is bs ws bits z))
 
   -- for each track a society that may fire it
   abbrev pub MayFire : (ℕ → ℕ) → Type 0

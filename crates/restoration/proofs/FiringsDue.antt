@@ -22,17 +22,17 @@ use Rattle.rules.specs.Leading.{lastDay}
 use Rattle.rules.specs.Call.{Answer, refusal, done, SignalArguments, FireArguments, Call, event, signal, fire, refusedOr, underPlan, ledgerRefusal, callRefusal, after, next, nextDay, callOutcome, readyOutcome}
 use Rattle.rules.specs.Transcript.{firingsOf, firingsIn, heldTotal}
 use Rattle.rules.specs.ReferenceRun.{wordsFrom, answersFrom}
-use Rattle.rules.specs.FiringsDue.{holdsNoDeviation, noneForward, turnsEvery, isOrder, afterOrder, isFiringOrder, firingCalls, heldBy, NoneReady, Counted}
+use Rattle.rules.specs.FiringsDue.{holdsNoDeviation, noneForward, turnsEvery, isOrder, afterOrder, isFiringOrder, firingCalls, heldBy, NoneReady, FiresExactly, Counted}
 use Rattle.rules.proofs.Tests.{clash, refuted, and-holds, and-both}
 use Rattle.rules.proofs.Acceptance.{Accepted, accepts}
 use Rattle.rules.proofs.Ready.{may-fire, none-ready, ready-none}
 use Rattle.rules.proofs.LedgerChecks.{Passes, none-passes, passes-none}
 use Rattle.theory.proofs.SoundKept.{kept-sound, sound-not-over}
 use Rattle.restoration.proofs.Theorems01.{Sound, over-refused, fire-accepted, next-accepted, next-refused}
-use Rattle.restoration.proofs.SoundWords.{theLedger, Holds, passes-holds, holds-passes, done-passes, call-accepted, call-refused, call-holds}
+use Rattle.restoration.proofs.SoundWords.{theLedger, Holds, passes-holds, holds-passes, done-passes, done-accepted, call-accepted, call-refused, call-holds}
 use Rattle.restoration.proofs.Allowed.{fire-allowed}
 use Rattle.restoration.proofs.Bound.{refused-firing, refused-all}
-use Rattle.restoration.proofs.Withdrawing.{Withdrawing, withdrawing, withdrawing-is, none-held, all-fired, event-still, signal-still, fired-withdrawing, fired-one, signalled-sound, signalled-withdrawing, signalled-held, some-order}
+use Rattle.restoration.proofs.Withdrawing.{Withdrawing, withdrawing, withdrawing-is, none-held, all-fired, event-still, signal-still, fired-withdrawing, fired-one, signalled-sound, signalled-withdrawing, signalled-held, some-order, fires-exactly}
 
 -- An order has as many firings as calls, and its calls are as many as its tracks.
 pub order-length : (cs : List Call) (rs : List Answer) → isFiringOrder cs rs ≡ true → firingsIn cs rs ≡ length cs
@@ -180,18 +180,11 @@ module _ (limit : ℕ) (bs : List ℕ) (k : Counts) (read : readPlan bs ≡ acce
             plain = later .1;
           }
 
-  -- a call that was done had nothing to refuse it
-  done-accepted : (ws : List ℕ) (c : Call) (figures : List ℕ) → callOutcome limit bs ws c .answer ≡ done figures
-      → callRefusal limit p (lastDay ws) (theLedger limit bs k read ws) c ≡ 0
-  done-accepted ws c fs e = go (callRefusal limit p (lastDay ws) (theLedger limit bs k read ws) c) refl
-    where
-      go : (r : ℕ) → callRefusal limit p (lastDay ws) (theLedger limit bs k read ws) c ≡ r
-          → callRefusal limit p (lastDay ws) (theLedger limit bs k read ws) c ≡ 0
-      go zero z = z
-      go (suc r) z =
-          let h = passes-holds limit bs k read ws (done-passes limit bs k read ws c fs e) in
-          let q = ap (λ o. o .answer) (call-refused limit bs k read ws (lastDay ws) (theLedger limit bs k read ws) h c r z) in
-          let y : _≡_ {A = ℕ} 0 1 = cc in absurd (omega arith)
+  -- and the claim about the ledger that words hold, rights aside
+  pub fires-exactly-of-words : (ws : List ℕ) → Passes limit bs p ws
+      → noneForward p (theLedger limit bs k read ws) ≡ true → holdsNoDeviation p (theLedger limit bs k read ws) ≡ true
+      → FiresExactly p (theLedger limit bs k read ws)
+  fires-exactly-of-words ws h = fires-exactly limit p ok (theLedger limit bs k read ws) (passes-holds limit bs k read ws h .kept)
 
   -- "After a signal that turns every forward track": no track is forward, and all entries are held that were
   pub record Signalled (ws ws′ : List ℕ) : Type 0 where
@@ -207,7 +200,7 @@ module _ (limit : ℕ) (bs : List ℕ) (k : Counts) (read : readPlan bs ≡ acce
   signalled ws a fs e all n =
       let l = theLedger limit bs k read ws in
       let h = passes-holds limit bs k read ws (done-passes limit bs k read ws (signal a) fs e) in
-      let z = done-accepted ws (signal a) fs e in
+      let z = done-accepted limit bs k read ws (signal a) fs e in
       let s = kept-sound limit p l (h .kept) (refuted (isOver p l) (λ o. over-refused limit p (lastDay ws) l o (signal a) z)) in
       let q : theLedger limit bs k read (callOutcome limit bs ws (signal a) .words) ≡ afterSignal p l (a .society) =
       call-holds limit bs k read ws (lastDay ws) l h (signal a) .reads ∙ next-accepted limit p (lastDay ws) l (signal a) z in

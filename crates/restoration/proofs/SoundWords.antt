@@ -215,6 +215,13 @@ module _ (limit : ℕ) (bs : List ℕ) (k : Counts) (read : readPlan bs ≡ acce
   pub done-passes : (ws : List ℕ) (c : Call) (fs : List ℕ) → callOutcome limit bs ws c .answer ≡ done fs → Passes limit bs thePlan ws
   done-passes ws c fs h = first-passes limit bs thePlan ws (callRefusals limit thePlan (lastDay ws) (theLedger ws) c) (not-refused ws c fs h _ refl)
 
+  -- and nothing in the day or the ledger to refuse it
+  pub done-accepted : (ws : List ℕ) (c : Call) (fs : List ℕ) → callOutcome limit bs ws c .answer ≡ done fs
+      → callRefusal limit thePlan (lastDay ws) (theLedger ws) c ≡ 0
+  done-accepted ws c fs h =
+      let p = done-passes ws c fs h in
+      sym (refusals ws c p) ∙ not-refused ws c fs h _ refl
+
   pub call-sound : (ws : List ℕ) (c : Call) (fs : List ℕ) → callOutcome limit bs ws c .answer ≡ done fs
       → isSound limit thePlan (callOutcome limit bs ws c .words) ≡ true
   call-sound ws c fs h = call-holds ws (lastDay ws) (theLedger ws) (passes-holds ws (done-passes ws c fs h)) c .sound

@@ -239,16 +239,18 @@ module _ (limit : ℕ) (p : Plan) (ok : Accepted p) where
       ]
 
   -- The claim, of every ledger that is sound or over, has no forward track and holds no deviation
-  pub fires-exactly : (l : Ledger) → Withdrawing l → FiresExactly p l
-  fires-exactly l w =
+  pub fires-exactly : (l : Ledger) → Kept limit p l → noneForward p l ≡ true → holdsNoDeviation p l ≡ true → FiresExactly p l
+  fires-exactly l k f d =
+      let due : (ts : List ℕ) → isOrder p l ts ≡ true → Withdrawing (afterOrder p l ts) × (length ts + heldTotal p (afterOrder p l ts) ≡ heldTotal p l) =
+      λ ts o. order-due ts l (withdrawing l k f d) o in
       record {
         exactly = λ ts o z.
-            let (v, n) = order-due ts l w o in omega (arith, n, all-fired (afterOrder p l ts) v (ready-none p (afterOrder p l ts) z));
-        still-due = λ ts o. order-due ts l w o .1;
+            let (v, n) = due ts o in omega (arith, n, all-fired (afterOrder p l ts) v (ready-none p (afterOrder p l ts) z));
+        still-due = λ ts o. due ts o .1;
         none-due = λ ts o e.
-            let (v, n) = order-due ts l w o in none-ready p (afterOrder p l ts) (λ t b. none-held p (afterOrder p l ts) (omega (arith, n, e)) t);
+            let (v, n) = due ts o in none-ready p (afterOrder p l ts) (λ t b. none-held p (afterOrder p l ts) (omega (arith, n, e)) t);
         goes-on = λ ts o.
-            let (v, n) = order-due ts l w o in
+            let (v, n) = due ts o in
             let (us, i, z) = some-order (heldTotal p (afterOrder p l ts)) (afterOrder p l ts) v (omega arith) in
             (us, order-more ts us l o ∙ i, ap (ready p) (after-more ts us l) ∙ z);
       }
