@@ -5,8 +5,7 @@
 use mathlib.Core.Path.{_≡_, sym, ap, ap₂, _∙_, subst}
 use mathlib.Core.Bool.{true}
 use mathlib.Core.List.{List, [], _∷_}
-use Prim.Native.Nat.{ℕ, zero, suc, _+_, _*_, _<_}
-use native.Mathlib.Omega.{arith}
+use Prim.Native.Nat.{ℕ, _+_, _*_, _<_}
 use contract.Lifetimes.{Lfts}
 use denote.Ref.{now}
 use denote.Triple.Clauses.{AtExit}
@@ -27,7 +26,7 @@ use Rattle.rules.specs.Call.{Answer, done, SignalArguments, Call, readyOutcome,
 use Rattle.rules.specs.Answers.{signalTold, readyTold}
 use Rattle.rules.specs.Transcript.{firingsIn, heldTotal}
 use Rattle.rules.specs.FiringsDue.{holdsNoDeviation, noneForward, turnsEvery, isFiringOrder, firingCalls, heldBy, NoneReady, FiresExactly, Counted}
-use Rattle.rules.proofs.Folds.{sum-same}
+use Rattle.rules.proofs.Folds.{sum-same, sum-twice}
 use Rattle.rules.proofs.LedgerChecks.{Passes}
 use Rattle.restoration.proofs.FiringsDue.{calls-length, ready-passes, counted, fires-exactly-of-words, Signalled, signalled, order-there}
 use Rattle.restoration.proofs.Restoration.{history-holds}
@@ -48,12 +47,6 @@ use Rattle.manager.proofs.entries.Reads as entries-reads
 use Rattle.property3.proofs.Readings.{signal-meets}
 use Rattle.property3.proofs.Calls.{Calls, calls-follow}
 use Rattle.property3.proofs.WrongPlan.{begun, words}
-
--- twice each is twice the sum
-sum-twice : (n : ℕ) (f : ℕ → ℕ) → sumBelow n (λ t. 2 * f t) ≡ 2 * sumBelow n f
-unfolding sumBelow
-sum-twice zero f = omega arith
-sum-twice (suc n) f = omega (arith, sum-twice n f)
 
 -- ready was called on these words and answered so, by its own promise
 pub record ReadyIs (bs ws : List ℕ) (bits : ℕ) : Type 0 where

@@ -4,7 +4,7 @@ use mathlib.Core.Path.{_≡_, refl, sym, ap, _∙_, subst}
 use mathlib.Core.Logic.{inl, inr, ⊎-elim}
 use mathlib.Core.Bool.{Bool, true, false, cond, _&&_, _||_}
 use mathlib.Core.Option.{Option, none, some}
-use Prim.Native.Nat.{ℕ, zero, suc, _+_, _<_, _≤_, min}
+use Prim.Native.Nat.{ℕ, zero, suc, _+_, _*_, _<_, _≤_, min}
 use native.Mathlib.Nat.{add-zero, zero-add, add-suc, suc-add, le-of-suc-le-suc, not-suc-le-zero, eq-or-lt-of-le}
 use native.Mathlib.Numerals.{add-one}
 use native.Mathlib.Omega.{arith}
@@ -110,6 +110,12 @@ sum-at (suc n) f k b =
       | inl e ↦ let q : f k ≡ f n = ap f (eqb-true k n e) in omega arith
       | inr e ↦ let d : k ≡ n → ⊥ = eqb-false k n e in omega (arith, sum-at n f k (omega arith))
     ]
+
+-- twice each of its numbers
+pub sum-twice : (n : ℕ) (f : ℕ → ℕ) → sumBelow n (λ k. 2 * f k) ≡ 2 * sumBelow n f
+unfolding sumBelow
+sum-twice zero f = omega arith
+sum-twice (suc n) f = omega (arith, sum-twice n f)
 
 -- one of its numbers lower by 1
 pub sum-one : (n : ℕ) (f g : ℕ → ℕ) (k : ℕ) → k < n → suc (f k) ≡ g k → ((i : ℕ) → eqb i k ≡ false → f i ≡ g i) → suc (sumBelow n f) ≡ sumBelow n g
