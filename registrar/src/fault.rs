@@ -1,0 +1,96 @@
+//! A fault in a text: which line, which word of it, what is wrong, and what was
+//! perhaps meant.
+
+use std::fmt::Write;
+
+/// A fault at a place of a text.
+#[derive(Clone, Debug, PartialEq, Eq)]
+pub struct Fault {
+    /// The line, counted from 1.
+    pub line: usize,
+    /// The characters of the line that are meant, the first counted from 0, and
+    /// how many; where there are none the line as a whole is meant.
+    pub mark: Option<(usize, usize)>,
+    /// What is wrong.
+    pub what: String,
+}
+
+impl Fault {
+    /// The fault as a person is shown it: file, line, what is wrong, and the line
+    /// itself with the place marked.
+    #[must_use]
+    pub fn show(&self, file: &str, text: &str) -> String {
+        let mut shown = format!("{file}:{}: {}\n", self.line, self.what);
+        let line = text.lines().nth(self.line.saturating_sub(1));
+        if let Some(line) = line {
+            let _ = writeln!(shown, "  {}", line.trim_end());
+            if let Some((start, count)) = self.mark {
+                let blank = |c: char| if c == '\t' { '\t' } else { ' ' };
+                let before: String = line.chars().take(start).map(blank).collect();
+                let _ = writeln!(shown, "  {before}{}", "^".repeat(count.max(1)));
+            }
+        }
+        shown
+    }
+}
+
+/// The known word that is nearest to one that is not known, as the end of a
+/// sentence; empty where none is near.
+pub fn suggestion<'a>(word: &str, known: impl IntoIterator<Item = &'a str>) -> String {
+    let far = |known: &&str| (distance(word, known), known.len());
+    let nearest = known.into_iter().min_by_key(far);
+    let allowed = 1 + word.chars().count() / 4;
+    match nearest.filter(|known| distance(word, known) <= allowed) {
+        Some(known) => format!("; did you mean '{known}'?"),
+        None => String::new(),
+    }
+}
+
+/// How many characters must be put in, left out, changed or exchanged with their
+/// neighbour to turn one word into the other.
+fn distance(one: &str, other: &str) -> usize {
+    let (one, other): (Vec<char>, Vec<char>) = (one.chars().collect(), other.chars().collect());
+    let mut rows: Vec<Vec<usize>> = vec![(0..=other.len()).collect()];
+    for i in 1..=one.len() {
+        let mut row = vec![i];
+        for j in 1..=other.len() {
+            let changed = rows[i - 1][j - 1] + usize::from(one[i - 1] != other[j - 1]);
+            let mut least = changed.min(rows[i - 1][j] + 1).min(row[j - 1] + 1);
+            if i > 1 && j > 1 && one[i - 1] == other[j - 2] && one[i - 2] == other[j - 1] {
+                least = least.min(rows[i - 2][j - 2] + 1);
+            }
+            row.push(least);
+        }
+        rows.push(row);
+    }
+    rows[one.len()][other.len()]
+}
+
+#[cfg(test)]
+mod tests {
+    use super::*;
+
+    #[test]
+    fn near_words_are_suggested() {
+        assert_eq!(distance("waitng", "waiting"), 1);
+        assert_eq!(distance("wiating", "waiting"), 1);
+        assert_eq!(distance("", "abc"), 3);
+        let known = ["waiting", "received", "by-post"];
+        assert_eq!(
+            suggestion("waitng", known),
+            "; did you mean 'waiting'?".to_string()
+        );
+        assert_eq!(suggestion("shelf", known), "");
+    }
+
+    #[test]
+    fn a_fault_shows_its_place() {
+        let fault = Fault {
+            line: 2,
+            mark: Some((5, 3)),
+            what: "no such state".into(),
+        };
+        let shown = "a.txt:2: no such state\n    go wat\n       ^^^\n";
+        assert_eq!(fault.show("a.txt", "track x\n  go wat\n"), shown);
+    }
+}

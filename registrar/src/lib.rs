@@ -1,0 +1,13 @@
+//! Plans and journals as text, with the retractions listed beside each step.
+//!
+//! Every decision is made by the proved calls of the crate `retraction`: which
+//! plan is accepted, what a call does, which track may be fired, which day a
+//! date is. What is here reads and writes text, explains and draws.
+
+pub mod day;
+pub mod draft;
+pub mod fault;
+pub mod journal;
+pub mod record;
+pub mod run;
+pub mod standing;
