@@ -45,6 +45,15 @@ impl Call {
         }
     }
 
+    /// An event's day.
+    #[must_use]
+    pub fn day(self) -> Option<i32> {
+        match self {
+            Call::Event { day, .. } => Some(day),
+            _ => None,
+        }
+    }
+
     fn encode(self, out: &mut Vec<u8>) {
         match self {
             Call::Event {

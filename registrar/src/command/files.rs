@@ -1,0 +1,209 @@
+//! Plans and journals out of files, as text or as bytes, and back.
+
+use super::answer::{Answer, Or};
+use crate::draft::{Draft, Records};
+use crate::fault::Fault;
+use crate::journal::{self, Broken, Call};
+use crate::place::{self, Place};
+use crate::run::{self, Run};
+use crate::{journal_text, plan_text};
+use retraction::{Plan, Refusal};
+use std::fmt::Write;
+use std::fs;
+use std::io::Write as _;
+use std::path::Path;
+
+/// Whether a file has bytes; every other is text.
+#[must_use]
+pub fn has_bytes(path: &str) -> bool {
+    path.ends_with(".bin")
+}
+
+/// A file that could not be read or written.
+fn unfit(path: &str, error: &std::io::Error) -> Answer {
+    Answer::unfit(format!("{path}: {error}"))
+}
+
+fn bytes_of(path: &str) -> Or<Vec<u8>> {
+    fs::read(path).map_err(|error| unfit(path, &error))
+}
+
+fn text_of(path: &str) -> Or<String> {
+    let not_text = |error: std::string::FromUtf8Error| {
+        let byte = error.utf8_error().valid_up_to();
+        let hint = "bytes are read from a file whose name ends in .bin";
+        Answer::unfit(format!("{path}: no text, by its byte {byte}; {hint}"))
+    };
+    String::from_utf8(bytes_of(path)?).map_err(not_text)
+}
+
+/// All faults of a text, each with its place.
+fn faults(path: &str, text: &str, faults: &[Fault]) -> Answer {
+    let shown = faults.iter().map(|fault| fault.show(path, text));
+    Answer::refused(shown.collect::<String>())
+}
+
+/// An accepted plan, with its names.
+pub struct Filed {
+    pub draft: Draft,
+    pub plan: Plan,
+}
+
+/// The plan of a file.
+pub fn plan(path: &str) -> Or<Filed> {
+    if has_bytes(path) {
+        let bytes = bytes_of(path)?;
+        let accepted = run::fits(&bytes).and_then(|()| Plan::read(&bytes[..]));
+        let told = |refusal| refused(path, refusal, &place::of(refusal, &bytes, None), None);
+        let plan = accepted.map_err(told)?;
+        let records = Records::decode(&bytes).expect("an accepted plan has whole records");
+        let draft = Draft::of_records(records);
+        return Ok(Filed { draft, plan });
+    }
+    let text = text_of(path)?;
+    let draft = plan_text::read(&text).map_err(|found| faults(path, &text, &found))?;
+    let bytes = draft.records.encode();
+    let accepted = run::fits(&bytes).and_then(|()| Plan::read(&bytes[..]));
+    let told = |refusal| {
+        let place = place::of(refusal, &bytes, Some(&draft));
+        refused(path, refusal, &place, Some(&text))
+    };
+    let plan = accepted.map_err(told)?;
+    Ok(Filed { draft, plan })
+}
+
+/// A refused plan in words: the line and what is wrong with it, or the record and
+/// its byte.
+fn refused(path: &str, refusal: Refusal, place: &Place, text: Option<&str>) -> Answer {
+    let number = refusal.number();
+    let line = place.line.filter(|_| text.is_some());
+    let at = line.map_or_else(String::new, |line| format!(":{line}"));
+    let mut said = format!("{path}{at}: refused, {number}: {}\n", refusal.text());
+    let _ = match (line, place.record, place.byte) {
+        (None, Some(record), Some(byte)) if text.is_none() => {
+            writeln!(said, "  record {record}, at byte {byte}: {}", place.what)
+        }
+        _ => writeln!(said, "  {}", place.what),
+    };
+    let shown = line.and_then(|line| text?.lines().nth(line - 1));
+    if let Some(shown) = shown {
+        let _ = writeln!(said, "    {}", shown.trim());
+    }
+    let _ = writeln!(said, "  'registrar explain {number}' says more");
+    Answer::refused(said)
+}
+
+/// A journal out of a file.
+pub struct Journal {
+    pub calls: Vec<Call>,
+    /// The line of each call in a text; empty for bytes.
+    pub lines: Vec<usize>,
+    /// Where bytes are broken, if they are.
+    pub broken: Option<Broken>,
+    /// The day and the society in force at its end.
+    pub day: Option<i32>,
+    pub society: Option<u16>,
+    /// Refused for its length.
+    pub refused: Option<Refusal>,
+}
+
+impl Journal {
+    /// Runs it by the proved calls.
+    #[must_use]
+    pub fn run<'plan>(&self, plan: &'plan Plan) -> Run<'plan> {
+        Run::of(plan, &self.calls, self.broken.clone())
+    }
+
+    /// Ends the command where it is too long or broken.
+    pub fn whole(self, path: &str) -> Or<Journal> {
+        if let Some(refusal) = self.refused {
+            return Err(Answer::refused(format!("{path}: refused, {refusal}\n")));
+        }
+        match &self.broken {
+            Some(broken) => Err(Answer::refused(broken_words(path, broken))),
+            None => Ok(self),
+        }
+    }
+}
+
+/// A broken journal in words.
+#[must_use]
+pub fn broken_words(path: &str, broken: &Broken) -> String {
+    let Broken { record, byte, what } = broken;
+    let refusal = Refusal::BrokenRecord;
+    format!("{path}: refused, {refusal}\n  record {record}, at byte {byte}: {what}\n")
+}
+
+/// The journal of a file under a plan.
+pub fn journal(path: &str, draft: &Draft) -> Or<Journal> {
+    if has_bytes(path) {
+        let bytes = bytes_of(path)?;
+        let (calls, broken) = journal::decode(&bytes);
+        let days = calls.iter().rev().find_map(|call| call.day());
+        return Ok(Journal {
+            day: days,
+            society: calls.last().map(|call| call.society()),
+            lines: Vec::new(),
+            refused: run::fits(&bytes).err(),
+            calls,
+            broken,
+        });
+    }
+    let text = text_of(path)?;
+    let read = journal_text::read(&text, draft).map_err(|found| faults(path, &text, &found))?;
+    Ok(Journal {
+        refused: run::fits(&journal::encode(&read.calls)).err(),
+        calls: read.calls,
+        lines: read.lines,
+        broken: None,
+        day: read.day,
+        society: read.society,
+    })
+}
+
+/// Writes a file as a whole or not at all: what stood there stays until the new
+/// one is complete.
+pub fn write(path: &str, bytes: &[u8]) -> Or<()> {
+    let special = fs::metadata(path).map_or(false, |found| !found.is_file());
+    let done = if special {
+        fs::write(path, bytes)
+    } else {
+        let beside = format!("{path}.{}.new", std::process::id());
+        let moved = fs::write(&beside, bytes).and_then(|()| fs::rename(&beside, path));
+        if moved.is_err() {
+            let _ = fs::remove_file(&beside);
+        }
+        moved
+    };
+    done.map_err(|error| unfit(path, &error))
+}
+
+/// Appends to a file; a text whose last line is not ended has it ended first.
+pub fn append(path: &str, bytes: &[u8]) -> Or<()> {
+    let before = if has_bytes(path) || !Path::new(path).exists() {
+        Vec::new()
+    } else {
+        bytes_of(path)?
+    };
+    let ended = before.last().map_or(true, |&last| last == b'\n');
+    let mut added = Vec::new();
+    if !ended {
+        added.push(b'\n');
+    }
+    added.extend(bytes);
+    let mut opening = fs::OpenOptions::new();
+    let file = opening.append(true).create(true).open(path);
+    let done = file.and_then(|mut file| file.write_all(&added));
+    done.map_err(|error| unfit(path, &error))
+}
+
+/// Prints an answer, or writes it to the file that was named for it.
+pub fn deliver(file: Option<&str>, text: String) -> Or<Answer> {
+    match file {
+        None => Ok(Answer::done(text)),
+        Some(path) => {
+            write(path, text.as_bytes())?;
+            Ok(Answer::done(format!("{path}: written\n")))
+        }
+    }
+}

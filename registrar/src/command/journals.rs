@@ -1,0 +1,125 @@
+//! Commands about a plan and a journal: journal, tell, add, withdraw, timeline.
+
+use super::answer::{Answer, Or};
+use super::files::{self, Filed, Journal};
+use super::options::Options;
+use crate::draft::Draft;
+use crate::journal::{self, MOST_BYTES};
+use crate::journal_text;
+use crate::run::{self, Answer as Told};
+use crate::{picture, tell, withdraw};
+use retraction::Refusal;
+
+/// The plan and the journal that a command names first.
+fn both(options: &Options) -> Or<(Filed, Journal)> {
+    let filed = files::plan(options.word(0))?;
+    let journal = files::journal(options.word(1), &filed.draft)?;
+    Ok((filed, journal))
+}
+
+pub fn journal(options: &Options) -> Or<Answer> {
+    let (filed, journal) = both(options)?;
+    let path = options.word(1);
+    let journal = journal.whole(path)?;
+    if files::has_bytes(path) {
+        let text = journal_text::write(&journal.calls, &filed.draft);
+        return files::deliver(options.value("-o"), text);
+    }
+    let unnamed = || Answer::unfit("a text becomes bytes: name their file with -o");
+    let file = options.value("-o").ok_or_else(unnamed)?;
+    let bytes = journal::encode(&journal.calls);
+    files::write(file, &bytes)?;
+    let (calls, bytes) = (journal.calls.len(), bytes.len());
+    Ok(Answer::done(format!(
+        "{file}: {calls} records, {bytes} bytes\n"
+    )))
+}
+
+pub fn tell(options: &Options) -> Or<Answer> {
+    let (filed, journal) = both(options)?;
+    let path = options.word(1);
+    if let Some(refusal) = journal.refused {
+        let line = tell::refused(refusal);
+        return Ok(Answer::done(line).but_refused(""));
+    }
+    let run = journal.run(&filed.plan);
+    let told = tell::tell(&filed.draft, &run, &journal.lines);
+    let answer = Answer::done(tell::text(&told));
+    Ok(match &run.broken {
+        Some(broken) => answer.but_refused(files::broken_words(path, broken)),
+        None => answer,
+    })
+}
+
+pub fn add(options: &Options) -> Or<Answer> {
+    let (filed, journal) = both(options)?;
+    let path = options.word(1);
+    let journal = journal.whole(path)?;
+    let line = options.words()[2..].join(" ");
+    let so_far = journal_text::Journal {
+        calls: journal.calls.clone(),
+        lines: journal.lines.clone(),
+        day: journal.day,
+        society: journal.society,
+    };
+    let read = journal_text::read_line(&line, &filed.draft, &so_far);
+    let faulty = |found: Vec<_>| {
+        let shown = found.iter().map(|fault| crate::fault::Fault::show(fault, "line", &line));
+        Answer::refused(shown.collect::<String>())
+    };
+    let call = read.map_err(faulty)?;
+    let bytes = journal::encode(&[&journal.calls[..], &[call][..]].concat());
+    if bytes.len() > MOST_BYTES {
+        let refusal = Refusal::TooLong;
+        return Err(Answer::refused(format!("{path}: refused, {refusal}\n")));
+    }
+    let mut run = journal.run(&filed.plan);
+    run.done = vec![run::make(&mut run.ledger, call)];
+    let told = tell::told(&filed.draft, &run, 0);
+    if matches!(run.done[0].answer, Told::Refused(_)) {
+        let kept = format!("{path}: nothing added\n");
+        return Ok(Answer::done(tell::text(&[told])).but_refused(kept));
+    }
+    let added = if files::has_bytes(path) {
+        journal::encode(&[call])
+    } else {
+        format!("{}\n", line.trim()).into_bytes()
+    };
+    files::append(path, &added)?;
+    Ok(Answer::done(tell::text(&[told])))
+}
+
+pub fn timeline(options: &Options) -> Or<Answer> {
+    let (filed, journal) = both(options)?;
+    let journal = journal.whole(options.word(1))?;
+    let run = journal.run(&filed.plan);
+    let picture = picture::timeline(&filed.draft, &run);
+    files::deliver(options.value("-o"), picture)
+}
+
+/// The society that withdraws: the one that is named, or else the one in force at
+/// the journal's end, or else the only one that the plan's rights name.
+pub fn withdrawing(options: &Options, draft: &Draft, journal: &Journal) -> Or<u16> {
+    if let Some(word) = options.value("--as") {
+        let number = draft.names.societies.number(word);
+        let unknown = || Answer::unfit(format!("no society '{word}' in this plan"));
+        return number.or_else(|| word.parse().ok()).ok_or_else(unknown);
+    }
+    let mut named: Vec<u16> = draft.records.grants.iter().map(|g| g.society).collect();
+    named.sort_unstable();
+    named.dedup();
+    let only = match named[..] {
+        [only] => Some(only),
+        _ => None,
+    };
+    let unknown = || Answer::unfit("who withdraws? say it with --as SOCIETY");
+    journal.society.or(only).ok_or_else(unknown)
+}
+
+pub fn withdraw(options: &Options) -> Or<Answer> {
+    let (filed, journal) = both(options)?;
+    let journal = journal.whole(options.word(1))?;
+    let society = withdrawing(options, &filed.draft, &journal)?;
+    let run = journal.run(&filed.plan);
+    withdraw_text(&filed, &run, society)
+}
