@@ -1,0 +1,195 @@
+//! Journals as text, read and written; docs/REGISTRAR.md has the grammar.
+
+use crate::day;
+use crate::draft::Draft;
+use crate::fault::{suggestion, Fault};
+use crate::journal::Call;
+use crate::lookup;
+use crate::plan_text::MOST_FAULTS;
+use crate::words::{self, Line, Word};
+
+/// The calls of a journal's text.
+#[derive(Clone, Debug, Default, PartialEq, Eq)]
+pub struct Journal {
+    pub calls: Vec<Call>,
+    /// The line of each call, counted from 1.
+    pub lines: Vec<usize>,
+    /// The day and the society in force at the end.
+    pub day: Option<i32>,
+    pub society: Option<u16>,
+}
+
+const HEAD: &str = "journal [of NAME]";
+const FORM: &str = "[on DAY] [as SOCIETY] [CALL], where CALL is 'event EVENT', 'withdraw', \
+                    'take back TRACK' or 'take back next'";
+const FIRST_WORDS: [&str; 6] = ["journal", "on", "as", "event", "withdraw", "take"];
+
+/// The calls of a text, or what is wrong with it, in the order of its lines. A
+/// text without words is a journal without calls.
+pub fn read(text: &str, draft: &Draft) -> Result<Journal, Vec<Fault>> {
+    let mut journal = Journal::default();
+    let mut faults = Vec::new();
+    let mut headed = false;
+    for (at, text) in text.lines().enumerate() {
+        let (words, broken) = words::split(text, at + 1);
+        if words.is_empty() && broken.is_none() {
+            continue;
+        }
+        let mut line = Line::new(at + 1, words);
+        let result = if headed {
+            journal.line(&mut line, draft)
+        } else {
+            head(&mut line, draft)
+        };
+        headed = true;
+        faults.extend(broken.or_else(|| result.err()));
+    }
+    faults.truncate(MOST_FAULTS);
+    match faults.is_empty() {
+        true => Ok(journal),
+        false => Err(faults),
+    }
+}
+
+/// The journal with one line more, which has this number in the text.
+pub fn read_line(
+    text: &str,
+    number: usize,
+    draft: &Draft,
+    journal: &Journal,
+) -> Result<Journal, Vec<Fault>> {
+    let (words, broken) = words::split(text, number);
+    let mut longer = journal.clone();
+    let result = longer.line(&mut Line::new(number, words), draft);
+    match broken.or_else(|| result.err()) {
+        Some(fault) => Err(vec![fault]),
+        None => Ok(longer),
+    }
+}
+
+/// The first line.
+fn head(line: &mut Line, draft: &Draft) -> Result<(), Fault> {
+    if !line.take_if("journal") {
+        let word = line.peek().map_or("", |word| &word.text);
+        let meant = suggestion(word, ["journal"]);
+        let what = format!("a journal begins with the line: {HEAD}{meant}");
+        return Err(line.fault(what));
+    }
+    if line.take_if("of") {
+        let word = line.peek().cloned().unwrap_or_default();
+        let name = lookup::meant(line, "the name of the plan")?;
+        let plan = &draft.names.plan.name;
+        if !plan.is_empty() && name.text != *plan {
+            let what = format!("this plan is called '{plan}', not '{}'", name.text);
+            return Err(word.fault(line.number, what));
+        }
+    }
+    line.end(&["of"], HEAD)
+}
+
+impl Journal {
+    fn line(&mut self, line: &mut Line, draft: &Draft) -> Result<(), Fault> {
+        if line.take_if("on") {
+            let word = lookup::meant(line, "a day")?;
+            let day = day::parse(&word.text).map_err(|what| word.fault(line.number, what))?;
+            self.day = Some(day);
+        }
+        if line.take_if("as") {
+            let word = lookup::meant(line, "a society")?;
+            let society = lookup::in_table(&word, &draft.names.societies, "society");
+            self.society = Some(society.map_err(|what| word.fault(line.number, what))?);
+        }
+        let first = match line.take() {
+            Some(first) => first,
+            None => return Ok(()),
+        };
+        let call = self.call(&first, line, draft)?;
+        line.end(&[], FORM)?;
+        self.calls.push(call);
+        self.lines.push(line.number);
+        Ok(())
+    }
+
+    fn call(&self, first: &Word, line: &mut Line, draft: &Draft) -> Result<Call, Fault> {
+        let fault = |what: String| first.fault(line.number, what);
+        let nobody = "who does it? write 'as SOCIETY' on this line or above";
+        let society = self.society.ok_or_else(|| fault(nobody.to_string()));
+        if first.is("event") {
+            let undated = "on which day? write 'on DAY' on this line or above";
+            let day = self.day.ok_or_else(|| fault(undated.to_string()));
+            let word = lookup::meant(line, "an event")?;
+            let event = lookup::in_table(&word, &draft.names.events, "event");
+            return Ok(Call::Event {
+                event: event.map_err(|what| word.fault(line.number, what))?,
+                day: day?,
+                society: society?,
+            });
+        }
+        if first.is("withdraw") {
+            return Ok(Call::Signal { society: society? });
+        }
+        if !first.is("take") {
+            return Err(fault(unknown(first)));
+        }
+        line.keyword("back")?;
+        if line.take_if("next") {
+            return Ok(Call::FireLowest { society: society? });
+        }
+        let word = lookup::meant(line, "a track, or 'next',")?;
+        let track = lookup::track(&word, &draft.names);
+        Ok(Call::Fire {
+            track: track.map_err(|what| word.fault(line.number, what))?,
+            society: society?,
+        })
+    }
+}
+
+fn unknown(word: &Word) -> String {
+    let text = &word.text;
+    let meant = suggestion(text, FIRST_WORDS);
+    if word.is("journal") {
+        format!("the line '{HEAD}' stands at the top alone")
+    } else if word.quoted || meant.is_empty() {
+        format!("'{text}' does not fit here; the line is: {FORM}")
+    } else {
+        format!("'{text}' does not fit here{meant}")
+    }
+}
+
+/// The text of calls. Read again it gives the same calls.
+#[must_use]
+pub fn write(calls: &[Call], draft: &Draft) -> String {
+    let mut text = match draft.names.plan.name.as_str() {
+        "" => "journal\n".to_string(),
+        name => format!("journal of {name}\n"),
+    };
+    let (mut day, mut society) = (None, None);
+    for &call in calls {
+        let mut changes = Vec::new();
+        if let Call::Event { day: new, .. } = call {
+            if day.replace(new) != Some(new) {
+                changes.push(format!("on {}", day::text(new)));
+            }
+        }
+        if society.replace(call.society()) != Some(call.society()) {
+            let name = draft.names.societies.name(call.society());
+            changes.push(format!("as {name}"));
+        }
+        if !changes.is_empty() {
+            text += &format!("{}\n", changes.join(" "));
+        }
+        text += &format!("  {}\n", line_of(call, draft));
+    }
+    text
+}
+
+/// A call as its words, without its day and its society.
+#[must_use]
+pub fn line_of(call: Call, draft: &Draft) -> String {
+    match call {
+        Call::Event { event, .. } => format!("event {}", draft.names.events.name(event)),
+        Call::Signal { .. } => "withdraw".to_string(),
+        Call::Fire { track, .. } => format!("take back {}", draft.track(track)),
+        Call::FireLowest { .. } => "take back next".to_string(),
+    }
+}

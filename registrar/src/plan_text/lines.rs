@@ -1,0 +1,377 @@
+//! The lines of a plan's text, each by itself: what they give, with the words
+//! that stand for something still as words.
+
+use crate::day;
+use crate::draft::{Name, Table, RIGHTS};
+use crate::fault::{suggestion, Fault};
+use crate::lookup;
+use crate::words::{self, Line, Word};
+use std::collections::BTreeMap;
+
+/// The line of a record, and the number that is written for it, if one is.
+#[derive(Clone, Debug, Default)]
+pub struct Given {
+    pub line: usize,
+    pub number: Option<(u16, Word)>,
+}
+
+#[derive(Clone, Debug, Default)]
+pub struct Head {
+    pub given: Given,
+    pub word: Word,
+    pub name: Name,
+}
+
+pub struct TrackLine {
+    pub head: Head,
+    pub host: Option<Word>,
+}
+
+pub struct StateLine {
+    pub head: Head,
+    /// Its track, counted in the order of the text.
+    pub track: usize,
+    pub last: bool,
+    pub replacement: Option<Word>,
+}
+
+pub struct StepLine {
+    pub given: Given,
+    /// The state it leaves, counted in the order of the text.
+    pub source: usize,
+    pub event: Word,
+    pub destination: Word,
+    pub code: Option<Word>,
+    pub deviation: Option<Word>,
+}
+
+pub struct WindowLine {
+    pub given: Given,
+    /// Its step, counted in the order of the text.
+    pub step: usize,
+    pub first: i32,
+    pub last: i32,
+}
+
+pub struct GrantLine {
+    pub given: Given,
+    pub track: usize,
+    pub society: Word,
+    pub sum: u16,
+}
+
+/// A table with the lines of its numbers and names.
+#[derive(Default)]
+pub struct Rows {
+    pub table: Table,
+    numbers: BTreeMap<u16, usize>,
+    names: BTreeMap<String, usize>,
+}
+
+/// All lines of a text, each sort in the order of the text.
+#[derive(Default)]
+pub struct Text {
+    pub plan: Option<(Name, usize)>,
+    pub events: Rows,
+    pub retractions: Rows,
+    pub societies: Rows,
+    pub tracks: Vec<TrackLine>,
+    pub states: Vec<StateLine>,
+    pub steps: Vec<StepLine>,
+    pub windows: Vec<WindowLine>,
+    pub grants: Vec<GrantLine>,
+    /// Whether a state stands above under the track that is read.
+    in_state: bool,
+    pub faults: Vec<Fault>,
+}
+
+/// The words that a line begins with, and how each line is written.
+const FORMS: [(&str, &str); 8] = [
+    ("plan", "plan NAME [\"words\"]"),
+    ("event", "event NUMBER NAME [\"words\"]"),
+    ("retract", "retract NUMBER NAME [\"words\"]"),
+    ("society", "society NUMBER NAME [\"words\"]"),
+    ("track", "track [NUMBER] NAME [\"words\"] [in STATE]"),
+    ("right", "right [NUMBER] SOCIETY move signal fire"),
+    (
+        "state",
+        "state [NUMBER] NAME [\"words\"] [final] [when complete undo RETRACTION]",
+    ),
+    (
+        "on",
+        "on EVENT go STATE [undo RETRACTION [then STATE]] [step NUMBER] [from DAY to DAY [window NUMBER]]",
+    ),
+];
+
+fn form(first: &str) -> &'static str {
+    let known = FORMS.iter().find(|(word, _)| *word == first);
+    known.map_or("", |(_, form)| form)
+}
+
+impl Text {
+    pub fn of(text: &str) -> Text {
+        let mut read = Text::default();
+        for (at, text) in text.lines().enumerate() {
+            let (words, broken) = words::split(text, at + 1);
+            let mut line = Line::new(at + 1, words);
+            let fault = read.line(&mut line).err();
+            read.faults.extend(broken.or(fault));
+        }
+        read
+    }
+
+    fn line(&mut self, line: &mut Line) -> Result<(), Fault> {
+        let first = match line.take() {
+            Some(first) => first,
+            None => return Ok(()),
+        };
+        let keyword = if first.quoted { "" } else { &first.text };
+        match keyword {
+            "plan" => self.plan(line),
+            "event" => self.events.row(line, "event"),
+            "retract" => self.retractions.row(line, "retract"),
+            "society" => self.societies.row(line, "society"),
+            "track" => self.track(line),
+            "right" => self.right(line, &first),
+            "state" => self.state(line, &first),
+            "on" => self.step(line, &first),
+            _ => Err(first.fault(line.number, unknown(&first))),
+        }
+    }
+
+    fn plan(&mut self, line: &mut Line) -> Result<(), Fault> {
+        let word = lookup::new_name(line, "the plan")?;
+        if let Some((_, above)) = self.plan {
+            let what = format!("the plan has its name already, on line {above}");
+            return Err(word.fault(line.number, what));
+        }
+        let name = name(line, &word);
+        self.plan = Some((name, line.number));
+        line.end(&[], form("plan"))
+    }
+
+    fn track(&mut self, line: &mut Line) -> Result<(), Fault> {
+        let head = head(line, "the track");
+        self.in_state = false;
+        self.tracks.push(TrackLine {
+            head: or_nameless(&head, line),
+            host: None,
+        });
+        head?;
+        if line.take_if("in") {
+            let host = lookup::meant(line, "a state")?;
+            self.tracks.last_mut().expect("a track").host = Some(host);
+        }
+        line.end(&["in"], form("track"))
+    }
+
+    fn state(&mut self, line: &mut Line, first: &Word) -> Result<(), Fault> {
+        let track = self.under_track(line, first)?;
+        let head = head(line, "the state");
+        self.in_state = true;
+        self.states.push(StateLine {
+            head: or_nameless(&head, line),
+            track,
+            last: false,
+            replacement: None,
+        });
+        head?;
+        let state = self.states.last_mut().expect("a state");
+        state.last = line.take_if("final");
+        if line.take_if("when") {
+            line.keyword("complete")?;
+            line.keyword("undo")?;
+            state.replacement = Some(lookup::meant(line, "a retraction")?);
+        }
+        line.end(&["final", "when"], form("state"))
+    }
+
+    fn step(&mut self, line: &mut Line, first: &Word) -> Result<(), Fault> {
+        self.under_track(line, first)?;
+        if !self.in_state {
+            let what = "a step stands under the state that it leaves; there is none above";
+            return Err(first.fault(line.number, what));
+        }
+        let mut step = StepLine {
+            given: at(line, None),
+            source: self.states.len() - 1,
+            event: lookup::meant(line, "an event")?,
+            destination: {
+                line.keyword("go")?;
+                lookup::meant(line, "a state")?
+            },
+            code: None,
+            deviation: None,
+        };
+        if line.take_if("undo") {
+            step.code = Some(lookup::meant(line, "a retraction")?);
+            if line.take_if("then") {
+                step.deviation = Some(lookup::meant(line, "a state")?);
+            }
+        }
+        if line.take_if("step") {
+            step.given.number = Some(written(line, "the step")?);
+        }
+        let window = self.window(line)?;
+        self.steps.push(step);
+        self.windows.extend(window);
+        line.end(&["undo", "then", "step", "from", "window"], form("on"))
+    }
+
+    /// The window of the step that is read.
+    fn window(&self, line: &mut Line) -> Result<Option<WindowLine>, Fault> {
+        if !line.take_if("from") {
+            return Ok(None);
+        }
+        let first = a_day(line)?;
+        line.keyword("to")?;
+        let last = a_day(line)?;
+        let number = if line.take_if("window") {
+            Some(written(line, "the window")?)
+        } else {
+            None
+        };
+        Ok(Some(WindowLine {
+            given: at(line, number),
+            step: self.steps.len(),
+            first,
+            last,
+        }))
+    }
+
+    fn right(&mut self, line: &mut Line, first: &Word) -> Result<(), Fault> {
+        let track = self.under_track(line, first)?;
+        let is_right = |word: &Word| RIGHTS.iter().any(|(right, _)| word.is(right));
+        let mut ahead = line.clone();
+        let leading = ahead.take().filter(Word::is_number).is_some();
+        let numbered = leading && ahead.peek().map_or(false, |word| !is_right(word));
+        let number = if numbered {
+            Some(written(line, "the right")?)
+        } else {
+            None
+        };
+        let society = lookup::meant(line, "a society")?;
+        let mut sum = 0;
+        while let Some(word) = line.peek().filter(|word| is_right(word)) {
+            let right = RIGHTS.iter().find(|(right, _)| word.is(right));
+            let part = right.map_or(0, |(_, part)| *part);
+            if sum & part != 0 {
+                return Err(line.fault(format!("'{}' stands here twice", word.text)));
+            }
+            sum += part;
+            line.take();
+        }
+        self.grants.push(GrantLine {
+            given: at(line, number),
+            track,
+            society,
+            sum,
+        });
+        line.end(&RIGHTS.map(|(right, _)| right), form("right"))
+    }
+
+    /// The track that is read, counted in the order of the text.
+    fn under_track(&self, line: &Line, first: &Word) -> Result<usize, Fault> {
+        let thing = match first.text.as_str() {
+            "on" => "step",
+            other => other,
+        };
+        let what = format!("a {thing} stands under its track; there is none above");
+        let missing = || first.fault(line.number, what);
+        self.tracks.len().checked_sub(1).ok_or_else(missing)
+    }
+}
+
+impl Rows {
+    fn row(&mut self, line: &mut Line, first: &str) -> Result<(), Fault> {
+        let thing = match first {
+            "retract" => "retraction",
+            other => other,
+        };
+        let the = format!("the {thing}");
+        let start = line.clone();
+        let number = lookup::number(line, &the)?;
+        let word = lookup::new_name(line, &the)?;
+        let name = name(line, &word);
+        let above = self.names.get(&name.name);
+        if let Some(above) = above {
+            let what = format!("line {above} gives the name '{}' already", name.name);
+            return Err(word.fault(line.number, what));
+        }
+        self.names.insert(name.name.clone(), line.number);
+        if let Some(above) = self.numbers.get(&number) {
+            let what = format!("line {above} gives {thing} {number} a name already");
+            return Err(start.fault(what));
+        }
+        self.numbers.insert(number, line.number);
+        self.table.names.insert(number, name);
+        line.end(&[], form(first))
+    }
+}
+
+fn unknown(first: &Word) -> String {
+    let known = FORMS.iter().map(|(word, _)| *word);
+    let meant = suggestion(&first.text, known);
+    if first.quoted {
+        "a line does not begin with a quote".to_string()
+    } else if meant.is_empty() {
+        let known: Vec<&str> = FORMS.iter().map(|(word, _)| *word).collect();
+        let known = known.join(", ");
+        format!(
+            "no line begins with '{}'; lines begin with {known}",
+            first.text
+        )
+    } else {
+        format!("no line begins with '{}'{meant}", first.text)
+    }
+}
+
+/// The optional number, the name and the words of a track or a state.
+fn head(line: &mut Line, of: &str) -> Result<Head, Fault> {
+    let number = match line.peek().filter(|word| word.is_number()) {
+        Some(_) => Some(written(line, of)?),
+        None => None,
+    };
+    let word = lookup::new_name(line, of)?;
+    Ok(Head {
+        given: at(line, number),
+        name: name(line, &word),
+        word,
+    })
+}
+
+/// A head without a name where there is a fault in it, so that what stands
+/// under it has its place.
+fn or_nameless(head: &Result<Head, Fault>, line: &Line) -> Head {
+    let nameless = |_| Head {
+        given: at(line, None),
+        ..Head::default()
+    };
+    head.clone().unwrap_or_else(nameless)
+}
+
+fn name(line: &mut Line, word: &Word) -> Name {
+    Name {
+        name: word.text.clone(),
+        words: line.take_words(),
+    }
+}
+
+fn at(line: &Line, number: Option<(u16, Word)>) -> Given {
+    Given {
+        line: line.number,
+        number,
+    }
+}
+
+/// A number that is written, with its word.
+fn written(line: &mut Line, of: &str) -> Result<(u16, Word), Fault> {
+    let word = line.peek().cloned().unwrap_or_default();
+    let number = lookup::number(line, of)?;
+    Ok((number, word))
+}
+
+fn a_day(line: &mut Line) -> Result<i32, Fault> {
+    let word = lookup::meant(line, "a day")?;
+    day::parse(&word.text).map_err(|what| word.fault(line.number, what))
+}

@@ -1,0 +1,14 @@
+//! Plans as text, read and written; docs/REGISTRAR.md has the grammar.
+
+mod lines;
+mod names;
+mod numbers;
+mod read;
+mod write;
+
+pub use names::names_from;
+pub use read::read;
+pub use write::write;
+
+/// The most faults that are told of one text.
+pub const MOST_FAULTS: usize = 20;
