@@ -187,7 +187,8 @@ fn the_header_agrees() {
     assert!(line(&format!(
         "#define RETRACTION_VERSION_TEXT \"{version}\""
     )));
-    for page in ["unwind.1", "retraction.3", "plan.5"] {
+    for page in ["unwind.1", "registrar.1", "retraction.3", "plan.5"] {
         assert!(file(&format!("man/{page}")).contains(&format!("\"retraction {version}\"")));
     }
+    assert!(file("registrar/Cargo.toml").contains(&format!("version = \"{version}\"\n")));
 }
