@@ -51,19 +51,18 @@ pub fn read(text: &str, draft: &Draft) -> Result<Journal, Vec<Fault>> {
     }
 }
 
-/// The journal with one line more, which has this number in the text.
-pub fn read_line(
-    text: &str,
-    number: usize,
-    draft: &Draft,
-    journal: &Journal,
-) -> Result<Journal, Vec<Fault>> {
-    let (words, broken) = words::split(text, number);
+/// The one call of a line that is to follow a journal. Faults are on line 1.
+pub fn read_line(text: &str, draft: &Draft, journal: &Journal) -> Result<Call, Vec<Fault>> {
+    let (words, broken) = words::split(text, 1);
+    let mut line = Line::new(1, words);
     let mut longer = journal.clone();
-    let result = longer.line(&mut Line::new(number, words), draft);
-    match broken.or_else(|| result.err()) {
+    let result = longer.line(&mut line, draft);
+    let added = longer.calls.get(journal.calls.len()).copied();
+    let none = || line.fault("a call is wanted here: 'event EVENT', 'withdraw' or 'take back ..'");
+    let call = result.and_then(|()| added.ok_or_else(none));
+    match broken {
         Some(fault) => Err(vec![fault]),
-        None => Ok(longer),
+        None => call.map_err(|fault| vec![fault]),
     }
 }
 

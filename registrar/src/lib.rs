@@ -10,6 +10,7 @@ pub mod fault;
 pub mod journal;
 pub mod journal_text;
 pub mod lookup;
+pub mod place;
 pub mod plan_text;
 pub mod record;
 pub mod run;

@@ -56,7 +56,6 @@ fn every_accepted_plan_is_read_back() {
             *count += usize::from(numbers_written(&text, sort));
         }
     }
-    println!("{needed:?}");
     assert_eq!(needed[0], 0, "tracks stand in their order");
     assert!(needed[1..].iter().all(|&count| count > 500), "{needed:?}");
 }
