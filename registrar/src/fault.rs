@@ -34,13 +34,18 @@ impl Fault {
     }
 }
 
-/// The known word that is nearest to one that is not known, as the end of a
-/// sentence; empty where none is near.
-pub fn suggestion<'a>(word: &str, known: impl IntoIterator<Item = &'a str>) -> String {
+/// The known word that is nearest to one that is not known, if one is near.
+pub fn nearest<'a>(word: &str, known: impl IntoIterator<Item = &'a str>) -> Option<&'a str> {
     let far = |known: &&str| (distance(word, known), known.len());
+    let count = word.chars().count();
+    let allowed = (1 + count / 4).min(count.saturating_sub(1));
     let nearest = known.into_iter().min_by_key(far);
-    let allowed = 1 + word.chars().count() / 4;
-    match nearest.filter(|known| distance(word, known) <= allowed) {
+    nearest.filter(|known| distance(word, known) <= allowed)
+}
+
+/// The nearest known word as the end of a sentence; empty where none is near.
+pub fn suggestion<'a>(word: &str, known: impl IntoIterator<Item = &'a str>) -> String {
+    match nearest(word, known) {
         Some(known) => format!("; did you mean '{known}'?"),
         None => String::new(),
     }
@@ -81,6 +86,7 @@ mod tests {
             "; did you mean 'waiting'?".to_string()
         );
         assert_eq!(suggestion("shelf", known), "");
+        assert_eq!(nearest("y", ["x"]), None);
     }
 
     #[test]

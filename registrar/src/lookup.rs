@@ -36,7 +36,7 @@ fn what_is_no_name(word: &Word) -> Option<String> {
     if word.quoted {
         Some("words in quotes are no name and stand behind it".to_string())
     } else if is_reserved(word) {
-        Some(format!("'{text}' is a word of this text and no name"))
+        Some(format!("'{text}' is one of the text's own words"))
     } else if digits {
         Some(format!("'{text}' is a number"))
     } else if text.contains('.') {
@@ -71,11 +71,11 @@ fn value(word: &Word) -> Result<u16, String> {
 }
 
 /// The number that a word means: its own, or that of the name. `find` finds a
-/// name's number, `of` says what it names, and `known` are the names that there
-/// are.
+/// name's number; where it does not, `missing` says what there is none of, and
+/// `known` are the names that there are.
 pub fn resolve<'a>(
     word: &Word,
-    of: &str,
+    missing: &str,
     find: impl Fn(&str) -> Option<u16>,
     known: impl IntoIterator<Item = &'a str>,
 ) -> Result<u16, String> {
@@ -83,18 +83,22 @@ pub fn resolve<'a>(
         return value(word);
     }
     let meant = || suggestion(&word.text, known);
-    find(&word.text).ok_or_else(|| format!("there is no {of} '{}'{}", word.text, meant()))
+    find(&word.text).ok_or_else(|| format!("{missing} '{}'{}", word.text, meant()))
 }
 
 /// The number that a word means in a table.
 pub fn in_table(word: &Word, table: &Table, of: &str) -> Result<u16, String> {
     let known = table.names.values().map(|name| name.name.as_str());
-    resolve(word, of, |name| table.number(name), known)
+    let missing = format!("there is no {of}");
+    resolve(word, &missing, |name| table.number(name), known)
 }
 
-/// The track that a word means.
+/// The track that a word of a journal means, where `next` could stand as well.
 pub fn track(word: &Word, names: &Names) -> Result<u16, String> {
     let known = names.tracks.iter().map(|name| name.name.as_str());
-    let find = |name: &str| names.tracks.iter().position(|known| known.name == name);
-    resolve(word, "track", |name| find(name).map(|t| t as u16), known)
+    let find = |name: &str| {
+        let track = names.tracks.iter().position(|known| known.name == name)?;
+        Some(track as u16)
+    };
+    resolve(word, "there is no track", find, known.chain(["next"]))
 }

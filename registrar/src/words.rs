@@ -182,16 +182,14 @@ impl Line {
         if self.take_if(keyword) {
             return Ok(());
         }
-        let word = self.peek().map_or("", |word| &word.text);
-        let meant = suggestion(word, [keyword]);
-        Err(self.fault(format!("'{keyword}' is wanted here{meant}")))
+        Err(self.fault(format!("'{keyword}' is wanted here")))
     }
 
     /// A fault at the next word, or behind the last.
     #[must_use]
     pub fn fault(&self, what: impl Into<String>) -> Fault {
         let behind = |last: &Word| Word {
-            start: last.start + last.count + 1,
+            start: last.start + last.count,
             count: 1,
             ..Word::default()
         };
@@ -212,8 +210,9 @@ impl Line {
         } else {
             format!("'{}' does not fit here", word.text)
         };
+        let known = word.quoted || more.contains(&word.text.as_str());
         let mut meant = suggestion(&word.text, more.iter().copied());
-        if word.quoted || meant.is_empty() {
+        if known || meant.is_empty() {
             meant = format!("; the line is: {form}");
         }
         Err(self.fault(format!("{said}{meant}")))

@@ -3,7 +3,7 @@
 
 use crate::day;
 use crate::draft::{Name, Table, RIGHTS};
-use crate::fault::{suggestion, Fault};
+use crate::fault::{nearest, Fault};
 use crate::lookup;
 use crate::words::{self, Line, Word};
 use std::collections::BTreeMap;
@@ -125,17 +125,24 @@ impl Text {
             Some(first) => first,
             None => return Ok(()),
         };
-        let keyword = if first.quoted { "" } else { &first.text };
-        match keyword {
-            "plan" => self.plan(line),
-            "event" => self.events.row(line, "event"),
-            "retract" => self.retractions.row(line, "retract"),
-            "society" => self.societies.row(line, "society"),
-            "track" => self.track(line),
-            "right" => self.right(line, &first),
-            "state" => self.state(line, &first),
-            "on" => self.step(line, &first),
-            _ => Err(first.fault(line.number, unknown(&first))),
+        let known = || FORMS.iter().map(|(word, _)| *word);
+        let exact = known().find(|word| first.is(word));
+        let near = nearest(&first.text, known()).filter(|_| !first.quoted);
+        let read = match exact.or(near) {
+            Some("plan") => self.plan(line),
+            Some("event") => self.events.row(line, "event"),
+            Some("retract") => self.retractions.row(line, "retract"),
+            Some("society") => self.societies.row(line, "society"),
+            Some("track") => self.track(line),
+            Some("right") => self.right(line, &first),
+            Some("state") => self.state(line, &first),
+            Some("on") => self.step(line, &first),
+            _ => Ok(()),
+        };
+        // A misspelt line is read as what it seems to be, for those below it.
+        match exact {
+            Some(_) => read,
+            None => Err(first.fault(line.number, unknown(&first, near))),
         }
     }
 
@@ -309,20 +316,15 @@ impl Rows {
     }
 }
 
-fn unknown(first: &Word) -> String {
-    let known = FORMS.iter().map(|(word, _)| *word);
-    let meant = suggestion(&first.text, known);
-    if first.quoted {
-        "a line does not begin with a quote".to_string()
-    } else if meant.is_empty() {
-        let known: Vec<&str> = FORMS.iter().map(|(word, _)| *word).collect();
-        let known = known.join(", ");
-        format!(
-            "no line begins with '{}'; lines begin with {known}",
-            first.text
-        )
-    } else {
-        format!("no line begins with '{}'{meant}", first.text)
+fn unknown(first: &Word, near: Option<&str>) -> String {
+    let text = &first.text;
+    match near {
+        _ if first.quoted => "a line does not begin with a quote".to_string(),
+        Some(near) => format!("no line begins with '{text}'; did you mean '{near}'?"),
+        None => {
+            let known = FORMS.map(|(word, _)| word).join(", ");
+            format!("no line begins with '{text}'; lines begin with {known}")
+        }
     }
 }
 

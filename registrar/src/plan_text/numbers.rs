@@ -62,8 +62,8 @@ fn taken(what: &str, given: &[&Given], faults: &mut Vec<Fault>) -> BTreeMap<u16,
         } else if whole && usize::from(number) >= count {
             let most = count - 1;
             let range = match most {
-                0 => "the only one has number 0".to_string(),
-                _ => format!("{count} of them have the numbers 0 to {most}"),
+                0 => format!("the only {what} has number 0"),
+                _ => format!("the {count} {what}s have the numbers 0 to {most}"),
             };
             let what = format!("{what} number {number} is too high: {range}");
             faults.push(word.fault(given.line, what));

@@ -176,24 +176,23 @@ impl<'a> Reader<'a> {
         if word.text.contains('.') {
             return self.dotted(&word.text);
         }
-        let name = &self.text.tracks[track].head.name.name;
-        let of = format!("state in track '{name}' called");
-        self.numbered(word, &of, track)
+        self.state_in(word, track)
     }
 
     /// A state of a track by its name or number.
-    fn numbered(&self, word: &Word, of: &str, track: usize) -> Result<u16, String> {
+    fn state_in(&self, word: &Word, track: usize) -> Result<u16, String> {
         let find = |name: &str| {
             let state = self.own.get(&(track, name))?;
             Some(self.numbers.states[*state])
         };
-        lookup::resolve(word, of, find, self.names_of(track))
+        let missing = format!("track '{}' has no state", self.track_name(track));
+        let own = self.text.states.iter().filter(|s| s.track == track);
+        let known = own.map(|state| state.head.name.name.as_str());
+        lookup::resolve(word, &missing, find, known)
     }
 
-    fn names_of(&self, track: usize) -> Vec<&'a str> {
-        let states = self.text.states.iter();
-        let own = states.filter(|state| state.track == track);
-        own.map(|state| state.head.name.name.as_str()).collect()
+    fn track_name(&self, track: usize) -> &'a str {
+        &self.text.tracks[track].head.name.name
     }
 
     /// TRACK.STATE.
@@ -206,14 +205,13 @@ impl<'a> Reader<'a> {
         let number = |t: usize| self.numbers.tracks[t];
         let known = self.tracks.keys().copied();
         let find = |name: &str| self.tracks.get(name).map(|&t| number(t));
-        let track = lookup::resolve(&word(track), "track", find, known)?;
+        let track = lookup::resolve(&word(track), "there is no track", find, known)?;
         let at = self.numbers.tracks.iter().position(|&t| t == track);
         let at = at.ok_or_else(|| format!("there is no track {track}"))?;
         if word(state).is_number() {
             return Err("a state's number stands by itself, without a track".to_string());
         }
-        let name = &self.text.tracks[at].head.name.name;
-        self.numbered(&word(state), &format!("state in track '{name}' called"), at)
+        self.state_in(&word(state), at)
     }
 
     /// A state of whichever track.
@@ -225,7 +223,7 @@ impl<'a> Reader<'a> {
         if let Some([one, other, ..]) = called.map(Vec::as_slice) {
             let full = |s: usize| {
                 let state = &self.text.states[s];
-                let track = &self.text.tracks[state.track].head.name.name;
+                let track = self.track_name(state.track);
                 format!("'{track}.{}'", state.head.name.name)
             };
             return Err(format!(
@@ -239,7 +237,7 @@ impl<'a> Reader<'a> {
             let states = self.called.get(name)?;
             Some(self.numbers.states[states[0]])
         };
-        lookup::resolve(word, "state", find, self.called.keys().copied())
+        lookup::resolve(word, "there is no state", find, self.called.keys().copied())
     }
 }
 
