@@ -12,6 +12,15 @@ pub fn text(day: i32) -> String {
     }
 }
 
+/// The days from the first to the last.
+#[must_use]
+pub fn span(first: i32, last: i32) -> String {
+    if first == last {
+        return text(first);
+    }
+    format!("{} to {}", text(first), text(last))
+}
+
 /// The day that a word means, or what is wrong with it.
 pub fn parse(word: &str) -> Result<i32, String> {
     if let Ok(day) = word.parse() {
@@ -40,6 +49,8 @@ mod tests {
         assert_eq!(parse("+7"), Ok(7));
         assert_eq!(text(59), "1900-03-01");
         assert_eq!(text(182_621), "182621");
+        assert_eq!(span(59, 59), "1900-03-01");
+        assert_eq!(span(-1, 0), "1899-12-31 to 1900-01-01");
         for wrong in [
             "1900-02-29",
             "1900-3-1",
