@@ -18,4 +18,5 @@ pub mod plan_text;
 pub mod record;
 pub mod run;
 pub mod standing;
+pub mod tell;
 pub mod words;
