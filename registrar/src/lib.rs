@@ -19,4 +19,5 @@ pub mod record;
 pub mod run;
 pub mod standing;
 pub mod tell;
+pub mod withdraw;
 pub mod words;
