@@ -15,6 +15,7 @@ pub mod lookup;
 pub mod phrase;
 pub mod place;
 pub mod plan_text;
+pub mod picture;
 pub mod record;
 pub mod run;
 pub mod standing;
