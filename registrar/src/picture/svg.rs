@@ -123,6 +123,11 @@ impl Canvas {
         self.out.push_str("/>\n");
     }
 
+    /// Elements that are written out already.
+    pub fn raw(&mut self, elements: &str) {
+        self.out.push_str(elements);
+    }
+
     pub fn path(&mut self, class: &str, d: &str) {
         let _ = writeln!(self.out, "<path class=\"{class}\" d=\"{d}\"/>");
     }

@@ -1,0 +1,83 @@
+//! What the signs of a run's picture mean.
+
+use super::svg::{Canvas, Rect, SMALL};
+use super::timeline::{draw_complete, draw_fired, draw_given_up};
+
+/// The size of a sign, and the room between two.
+const SIGN: i32 = 34;
+const HIGH: i32 = 17;
+const BETWEEN: i32 = 18;
+
+/// A sign, and what it means.
+type Entry = (fn(&mut Canvas, (i32, i32)), &'static str);
+
+const ENTRIES: [Entry; 8] = [
+    (forward, "forward, in this state"),
+    (undoing, "undoing"),
+    (held, "a retraction that is held, the newest on top"),
+    (fired, "taken back by this call"),
+    (complete, "its scope is complete"),
+    (given_up, "its scope is given up"),
+    (refused, "the call was refused"),
+    (over, "the ledger is over"),
+];
+
+/// Draws it from here on, in lines no longer than to the right edge; returns
+/// the lower right corner.
+pub fn draw(canvas: &mut Canvas, (left, top): (i32, i32), right: i32) -> (i32, i32) {
+    let (mut x, mut y, mut most) = (left, top, left);
+    for (sign, meaning) in ENTRIES {
+        let width = SIGN + 6 + SMALL.width(meaning);
+        if x > left && x + width > right {
+            x = left;
+            y += HIGH + 7;
+        }
+        sign(canvas, (x, y));
+        let within = Rect::new(x, y, width, HIGH);
+        canvas.text(SMALL, (x + SIGN + 6, y + 2), meaning, within);
+        x += width;
+        most = most.max(x);
+        x += BETWEEN;
+    }
+    (most, y + HIGH)
+}
+
+fn block(canvas: &mut Canvas, class: &str, (x, y): (i32, i32), w: i32) {
+    canvas.rect(class, Rect::new(x, y, w, HIGH), 3);
+}
+
+fn forward(canvas: &mut Canvas, at: (i32, i32)) {
+    block(canvas, "forward", at, SIGN);
+}
+
+fn undoing(canvas: &mut Canvas, at: (i32, i32)) {
+    block(canvas, "undoing", at, SIGN);
+}
+
+fn held(canvas: &mut Canvas, (x, y): (i32, i32)) {
+    block(canvas, "held", (x, y), SIGN);
+    canvas.hook((x + 6, y + 1));
+}
+
+fn fired(canvas: &mut Canvas, (x, y): (i32, i32)) {
+    draw_fired(canvas, (x + SIGN - 24, y));
+}
+
+fn complete(canvas: &mut Canvas, (x, y): (i32, i32)) {
+    block(canvas, "forward", (x, y), SIGN - 3);
+    draw_complete(canvas, (x + SIGN - 3, y - 2));
+}
+
+fn given_up(canvas: &mut Canvas, (x, y): (i32, i32)) {
+    block(canvas, "undoing", (x, y), 18);
+    draw_given_up(canvas, (x + 18, y - 2));
+}
+
+fn refused(canvas: &mut Canvas, at: (i32, i32)) {
+    block(canvas, "refused", at, SIGN);
+}
+
+fn over(canvas: &mut Canvas, (x, y): (i32, i32)) {
+    let x = x + SIGN - 10;
+    canvas.path("over", &format!("M{x} {y}v{HIGH}m4 -{HIGH}v{HIGH}"));
+}
