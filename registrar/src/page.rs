@@ -5,7 +5,7 @@ mod steps;
 
 use crate::draft::Draft;
 use crate::picture;
-use crate::picture::svg::escape;
+use crate::picture::svg::{escape, FONTS};
 use crate::run::Run;
 use std::fmt::Write;
 
@@ -39,7 +39,7 @@ pub struct Told {
 }
 
 const STYLE: &str = "\
-html{background:#fff;color:#1a1a1a;font:16px/1.5 Helvetica,Arial,\"Liberation Sans\",\"DejaVu Sans\",sans-serif}
+html{background:#fff;color:#1a1a1a;font-size:16px;line-height:1.5}
 body{max-width:76rem;margin:0 auto;padding:1rem}
 h1{font-size:1.7rem;line-height:1.2;margin:.5rem 0}
 h2{font-size:1.25rem;margin:2rem 0 .5rem;border-bottom:1px solid #8b98a5}
@@ -47,19 +47,18 @@ h3{font-size:1rem;margin:.5rem 0}
 a{color:#1f3a5f}
 nav a{margin-right:1rem;white-space:nowrap}
 .wide{overflow-x:auto}
-pre{font:13px/1.45 \"DejaVu Sans Mono\",Menlo,Consolas,monospace;background:#f1f4f7;border:1px solid #c3cad1;padding:.75rem;overflow-x:auto}
-code{font:13px \"DejaVu Sans Mono\",Menlo,Consolas,monospace;white-space:nowrap}
+pre{font:13px/1.45 'DejaVu Sans Mono',Menlo,Consolas,monospace;background:#f1f4f7;border:1px solid #c3cad1;padding:.75rem;overflow-x:auto}
+code{font:13px 'DejaVu Sans Mono',Menlo,Consolas,monospace;white-space:nowrap}
 table{border-collapse:collapse}
 th,td{text-align:left;vertical-align:top;padding:.25rem .75rem .25rem 0;border-bottom:1px solid #c3cad1}
-tr:target{background:#fdf0e1}
-.step{display:none}
-.step:target,.step.last{display:block}
-.step:target~.last{display:none}
-.step nav{margin:.5rem 0}
-.step svg{max-width:100%;height:auto}
+.moment{display:none}
+.moment:target,.moment.last{display:block}
+.moment:target~.last{display:none}
+.moment nav{margin:.5rem 0}
+.moment svg{max-width:100%;height:auto}
 .now-forward{fill:#2f6fa7;fill-opacity:.22;stroke:#1f3a5f;stroke-width:4}
 .now-undoing{fill:#c2570c;fill-opacity:.18;stroke:#9a3412;stroke-width:4;stroke-dasharray:8 4}
-.undo{color:#9a3412}
+.holds{color:#9a3412}
 @media print{body{max-width:none;padding:0;font-size:11pt}nav{display:none}svg{max-width:100%;height:auto}.wide,pre{overflow:visible}pre{white-space:pre-wrap}tr,svg{break-inside:avoid}}
 ";
 
@@ -114,7 +113,7 @@ pub fn page(parts: &Page) -> String {
     format!(
         "<!DOCTYPE html>\n<html lang=\"en\">\n<head>\n<meta charset=\"utf-8\"/>\n\
          <meta name=\"viewport\" content=\"width=device-width, initial-scale=1\"/>\n\
-         <title>{title}</title>\n<style>\n{STYLE}</style>\n</head>\n<body>\n{body}</main>\n</body>\n</html>\n"
+         <title>{title}</title>\n<style>\nhtml{{font-family:{FONTS}}}\n{STYLE}</style>\n</head>\n<body>\n{body}</main>\n</body>\n</html>\n"
     )
 }
 

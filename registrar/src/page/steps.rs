@@ -23,7 +23,11 @@ pub fn steps(draft: &Draft, journal: &Journal) -> String {
     for step in 0..=last {
         let done = step.checked_sub(1).map(|call| &run.done[call]);
         let standings = done.map_or(&run.begun, |done| &done.after);
-        let class = if step == last { "step last" } else { "step" };
+        let class = if step == last {
+            "moment last"
+        } else {
+            "moment"
+        };
         let _ = writeln!(out, "<article id=\"{}\" class=\"{class}\">", id(step));
         out += &turning(step, last);
         out += &heading(journal, step, done);
@@ -124,7 +128,7 @@ fn table(draft: &Draft, standings: &[Option<Standing>], done: Option<&Done>) -> 
         let held: Vec<String> = held.map(|e| draft.names.retractions.name(e.code)).collect();
         let _ = writeln!(
             out,
-            "<tr><td>{}</td><td>{}</td><td>{going}</td><td class=\"undo\">{}</td></tr>",
+            "<tr><td>{}</td><td>{}</td><td>{going}</td><td class=\"holds\">{}</td></tr>",
             escape(&draft.track(track as u16)),
             escape(&draft.state(standing.state)),
             escape(&held.join(", "))

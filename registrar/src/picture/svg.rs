@@ -193,26 +193,29 @@ impl Canvas {
     }
 
     /// The whole picture. What is drawn has an id, so that a page may show it
-    /// again without a copy.
+    /// again without a copy; the rules of its style hold in it alone.
     #[must_use]
     pub fn finish(self, name: &str, said: &str, (w, h): (i32, i32), style: &str) -> String {
         let said = escape(said);
+        let mut rules = String::new();
+        for rule in sheet().lines().chain(style.lines()) {
+            let _ = writeln!(rules, ".{name} {rule}");
+        }
         format!(
-            "<svg xmlns=\"http://www.w3.org/2000/svg\" class=\"{name}\" role=\"img\" \
-             aria-label=\"{said}\" width=\"{w}\" height=\"{h}\" viewBox=\"0 0 {w} {h}\">\n\
-             <title>{said}</title>\n<style>{}{style}</style>\n<g id=\"{name}-drawing\">\n{}</g>\n</svg>\n",
-            sheet(),
+            "<svg xmlns=\"http://www.w3.org/2000/svg\" role=\"img\" aria-label=\"{said}\" \
+             width=\"{w}\" height=\"{h}\" viewBox=\"0 0 {w} {h}\">\n<title>{said}</title>\n\
+             <style>\n{rules}</style>\n<g id=\"{name}-drawing\" class=\"{name}\">\n{}</g>\n</svg>\n",
             self.out
         )
     }
 }
 
-/// The style sheet of all texts.
+/// The fonts of all pictures and pages.
+pub const FONTS: &str = "Helvetica,Arial,'Liberation Sans','DejaVu Sans',sans-serif";
+
+/// The style sheet of all texts, a rule a line.
 fn sheet() -> String {
-    let mut sheet =
-        "svg text{font-family:Helvetica,Arial,\"Liberation Sans\",\"DejaVu Sans\",sans-serif;\
-                     fill:#1a1a1a}\n"
-            .to_string();
+    let mut sheet = format!("text{{font-family:{FONTS};fill:#1a1a1a}}\n");
     for Style { class, size, bold } in STYLES {
         let weight = if bold { "bold" } else { "normal" };
         let fill = match class {
@@ -220,13 +223,10 @@ fn sheet() -> String {
             "words" | "small" | "grey" => ";fill:#4a4f57",
             _ => "",
         };
-        let _ = writeln!(
-            sheet,
-            "svg .{class}{{font-size:{size}px;font-weight:{weight}{fill}}}"
-        );
+        let font = format!("font-size:{size}px;font-weight:{weight}");
+        let _ = writeln!(sheet, ".{class}{{{font}{fill}}}");
     }
-    sheet.push_str(".hook{fill:none;stroke:#9a3412;stroke-width:1.3}\n");
-    sheet
+    sheet + ".hook{fill:none;stroke:#9a3412;stroke-width:1.3}\n"
 }
 
 /// A text as it stands in an element or between double quotes. What XML has no
