@@ -4,6 +4,7 @@
 //! plan is accepted, what a call does, which track may be fired, which day a
 //! date is. What is here reads and writes text, explains and draws.
 
+pub mod compare;
 pub mod day;
 pub mod draft;
 pub mod fault;
@@ -17,6 +18,7 @@ pub mod phrase;
 pub mod picture;
 pub mod place;
 pub mod plan_text;
+pub mod printed;
 pub mod record;
 pub mod run;
 pub mod standing;

@@ -5,6 +5,7 @@ mod text;
 
 use crate::draft::Draft;
 use crate::look;
+use crate::phrase;
 use crate::run::Run;
 use crate::standing::{self, Mode, Standing};
 use retraction::{Entry, Ledger, Refusal};
@@ -86,6 +87,18 @@ pub fn withdraw(draft: &Draft, run: &Run<'_>, society: u16) -> Result<Withdrawal
         end,
         turned,
     })
+}
+
+/// A withdrawal that is refused, in words.
+#[must_use]
+pub fn refused(draft: &Draft, society: u16, refusal: Refusal) -> String {
+    let society = phrase::society(draft, society);
+    let why = match refusal {
+        Refusal::Over => "All has ended, and nothing can be taken back any more.".to_string(),
+        Refusal::NoRight => format!("{society} has the signal right nowhere."),
+        _ => String::new(),
+    };
+    format!("The withdrawal by {society} is refused as {refusal}. {why}\n")
 }
 
 /// The society that withdraws, and then those of the rights records.

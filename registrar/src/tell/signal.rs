@@ -24,10 +24,15 @@ pub(super) fn told(scene: &Scene<'_>, turned: u16) -> String {
         1 => format!("{turning} turns round"),
         _ => format!("{turning} turn round"),
     };
-    let staying = phrase::tracks(scene.draft, &staying);
-    let staying = Some(staying).filter(|tracks| !tracks.is_empty());
+    let (verb, them) = if staying.len() == 1 {
+        ("stays", "it")
+    } else {
+        ("stay", "them")
+    };
+    let tracks = phrase::tracks(scene.draft, &staying);
+    let staying = Some(tracks).filter(|tracks| !tracks.is_empty());
     let staying =
-        staying.map(|tracks| format!("{tracks} stay forward: {society} may not turn them"));
+        staying.map(|tracks| format!("{tracks} {verb} forward, for {society} may not turn {them}"));
     let parts = vec![
         Some(turning),
         staying,

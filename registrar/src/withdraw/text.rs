@@ -95,8 +95,14 @@ impl Withdrawal {
     /// What is left at the end.
     fn ending(&self, draft: &Draft) -> Vec<String> {
         if self.restored {
-            let nothing = "Nothing is left then: the books stand as at the begin.";
-            return vec![nothing.to_string()];
+            let then = if self.already && self.held == 0 {
+                ""
+            } else {
+                " then"
+            };
+            return vec![format!(
+                "Nothing is left{then}: the books stand as at the begin."
+            )];
         }
         if self.over {
             let dropped = match self.dropped() {
