@@ -7,6 +7,7 @@
 pub mod compare;
 pub mod day;
 pub mod draft;
+pub mod explain;
 pub mod fault;
 pub mod journal;
 pub mod journal_text;

@@ -84,6 +84,27 @@ pub fn tracks(draft: &Draft, tracks: &[u16]) -> String {
     row(&names)
 }
 
+/// A text in lines of at most so many characters; those behind the first are set
+/// in by as many blanks.
+#[must_use]
+pub fn wrapped(text: &str, width: usize, blanks: usize) -> String {
+    let mut lines = String::new();
+    let mut used = 0;
+    for word in text.split(' ') {
+        let length = word.chars().count();
+        if used > 0 && used + 1 + length > width {
+            lines += &format!("\n{:blanks$}", "");
+            used = blanks;
+        } else if used > 0 {
+            lines.push(' ');
+            used += 1;
+        }
+        lines += word;
+        used += length;
+    }
+    lines
+}
+
 /// Whether the plan's rights records name several societies.
 #[must_use]
 pub fn several_societies(draft: &Draft) -> bool {
@@ -105,5 +126,7 @@ mod tests {
         assert_eq!(count(1, "track"), "1 track");
         assert_eq!(count(0, "window"), "no window");
         assert_eq!(count(7, "state"), "7 states");
+        assert_eq!(wrapped("one two three", 9, 2), "one two\n  three");
+        assert_eq!(wrapped("one two", 7, 2), "one two");
     }
 }
