@@ -150,7 +150,7 @@ fn page(refusal: Refusal) -> Option<Page> {
         Refusal::Rights => (
             WHOLE,
             "a right is over a root, gives at least one of move, signal and fire, is the only one of its society there, and one of at most 64.",
-            "write it under a track without 'in', which it reaches all the tracks under; put all rights of a society there on one line.",
+            "write it under a track without 'in'; it reaches every track under that one. Put all rights of a society there on one line.",
             &["track link", "  right desk move signal fire"],
         ),
         Refusal::Unbounded => (

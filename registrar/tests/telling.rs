@@ -3,9 +3,10 @@
 
 use registrar::draft::{Draft, Records};
 use registrar::journal::{self, Call};
+use registrar::look;
 use registrar::plan_text;
 use registrar::run::{fits, Answer, Done, Run};
-use registrar::standing::Mode;
+use registrar::standing::{self, Mode, Standing};
 use registrar::tell::{self, Told};
 use retraction::{Entry, Plan, Refusal};
 use std::fs::{self, File};
@@ -96,9 +97,53 @@ fn times(text: &str, part: &str) -> u16 {
     text.matches(part).count() as u16
 }
 
+/// A track before and after a call, where it is awake both times.
+fn awake_throughout(done: &Done) -> impl Iterator<Item = (usize, &Standing, &Standing)> {
+    let pairs = done.before.iter().zip(&done.after).enumerate();
+    pairs.filter_map(|(t, (before, after))| Some((t, before.as_ref()?, after.as_ref()?)))
+}
+
+/// What an event gave to tracks is told, and as what.
+fn gifts_fit(draft: &Draft, done: &Done, meaning: &str) {
+    for (track, before, after) in awake_throughout(done) {
+        if after.entries.len() <= before.entries.len() {
+            continue;
+        }
+        let newest = after.entries.last().expect("it holds one");
+        let waited = !look::open_scope(&draft.records, &done.before, track).is_empty();
+        let said = if waited {
+            format!("t{track} holds retraction {} for it", newest.code)
+        } else {
+            format!(" and holds retraction {}", newest.code)
+        };
+        assert!(meaning.contains(&said), "{said}: {meaning}");
+    }
+}
+
+/// How many entries were held when all ended: those from before, less the one
+/// that was fired, and those of the last steps.
+fn held_at_the_end(draft: &Draft, done: &Done) -> usize {
+    let held = standing::held(&done.before);
+    match (done.call, done.answer) {
+        (_, Answer::Fired { .. }) => held - 1,
+        (Call::Event { event, .. }, Answer::Moved(_)) => {
+            let forward = done.before.iter().flatten();
+            let forward = forward.filter(|standing| standing.mode == Mode::Forward);
+            let step = |s: &Standing| look::step_on(&draft.records, s.state, event);
+            let steps = forward.filter_map(step);
+            held + steps.filter(|&x| draft.records.steps[x].code != 0).count()
+        }
+        _ => held,
+    }
+}
+
 /// What must be so of the meaning of a call.
-fn meaning_fits(done: &Done, told: &Told) {
+fn meaning_fits(draft: &Draft, done: &Done, told: &Told) {
     let meaning = &told.meaning;
+    if let Some(dropped) = meaning.split("dropped unfired: ").nth(1) {
+        let dropped = usize::from(times(dropped, "retraction "));
+        assert_eq!(dropped, held_at_the_end(draft, done), "{told:?}");
+    }
     let changed = (0..done.before.len()).filter(|&t| done.before[t] != done.after[t]);
     if !done.over {
         for track in changed {
@@ -114,6 +159,7 @@ fn meaning_fits(done: &Done, told: &Told) {
             assert_eq!(moved, figures.moved, "{told:?}");
             let closed = times(meaning, " complete in ");
             assert_eq!(closed, figures.closed, "{told:?}");
+            gifts_fit(draft, done, meaning);
         }
         Answer::Fired { entry, .. } => {
             let code = format!("retraction {}", entry.code);
@@ -179,7 +225,7 @@ fn one_case(unwind: &Path, folder: &Path, index: u64, seen: &mut Seen) {
         assert_eq!(told.len(), run.lines().len());
         for (place, done) in run.done.iter().enumerate() {
             assert_eq!(told[place + 1].line, Some(place + 2));
-            meaning_fits(done, &told[place + 1]);
+            meaning_fits(draft, done, &told[place + 1]);
             if place + 1 == run.done.len() {
                 let alone = tell::told(draft, run, place);
                 assert_eq!(alone.meaning, told[place + 1].meaning);
