@@ -9,6 +9,7 @@ use registrar::run::{fits, Answer, Done, Run};
 use registrar::standing::{self, Mode, Standing};
 use registrar::tell::{self, Told};
 use retraction::{Entry, Plan, Refusal};
+use std::collections::BTreeSet;
 use std::fs::{self, File};
 use std::path::{Path, PathBuf};
 use std::process::Command;
@@ -215,6 +216,7 @@ struct Seen {
     letters: [usize; 6],
     broken: usize,
     refused_plans: usize,
+    refusals: BTreeSet<String>,
     due: usize,
 }
 
@@ -247,6 +249,8 @@ fn one_case(unwind: &Path, folder: &Path, index: u64, seen: &mut Seen) {
         seen.letters[letter] += 1;
         seen.due += usize::from(one.meaning.contains(" due"));
         seen.broken += usize::from(one.printed == "R 23");
+        seen.refusals
+            .extend(one.printed.strip_prefix("R ").map(String::from));
     }
     seen.refused_plans += usize::from(told.len() == 1);
 }
@@ -273,6 +277,9 @@ fn the_first_column_is_what_the_program_prints() {
             "{:?}",
             seen.letters
         );
+        for number in ["1", "19", "20", "21", "22", "23", "25", "26", "27", "28"] {
+            assert!(seen.refusals.contains(number), "{:?}", seen.refusals);
+        }
         assert!(seen.broken > 200 && seen.refused_plans > 100 && seen.due > 500);
     }
 }

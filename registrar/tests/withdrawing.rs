@@ -7,7 +7,7 @@ use registrar::look;
 use registrar::plan_text;
 use registrar::run::Run;
 use registrar::standing::{self, Mode};
-use registrar::withdraw::{withdraw, Withdrawal};
+use registrar::withdraw::{self, withdraw, Withdrawal};
 use retraction::{Ledger, Plan, Refusal};
 use testing::generate::rng::Rng;
 use testing::generate::{journals, plans, societies};
@@ -215,4 +215,19 @@ Already withdrawn; no letter is due any more.
 Nothing is left: the books stand as at the begin.
 ";
     assert_eq!(done, wanted);
+}
+
+#[test]
+fn refused_withdrawals_in_words() {
+    let draft = brothers();
+    let over = withdraw::refused(&draft, 1, Refusal::Over);
+    let wanted =
+        "The withdrawal by The desk that keeps the link is refused as 20: the ledger is over. \
+                  All has ended, and nothing can be taken back any more.\n";
+    assert_eq!(over, wanted);
+    let lacking = withdraw::refused(&draft, 2, Refusal::NoRight);
+    assert!(
+        lacking.ends_with(" society 2 has the signal right nowhere.\n"),
+        "{lacking}"
+    );
 }

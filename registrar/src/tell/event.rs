@@ -116,6 +116,34 @@ fn against(scene: &Scene<'_>, track: u16, before: &Standing, step: usize) -> Opt
     Some(open).filter(|_| shut)
 }
 
+/// The step that a track would take, as far as the records show.
+fn free_step(scene: &Scene<'_>, track: u16) -> Option<Step> {
+    let before = scene.before(track)?;
+    let (number, step) = step_of(scene, before)?;
+    Some(step).filter(|_| against(scene, track, before, number).is_none())
+}
+
+/// Whether the event would give a track an entry: that of its step, or the one
+/// that stands for its scope, which the event would complete.
+pub(super) fn gives(scene: &Scene<'_>, track: u16) -> bool {
+    let before = match scene.before(track) {
+        Some(before) if before.mode == Mode::Forward => before,
+        _ => return false,
+    };
+    let inside = open_scope(scene, track);
+    if inside.is_empty() {
+        return free_step(scene, track).map_or(false, |step| step.code != 0);
+    }
+    let states = &scene.draft.records.states;
+    let ends = |&t: &u16| {
+        let now = scene.before(t).map(|standing| standing.state);
+        let next = free_step(scene, t).map(|step| step.destination);
+        let state = next.or(now).map(usize::from);
+        state.map_or(false, |state| states[state].last == 1)
+    };
+    states[usize::from(before.state)].replacement != 0 && inside.iter().all(ends)
+}
+
 fn stayed(scene: &Scene<'_>, track: u16, fate: &Fate) -> Option<String> {
     match fate {
         Fate::Stayed(why) => Some(format!("{} stays, for {why}", scene.draft.track(track))),

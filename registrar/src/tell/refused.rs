@@ -1,6 +1,6 @@
 //! A refused call: its number, the rule, and why it was so here.
 
-use super::Scene;
+use super::{event, Scene};
 use crate::day;
 use crate::journal::Call;
 use crate::look;
@@ -71,7 +71,7 @@ const MOST: usize = 32;
 fn full(scene: &Scene<'_>) -> String {
     let holds_most = |&t: &u16| scene.before(t).map_or(false, |s| s.entries.len() >= MOST);
     let full: Vec<u16> = scene.tracks().filter(holds_most).collect();
-    let asked = full.iter().copied().filter(|&t| would_be_given(scene, t));
+    let asked = full.iter().copied().filter(|&t| event::gives(scene, t));
     let asked: Vec<u16> = asked.collect();
     let named = if asked.is_empty() { full } else { asked };
     let verb = if named.len() == 1 { "holds" } else { "hold" };
@@ -79,25 +79,6 @@ fn full(scene: &Scene<'_>) -> String {
         "{} {verb} {MOST} already",
         phrase::tracks(scene.draft, &named)
     )
-}
-
-/// Whether a track has a step for the event with a retraction, or waits for a
-/// scope that one stands for.
-fn would_be_given(scene: &Scene<'_>, track: u16) -> bool {
-    let records = &scene.draft.records;
-    let (before, event) = match (scene.before(track), scene.done.call) {
-        (Some(before), Call::Event { event, .. }) => (before, event),
-        _ => return false,
-    };
-    if before.mode != Mode::Forward {
-        return false;
-    }
-    let inside = look::open_scope(records, &scene.done.before, track.into());
-    if !inside.is_empty() {
-        return records.states[usize::from(before.state)].replacement != 0;
-    }
-    let step = look::step_on(records, before.state, event);
-    step.map_or(false, |step| records.steps[step].code != 0)
 }
 
 fn not_ready(scene: &Scene<'_>) -> String {
