@@ -127,7 +127,10 @@ impl Text {
         };
         let known = || FORMS.iter().map(|(word, _)| *word);
         let exact = known().find(|word| first.is(word));
-        let near = nearest(&first.text, known()).filter(|_| !first.quoted);
+        let near = match exact {
+            None if !first.quoted => nearest(&first.text, known()),
+            _ => None,
+        };
         let read = match exact.or(near) {
             Some("plan") => self.plan(line),
             Some("event") => self.events.row(line, "event"),
