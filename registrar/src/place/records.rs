@@ -52,7 +52,7 @@ impl Finder<'_> {
         }
         let last = state.last;
         let said = self.full(at as u16);
-        let what = format!("{said} has {last} in its final field: 1 is final, 0 is not");
+        let what = format!("state {said} has {last} in its final field: 1 is final, 0 is not");
         Some(what).filter(|_| last > 1)
     }
 
@@ -98,12 +98,14 @@ impl Finder<'_> {
         match self.draft.records.hosted_by(at).next() {
             Some(hosted) if state.last != 0 => {
                 let hosted = self.track(hosted);
-                Some(format!("{said} is final, and track {hosted} is in it"))
+                Some(format!(
+                    "state {said} is final, but track {hosted} is in it"
+                ))
             }
             None if state.replacement != 0 => {
                 let code = self.draft.names.retractions.name(state.replacement);
                 Some(format!(
-                    "{said} has '{code}' for when it is complete, and no track is in it"
+                    "state {said} undoes '{code}' when complete, but no track is in it"
                 ))
             }
             _ => None,
@@ -179,8 +181,7 @@ impl Finder<'_> {
             deep += 1;
         }
         let said = self.track(at);
-        let what =
-            format!("track {said} is the {deep}th inside one another, {MOST_DEEP} are the most");
+        let what = format!("track {said} is nested {deep} deep, and {MOST_DEEP} is the most");
         Some(what).filter(|_| deep > MOST_DEEP)
     }
 
@@ -245,7 +246,7 @@ impl Finder<'_> {
                 ))
             }
             _ if at >= MOST_GRANTS => Some(format!(
-                "this is right number {at}, counted from 0: {MOST_GRANTS} are the most"
+                "this is a right too many: {MOST_GRANTS} are the most"
             )),
             _ => None,
         }
