@@ -1,9 +1,14 @@
 //! Texts of plans and journals: written and read again they say the same.
 
-use registrar::draft::{Draft, Records};
+#[allow(dead_code)]
+mod common;
+
+use registrar::draft::{Draft, Name, Records};
 use registrar::journal::{self, Call};
 use registrar::{journal_text, plan_text};
 use retraction::Plan;
+use std::fs;
+use std::path::PathBuf;
 use testing::generate::rng::Rng;
 use testing::generate::{journals, plans};
 
@@ -47,11 +52,8 @@ fn every_accepted_plan_is_read_back() {
         let bytes = any_plan(index);
         assert!(Plan::read(&bytes[..]).is_ok());
         let draft = draft_of(&bytes);
-        let text = plan_text::write(&draft);
-        let again = plan_text::read(&text).unwrap_or_else(|faults| panic!("{faults:?}\n{text}"));
-        assert_eq!(again.records.encode(), bytes, "{text}");
-        assert_eq!(again.names, draft.names);
-        assert_eq!(plan_text::write(&again), text);
+        assert_eq!(draft.records.encode(), bytes);
+        let text = assert_read_back(&draft);
         for (count, sort) in needed.iter_mut().zip(sorts) {
             *count += usize::from(numbers_written(&text, sort));
         }
@@ -90,51 +92,131 @@ fn every_history_is_read_back() {
     assert!(calls_read > 20_000, "{calls_read}");
 }
 
-/// The directories of samples that have a plan's text.
-fn samples() -> Vec<std::path::PathBuf> {
-    let directory = concat!(env!("CARGO_MANIFEST_DIR"), "/../samples");
-    let entries = std::fs::read_dir(directory).expect("the samples");
-    let paths = entries.map(|entry| entry.expect("an entry").path());
-    let mut paths: Vec<_> = paths
-        .filter(|path| path.join("plan.txt").exists())
-        .collect();
-    paths.sort();
-    paths
-}
-
-/// Each sample is an accepted plan. Where its bytes stand beside its text, they
-/// are the text's; so are those of its journals.
+/// Each sample is an accepted plan. Where bytes stand beside a text, they are the
+/// text's.
 #[test]
 fn samples_are_plans_and_journals() {
-    assert!(!samples().is_empty());
-    for sample in samples() {
-        let text = std::fs::read_to_string(sample.join("plan.txt")).expect("a text");
-        let draft = plan_text::read(&text).unwrap_or_else(|faults| panic!("{faults:?}"));
+    let read = |path: PathBuf| fs::read_to_string(path).expect("a text");
+    for sample in common::samples() {
+        let draft = plan_text::read(&read(sample.file("plan.txt"))).expect("a plan");
         let bytes = draft.records.encode();
-        assert!(Plan::read(&bytes[..]).is_ok(), "{sample:?}");
-        let again = plan_text::read(&plan_text::write(&draft)).expect("a plan");
-        assert_eq!(
-            (&again.records, &again.names),
-            (&draft.records, &draft.names)
-        );
-        if let Ok(stored) = std::fs::read(sample.join("plan.bin")) {
-            assert_eq!(stored, bytes, "{sample:?}");
+        assert!(Plan::read(&bytes[..]).is_ok(), "{:?}", sample.folder);
+        assert_read_back(&draft);
+        if let Ok(stored) = fs::read(sample.file("plan.bin")) {
+            assert_eq!(stored, bytes, "{:?}", sample.folder);
         }
-        for entry in std::fs::read_dir(&sample).expect("a sample") {
-            let path = entry.expect("an entry").path();
-            let is_text = path.extension().map_or(false, |ending| ending == "txt");
-            if !is_text || path.ends_with("plan.txt") {
-                continue;
-            }
-            let text = std::fs::read_to_string(&path).expect("a text");
-            let read = journal_text::read(&text, &draft)
-                .unwrap_or_else(|faults| panic!("{path:?} {faults:?}"));
-            let again = journal_text::write(&read.calls, &draft);
-            let again = journal_text::read(&again, &draft).expect("a journal");
-            assert_eq!(again.calls, read.calls);
-            if let Ok(stored) = std::fs::read(path.with_extension("bin")) {
-                assert_eq!(stored, journal::encode(&read.calls), "{path:?}");
+        for journal in &sample.journals {
+            let text = read(sample.file(&format!("{journal}.txt")));
+            let calls = journal_text::read(&text, &draft).expect("a journal").calls;
+            let again = journal_text::read(&journal_text::write(&calls, &draft), &draft);
+            assert_eq!(again.expect("a journal").calls, calls);
+            if let Ok(stored) = fs::read(sample.file(&format!("{journal}.bin"))) {
+                assert_eq!(stored, journal::encode(&calls), "{:?}", sample.folder);
             }
         }
     }
+}
+
+/// A draft's text is read as the same draft, and written as the same text.
+fn assert_read_back(draft: &Draft) -> String {
+    let text = plan_text::write(draft);
+    let again = plan_text::read(&text).unwrap_or_else(|faults| panic!("{faults:?}\n{text}"));
+    assert_eq!(again.records, draft.records, "{text}");
+    assert_eq!(again.names, draft.names, "{text}");
+    assert_eq!(plan_text::write(&again), text);
+    text
+}
+
+const WORDS: [&str; 7] = [
+    "",
+    "on the shelf",
+    "says \"no\"",
+    "# no remark",
+    "\"",
+    "Åsa och Örjan",
+    " in STATE ",
+];
+
+/// Other names for all that a draft has: states of one name in several tracks,
+/// tables with some of their numbers, words of all sorts.
+fn rename(rng: &mut Rng, draft: &mut Draft) {
+    let words = |rng: &mut Rng| rng.pick(&WORDS).unwrap_or_default().to_string();
+    let name = |rng: &mut Rng, name: String| Name {
+        name,
+        words: words(rng),
+    };
+    let records = &draft.records;
+    let names = &mut draft.names;
+    names.plan = name(rng, "the-plan".to_string());
+    for (t, track) in names.tracks.iter_mut().enumerate() {
+        *track = name(rng, format!("track-{t}"));
+    }
+    let mut own = vec![0; records.tracks.len()];
+    for (state, called) in records.states.iter().zip(&mut names.states) {
+        let number = &mut own[usize::from(state.track)];
+        *called = name(rng, format!("état{number}"));
+        *number += if rng.chance(20) { 7 } else { 1 };
+    }
+    let events: Vec<u16> = records.steps.iter().map(|step| step.event).collect();
+    let codes: Vec<u16> = records.steps.iter().map(|step| step.code).collect();
+    let societies: Vec<u16> = records.grants.iter().map(|grant| grant.society).collect();
+    let tables = [
+        (&mut names.events, events),
+        (&mut names.retractions, codes),
+        (&mut names.societies, societies),
+    ];
+    for (table, numbers) in tables {
+        for number in numbers {
+            if rng.chance(80) {
+                let called = name(rng, format!("n{number}"));
+                table.names.insert(number, called);
+            }
+        }
+    }
+}
+
+#[test]
+fn names_and_words_are_read_back() {
+    let mut dotted = 0;
+    for index in 0..3_000 {
+        let mut draft = draft_of(&any_plan(index));
+        rename(&mut Rng::for_case(SEED, 3, index), &mut draft);
+        let text = assert_read_back(&draft);
+        dotted += usize::from(text.contains(" in track-"));
+    }
+    assert!(dotted > 500, "{dotted}");
+}
+
+/// Names for bytes out of an older text: the result is written and read back, and
+/// with the same records all names are kept.
+#[test]
+fn names_from_an_older_text() {
+    let (mut kept, mut mixed) = (0, 0);
+    for index in 0..2_000 {
+        let mut rng = Rng::for_case(SEED, 4, index);
+        let mut old = draft_of(&any_plan(index));
+        rename(&mut rng, &mut old);
+        let same = plan_text::names_from(old.records.clone(), &old);
+        assert_eq!((&same.names, &same.records), (&old.names, &old.records));
+        if rng.chance(50) {
+            // Old names that look like those of numbers.
+            for (s, name) in old.names.states.iter_mut().enumerate() {
+                name.name = format!("s{}", s + 1);
+            }
+        }
+        let mut records = old.records.clone();
+        rng.shuffle(&mut records.states);
+        let new = plan_text::names_from(records, &old);
+        assert_read_back(&new);
+        assert_eq!(new.names.tracks, old.names.tracks);
+        let same = |s: &usize| new.names.states[*s] == old.names.states[*s];
+        let count = (0..new.names.states.len()).filter(same).count();
+        kept += usize::from(count == new.names.states.len());
+        mixed += usize::from(count > 0 && count < new.names.states.len());
+        let other = draft_of(&any_plan(index + 1));
+        let new = plan_text::names_from(other.records, &old);
+        assert_read_back(&new);
+        assert_eq!(new.names.events, old.names.events);
+    }
+    assert!(kept > 50 && mixed > 500, "{kept} {mixed}");
 }
