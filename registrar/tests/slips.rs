@@ -1,6 +1,7 @@
 //! Slips in the samples' texts: a line left out or written twice, a letter dropped,
 //! two exchanged, a word left out. Whatever comes of it, reading does not panic,
-//! and every fault and every refused plan is told with a line of the text.
+//! every fault and every refused plan is told with a line of the text, and what is
+//! read is written and read back.
 //!
 //! Refusals that name no record would have no line: no slip of a sample comes to
 //! one, which is asserted.
@@ -86,6 +87,11 @@ fn plan_outcome(text: &str) -> Outcome {
             return Outcome::Faulty;
         }
     };
+    let again = plan_text::read(&plan_text::write(&draft)).expect(text);
+    assert_eq!(
+        (&again.names, &again.records),
+        (&draft.names, &draft.records)
+    );
     let refusal = match Plan::read(draft.records.encode()) {
         Ok(_) => return Outcome::Good,
         Err(refusal) => refusal,
@@ -103,6 +109,8 @@ fn journal_outcome(text: &str, draft: &Draft) -> Outcome {
         Ok(journal) => {
             let lines = text.lines().count();
             assert!(journal.lines.iter().all(|&line| line <= lines));
+            let again = journal_text::read(&journal_text::write(&journal.calls, draft), draft);
+            assert_eq!(again.expect(text).calls, journal.calls);
             Outcome::Good
         }
         Err(faults) => {
