@@ -48,6 +48,8 @@ pub struct TrackBox {
 pub struct StateBox {
     pub state: usize,
     pub rect: Rect,
+    /// The height of its name, and of the retraction under it.
+    pub head: i32,
     pub name: String,
     /// The retraction that stands for its completed scope.
     pub complete: Option<Line>,
@@ -124,6 +126,7 @@ fn state_box(draft: &Draft, state: usize) -> StateBox {
         width = width.max(line.width() + 2 * PAD);
         bottom += line.style.line() + 2;
     }
+    let head = bottom;
     let mut hosted = Vec::new();
     for track in draft.records.hosted_by(state) {
         let mut inner = track_box(draft, track);
@@ -138,6 +141,7 @@ fn state_box(draft: &Draft, state: usize) -> StateBox {
     StateBox {
         state,
         rect: Rect::new(0, 0, width, bottom),
+        head,
         name,
         complete,
         hosted,

@@ -29,7 +29,7 @@ pub fn plan(draft: &Draft) -> String {
     canvas.finish("plan", said.trim_end(), size, STYLE)
 }
 
-/// The size of that picture, and the box of each state by its number.
+/// The size of that picture, and the head of each state by its number.
 #[must_use]
 pub fn places(draft: &Draft) -> ((i32, i32), Vec<Rect>) {
     let (roots, size) = layout::of(draft);
@@ -37,7 +37,10 @@ pub fn places(draft: &Draft) -> ((i32, i32), Vec<Rect>) {
     let mut left: Vec<&TrackBox> = roots.iter().collect();
     while let Some(track) = left.pop() {
         for state in &track.states {
-            places[state.state] = Rect::new(state.rect.x, state.rect.y, state.rect.w, HEAD);
+            places[state.state] = Rect {
+                h: state.head,
+                ..state.rect
+            };
             left.extend(&state.hosted);
         }
     }
