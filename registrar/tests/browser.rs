@@ -8,6 +8,7 @@ mod drawn;
 use drawn::elements;
 use registrar::draft::Draft;
 use registrar::page::{self, Journal, Page, Told};
+use registrar::picture::svg::{Canvas, Rect, STYLES};
 use registrar::run::Run;
 use registrar::{journal_text, picture, plan_text};
 use retraction::Plan;
@@ -190,40 +191,31 @@ fn pictures() -> Pictures {
         let run = drawn::with_run(&draft, &journal, |run| picture::timeline(&draft, run));
         pictures.push((format!("run {seed}"), run));
     }
-    pictures.push(("letters".to_string(), picture::plan(&letters())));
+    pictures.push(("letters".to_string(), specimen()));
     pictures
 }
 
-/// Names of every character from blank to `~`, and of accented letters, many
-/// times each, so that a width that is a little too small shows.
-fn letters() -> Draft {
-    let mut draft = drawn::draft(&made::brothers().encode());
-    let printed: Vec<char> = (33..127u8).map(char::from).collect();
-    let many = |c: &char| c.to_string().repeat(40);
-    let mut letters: Vec<String> = printed.iter().map(many).collect();
-    letters.extend("ÅÄÖåäöéèüßæœŒÆŁłŵĦ".chars().map(|c| many(&c)));
-    let mut letters = letters.iter().cycle();
-    let mut next = || letters.next().expect("a letter").clone();
-    let events: Vec<u16> = draft.records.steps.iter().map(|step| step.event).collect();
-    let codes: Vec<u16> = draft.records.steps.iter().map(|step| step.code).collect();
-    let name = |name| registrar::draft::Name {
-        name,
-        words: String::new(),
-    };
-    for track in &mut draft.names.tracks {
-        track.name = next();
-        track.words = next();
+/// Every character from `!` to `~` and accented letters in every style, many
+/// times each, in boxes of just the width that is thought to be enough, but for
+/// the pixel by which ink may stand out.
+fn specimen() -> String {
+    let mut canvas = Canvas::default();
+    let (mut y, mut right) = (0, 0);
+    let letters = (33..127u8)
+        .map(char::from)
+        .chain("ÅÄÖåäöéèüßæœŒÆŁłŵĦ家族".chars());
+    for letter in letters {
+        let many = letter.to_string().repeat(40);
+        let mut x = 0;
+        for style in STYLES {
+            let taken = Rect::new(x + 1, y + 1, style.width(&many), style.line());
+            canvas.text(style, (taken.x, taken.y), &many, taken.inset(-1));
+            x = taken.right() + 1;
+        }
+        right = right.max(x);
+        y += 20;
     }
-    for state in &mut draft.names.states {
-        state.name = next();
-    }
-    for event in events {
-        draft.names.events.names.insert(event, name(next()));
-    }
-    for code in codes {
-        draft.names.retractions.names.insert(code, name(next()));
-    }
-    draft
+    canvas.finish("plan", "letters", (right, y), "")
 }
 
 #[test]

@@ -14,7 +14,7 @@ const PLAIN: [u8; 95] = [
 const BOLD: [u8; 95] = [
     35, 46, 56, 84, 70, 101, 88, 31, 46, 46, 53, 84, 38, 42, 38, 37, 70, 70, 70, 70, 70, 70, 70,
     70, 70, 70, 40, 40, 84, 84, 84, 62, 100, 78, 77, 74, 84, 69, 69, 83, 84, 39, 56, 78, 67, 100,
-    84, 86, 74, 86, 78, 73, 69, 82, 78, 111, 78, 73, 73, 46, 37, 46, 84, 56, 50, 68, 72, 60, 72,
+    84, 86, 74, 86, 78, 73, 71, 82, 78, 111, 78, 73, 73, 46, 37, 46, 84, 56, 50, 68, 72, 60, 72,
     68, 44, 72, 72, 35, 35, 67, 35, 105, 72, 69, 72, 72, 50, 60, 48, 72, 66, 93, 65, 66, 59, 72,
     37, 72, 84,
 ];
@@ -23,7 +23,7 @@ const BOLD: [u8; 95] = [
 const WIDE: i32 = 150;
 
 /// Latin letters with accents, and others of their width.
-const LETTER: i32 = 100;
+const LETTER: i32 = 110;
 
 /// At most so many pixels wide in a font of this size.
 #[must_use]
@@ -57,7 +57,7 @@ mod tests {
         assert_eq!(of("", 12, false), 0);
         assert_eq!(of("ab", 100, false), 126);
         assert_eq!(of("ab", 100, true), 140);
-        assert_eq!(of("é中", 10, false), 25);
+        assert_eq!(of("é中", 10, false), 26);
         assert!(of("a link", 12, true) > of("a link", 12, false));
     }
 
