@@ -4,9 +4,11 @@
 mod steps;
 
 use crate::draft::Draft;
+use crate::journal_text;
 use crate::picture;
 use crate::picture::svg::{escape, FONTS};
 use crate::run::Run;
+use crate::tell;
 use std::fmt::Write;
 
 /// What stands on the page.
@@ -36,6 +38,27 @@ pub struct Told {
     /// The line as a journal's text has it.
     pub text: String,
     pub meaning: String,
+}
+
+impl Journal<'_> {
+    /// The journal of a run, told line by line; the last argument is what would be
+    /// taken back now.
+    #[must_use]
+    pub fn of<'a>(draft: &Draft, run: &'a Run<'a>, due: &'a str) -> Journal<'a> {
+        let told = |(row, one): (usize, tell::Told)| {
+            let call = row.checked_sub(1).filter(|&call| call < run.done.len());
+            let text = call.map(|call| journal_text::line_of(run.done[call].call, draft));
+            Told {
+                call,
+                printed: one.printed,
+                text: text.unwrap_or_default(),
+                meaning: one.meaning,
+            }
+        };
+        let rows = tell::tell(draft, run, &[]).into_iter().enumerate();
+        let told = rows.map(told).collect();
+        Journal { run, told, due }
+    }
 }
 
 const STYLE: &str = "\

@@ -7,10 +7,10 @@ mod drawn;
 
 use drawn::elements;
 use registrar::draft::Draft;
-use registrar::page::{self, Journal, Page, Told};
+use registrar::page::{self, Journal, Page};
 use registrar::picture::svg::{Canvas, Rect, STYLES};
 use registrar::run::Run;
-use registrar::{journal_text, picture, plan_text};
+use registrar::{journal_text, list, picture, plan_text};
 use retraction::Plan;
 use std::fs::{self, File};
 use std::path::{Path, PathBuf};
@@ -245,20 +245,11 @@ fn longest_page() -> String {
     let mut pages = Vec::new();
     each_sample(|_, draft, runs| {
         for (_, run) in &runs {
-            let told = |(n, done): (usize, &registrar::run::Done)| Told {
-                call: Some(n),
-                printed: done.line(),
-                text: journal_text::line_of(done.call, draft),
-                meaning: "What it means.".to_string(),
-            };
+            let plan = Plan::read(draft.records.encode()).expect("an accepted plan");
             let parts = Page {
                 draft,
-                listing: &plan_text::write(draft),
-                journal: Some(Journal {
-                    run,
-                    told: run.done.iter().enumerate().map(told).collect(),
-                    due: "nothing",
-                }),
+                listing: &list::list(draft, &plan),
+                journal: Some(Journal::of(draft, run, "nothing")),
             };
             pages.push(page::page(&parts));
         }
