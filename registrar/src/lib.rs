@@ -4,6 +4,7 @@
 //! plan is accepted, what a call does, which track may be fired, which day a
 //! date is. What is here reads and writes text, explains and draws.
 
+pub mod command;
 pub mod compare;
 pub mod day;
 pub mod draft;

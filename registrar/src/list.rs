@@ -104,7 +104,7 @@ fn rights(draft: &Draft) -> Vec<String> {
         let over = |pair: &(&Grant, &String)| usize::from(pair.0.root) == root;
         let of_root: Vec<_> = grants.iter().zip(&who).filter(over).collect();
         let none = if of_root.is_empty() { " nobody" } else { "" };
-        lines.push(format!("over {}:{none}", draft.track(root as u16)));
+        lines.push(format!("rights over {}:{none}", draft.track(root as u16)));
         for (grant, who) in of_root {
             lines.push(format!("  {who:width$}  {}", may(grant.sum)));
         }

@@ -38,10 +38,22 @@ pub fn event(draft: &Draft, event: u16) -> String {
     said(&draft.names.events, "event", event)
 }
 
-/// A society.
+/// A society, as it stands within a sentence: `the hub` for `The hub`.
 #[must_use]
 pub fn society(draft: &Draft, society: u16) -> String {
-    said(&draft.names.societies, "society", society)
+    let said = said(&draft.names.societies, "society", society);
+    let articles = [("The ", "the "), ("A ", "a "), ("An ", "an ")];
+    let rest =
+        |(at_start, within): (&str, &str)| Some(within.to_string() + said.strip_prefix(at_start)?);
+    articles.into_iter().find_map(rest).unwrap_or(said)
+}
+
+/// The same at the start of a sentence.
+#[must_use]
+pub fn capital(text: &str) -> String {
+    let mut letters = text.chars();
+    let first = letters.next().map(char::to_uppercase);
+    first.into_iter().flatten().chain(letters).collect()
 }
 
 /// A retraction, with its number.

@@ -95,7 +95,10 @@ pub fn refused(draft: &Draft, society: u16, refusal: Refusal) -> String {
     let society = phrase::society(draft, society);
     let why = match refusal {
         Refusal::Over => "All has ended, and nothing can be taken back any more.".to_string(),
-        Refusal::NoRight => format!("{society} has the signal right nowhere."),
+        Refusal::NoRight => format!(
+            "{} has the signal right nowhere.",
+            phrase::capital(&society)
+        ),
         _ => String::new(),
     };
     format!("The withdrawal by {society} is refused as {refusal}. {why}\n")

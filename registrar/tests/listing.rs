@@ -29,7 +29,7 @@ fn brothers_and_sisters() {
     for line in [
         "brothers-and-sisters: Two brothers marry two sisters",
         "7 tracks, 15 states, 8 steps, no window, 1 rights record (318 bytes, sum 2175)",
-        "over link:",
+        "rights over link:",
         "  1 desk: The desk that keeps the link  may move, signal and fire",
         "track 0 link: The link of the two families (root, holds at most 2)",
         "    track 1 elder: Anders and Clara (holds at most 2)",

@@ -192,19 +192,19 @@ fn brothers_after(calls: usize) -> Result<String, Refusal> {
 #[test]
 fn brothers_and_sisters() {
     let halfway = "\
-If The desk that keeps the link withdrew now, 4 letters would go out, exactly:
+If the desk that keeps the link withdrew now, 4 letters would go out, exactly:
   round 1, side by side, in any order:
     elder      1. Strike the entry of Anders and Clara (130)
                2. Send Anders's and Clara's papers back (139)
     film-dora  1. Call Dora's film back (141)
   round 2, once elder and younger are done:
     link       1. Withdraw the banns (101)
-Nothing is left then: the books stand as at the begin.
+Nothing is left then: if each retraction undoes its step, the books stand as at the begin.
 ";
     assert_eq!(brothers_after(6).as_deref(), Ok(halfway));
     let begun = "\
-If The desk that keeps the link withdrew now, no letter would go out: nothing is held.
-Nothing is left then: the books stand as at the begin.
+If the desk that keeps the link withdrew now, no letter would go out: nothing is held.
+Nothing is left then: if each retraction undoes its step, the books stand as at the begin.
 ";
     assert_eq!(brothers_after(0).as_deref(), Ok(begun));
     let withdrawn = brothers_after(9).expect("not over");
@@ -212,7 +212,7 @@ Nothing is left then: the books stand as at the begin.
     let done = brothers_after(12).expect("not over");
     let wanted = "\
 Already withdrawn; no letter is due any more.
-Nothing is left: the books stand as at the begin.
+Nothing is left: if each retraction undoes its step, the books stand as at the begin.
 ";
     assert_eq!(done, wanted);
 }
@@ -222,12 +222,12 @@ fn refused_withdrawals_in_words() {
     let draft = brothers();
     let over = withdraw::refused(&draft, 1, Refusal::Over);
     let wanted =
-        "The withdrawal by The desk that keeps the link is refused as 20: the ledger is over. \
+        "The withdrawal by the desk that keeps the link is refused as 20: the ledger is over. \
                   All has ended, and nothing can be taken back any more.\n";
     assert_eq!(over, wanted);
     let lacking = withdraw::refused(&draft, 2, Refusal::NoRight);
     assert!(
-        lacking.ends_with(" society 2 has the signal right nowhere.\n"),
+        lacking.ends_with(" Society 2 has the signal right nowhere.\n"),
         "{lacking}"
     );
 }

@@ -21,7 +21,9 @@ pub fn has_bytes(path: &str) -> bool {
 
 /// A file that could not be read or written.
 fn unfit(path: &str, error: &std::io::Error) -> Answer {
-    Answer::unfit(format!("{path}: {error}"))
+    let error = error.to_string();
+    let words = error.split(" (os error").next().unwrap_or(&error);
+    Answer::unfit(format!("{path}: {words}"))
 }
 
 fn bytes_of(path: &str) -> Or<Vec<u8>> {
@@ -38,9 +40,19 @@ fn text_of(path: &str) -> Or<String> {
 }
 
 /// All faults of a text, each with its place.
-fn faults(path: &str, text: &str, faults: &[Fault]) -> Answer {
+#[must_use]
+pub fn faults(path: &str, text: &str, faults: &[Fault]) -> Answer {
     let shown = faults.iter().map(|fault| fault.show(path, text));
     Answer::refused(shown.collect::<String>())
+}
+
+/// A plan file, accepted or not.
+pub struct Given {
+    /// Without records where the bytes are not whole records.
+    pub draft: Draft,
+    pub bytes: Vec<u8>,
+    /// The proved reader's word, and a refusal told.
+    pub judged: Result<Plan, (Refusal, Answer)>,
 }
 
 /// An accepted plan, with its names.
@@ -49,26 +61,36 @@ pub struct Filed {
     pub plan: Plan,
 }
 
-/// The plan of a file.
-pub fn plan(path: &str) -> Or<Filed> {
-    if has_bytes(path) {
+/// The plan of a file, whether it is accepted or not.
+pub fn given(path: &str) -> Or<Given> {
+    let (draft, bytes, text) = if has_bytes(path) {
         let bytes = bytes_of(path)?;
-        let accepted = run::fits(&bytes).and_then(|()| Plan::read(&bytes[..]));
-        let told = |refusal| refused(path, refusal, &place::of(refusal, &bytes, None), None);
-        let plan = accepted.map_err(told)?;
-        let records = Records::decode(&bytes).expect("an accepted plan has whole records");
-        let draft = Draft::of_records(records);
-        return Ok(Filed { draft, plan });
-    }
-    let text = text_of(path)?;
-    let draft = plan_text::read(&text).map_err(|found| faults(path, &text, &found))?;
-    let bytes = draft.records.encode();
-    let accepted = run::fits(&bytes).and_then(|()| Plan::read(&bytes[..]));
-    let told = |refusal| {
-        let place = place::of(refusal, &bytes, Some(&draft));
-        refused(path, refusal, &place, Some(&text))
+        let records = Records::decode(&bytes).unwrap_or_default();
+        (Draft::of_records(records), bytes, None)
+    } else {
+        let text = text_of(path)?;
+        let draft = plan_text::read(&text).map_err(|found| faults(path, &text, &found))?;
+        let bytes = draft.records.encode();
+        (draft, bytes, Some(text))
     };
-    let plan = accepted.map_err(told)?;
+    let judged = run::fits(&bytes).and_then(|()| Plan::read(&bytes[..]));
+    let named = Some(&draft).filter(|_| text.is_some());
+    let told = |refusal| {
+        let place = place::of(refusal, &bytes, named);
+        (refusal, refused(path, refusal, &place, text.as_deref()))
+    };
+    let judged = judged.map_err(told);
+    Ok(Given {
+        draft,
+        bytes,
+        judged,
+    })
+}
+
+/// The plan of a file, which must be accepted.
+pub fn plan(path: &str) -> Or<Filed> {
+    let Given { draft, judged, .. } = given(path)?;
+    let plan = judged.map_err(|(_, told)| told)?;
     Ok(Filed { draft, plan })
 }
 
@@ -95,6 +117,8 @@ fn refused(path: &str, refusal: Refusal, place: &Place, text: Option<&str>) -> A
 
 /// A journal out of a file.
 pub struct Journal {
+    /// All of it, what is broken too.
+    pub bytes: Vec<u8>,
     pub calls: Vec<Call>,
     /// The line of each call in a text; empty for bytes.
     pub lines: Vec<usize>,
@@ -117,13 +141,19 @@ impl Journal {
     /// Ends the command where it is too long or broken.
     pub fn whole(self, path: &str) -> Or<Journal> {
         if let Some(refusal) = self.refused {
-            return Err(Answer::refused(format!("{path}: refused, {refusal}\n")));
+            return Err(too_long(path, refusal));
         }
         match &self.broken {
             Some(broken) => Err(Answer::refused(broken_words(path, broken))),
             None => Ok(self),
         }
     }
+}
+
+/// A journal that is refused for its length.
+#[must_use]
+pub fn too_long(path: &str, refusal: Refusal) -> Answer {
+    Answer::refused(format!("{path}: refused, {refusal}\n"))
 }
 
 /// A broken journal in words.
@@ -139,20 +169,22 @@ pub fn journal(path: &str, draft: &Draft) -> Or<Journal> {
     if has_bytes(path) {
         let bytes = bytes_of(path)?;
         let (calls, broken) = journal::decode(&bytes);
-        let days = calls.iter().rev().find_map(|call| call.day());
         return Ok(Journal {
-            day: days,
+            day: calls.iter().rev().find_map(|call| call.day()),
             society: calls.last().map(|call| call.society()),
             lines: Vec::new(),
             refused: run::fits(&bytes).err(),
             calls,
             broken,
+            bytes,
         });
     }
     let text = text_of(path)?;
     let read = journal_text::read(&text, draft).map_err(|found| faults(path, &text, &found))?;
+    let bytes = journal::encode(&read.calls);
     Ok(Journal {
-        refused: run::fits(&journal::encode(&read.calls)).err(),
+        refused: run::fits(&bytes).err(),
+        bytes,
         calls: read.calls,
         lines: read.lines,
         broken: None,

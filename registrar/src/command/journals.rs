@@ -1,14 +1,12 @@
 //! Commands about a plan and a journal: journal, tell, add, withdraw, timeline.
 
 use super::answer::{Answer, Or};
-use super::files::{self, Filed, Journal};
+use super::files::{self, Filed, Given, Journal};
 use super::options::Options;
 use crate::draft::Draft;
-use crate::journal::{self, MOST_BYTES};
-use crate::journal_text;
+use crate::journal::{self, Call};
 use crate::run::{self, Answer as Told};
-use crate::{picture, tell, withdraw};
-use retraction::Refusal;
+use crate::{journal_text, picture, tell, withdraw};
 
 /// The plan and the journal that a command names first.
 fn both(options: &Options) -> Or<(Filed, Journal)> {
@@ -36,14 +34,21 @@ pub fn journal(options: &Options) -> Or<Answer> {
 }
 
 pub fn tell(options: &Options) -> Or<Answer> {
-    let (filed, journal) = both(options)?;
+    let Given { draft, judged, .. } = files::given(options.word(0))?;
+    let refused = |refusal| tell::text(&[tell::refused(refusal)]);
+    let plan = match judged {
+        Ok(plan) => plan,
+        Err((refusal, told)) => {
+            return Ok(Answer::done(refused(refusal)).but_refused(told.said));
+        }
+    };
     let path = options.word(1);
+    let journal = files::journal(path, &draft)?;
     if let Some(refusal) = journal.refused {
-        let line = tell::refused(refusal);
-        return Ok(Answer::done(line).but_refused(""));
+        return Ok(Answer::done(refused(refusal)).but_refused(""));
     }
-    let run = journal.run(&filed.plan);
-    let told = tell::tell(&filed.draft, &run, &journal.lines);
+    let run = journal.run(&plan);
+    let told = tell::tell(&draft, &run, &journal.lines);
     let answer = Answer::done(tell::text(&told));
     Ok(match &run.broken {
         Some(broken) => answer.but_refused(files::broken_words(path, broken)),
@@ -56,29 +61,14 @@ pub fn add(options: &Options) -> Or<Answer> {
     let path = options.word(1);
     let journal = journal.whole(path)?;
     let line = options.words()[2..].join(" ");
-    let so_far = journal_text::Journal {
-        calls: journal.calls.clone(),
-        lines: journal.lines.clone(),
-        day: journal.day,
-        society: journal.society,
-    };
-    let read = journal_text::read_line(&line, &filed.draft, &so_far);
-    let faulty = |found: Vec<_>| {
-        let shown = found.iter().map(|fault| crate::fault::Fault::show(fault, "line", &line));
-        Answer::refused(shown.collect::<String>())
-    };
-    let call = read.map_err(faulty)?;
-    let bytes = journal::encode(&[&journal.calls[..], &[call][..]].concat());
-    if bytes.len() > MOST_BYTES {
-        let refusal = Refusal::TooLong;
-        return Err(Answer::refused(format!("{path}: refused, {refusal}\n")));
-    }
+    let call = one_more(&line, &filed.draft, &journal)?;
+    let longer = [&journal.calls[..], &[call]].concat();
+    run::fits(&journal::encode(&longer)).map_err(|refusal| files::too_long(path, refusal))?;
     let mut run = journal.run(&filed.plan);
     run.done = vec![run::make(&mut run.ledger, call)];
-    let told = tell::told(&filed.draft, &run, 0);
+    let told = tell::text(&[tell::told(&filed.draft, &run, 0)]);
     if matches!(run.done[0].answer, Told::Refused(_)) {
-        let kept = format!("{path}: nothing added\n");
-        return Ok(Answer::done(tell::text(&[told])).but_refused(kept));
+        return Ok(Answer::done(told).but_refused(format!("{path}: nothing added\n")));
     }
     let added = if files::has_bytes(path) {
         journal::encode(&[call])
@@ -86,7 +76,21 @@ pub fn add(options: &Options) -> Or<Answer> {
         format!("{}\n", line.trim()).into_bytes()
     };
     files::append(path, &added)?;
-    Ok(Answer::done(tell::text(&[told])))
+    Ok(Answer::done(told))
+}
+
+/// The call of a line that follows a journal.
+fn one_more(line: &str, draft: &Draft, journal: &Journal) -> Or<Call> {
+    let so_far = journal_text::Journal {
+        day: journal.day,
+        society: journal.society,
+        ..journal_text::Journal::default()
+    };
+    if line.contains('\n') {
+        return Err(Answer::unfit("add takes one line"));
+    }
+    let read = journal_text::read_line(line, draft, &so_far);
+    read.map_err(|found| files::faults("LINE", line, &found))
 }
 
 pub fn timeline(options: &Options) -> Or<Answer> {
@@ -121,5 +125,12 @@ pub fn withdraw(options: &Options) -> Or<Answer> {
     let journal = journal.whole(options.word(1))?;
     let society = withdrawing(options, &filed.draft, &journal)?;
     let run = journal.run(&filed.plan);
-    withdraw_text(&filed, &run, society)
+    match withdraw::withdraw(&filed.draft, &run, society) {
+        Ok(withdrawal) => Ok(Answer::done(withdrawal.text(&filed.draft))),
+        Err(refusal) => Err(Answer::refused(withdraw::refused(
+            &filed.draft,
+            society,
+            refusal,
+        ))),
+    }
 }

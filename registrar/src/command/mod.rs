@@ -181,7 +181,9 @@ fn named(name: &str) -> Or<&'static Command> {
         ))
     };
     let mut commands = COMMANDS.iter();
-    commands.find(|command| command.name == name).ok_or_else(unknown)
+    commands
+        .find(|command| command.name == name)
+        .ok_or_else(unknown)
 }
 
 /// Runs the command that these words ask for.

@@ -101,7 +101,7 @@ impl Withdrawal {
                 " then"
             };
             return vec![format!(
-                "Nothing is left{then}: the books stand as at the begin."
+                "Nothing is left{then}: if each retraction undoes its step, the books stand as at the begin."
             )];
         }
         if self.over {

@@ -1,4 +1,6 @@
-//! What several tests share: the samples, and files that are stored.
+//! What several tests share: the samples, and files that are stored. Each test
+//! uses a part of it.
+#![allow(dead_code)]
 
 use std::fs;
 use std::path::{Path, PathBuf};

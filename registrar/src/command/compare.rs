@@ -1,0 +1,38 @@
+//! The command compare.
+
+use super::answer::{Answer, Or};
+use super::files::{self, Given};
+use super::options::Options;
+use crate::{compare, tell};
+use std::path::Path;
+
+pub fn compare(options: &Options) -> Or<Answer> {
+    let Given {
+        draft,
+        bytes,
+        judged,
+    } = files::given(options.word(0))?;
+    let journal = files::journal(options.word(1), &draft)?;
+    let refusal = judged.as_ref().err().map(|(refusal, _)| *refusal);
+    let refusal = refusal.or(journal.refused);
+    let run = judged.as_ref().ok().map(|plan| journal.run(plan));
+    let run = run.filter(|_| refusal.is_none());
+    let told = match (&run, refusal) {
+        (Some(run), _) => tell::tell(&draft, run, &journal.lines),
+        (None, refusal) => refusal.into_iter().map(tell::refused).collect(),
+    };
+    let given = compare::Given {
+        draft: &draft,
+        plan: &bytes,
+        journal: &journal.bytes,
+        told: &told,
+        run: run.as_ref(),
+    };
+    let programs = [2, 3].map(|place| Path::new(options.word(place)));
+    let compared = compare::compare(&given, programs).map_err(Answer::unfit)?;
+    let answer = Answer::done(compared.text);
+    Ok(match compared.alike {
+        true => answer,
+        false => answer.but_refused(""),
+    })
+}

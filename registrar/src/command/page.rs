@@ -1,0 +1,40 @@
+//! The command page.
+
+use super::answer::{Answer, Or};
+use super::files::{self, Filed, Journal};
+use super::journals;
+use super::options::Options;
+use crate::page::{self, Page};
+use crate::run::Run;
+use crate::{list, withdraw};
+
+pub fn page(options: &Options) -> Or<Answer> {
+    let filed = files::plan(options.word(0))?;
+    let listing = list::list(&filed.draft, &filed.plan);
+    let mut parts = Page {
+        draft: &filed.draft,
+        listing: &listing,
+        journal: None,
+    };
+    let path = match options.words().get(1) {
+        None => return files::deliver(options.value("-o"), page::page(&parts)),
+        Some(path) => path,
+    };
+    let journal = files::journal(path, &filed.draft)?.whole(path)?;
+    let run = journal.run(&filed.plan);
+    let due = due(options, &filed, &journal, &run);
+    parts.journal = Some(page::Journal::of(&filed.draft, &run, &due));
+    files::deliver(options.value("-o"), page::page(&parts))
+}
+
+/// What would be taken back now, or why that cannot be said.
+fn due(options: &Options, filed: &Filed, journal: &Journal, run: &Run<'_>) -> String {
+    let society = match journals::withdrawing(options, &filed.draft, journal) {
+        Ok(society) => society,
+        Err(unknown) => return unknown.said,
+    };
+    match withdraw::withdraw(&filed.draft, run, society) {
+        Ok(withdrawal) => withdrawal.text(&filed.draft),
+        Err(refusal) => withdraw::refused(&filed.draft, society, refusal),
+    }
+}

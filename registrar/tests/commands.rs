@@ -1,0 +1,340 @@
+//! The program itself: exit status, what goes to standard output and what to
+//! standard error, and what is written.
+
+mod common;
+
+use common::repository;
+use std::env;
+use std::fs;
+use std::path::{Path, PathBuf};
+use std::process::{Command, Output, Stdio};
+
+/// A folder with the sample of two roots, which is removed at the end.
+struct Desk(PathBuf);
+
+impl Desk {
+    fn new(name: &str) -> Desk {
+        let folder = format!("registrar-{name}-{}", std::process::id());
+        let folder = env::temp_dir().join(folder);
+        let _ = fs::remove_dir_all(&folder);
+        fs::create_dir(&folder).expect("a folder");
+        let desk = Desk(folder);
+        let sample = repository().join("samples/film_by_post");
+        for file in [
+            "plan.txt",
+            "plan.bin",
+            "journal.bin",
+            "halfway.txt",
+            "halfway.bin",
+        ] {
+            fs::copy(sample.join(file), desk.0.join(file)).expect("a file of the sample");
+        }
+        desk
+    }
+
+    fn command(&self, line: &str) -> Command {
+        let mut command = Command::new(env!("CARGO_BIN_EXE_registrar"));
+        command.args(line.split(' ').filter(|word| !word.is_empty()));
+        command.current_dir(&self.0);
+        command
+    }
+
+    /// Exit status, standard output and standard error.
+    fn run(&self, line: &str) -> (i32, String, String) {
+        let Output {
+            status,
+            stdout,
+            stderr,
+        } = self.command(line).output().expect("the program runs");
+        let text = |bytes| String::from_utf8(bytes).expect("text");
+        (status.code().expect("a status"), text(stdout), text(stderr))
+    }
+
+    /// Done, with nothing on standard error.
+    fn done(&self, line: &str) -> String {
+        let (status, printed, said) = self.run(line);
+        assert_eq!((status, &said[..]), (0, ""), "{line}");
+        printed
+    }
+
+    /// This status, nothing on standard output, and this said.
+    fn not_done(&self, line: &str, wanted: i32, part: &str) {
+        let (status, printed, said) = self.run(line);
+        assert_eq!((status, &printed[..]), (wanted, ""), "{line}");
+        assert!(said.contains(part), "{line}: {said}");
+    }
+
+    fn path(&self, file: &str) -> PathBuf {
+        self.0.join(file)
+    }
+
+    fn read(&self, file: &str) -> Vec<u8> {
+        fs::read(self.path(file)).unwrap_or_else(|error| panic!("{file}: {error}"))
+    }
+
+    fn write(&self, file: &str, bytes: impl AsRef<[u8]>) {
+        fs::write(self.path(file), bytes).expect("a file that can be written");
+    }
+
+    /// How many files there are.
+    fn files(&self) -> usize {
+        fs::read_dir(&self.0).expect("the folder").count()
+    }
+}
+
+impl Drop for Desk {
+    fn drop(&mut self) {
+        let _ = fs::remove_dir_all(&self.0);
+    }
+}
+
+#[test]
+fn usage_is_told_with_status_2() {
+    let desk = Desk::new("usage");
+    desk.not_done("", 2, "usage: registrar COMMAND");
+    desk.not_done("lst plan.txt", 2, "no command 'lst'; did you mean 'list'?");
+    desk.not_done("list", 2, "usage: registrar list PLAN");
+    desk.not_done("list plan.txt plan.txt", 2, "usage: registrar list PLAN");
+    desk.not_done("list plan.txt -o x", 2, "no option '-o' here");
+    desk.not_done("text plan.bin --nmes x", 2, "did you mean '--names'?");
+    desk.not_done(
+        "text plan.bin --names",
+        2,
+        "--names wants a value behind it",
+    );
+    desk.not_done("build plan.txt", 2, "name their file with -o");
+    desk.not_done("journal plan.txt halfway.txt", 2, "name their file with -o");
+    desk.not_done("explain 30", 2, "no refusal '30'");
+    desk.not_done("explain fourteen", 2, "no refusal 'fourteen'");
+    desk.not_done("help nosuch", 2, "no command 'nosuch'");
+    desk.not_done(
+        "withdraw plan.txt halfway.txt --as nobody",
+        2,
+        "no society 'nobody'",
+    );
+}
+
+#[test]
+fn files_are_told_with_status_2() {
+    let desk = Desk::new("files");
+    desk.not_done(
+        "check nosuch.txt",
+        2,
+        "registrar: nosuch.txt: No such file or directory\n",
+    );
+    desk.not_done("check .", 2, "registrar: .: Is a directory\n");
+    desk.not_done("tell plan.txt nosuch.txt", 2, "nosuch.txt: No such file");
+    desk.not_done(
+        "build plan.txt -o nosuch/plan.bin",
+        2,
+        "nosuch/plan.bin: No such file",
+    );
+    desk.write("latin.txt", b"plan caf\xe9\n");
+    desk.not_done("check latin.txt", 2, "latin.txt: no text, by its byte 8");
+    desk.not_done(
+        "compare plan.txt halfway.txt ./nosuch ./nosuch",
+        2,
+        "./nosuch",
+    );
+}
+
+#[test]
+fn help_is_there_for_each_command() {
+    let desk = Desk::new("help");
+    let overview = desk.done("help");
+    assert_eq!(desk.done("--help"), overview);
+    assert_eq!(
+        desk.done("--version"),
+        format!("registrar {}\n", env!("CARGO_PKG_VERSION"))
+    );
+    for command in registrar::command::COMMANDS {
+        assert!(overview.contains(&format!("\n  {:9} ", command.name)));
+        let about = desk.done(&format!("help {}", command.name));
+        let usage = format!("usage: registrar {} {}\n", command.name, command.usage);
+        assert!(about.starts_with(&usage), "{about}");
+        assert_eq!(desk.done(&format!("{} --help", command.name)), about);
+    }
+}
+
+/// What is refused is not written, and what stood there stays.
+#[test]
+fn a_refused_plan_is_not_built() {
+    let desk = Desk::new("build");
+    let text = String::from_utf8(desk.read("plan.txt")).unwrap();
+    desk.write("final.txt", text.replace("then by-post", "then received"));
+    desk.write("out.bin", "what stood here");
+    let files = desk.files();
+    desk.not_done("build final.txt -o out.bin", 1, "refused, 14:");
+    assert_eq!(desk.read("out.bin"), b"what stood here");
+    assert_eq!(
+        desk.done("build plan.txt -o out.bin"),
+        "out.bin: 2 tracks, 7 states, 5 steps; 176 bytes, sum 351\n"
+    );
+    assert_eq!(desk.read("out.bin"), desk.read("plan.bin"));
+    assert_eq!(desk.files(), files, "nothing is left beside it");
+    desk.not_done("check final.txt", 1, "final.txt:21: refused, 14:");
+}
+
+#[test]
+fn text_and_bytes_there_and_back() {
+    let desk = Desk::new("back");
+    desk.done("text plan.bin -o again.txt");
+    desk.done("build again.txt -o again.bin");
+    assert_eq!(desk.read("again.bin"), desk.read("plan.bin"));
+    desk.done("text plan.bin --names plan.txt -o named.txt");
+    assert_eq!(desk.done("list named.txt"), desk.done("list plan.txt"));
+    desk.done("journal plan.txt halfway.txt -o out.bin");
+    assert_eq!(desk.read("out.bin"), desk.read("halfway.bin"));
+    desk.done("journal plan.txt journal.bin -o journal.txt");
+    desk.done("journal plan.txt journal.txt -o out.bin");
+    assert_eq!(desk.read("out.bin"), desk.read("journal.bin"));
+    assert_eq!(
+        desk.done("tell plan.txt journal.txt").lines().count(),
+        desk.done("tell plan.bin journal.bin").lines().count()
+    );
+}
+
+/// A line that is accepted is appended as it is; one that is not leaves the file.
+#[test]
+fn add_appends_what_is_accepted() {
+    let desk = Desk::new("add");
+    let text = desk.read("halfway.txt");
+    let (status, printed, said) = desk.run("add plan.txt halfway.txt take back film");
+    assert_eq!(status, 1);
+    assert!(printed.starts_with("R 22 "), "{printed}");
+    assert_eq!(said, "halfway.txt: nothing added\n");
+    desk.not_done(
+        "add plan.txt halfway.txt event film-cme",
+        1,
+        "did you mean 'film-came'?",
+    );
+    desk.not_done(
+        "add plan.txt halfway.txt on 1921-05-03",
+        1,
+        "a call is wanted here",
+    );
+    assert_eq!(desk.read("halfway.txt"), text);
+    let told = desk.done("add plan.txt halfway.txt on 1921-05-03 event film-came");
+    assert!(told.starts_with("E 2 1 0 "), "{told}");
+    let longer = [&text[..], b"on 1921-05-03 event film-came\n"].concat();
+    assert_eq!(desk.read("halfway.txt"), longer);
+
+    // A last line without its end is ended first; bytes grow by the record.
+    desk.write("open.txt", "journal\non 1921-05-02 as desk");
+    desk.done("add plan.txt open.txt event film-asked");
+    assert_eq!(
+        desk.read("open.txt"),
+        b"journal\non 1921-05-02 as desk\nevent film-asked\n"
+    );
+    let bytes = desk.read("halfway.bin");
+    desk.done("add plan.txt halfway.bin event film-came");
+    let record = [12, 0, 20, 0, 2, 0];
+    assert_eq!(
+        desk.read("halfway.bin")[..bytes.len() + 6],
+        [&bytes[..], &record].concat()
+    );
+    assert_eq!(desk.read("halfway.bin").len(), bytes.len() + 12);
+}
+
+#[test]
+fn broken_and_long_journals_are_refused() {
+    let desk = Desk::new("broken");
+    let bytes = desk.read("halfway.bin");
+    desk.write("broken.bin", [&bytes[..], &[6, 0, 16, 0]].concat());
+    let (status, printed, said) = desk.run("tell plan.txt broken.bin");
+    assert_eq!(status, 1);
+    assert!(
+        printed.contains("\nR 23 ") && printed.contains("\nH 2 0 "),
+        "{printed}"
+    );
+    assert!(
+        said.contains("record 2, at byte 24: kind 16 was withdrawn"),
+        "{said}"
+    );
+    for command in ["journal", "withdraw", "timeline", "page", "add"] {
+        let line = if command == "add" { " withdraw" } else { "" };
+        desk.not_done(
+            &format!("{command} plan.txt broken.bin{line}"),
+            1,
+            "refused, 23:",
+        );
+    }
+    let record = [6, 0, 17, 0, 1, 0];
+    desk.write("full.bin", record.repeat(5461));
+    desk.not_done("add plan.txt full.bin withdraw", 1, "full.bin: refused, 1:");
+    assert_eq!(desk.read("full.bin").len(), 5461 * 6);
+    desk.write("long.bin", record.repeat(5462));
+    let (status, printed, _) = desk.run("tell plan.txt long.bin");
+    assert_eq!((status, &printed[..4]), (1, "R 1 "));
+    desk.write("cut.bin", &desk.read("plan.bin")[..100]);
+    let (status, printed, said) = desk.run("tell cut.bin halfway.bin");
+    assert_eq!((status, &printed[..4]), (1, "R 5 "));
+    assert!(said.contains("record 10, at byte 96"), "{said}");
+}
+
+/// Two programs that agree and two that do not.
+#[test]
+fn compare_tells_by_its_status() {
+    let desk = Desk::new("compare");
+    let output = repository().join("samples/film_by_post/output");
+    let script = |change: &str| format!("#!/bin/sh\nsed '{change}' {}\n", output.display());
+    for (name, change) in [("one", ""), ("other", "s/^F 1 14/F 1 15/")] {
+        desk.write(name, script(change));
+        let done = Command::new("chmod")
+            .arg("+x")
+            .arg(desk.path(name))
+            .status();
+        assert!(done.expect("chmod").success());
+    }
+    let alike = desk.done("compare plan.bin journal.bin ./one ./one");
+    assert!(alike.contains("print the same, 10 lines"), "{alike}");
+    let (status, printed, said) = desk.run("compare plan.txt journal.bin ./one ./other");
+    assert_eq!((status, &said[..]), (1, ""));
+    assert!(
+        printed.contains("./other") && printed.contains("F 1 15 -"),
+        "{printed}"
+    );
+}
+
+/// Output that cannot be written is a fault; a reader that has gone away is none.
+#[test]
+fn lost_output_is_told() {
+    let desk = Desk::new("lost");
+    if Path::new("/dev/full").exists() {
+        let full = fs::OpenOptions::new().write(true).open("/dev/full");
+        let output = desk.command("list plan.txt").stdout(full.unwrap()).output();
+        let output = output.expect("the program runs");
+        assert_eq!(output.status.code(), Some(2));
+        assert!(String::from_utf8_lossy(&output.stderr).contains("standard output: No space"));
+    }
+    let mut gone = desk.command("list plan.txt");
+    gone.stdout(Stdio::piped()).stderr(Stdio::piped());
+    let mut gone = gone.spawn().expect("the program runs");
+    drop(gone.stdout.take());
+    let output = gone.wait_with_output().expect("it ends");
+    assert_eq!((output.status.code(), output.stderr.len()), (Some(0), 0));
+}
+
+#[test]
+fn a_page_asks_for_nothing() {
+    let desk = Desk::new("page");
+    assert_eq!(
+        desk.done("page plan.txt halfway.txt -o out.html"),
+        "out.html: written\n"
+    );
+    let page = String::from_utf8(desk.read("out.html")).unwrap();
+    assert!(!page.contains("<script") && !page.contains("<link") && !page.contains("<img"));
+    assert!(page.contains(
+        &desk
+            .done("list plan.txt")
+            .lines()
+            .nth(1)
+            .unwrap()
+            .to_string()
+    ));
+    assert!(desk.done("page plan.bin").starts_with("<!DOCTYPE html>"));
+    assert!(desk.done("draw plan.bin").starts_with("<svg "));
+    assert!(desk
+        .done("timeline plan.txt journal.bin")
+        .starts_with("<svg "));
+}
