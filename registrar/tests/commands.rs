@@ -1,6 +1,7 @@
 //! The program itself: exit status, what goes to standard output and what to
 //! standard error, and what is written.
 
+#[allow(dead_code)]
 mod common;
 
 use common::repository;

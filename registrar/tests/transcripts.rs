@@ -2,6 +2,7 @@
 //! begins with `$ ` is run by the shell, and what follows it is its output.
 //! `REGISTRAR_STORE=1` writes the pages anew.
 
+#[allow(dead_code)]
 mod common;
 
 use common::{assert_stored, repository, samples};

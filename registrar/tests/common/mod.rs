@@ -1,6 +1,4 @@
-//! What several tests share: the samples, and files that are stored. Each test
-//! uses a part of it.
-#![allow(dead_code)]
+//! What several tests share: the samples, and files that are stored.
 
 use std::fs;
 use std::path::{Path, PathBuf};
