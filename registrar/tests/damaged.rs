@@ -11,8 +11,10 @@
 //!   how tracks and states stand to one another: cut before that record and ended,
 //!   the plan is not refused under this number, and for 25 and 27 it is accepted;
 //!   cut behind it, it is refused under the same number for the same record;
-//! - *the fault is its own*, for 10 and 12: it stays when every other record of its
-//!   kind is made harmless.
+//! - *the fault is its own*, for 10, 11 and 12: it stays when every other record of
+//!   its kind is made harmless;
+//! - *no track before it is too high*, for 16: it stays when every track behind the
+//!   named one is made a root, and goes when that one is, too.
 
 use registrar::draft::{kind, Draft, Grant, Records, State, Step, Track};
 use registrar::place::{self, Place, NOT_FOUND};
@@ -116,11 +118,6 @@ fn mended_records(number: u16, records: &Records, record: usize) -> Vec<Records>
     let track = among(records, record, kind::TRACK);
     let state = among(records, record, kind::STATE);
     let step = among(records, record, kind::STEP);
-    let plain = |track: u16| State {
-        track,
-        last: 0,
-        replacement: 0,
-    };
     match number {
         9 => mended.states[state.expect("a state")] = plain(0),
         10 | 16 => mended.tracks[track.expect("a track")].host = None,
@@ -165,6 +162,15 @@ fn mended_records(number: u16, records: &Records, record: usize) -> Vec<Records>
         other => panic!("{other} is about no record"),
     }
     vec![mended]
+}
+
+/// A state without a fault of its own.
+fn plain(track: u16) -> State {
+    State {
+        track,
+        last: 0,
+        replacement: 0,
+    }
 }
 
 /// An event that no step has.
@@ -212,21 +218,45 @@ fn good_up_to(refusal: Refusal, bytes: &[u8], record: usize, byte: usize) {
 /// With all others of its kind harmless the record is still refused.
 fn fault_is_its_own(refusal: Refusal, bytes: &[u8], record: usize) {
     let mut alone = Records::decode(bytes).expect("whole records");
-    if refusal == Refusal::Host {
-        for (t, track) in alone.tracks.iter_mut().enumerate() {
-            if t != record {
-                *track = Track { host: None };
-            }
+    let tracks = alone.tracks.len();
+    match refusal {
+        Refusal::Host => {
+            let others = alone.tracks.iter_mut().enumerate();
+            let others = others.filter(|(track, _)| *track != record);
+            others.for_each(|(_, track)| *track = Track { host: None });
         }
-    } else {
-        let named = record - alone.tracks.len();
-        for (s, state) in alone.states.iter_mut().enumerate() {
-            if s != named {
-                (state.last, state.replacement) = (0, 0);
+        Refusal::FirstState if record < tracks => {
+            for track in (0..tracks as u16).filter(|&t| usize::from(t) != record) {
+                alone.states.push(plain(track));
             }
+            alone.states.iter_mut().for_each(|state| state.last = 0);
+        }
+        _ => {
+            let others = alone.states.iter_mut().enumerate();
+            let others = others.filter(|(state, _)| tracks + *state != record);
+            others.for_each(|(_, state)| *state = plain(state.track));
         }
     }
-    assert_eq!(outcome(&alone.encode()), Some((refusal, Some(record))));
+    let bytes = alone.encode();
+    // A state for every track may be more states than a plan has.
+    if refusal_of(&bytes) != Some(Refusal::TooMany) {
+        assert_eq!(outcome(&bytes), Some((refusal, Some(record))));
+    }
+}
+
+/// With every track behind it a root the named one is still too high, and with the
+/// named one a root none is.
+fn first_too_high(bytes: &[u8], record: usize) {
+    let mut first = Records::decode(bytes).expect("whole records");
+    first.states.iter_mut().for_each(|s| s.replacement = 0);
+    let behind = first.tracks.iter_mut().skip(record + 1);
+    behind.for_each(|track| track.host = None);
+    assert_eq!(
+        outcome(&first.encode()),
+        Some((Refusal::Height, Some(record)))
+    );
+    first.tracks[record].host = None;
+    assert_ne!(refusal_of(&first.encode()), Some(Refusal::Height));
 }
 
 /// All that is asserted of a refused plan.
@@ -243,8 +273,8 @@ fn check(refusal: Refusal, bytes: &[u8]) {
     assert_eq!(byte, start(bytes, record), "{refusal}: {bytes:02x?}");
     mending_changes_the_outcome(refusal, bytes, record, byte);
     match number {
-        10 | 12 => fault_is_its_own(refusal, bytes, record),
-        11 | 16 => {}
+        10..=12 => fault_is_its_own(refusal, bytes, record),
+        16 => first_too_high(bytes, record),
         _ => good_up_to(refusal, bytes, record, byte),
     }
 }
