@@ -39,7 +39,7 @@ pub fn read(text: &str, draft: &Draft) -> Result<Journal, Vec<Fault>> {
         let result = if headed {
             journal.line(&mut line, draft)
         } else {
-            head(&mut line, draft)
+            journal.first_line(&mut line, draft)
         };
         headed = true;
         faults.extend(broken.or_else(|| result.err()));
@@ -66,14 +66,8 @@ pub fn read_line(text: &str, draft: &Draft, journal: &Journal) -> Result<Call, V
     }
 }
 
-/// The first line.
+/// The first line, behind its first word.
 fn head(line: &mut Line, draft: &Draft) -> Result<(), Fault> {
-    if !line.take_if("journal") {
-        let word = line.peek().map_or("", |word| &word.text);
-        let meant = suggestion(word, ["journal"]);
-        let what = format!("a journal begins with the line: {HEAD}{meant}");
-        return Err(line.fault(what));
-    }
     if line.take_if("of") {
         let word = line.peek().cloned().unwrap_or_default();
         let name = lookup::meant(line, "the name of the plan")?;
@@ -86,18 +80,39 @@ fn head(line: &mut Line, draft: &Draft) -> Result<(), Fault> {
     line.end(&["of"], HEAD)
 }
 
+fn a_society(line: &mut Line, draft: &Draft) -> Result<u16, Fault> {
+    let word = lookup::meant(line, "a society")?;
+    let society = lookup::in_table(&word, &draft.names.societies, "society");
+    society.map_err(|what| word.fault(line.number, what))
+}
+
 impl Journal {
+    /// A journal whose head is missing is read on, for the lines below.
+    fn first_line(&mut self, line: &mut Line, draft: &Draft) -> Result<(), Fault> {
+        if line.take_if("journal") {
+            return head(line, draft);
+        }
+        let word = line.peek().map_or("", |word| &word.text);
+        let meant = suggestion(word, ["journal"]);
+        let what = format!("a journal begins with the line: {HEAD}{meant}");
+        let fault = line.fault(what);
+        let _ = self.line(line, draft);
+        Err(fault)
+    }
+
     fn line(&mut self, line: &mut Line, draft: &Draft) -> Result<(), Fault> {
-        if line.take_if("on") {
-            let word = lookup::meant(line, "a day")?;
-            let day = day::parse(&word.text).map_err(|what| word.fault(line.number, what))?;
-            self.day = Some(day);
-        }
-        if line.take_if("as") {
-            let word = lookup::meant(line, "a society")?;
-            let society = lookup::in_table(&word, &draft.names.societies, "society");
-            self.society = Some(society.map_err(|what| word.fault(line.number, what))?);
-        }
+        let day = line.take_if("on").then(|| lookup::day(line)).transpose();
+        let society = line
+            .take_if("as")
+            .then(|| a_society(line, draft))
+            .transpose();
+        // A faulty day or society is in force as well, for the lines below.
+        self.day = day.as_ref().map_or(Some(0), |day| day.or(self.day));
+        self.society = society
+            .as_ref()
+            .map_or(Some(0), |society| society.or(self.society));
+        day?;
+        society?;
         let first = match line.take() {
             Some(first) => first,
             None => return Ok(()),

@@ -1,5 +1,6 @@
 //! Words that stand for something: its name, or its number.
 
+use crate::day;
 use crate::draft::{Names, Table};
 use crate::fault::{suggestion, Fault};
 use crate::words::{Line, Word};
@@ -53,6 +54,12 @@ pub fn meant(line: &mut Line, what: &str) -> Result<Word, Fault> {
         return Err(line.fault(format!("{what} is wanted here")));
     }
     Ok(line.take().unwrap_or_default())
+}
+
+/// The next word as a day.
+pub fn day(line: &mut Line) -> Result<i32, Fault> {
+    let word = meant(line, "a day")?;
+    day::parse(&word.text).map_err(|what| word.fault(line.number, what))
 }
 
 /// The next word as a number that must be there.

@@ -218,3 +218,48 @@ impl Line {
         Err(self.fault(format!("{said}{meant}")))
     }
 }
+
+#[cfg(test)]
+mod tests {
+    use super::*;
+
+    #[test]
+    fn words_and_their_places() {
+        let (words, fault) = split("\tétat 7 \"on \"\"it\"\" #\"#remark \" open", 1);
+        let found = words
+            .iter()
+            .map(|w| (&w.text[..], w.start, w.count, w.quoted));
+        let found: Vec<_> = found.collect();
+        assert_eq!(fault, None);
+        let quoted = ("on \"it\" #", 8, 13, true);
+        assert_eq!(found, [("état", 1, 4, false), ("7", 6, 1, false), quoted]);
+        assert!(words[1].is_number() && !words[2].is_number());
+        assert!(!split("\"7\" \"go\"", 1)
+            .0
+            .iter()
+            .any(|w| w.is_number() || w.is("go")));
+    }
+
+    #[test]
+    fn words_before_a_broken_quote() {
+        for (line, mark) in [
+            ("a b \"c", (4, 2)),
+            ("a b\"c\"", (3, 1)),
+            ("a \"b\"c", (5, 1)),
+        ] {
+            let (words, fault) = split(line, 3);
+            let fault = fault.expect(line);
+            assert_eq!((fault.line, fault.mark), (3, Some(mark)), "{line}");
+            assert_eq!(words[0].text, "a");
+        }
+    }
+
+    #[test]
+    fn quoted_words_are_read_back() {
+        for text in ["", "a", "\"", "say \"no\" # twice"] {
+            let (words, fault) = split(&quote(text), 1);
+            assert_eq!((words.len(), fault), (1, None));
+            assert_eq!((&words[0].text[..], words[0].quoted), (text, true));
+        }
+    }
+}

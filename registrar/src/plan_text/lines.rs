@@ -1,26 +1,13 @@
 //! The lines of a plan's text, each by itself: what they give, with the words
 //! that stand for something still as words.
 
-use crate::day;
-use crate::draft::{Name, Table, RIGHTS};
+use super::forms::{form, FORMS};
+use super::heads::{at, head, name, or_nameless, written, Given, Head};
+use super::tables::Rows;
+use crate::draft::{Name, RIGHTS};
 use crate::fault::{nearest, Fault};
 use crate::lookup;
 use crate::words::{self, Line, Word};
-use std::collections::BTreeMap;
-
-/// The line of a record, and the number that is written for it, if one is.
-#[derive(Clone, Debug, Default)]
-pub struct Given {
-    pub line: usize,
-    pub number: Option<(u16, Word)>,
-}
-
-#[derive(Clone, Debug, Default)]
-pub struct Head {
-    pub given: Given,
-    pub word: Word,
-    pub name: Name,
-}
 
 pub struct TrackLine {
     pub head: Head,
@@ -60,14 +47,6 @@ pub struct GrantLine {
     pub sum: u16,
 }
 
-/// A table with the lines of its numbers and names.
-#[derive(Default)]
-pub struct Rows {
-    pub table: Table,
-    numbers: BTreeMap<u16, usize>,
-    names: BTreeMap<String, usize>,
-}
-
 /// All lines of a text, each sort in the order of the text.
 #[derive(Default)]
 pub struct Text {
@@ -83,29 +62,6 @@ pub struct Text {
     /// Whether a state stands above under the track that is read.
     in_state: bool,
     pub faults: Vec<Fault>,
-}
-
-/// The words that a line begins with, and how each line is written.
-const FORMS: [(&str, &str); 8] = [
-    ("plan", "plan NAME [\"words\"]"),
-    ("event", "event NUMBER NAME [\"words\"]"),
-    ("retract", "retract NUMBER NAME [\"words\"]"),
-    ("society", "society NUMBER NAME [\"words\"]"),
-    ("track", "track [NUMBER] NAME [\"words\"] [in STATE]"),
-    ("right", "right [NUMBER] SOCIETY move signal fire"),
-    (
-        "state",
-        "state [NUMBER] NAME [\"words\"] [final] [when complete undo RETRACTION]",
-    ),
-    (
-        "on",
-        "on EVENT go STATE [undo RETRACTION [then STATE]] [step NUMBER] [from DAY to DAY [window NUMBER]]",
-    ),
-];
-
-fn form(first: &str) -> &'static str {
-    let known = FORMS.iter().find(|(word, _)| *word == first);
-    known.map_or("", |(_, form)| form)
 }
 
 impl Text {
@@ -233,9 +189,9 @@ impl Text {
         if !line.take_if("from") {
             return Ok(None);
         }
-        let first = a_day(line)?;
+        let first = lookup::day(line)?;
         line.keyword("to")?;
-        let last = a_day(line)?;
+        let last = lookup::day(line)?;
         let number = if line.take_if("window") {
             Some(written(line, "the window")?)
         } else {
@@ -292,33 +248,6 @@ impl Text {
     }
 }
 
-impl Rows {
-    fn row(&mut self, line: &mut Line, first: &str) -> Result<(), Fault> {
-        let thing = match first {
-            "retract" => "retraction",
-            other => other,
-        };
-        let the = format!("the {thing}");
-        let start = line.clone();
-        let number = lookup::number(line, &the)?;
-        let word = lookup::new_name(line, &the)?;
-        let name = name(line, &word);
-        let above = self.names.get(&name.name);
-        if let Some(above) = above {
-            let what = format!("line {above} gives the name '{}' already", name.name);
-            return Err(word.fault(line.number, what));
-        }
-        self.names.insert(name.name.clone(), line.number);
-        if let Some(above) = self.numbers.get(&number) {
-            let what = format!("line {above} gives {thing} {number} a name already");
-            return Err(start.fault(what));
-        }
-        self.numbers.insert(number, line.number);
-        self.table.names.insert(number, name);
-        line.end(&[], form(first))
-    }
-}
-
 fn unknown(first: &Word, near: Option<&str>) -> String {
     let text = &first.text;
     match near {
@@ -329,54 +258,4 @@ fn unknown(first: &Word, near: Option<&str>) -> String {
             format!("no line begins with '{text}'; lines begin with {known}")
         }
     }
-}
-
-/// The optional number, the name and the words of a track or a state.
-fn head(line: &mut Line, of: &str) -> Result<Head, Fault> {
-    let number = match line.peek().filter(|word| word.is_number()) {
-        Some(_) => Some(written(line, of)?),
-        None => None,
-    };
-    let word = lookup::new_name(line, of)?;
-    Ok(Head {
-        given: at(line, number),
-        name: name(line, &word),
-        word,
-    })
-}
-
-/// A head without a name where there is a fault in it, so that what stands
-/// under it has its place.
-fn or_nameless(head: &Result<Head, Fault>, line: &Line) -> Head {
-    let nameless = |_| Head {
-        given: at(line, None),
-        ..Head::default()
-    };
-    head.clone().unwrap_or_else(nameless)
-}
-
-fn name(line: &mut Line, word: &Word) -> Name {
-    Name {
-        name: word.text.clone(),
-        words: line.take_words(),
-    }
-}
-
-fn at(line: &Line, number: Option<(u16, Word)>) -> Given {
-    Given {
-        line: line.number,
-        number,
-    }
-}
-
-/// A number that is written, with its word.
-fn written(line: &mut Line, of: &str) -> Result<(u16, Word), Fault> {
-    let word = line.peek().cloned().unwrap_or_default();
-    let number = lookup::number(line, of)?;
-    Ok((number, word))
-}
-
-fn a_day(line: &mut Line) -> Result<i32, Fault> {
-    let word = lookup::meant(line, "a day")?;
-    day::parse(&word.text).map_err(|what| word.fault(line.number, what))
 }

@@ -1,9 +1,12 @@
 //! Plans as text, read and written; docs/REGISTRAR.md has the grammar.
 
+mod forms;
+mod heads;
 mod lines;
 mod names;
 mod numbers;
 mod read;
+mod tables;
 mod write;
 
 pub use names::names_from;

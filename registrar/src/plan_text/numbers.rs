@@ -1,7 +1,8 @@
 //! Which number each record has: the written ones, and for the others the lowest
 //! that are left, in the order of the text.
 
-use super::lines::{Given, Text};
+use super::heads::Given;
+use super::lines::Text;
 use crate::fault::Fault;
 use std::collections::BTreeMap;
 
