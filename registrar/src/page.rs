@@ -82,8 +82,12 @@ th,td{text-align:left;vertical-align:top;padding:.25rem .75rem .25rem 0;border-b
 .now-forward{fill:#2f6fa7;fill-opacity:.22;stroke:#1f3a5f;stroke-width:4}
 .now-undoing{fill:#c2570c;fill-opacity:.18;stroke:#9a3412;stroke-width:4;stroke-dasharray:8 4}
 .holds{color:#9a3412}
+@media (max-width:40rem){.told thead{display:none}.told tr{display:block;border-bottom:1px solid #c3cad1}.told td{display:inline-block;border:0}.told td:last-child{display:block}}
 @media print{body{max-width:none;padding:0;font-size:11pt}nav{display:none}svg{max-width:100%;height:auto}.wide,pre{overflow:visible}pre{white-space:pre-wrap}tr,svg{break-inside:avoid}}
 ";
+
+/// How wide a run's picture may be before it goes on below.
+const MOST_WIDTH: i32 = 1150;
 
 /// The decisions and the telling.
 const PROVED: &str = "Whether the plan is accepted, what each call did or why it was refused, what may be taken back, \
@@ -157,7 +161,7 @@ fn pre(text: &str) -> String {
 }
 
 fn journal_sections(draft: &Draft, journal: &Journal) -> Vec<Section> {
-    let timeline = picture::timeline(draft, journal.run);
+    let timeline = picture::banded(draft, journal.run, MOST_WIDTH);
     vec![
         section("journal", "The journal", &wide(&table(&journal.told))),
         section("timeline", "The run", &wide(&timeline)),
@@ -168,7 +172,7 @@ fn journal_sections(draft: &Draft, journal: &Journal) -> Vec<Section> {
 
 fn table(told: &[Told]) -> String {
     let mut table =
-        "<table>\n<thead><tr><th scope=\"col\">Printed</th><th scope=\"col\">Journal</th>\
+        "<table class=\"told\">\n<thead><tr><th scope=\"col\">Printed</th><th scope=\"col\">Journal</th>\
                      <th scope=\"col\">What it means</th></tr></thead>\n<tbody>\n"
             .to_string();
     for told in told {

@@ -188,7 +188,8 @@ fn pictures() -> Pictures {
         let plan = picture::plan(&drawn::generated(seed, 32));
         pictures.push((format!("plan {seed}"), plan));
         let (draft, journal) = drawn::generated_run(seed, 32);
-        let run = drawn::with_run(&draft, &journal, |run| picture::timeline(&draft, run));
+        let most = if seed % 2 == 0 { i32::MAX } else { 900 };
+        let run = drawn::with_run(&draft, &journal, |run| picture::banded(&draft, run, most));
         pictures.push((format!("run {seed}"), run));
     }
     pictures.push(("letters".to_string(), specimen()));

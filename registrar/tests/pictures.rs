@@ -11,7 +11,7 @@ use drawn::{apart, elements, inside, texts, Element, Text};
 use registrar::draft::{Draft, Name, Records, State, Step, Track, Window};
 use registrar::picture;
 use registrar::picture::svg::Rect;
-use registrar::run::{Answer, Run};
+use registrar::run::{Answer, Done, Run};
 use registrar::{journal_text, plan_text};
 use retraction::Plan;
 use std::fs;
@@ -274,6 +274,25 @@ fn assert_timeline(draft: &Draft, run: &Run) {
     let over = run.done.iter().any(|done| done.over);
     assert_eq!(count(&elements, "end"), usize::from(over));
     assert_held(draft, run, &elements);
+    for most in [0, 700, 1150] {
+        assert_banded(draft, run, most);
+    }
+}
+
+/// In bands every call is there, the last one of each band twice.
+fn assert_banded(draft: &Draft, run: &Run, most: i32) {
+    let elements = elements(&picture::banded(draft, run, most));
+    assert_legible(&elements, &["shade", "ground"]);
+    let calls = 1 + run.done.len() + usize::from(run.broken.is_some());
+    let lanes = count(&elements, "lane");
+    let bands = lanes / draft.records.tracks.len();
+    assert_eq!(count(&elements, "call"), calls + bands - 1);
+    let fired = |done: &&Done| matches!(done.answer, Answer::Fired { .. });
+    let fired = run.done.iter().filter(fired).count();
+    assert_eq!(count(&elements, "fired"), fired + 1);
+    if most == 0 {
+        assert_eq!(bands, (calls - 1).max(1));
+    }
 }
 
 /// What is held at the end has a bar with its name.

@@ -8,6 +8,7 @@ use crate::draft::Draft;
 use crate::journal::Call;
 use crate::run::Run;
 use crate::standing::{Mode, Standing};
+use std::ops::Range;
 
 /// The heights of a bar of the head, of a state and of a retraction, each with
 /// the room below it.
@@ -155,40 +156,57 @@ pub fn of_track(draft: &Draft, columns: &[&[Option<Standing>]], row: Row) -> Vec
     bars
 }
 
-/// The bars of days and of societies, each from the call on that brings it.
-#[must_use]
-pub fn of_head(draft: &Draft, run: &Run, top: i32) -> Vec<Bar> {
-    let mut days: Vec<Option<i32>> = vec![None];
-    let mut societies: Vec<Option<u16>> = vec![None];
-    for done in &run.done {
-        let before = days.last().copied().flatten();
-        days.push(match done.call {
-            Call::Event { day, .. } => Some(day),
-            _ => before,
-        });
-        societies.push(Some(done.call.society()));
+/// The day and the society of each column, from the call on that brings it.
+#[derive(Clone, Debug)]
+pub struct Spans {
+    days: Vec<Option<i32>>,
+    societies: Vec<Option<u16>>,
+}
+
+impl Spans {
+    /// Those of a run, for so many columns.
+    #[must_use]
+    pub fn of(run: &Run, columns: usize) -> Spans {
+        let mut days = vec![None];
+        let mut societies = vec![None];
+        for done in &run.done {
+            let before = days.last().copied().flatten();
+            days.push(match done.call {
+                Call::Event { day, .. } => Some(day),
+                _ => before,
+            });
+            societies.push(Some(done.call.society()));
+        }
+        days.resize(columns, None);
+        societies.resize(columns, None);
+        Spans { days, societies }
     }
-    let bar = |(from, to), y, text: &str, said| Bar {
-        class: "span",
-        from,
-        to,
-        y,
-        h: HEAD_BAR - 3,
-        line: Line::new(SMALL, text),
-        said,
-    };
-    let mut bars = Vec::new();
-    for (from, to, day) in stretches(&days) {
-        let day = day::text(day);
-        bars.push(bar((from, to), top, &day, format!("on {day}")));
+
+    /// Their bars over some columns.
+    #[must_use]
+    pub fn bars(&self, draft: &Draft, band: Range<usize>, top: i32) -> Vec<Bar> {
+        let bar = |(from, to), y, text: &str, said| Bar {
+            class: "span",
+            from,
+            to,
+            y,
+            h: HEAD_BAR - 3,
+            line: Line::new(SMALL, text),
+            said,
+        };
+        let mut bars = Vec::new();
+        for (from, to, day) in stretches(&self.days[band.clone()]) {
+            let day = day::text(day);
+            bars.push(bar((from, to), top, &day, format!("on {day}")));
+        }
+        for (from, to, society) in stretches(&self.societies[band]) {
+            let table = &draft.names.societies;
+            let said = format!("as {}", full_in(table, society));
+            let text = format!("as {}", table.name(society));
+            bars.push(bar((from, to), top + HEAD_BAR, &text, said));
+        }
+        bars
     }
-    for (from, to, society) in stretches(&societies) {
-        let table = &draft.names.societies;
-        let said = format!("as {}", full_in(table, society));
-        let text = format!("as {}", table.name(society));
-        bars.push(bar((from, to), top + HEAD_BAR, &text, said));
-    }
-    bars
 }
 
 /// Widens columns until each bar has room for its text.

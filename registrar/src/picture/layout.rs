@@ -5,7 +5,8 @@
 //! leads to. Labels stand between two upright lines, so that nothing crosses
 //! them.
 
-use super::label::{grant_said, step_said, Label, Line};
+use super::arrows::{arrows, Arrow, BESIDE};
+use super::label::{grant_said, Line};
 use super::label::{MOST_NAME, MOST_WORDS};
 use super::svg::{heading_width, Rect, HEADING, SMALL, STATE};
 use super::width::shorten;
@@ -20,12 +21,6 @@ pub const HEAD: i32 = 34;
 pub const MIDDLE: i32 = 17;
 /// The least room between two states.
 const GAP: i32 = 30;
-/// Room beside a label on either side; an arrow's head is in it.
-const BESIDE: i32 = 14;
-/// How far a loop reaches out.
-pub const LOOP: i32 = 16;
-/// How far its two ends are from its middle.
-pub const ARM: i32 = 5;
 /// Between hosted tracks, and between rows of arrows.
 const BETWEEN: i32 = 8;
 /// A state's upright line is at its middle, or at that of so much of it.
@@ -56,23 +51,6 @@ pub struct StateBox {
     pub hosted: Vec<TrackBox>,
     /// Its upright line: where it is, and its upper end if there is one.
     pub upright: (i32, Option<i32>),
-}
-
-/// A step or a deviation.
-#[derive(Clone, Debug)]
-pub struct Arrow {
-    /// The states that it goes from and to, by their places in the track.
-    pub from: usize,
-    pub to: usize,
-    pub dashed: bool,
-    /// Straight from one state to its neighbour.
-    pub plain: bool,
-    pub said: String,
-    pub label: Label,
-    /// The height of its line, and the left edge of its label.
-    pub at: (i32, i32),
-    /// The room that its label must not leave.
-    pub room: Rect,
 }
 
 /// All roots, one below the other, and the size of the picture.
@@ -146,69 +124,6 @@ fn state_box(draft: &Draft, state: usize) -> StateBox {
         complete,
         hosted,
         upright: (width.min(NARROW) / 2, None),
-    }
-}
-
-/// The arrows of a track's steps and of their deviations.
-fn arrows(draft: &Draft, states: &[StateBox]) -> Vec<Arrow> {
-    let place = |state: u16| states.iter().position(|s| s.state == usize::from(state));
-    let mut arrows: Vec<Arrow> = Vec::new();
-    for (number, step) in draft.records.steps.iter().enumerate() {
-        let ends = place(step.source).and_then(|from| Some((from, place(step.destination)?)));
-        let (from, to) = match ends {
-            Some(ends) => ends,
-            None => continue,
-        };
-        let window = draft.records.window_of(number);
-        let said = step_said(draft, step, window);
-        let taken = arrows.iter().any(|a| a.plain && a.from == from);
-        let arrow = |from, to, plain, dashed, label| Arrow {
-            from,
-            to,
-            dashed,
-            plain,
-            said: said.clone(),
-            label,
-            at: (0, 0),
-            room: Rect::default(),
-        };
-        let label = Label::of_step(draft, step, window);
-        arrows.push(arrow(from, to, to == from + 1 && !taken, false, label));
-        if let Some((state, back)) = step.deviation.and_then(|s| Some((s, place(s)?))) {
-            let label = Label::of_deviation(draft, step, state);
-            arrows.push(arrow(to, back, false, true, label));
-        }
-    }
-    arrows
-}
-
-impl Arrow {
-    /// The upright lines between which its label stands: the first, and whether
-    /// the label is at the left one.
-    fn gap(&self) -> (usize, bool) {
-        if self.to < self.from {
-            (self.from - 1, false)
-        } else {
-            (self.from, true)
-        }
-    }
-
-    /// The room that its label needs between two upright lines, or two states.
-    fn need(&self) -> i32 {
-        let out = if self.from == self.to { LOOP - 6 } else { 0 };
-        out + self.label.width() + 2 * BESIDE
-    }
-
-    /// What it takes of a row, where upright lines and the gaps after them are
-    /// counted by turns.
-    fn span(&self) -> (usize, usize) {
-        let (low, high) = (2 * self.from.min(self.to), 2 * self.from.max(self.to));
-        (low, high.max(low + 1))
-    }
-
-    /// The uppermost point of its line.
-    fn top(&self) -> i32 {
-        self.at.0 - if self.from == self.to { ARM } else { 0 }
     }
 }
 

@@ -1,7 +1,7 @@
 //! What the signs of a run's picture mean.
 
+use super::marks::{draw_complete, draw_fired, draw_given_up};
 use super::svg::{Canvas, Rect, SMALL};
-use super::timeline::{draw_complete, draw_fired, draw_given_up};
 
 /// The size of a sign, and the room between two.
 const SIGN: i32 = 34;

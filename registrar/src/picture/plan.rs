@@ -1,8 +1,9 @@
 //! A plan as a picture: tracks as boxes, states in them, steps as arrows with
 //! their event and, under it, the retraction that takes them back.
 
+use super::arrows::{Arrow, ARM, LOOP};
 use super::label::full;
-use super::layout::{self, Arrow, StateBox, TrackBox, ARM, HEAD, LOOP, MIDDLE};
+use super::layout::{self, StateBox, TrackBox, HEAD, MIDDLE};
 use super::svg::{Canvas, Rect, HEADING, SMALL, STATE};
 use crate::draft::Draft;
 

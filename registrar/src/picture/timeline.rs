@@ -1,15 +1,15 @@
 //! A run as a picture: a row for each track, a column for the begin and for
 //! each call, and bars for what lasts.
 
-use super::bars::{self, Bar, Row, BESIDE, HEAD_BAR, HELD_BAR, STATE_BAR};
-use super::label::{full, full_in, Line};
-use super::legend;
+use super::bars::{self, Bar, Row, Spans, BESIDE, HEAD_BAR};
+use super::heads::{self, Head};
+use super::label::{full, Line};
 use super::svg::{Canvas, Rect, CODE, EVENT, GREY, HEADING};
+use super::{legend, marks};
 use crate::draft::Draft;
-use crate::journal::Call;
-use crate::run::{Answer, Done, Run};
-use crate::standing::{Mode, Standing};
-use retraction::{Moved, Refusal};
+use crate::run::Run;
+use crate::standing::Standing;
+use std::ops::Range;
 
 const STYLE: &str = "\
 .head{fill:#f1f4f7;stroke:#8b98a5}
@@ -38,77 +38,139 @@ const LINES: &str = "<defs><pattern id=\"undoing-lines\" width=\"7\" height=\"7\
 const EDGE: i32 = 12;
 /// How far a hosted track's name is further in.
 const INDENT: i32 = 16;
-/// The height of a column's head, and where it begins.
+/// The height of a column's head.
 const HEAD: i32 = 40;
-const TOP: i32 = EDGE + 2 * HEAD_BAR;
+/// The height of all that is above a band's rows.
+const HEADS: i32 = 2 * HEAD_BAR + HEAD + 4;
+/// Room below a band.
+const BETWEEN: i32 = 16;
 
-const OVER: &str = "over";
-
-/// A column's head.
-struct Head {
-    printed: String,
-    call: String,
-    said: String,
-    refused: bool,
-    /// Whether the ledger is over by it.
-    ends: bool,
-}
-
-/// The picture of a run, as SVG.
+/// The picture of a run, as SVG, all calls side by side.
 #[must_use]
 pub fn timeline(draft: &Draft, run: &Run) -> String {
-    let mut columns = bars::columns(run);
-    let heads = heads(draft, run);
-    while columns.len() < heads.len() {
-        columns.push(columns[columns.len() - 1]);
-    }
-    let first = TOP + HEAD + 4;
-    let rows = bars::rows(draft, &columns, first);
-    let mut all = bars::of_head(draft, run, EDGE);
-    for &row in &rows {
-        all.extend(bars::of_track(draft, &columns, row));
-    }
-    let names = names_width(draft, &rows);
-    let edges = edges(&heads, &all, EDGE + names);
-    let right = edges[edges.len() - 1];
-    let bottom = rows.last().map_or(first, |row| row.y + row.h);
+    banded(draft, run, i32::MAX)
+}
 
+/// The same in bands one below the other, none wider than that if a call and the
+/// one before it fit. A band starts with the last call of the band above.
+#[must_use]
+pub fn banded(draft: &Draft, run: &Run, most: i32) -> String {
+    let whole = Whole::of(draft, run);
     let mut canvas = Canvas::default();
     canvas.raw(LINES);
-    draw_heads(&mut canvas, &heads, &edges);
-    draw_rows(&mut canvas, draft, &rows, (EDGE, names, right));
-    for bar in &all {
-        draw_bar(&mut canvas, bar, &edges);
+    let (mut right, mut y) = (0, EDGE);
+    for band in whole.bands(most) {
+        let corner = whole.draw(&mut canvas, band, y);
+        right = right.max(corner.0);
+        y = corner.1 + BETWEEN;
     }
-    for n in (0..heads.len()).filter(|&n| heads[n].refused) {
-        let shade = Rect::new(
-            edges[n],
-            TOP + HEAD,
-            edges[n + 1] - edges[n],
-            bottom - TOP - HEAD,
-        );
-        canvas.rect("shade", shade, 0);
-    }
-    for (n, done) in run.done.iter().enumerate() {
-        draw_marks(&mut canvas, draft, &rows, done, edges[n + 1]);
-        if heads[n + 1].ends {
-            let column = Rect::new(
-                edges[n + 1],
-                first,
-                edges[n + 2] - edges[n + 1],
-                bottom - first,
-            );
-            draw_over(&mut canvas, column);
+    let size = legend::draw(&mut canvas, (EDGE, y), right.clamp(640, 1000));
+    let said = format!("A run of {}", full(&draft.names.plan));
+    let size = (right.max(size.0) + EDGE, size.1 + EDGE);
+    canvas.finish("timeline", said.trim_end(), size, STYLE)
+}
+
+/// All columns of a run.
+struct Whole<'a> {
+    draft: &'a Draft,
+    run: &'a Run<'a>,
+    columns: Vec<&'a [Option<Standing>]>,
+    heads: Vec<Head>,
+    spans: Spans,
+}
+
+/// A stretch of columns, laid out.
+struct Band {
+    rows: Vec<Row>,
+    bars: Vec<Bar>,
+    /// The width of the tracks' names.
+    names: i32,
+    /// The left edge of each column, and the right edge of the last.
+    edges: Vec<i32>,
+}
+
+impl<'a> Whole<'a> {
+    fn of(draft: &'a Draft, run: &'a Run<'a>) -> Whole<'a> {
+        let mut columns = bars::columns(run);
+        let heads = heads::heads(draft, run);
+        columns.resize(heads.len(), columns[columns.len() - 1]);
+        let spans = Spans::of(run, heads.len());
+        Whole {
+            draft,
+            run,
+            columns,
+            heads,
+            spans,
         }
     }
-    let size = legend::draw(&mut canvas, (EDGE, bottom + 14), right.max(640));
-    let said = format!("A run of {}", full(&draft.names.plan));
-    canvas.finish(
-        "timeline",
-        said.trim_end(),
-        (right.max(size.0) + EDGE, size.1 + EDGE),
-        STYLE,
-    )
+
+    /// The columns of each band.
+    fn bands(&self, most: i32) -> Vec<Range<usize>> {
+        let edges = self.lay_out(0..self.heads.len(), 0).edges;
+        let mut bands = Vec::new();
+        let mut from = 0;
+        for to in 1..=self.heads.len() {
+            let room = most.saturating_sub(edges[0]);
+            let full = to < self.heads.len() && edges[to + 1] - edges[from] > room;
+            if to == self.heads.len() || (full && to - from > 1) {
+                bands.push(from..to);
+                from = to - 1;
+            }
+        }
+        bands
+    }
+
+    fn lay_out(&self, band: Range<usize>, y: i32) -> Band {
+        let columns = &self.columns[band.clone()];
+        let rows = bars::rows(self.draft, columns, y + HEADS);
+        let mut bars = self.spans.bars(self.draft, band.clone(), y);
+        for &row in &rows {
+            bars.extend(bars::of_track(self.draft, columns, row));
+        }
+        let names = names_width(self.draft, &rows);
+        let mut widths: Vec<i32> = self.heads[band].iter().map(Head::room).collect();
+        bars::widen(&mut widths, &bars);
+        let mut edges = vec![EDGE + names];
+        for width in widths {
+            edges.push(edges[edges.len() - 1] + width);
+        }
+        Band {
+            rows,
+            bars,
+            names,
+            edges,
+        }
+    }
+
+    /// Draws a band from this height on; returns its lower right corner.
+    fn draw(&self, canvas: &mut Canvas, range: Range<usize>, y: i32) -> (i32, i32) {
+        let band = self.lay_out(range.clone(), y);
+        let Band { rows, edges, .. } = &band;
+        let (first, right) = (y + HEADS, edges[edges.len() - 1]);
+        let bottom = rows.last().map_or(first, |row| row.y + row.h);
+        let heads = &self.heads[range.clone()];
+        draw_heads(canvas, heads, edges, y + 2 * HEAD_BAR);
+        draw_rows(canvas, self.draft, rows, (EDGE, band.names, right));
+        for bar in &band.bars {
+            draw_bar(canvas, bar, edges);
+        }
+        for (n, head) in heads.iter().enumerate() {
+            let width = edges[n + 1] - edges[n];
+            let column = Rect::new(edges[n], first, width, bottom - first);
+            if head.refused {
+                canvas.rect("shade", column, 0);
+            }
+            let again = n == 0 && range.start > 0;
+            let call = (range.start + n).checked_sub(1).filter(|_| !again);
+            if let Some(done) = call.and_then(|call| self.run.done.get(call)) {
+                marks::draw(canvas, self.draft, rows, done, edges[n]);
+            }
+            if head.ends && !again {
+                marks::draw_over(canvas, column);
+            }
+        }
+        (right, bottom)
+    }
 }
 
 fn names_width(draft: &Draft, rows: &[Row]) -> i32 {
@@ -119,86 +181,10 @@ fn names_width(draft: &Draft, rows: &[Row]) -> i32 {
     rows.iter().map(width).max().unwrap_or(0)
 }
 
-fn heads(draft: &Draft, run: &Run) -> Vec<Head> {
-    let lines = run.lines();
-    let begin = Head {
-        printed: lines[0].clone(),
-        call: "begin".to_string(),
-        said: "The plan is taken, and the ledger begun".to_string(),
-        refused: false,
-        ends: false,
-    };
-    let mut heads = vec![begin];
-    for (n, done) in run.done.iter().enumerate() {
-        let (call, said) = call_said(draft, done);
-        heads.push(Head {
-            printed: done.line(),
-            call,
-            said: format!("Call {}: {said}", n + 1),
-            refused: matches!(done.answer, Answer::Refused(_)),
-            ends: done.over && done.before.iter().any(Option::is_some),
-        });
-    }
-    if let Some(broken) = &run.broken {
-        heads.push(Head {
-            printed: format!("R {}", Refusal::BrokenRecord.number()),
-            call: "broken".to_string(),
-            said: format!("The journal is broken: {}", broken.what),
-            refused: true,
-            ends: false,
-        });
-    }
-    heads
-}
-
-/// A call by its name, and in full.
-fn call_said(draft: &Draft, done: &Done) -> (String, String) {
-    let mut said = match done.call {
-        Call::Event { event, .. } => {
-            let said = format!("event {}", full_in(&draft.names.events, event));
-            let known = draft.names.events.names.get(&event);
-            let name = known.map_or_else(|| said.clone(), |known| known.name.clone());
-            (name, said)
-        }
-        Call::Signal { .. } => ("withdraw".to_string(), "withdraw".to_string()),
-        Call::Fire { track, .. } => {
-            let name = format!("take back {}", draft.track(track));
-            (name.clone(), name)
-        }
-        Call::FireLowest { .. } => {
-            let next = "take back next".to_string();
-            (next.clone(), next)
-        }
-    };
-    if let Answer::Fired { entry, .. } = done.answer {
-        said.1 += &format!(": {}", full_in(&draft.names.retractions, entry.code));
-    }
-    if done.over {
-        said.1 += "; the ledger is over";
-    }
-    said
-}
-
-/// The left edge of each column, and the right edge of the last.
-fn edges(heads: &[Head], bars: &[Bar], left: i32) -> Vec<i32> {
-    let room = |head: &Head| {
-        let call = Line::new(EVENT, &head.call).width();
-        let over = if head.ends { HEADING.width(OVER) } else { 0 };
-        CODE.width(&head.printed).max(call).max(over) + 2 * BESIDE + 4
-    };
-    let mut widths: Vec<i32> = heads.iter().map(room).collect();
-    bars::widen(&mut widths, bars);
-    let mut edges = vec![left];
-    for width in widths {
-        edges.push(edges[edges.len() - 1] + width);
-    }
-    edges
-}
-
-fn draw_heads(canvas: &mut Canvas, heads: &[Head], edges: &[i32]) {
+fn draw_heads(canvas: &mut Canvas, heads: &[Head], edges: &[i32], top: i32) {
     for (n, head) in heads.iter().enumerate() {
         let x = edges[n];
-        let r = Rect::new(x + 1, TOP, edges[n + 1] - x - 2, HEAD - 2);
+        let r = Rect::new(x + 1, top, edges[n + 1] - x - 2, HEAD - 2);
         canvas.open("call", &head.said);
         let (class, style) = if head.refused {
             ("refused", GREY)
@@ -207,8 +193,8 @@ fn draw_heads(canvas: &mut Canvas, heads: &[Head], edges: &[i32]) {
         };
         canvas.rect(class, r, 3);
         let left = r.x + BESIDE;
-        canvas.text(CODE, (left, TOP + 3), &head.printed, r);
-        Line::new(style, &head.call).draw(canvas, (left, TOP + 20), r);
+        canvas.text(CODE, (left, top + 3), &head.printed, r);
+        Line::new(style, &head.call).draw(canvas, (left, top + 20), r);
         canvas.close();
     }
 }
@@ -252,63 +238,4 @@ fn draw_bar(canvas: &mut Canvas, bar: &Bar, edges: &[i32]) {
         }
     }
     canvas.close();
-}
-
-/// What a call took back, and which tracks it put to sleep.
-fn draw_marks(canvas: &mut Canvas, draft: &Draft, rows: &[Row], done: &Done, x: i32) {
-    for row in rows {
-        let (before, after) = (&done.before[row.track], &done.after[row.track]);
-        if let Answer::Fired { track, entry } = done.answer {
-            let place = before.as_ref().map_or(0, |s| s.entries.len());
-            if usize::from(track) == row.track && place > 0 {
-                let undo = full_in(&draft.names.retractions, entry.code);
-                canvas.open("mark", &format!("taken back: {undo}"));
-                draw_fired(canvas, (x, row.held(place - 1)));
-                canvas.close();
-            }
-        }
-        if let (Some(before), None, false) = (before, after, done.over) {
-            draw_sleep(canvas, done, before, (x, row.strip()));
-        }
-    }
-}
-
-/// The end of a ledger, at the left edge of its column.
-fn draw_over(canvas: &mut Canvas, column: Rect) {
-    let (x, top, bottom) = (column.x + 2, column.y, column.bottom());
-    canvas.open("end", "The ledger is over");
-    canvas.path("over", &format!("M{x} {top}V{bottom}m4 0V{top}"));
-    canvas.text(HEADING, (x + 9, top + 8), OVER, column);
-    canvas.close();
-}
-
-/// The sign of a retraction that was fired, at the left edge of its column.
-pub fn draw_fired(canvas: &mut Canvas, (x, y): (i32, i32)) {
-    let middle = (x + 12, y + (HELD_BAR - 2) / 2);
-    canvas.dot("fired", middle, 8);
-    canvas.hook((x + 5, middle.1 - 7));
-}
-
-/// A track that falls asleep: its scope is complete, or given up.
-fn draw_sleep(canvas: &mut Canvas, done: &Done, before: &Standing, (x, y): (i32, i32)) {
-    let closes = matches!(done.answer, Answer::Moved(Moved { closed, .. }) if closed > 0);
-    if closes && before.mode == Mode::Forward {
-        canvas.open("mark", "its scope is complete");
-        draw_complete(canvas, (x, y));
-    } else {
-        canvas.open("mark", "its scope is given up");
-        draw_given_up(canvas, (x, y));
-    }
-    canvas.close();
-}
-
-/// The sign of a completed scope: a block at the end of the bar.
-pub fn draw_complete(canvas: &mut Canvas, (x, y): (i32, i32)) {
-    canvas.rect("complete", Rect::new(x - 2, y - 1, 5, STATE_BAR - 1), 0);
-}
-
-/// The sign of a scope that is given up: a cross after the end of the bar.
-pub fn draw_given_up(canvas: &mut Canvas, (x, y): (i32, i32)) {
-    let (left, top) = (x + 4, y + 6);
-    canvas.path("given-up", &format!("M{left} {top}l9 9m0-9l-9 9"));
 }
