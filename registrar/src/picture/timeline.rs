@@ -13,6 +13,7 @@ use std::ops::Range;
 
 const STYLE: &str = "\
 .head{fill:#f1f4f7;stroke:#8b98a5}
+.again{fill:#fff;stroke:#8b98a5;stroke-dasharray:1 2}
 .refused{fill:#dcdcdc;stroke:#6b7280;stroke-dasharray:3 2}
 .shade{fill:#6b7280;fill-opacity:.14}
 .span{fill:#fff;stroke:#8b98a5}
@@ -149,7 +150,11 @@ impl<'a> Whole<'a> {
         let (first, right) = (y + HEADS, edges[edges.len() - 1]);
         let bottom = rows.last().map_or(first, |row| row.y + row.h);
         let heads = &self.heads[range.clone()];
-        draw_heads(canvas, heads, edges, y + 2 * HEAD_BAR);
+        for (n, head) in heads.iter().enumerate() {
+            let top = y + 2 * HEAD_BAR;
+            let r = Rect::new(edges[n] + 1, top, edges[n + 1] - edges[n] - 2, HEAD - 2);
+            draw_head(canvas, head, r, is_again(&range, n));
+        }
         draw_rows(canvas, self.draft, rows, (EDGE, band.names, right));
         for bar in &band.bars {
             draw_bar(canvas, bar, edges);
@@ -160,7 +165,7 @@ impl<'a> Whole<'a> {
             if head.refused {
                 canvas.rect("shade", column, 0);
             }
-            let again = n == 0 && range.start > 0;
+            let again = is_again(&range, n);
             let call = (range.start + n).checked_sub(1).filter(|_| !again);
             if let Some(done) = call.and_then(|call| self.run.done.get(call)) {
                 marks::draw(canvas, self.draft, rows, done, edges[n]);
@@ -181,22 +186,25 @@ fn names_width(draft: &Draft, rows: &[Row]) -> i32 {
     rows.iter().map(width).max().unwrap_or(0)
 }
 
-fn draw_heads(canvas: &mut Canvas, heads: &[Head], edges: &[i32], top: i32) {
-    for (n, head) in heads.iter().enumerate() {
-        let x = edges[n];
-        let r = Rect::new(x + 1, top, edges[n + 1] - x - 2, HEAD - 2);
-        canvas.open("call", &head.said);
-        let (class, style) = if head.refused {
-            ("refused", GREY)
-        } else {
-            ("head", EVENT)
-        };
-        canvas.rect(class, r, 3);
-        let left = r.x + BESIDE;
-        canvas.text(CODE, (left, top + 3), &head.printed, r);
-        Line::new(style, &head.call).draw(canvas, (left, top + 20), r);
-        canvas.close();
-    }
+/// Whether a column of a band is the last one of the band above.
+fn is_again(band: &Range<usize>, column: usize) -> bool {
+    band.start > 0 && column == 0
+}
+
+fn draw_head(canvas: &mut Canvas, head: &Head, r: Rect, again: bool) {
+    let class = match (head.refused, again) {
+        (true, _) => "refused",
+        (false, true) => "again",
+        (false, false) => "head",
+    };
+    let printed = if again { GREY } else { CODE };
+    let call = if class == "head" { EVENT } else { GREY };
+    let left = r.x + BESIDE;
+    canvas.open("call", &head.said);
+    canvas.rect(class, r, 3);
+    canvas.text(printed, (left, r.y + 3), &head.printed, r);
+    Line::new(call, &head.call).draw(canvas, (left, r.y + 20), r);
+    canvas.close();
 }
 
 /// The names of the tracks, and the lines between the rows.
