@@ -1,6 +1,7 @@
-//! What the signs of a run's picture mean.
+//! What the signs of the pictures mean.
 
 use super::marks::{draw_complete, draw_fired, draw_given_up};
+use super::plan::{draw_start, draw_tip};
 use super::svg::{Canvas, Rect, SMALL};
 
 /// The size of a sign, and the room between two.
@@ -9,9 +10,10 @@ const HIGH: i32 = 17;
 const BETWEEN: i32 = 18;
 
 /// A sign, and what it means.
-type Entry = (fn(&mut Canvas, (i32, i32)), &'static str);
+pub type Entry = (fn(&mut Canvas, (i32, i32)), &'static str);
 
-const ENTRIES: [Entry; 8] = [
+/// The signs of a run.
+pub const RUN: [Entry; 8] = [
     (forward, "forward, in this state"),
     (undoing, "undoing"),
     (held, "a retraction that is held, the newest on top"),
@@ -22,11 +24,25 @@ const ENTRIES: [Entry; 8] = [
     (over, "the ledger is over"),
 ];
 
+/// The signs of a plan; the last is that of a deviation.
+pub const PLAN: [Entry; 4] = [
+    (start, "where the track starts"),
+    (last, "a final state"),
+    (undo, "the retraction that takes the step back"),
+    (deviation, "where the track goes on once it is taken back"),
+];
+
 /// Draws it from here on, in lines no longer than to the right edge; returns
 /// the lower right corner.
-pub fn draw(canvas: &mut Canvas, (left, top): (i32, i32), right: i32) -> (i32, i32) {
+pub fn draw(
+    canvas: &mut Canvas,
+    entries: &[Entry],
+    (left, top): (i32, i32),
+    right: i32,
+) -> (i32, i32) {
     let (mut x, mut y, mut most) = (left, top, left);
-    for (sign, meaning) in ENTRIES {
+    canvas.open("legend", "What the signs mean");
+    for (sign, meaning) in entries {
         let width = SIGN + 6 + SMALL.width(meaning);
         if x > left && x + width > right {
             x = left;
@@ -39,6 +55,7 @@ pub fn draw(canvas: &mut Canvas, (left, top): (i32, i32), right: i32) -> (i32, i
         most = most.max(x);
         x += BETWEEN;
     }
+    canvas.close();
     (most, y + HIGH)
 }
 
@@ -80,4 +97,25 @@ fn refused(canvas: &mut Canvas, at: (i32, i32)) {
 fn over(canvas: &mut Canvas, (x, y): (i32, i32)) {
     let x = x + SIGN - 10;
     canvas.path("over", &format!("M{x} {y}v{HIGH}m4 -{HIGH}v{HIGH}"));
+}
+
+fn start(canvas: &mut Canvas, (x, y): (i32, i32)) {
+    draw_start(canvas, (x + SIGN - 2, y + HIGH / 2));
+}
+
+fn last(canvas: &mut Canvas, (x, y): (i32, i32)) {
+    let r = Rect::new(x, y, SIGN, HIGH);
+    canvas.rect("state", r, 5);
+    canvas.rect("final", r.inset(3), 3);
+}
+
+fn undo(canvas: &mut Canvas, (x, y): (i32, i32)) {
+    canvas.hook((x + SIGN - 14, y + 1));
+}
+
+fn deviation(canvas: &mut Canvas, (x, y): (i32, i32)) {
+    let (middle, end) = (y + HIGH / 2, x + SIGN);
+    canvas.dot("back-tip", (x + 3, middle), 3);
+    canvas.path("back", &format!("M{} {middle}H{}", x + 3, end - 7));
+    draw_tip(canvas, "back-tip", (end, middle), 1);
 }

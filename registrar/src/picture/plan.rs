@@ -4,8 +4,12 @@
 use super::arrows::{Arrow, ARM, LOOP};
 use super::label::full;
 use super::layout::{self, StateBox, TrackBox, HEAD, MIDDLE};
+use super::legend;
 use super::svg::{Canvas, Rect, HEADING, SMALL, STATE};
 use crate::draft::Draft;
+
+/// Room at the picture's edges.
+const EDGE: i32 = 12;
 
 const STYLE: &str = "\
 .track{fill:#f1f4f7;stroke:#8b98a5}
@@ -26,11 +30,16 @@ pub fn plan(draft: &Draft) -> String {
     for root in &roots {
         draw_track(&mut canvas, draft, root);
     }
+    let deviates = draft.records.steps.iter().any(|x| x.deviation.is_some());
+    let signs = &legend::PLAN[..if deviates { 4 } else { 3 }];
+    let corner = legend::draw(&mut canvas, signs, (EDGE, size.1), size.0.clamp(480, 1000));
+    let size = (size.0.max(corner.0 + EDGE), corner.1 + EDGE);
     let said = format!("The plan {}", full(&draft.names.plan));
     canvas.finish("plan", said.trim_end(), size, STYLE)
 }
 
-/// The size of that picture, and the head of each state by its number.
+/// The size of that picture without its legend, and the head of each state by
+/// its number.
 #[must_use]
 pub fn places(draft: &Draft) -> ((i32, i32), Vec<Rect>) {
     let (roots, size) = layout::of(draft);
@@ -109,8 +118,15 @@ fn draw_arrow(canvas: &mut Canvas, track: &TrackBox, arrow: &Arrow) {
     draw_tip(canvas, tip, (end, y), way);
 }
 
+/// The mark of the start, its arrow's point here.
+pub fn draw_start(canvas: &mut Canvas, (x, y): (i32, i32)) {
+    canvas.dot("tip", (x - 22, y), 5);
+    canvas.path("step", &format!("M{} {y}H{}", x - 22, x - 7));
+    draw_tip(canvas, "tip", (x, y), 1);
+}
+
 /// An arrow's head that points right (1) or left (-1), its point here.
-fn draw_tip(canvas: &mut Canvas, class: &str, (x, y): (i32, i32), way: i32) {
+pub fn draw_tip(canvas: &mut Canvas, class: &str, (x, y): (i32, i32), way: i32) {
     canvas.path(class, &format!("M{x} {y}l{} -4v8z", -8 * way));
 }
 
@@ -120,10 +136,7 @@ fn draw_state(canvas: &mut Canvas, draft: &Draft, state: &StateBox, first: bool)
     let mut said = format!("State {}", full(&draft.names.states[state.state]));
     if first {
         said += ", where the track starts";
-        let y = r.y + MIDDLE;
-        canvas.dot("tip", (r.x - 22, y), 5);
-        canvas.path("step", &format!("M{} {y}H{}", r.x - 22, r.x - 7));
-        draw_tip(canvas, "tip", (r.x, y), 1);
+        draw_start(canvas, (r.x, r.y + MIDDLE));
     }
     if record.last != 0 {
         said += ", final";

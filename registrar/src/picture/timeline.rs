@@ -65,7 +65,7 @@ pub fn banded(draft: &Draft, run: &Run, most: i32) -> String {
         right = right.max(corner.0);
         y = corner.1 + BETWEEN;
     }
-    let size = legend::draw(&mut canvas, (EDGE, y), right.clamp(640, 1000));
+    let size = legend::draw(&mut canvas, &legend::RUN, (EDGE, y), right.clamp(640, 1000));
     let said = format!("A run of {}", full(&draft.names.plan));
     let size = (right.max(size.0) + EDGE, size.1 + EDGE);
     canvas.finish("timeline", said.trim_end(), size, STYLE)
