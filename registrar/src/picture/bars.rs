@@ -115,9 +115,9 @@ pub fn of_track(draft: &Draft, columns: &[&[Option<Standing>]], row: Row) -> Vec
     let modes = modes.map(|s| s.as_ref().map(|s| (s.mode, s.state)));
     let mut bars: Vec<Bar> = Vec::new();
     for (from, to, (mode, state)) in stretches(&modes.collect::<Vec<_>>()) {
-        let (class, going) = match mode {
-            Mode::Forward => ("forward", "forward"),
-            Mode::Undoing => ("undoing", "undoing"),
+        let class = match mode {
+            Mode::Forward => "forward",
+            Mode::Undoing => "undoing",
         };
         let name = draft.names.states.get(usize::from(state)).map(full);
         bars.push(Bar {
@@ -128,7 +128,7 @@ pub fn of_track(draft: &Draft, columns: &[&[Option<Standing>]], row: Row) -> Vec
             h: STATE_BAR - 3,
             line: Line::new(EVENT, &draft.state(state)),
             said: format!(
-                "{} {going} in {}",
+                "{} {class} in {}",
                 draft.track(row.track as u16),
                 name.unwrap_or_default()
             ),

@@ -118,7 +118,12 @@ fn term(window: Window) -> String {
 /// A name with its words.
 #[must_use]
 pub fn full(name: &Name) -> String {
-    with_words(&name.name, &name.words)
+    let Name { name, words } = name;
+    if words.is_empty() {
+        name.clone()
+    } else {
+        format!("{name} ({words})")
+    }
 }
 
 /// A number's name with its words.
@@ -127,14 +132,6 @@ pub fn full_in(table: &Table, number: u16) -> String {
     match table.names.get(&number) {
         Some(name) => full(name),
         None => number.to_string(),
-    }
-}
-
-fn with_words(name: &str, words: &str) -> String {
-    if words.is_empty() {
-        name.to_string()
-    } else {
-        format!("{name} ({words})")
     }
 }
 
