@@ -369,14 +369,14 @@ fn three_roots() -> Records {
 /// Writes a root and its hosted track.
 fn stand(words: &mut [u16], root: usize, standing: Standing) {
     let first = 2 * root as u16;
-    let own: &[u16] = match standing {
-        Standing::Ended => &[1, first + 1, 0],
-        Standing::EndedHolding => &[1, first + 1, 1, 7, NONE],
-        Standing::Spent | Standing::ScopeOpen => &[2, first, 0],
-        Standing::Holding => &[2, first, 1, 7, first],
-        Standing::Forward => &[1, first, 0],
+    let own = match standing {
+        Standing::Ended => vec![1, first + 1, 0],
+        Standing::EndedHolding => vec![1, first + 1, 1, 7, NONE],
+        Standing::Spent | Standing::ScopeOpen => vec![2, first, 0],
+        Standing::Holding => vec![2, first, 1, 7, first],
+        Standing::Forward => vec![1, first, 0],
     };
-    track_words_mut(words, root)[..own.len()].copy_from_slice(own);
+    track_words_mut(words, root)[..own.len()].copy_from_slice(&own);
     if standing == Standing::ScopeOpen {
         let hosted = [2, 6 + root as u16, 1, 8, NONE];
         track_words_mut(words, 3 + root)[..5].copy_from_slice(&hosted);

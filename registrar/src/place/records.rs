@@ -11,7 +11,7 @@ const MOST_GRANTS: usize = 64;
 const MOST_DEEP: usize = 8;
 
 /// The record that the refusal is about, and what is wrong with it.
-pub fn find(refusal: Refusal, draft: &Draft) -> Option<(At, String)> {
+pub(super) fn find(refusal: Refusal, draft: &Draft) -> Option<(At, String)> {
     let finder = Finder { draft };
     let records = &draft.records;
     let first = |kind: u16, count: usize, wrong: &dyn Fn(usize) -> Option<String>| {
