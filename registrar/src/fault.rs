@@ -34,12 +34,19 @@ impl Fault {
     }
 }
 
+/// A word of more bytes is no slip of another.
+const LONGEST: usize = 100;
+
 /// The known word that is nearest to one that is not known, if one is near.
 pub fn nearest<'a>(word: &str, known: impl IntoIterator<Item = &'a str>) -> Option<&'a str> {
+    if word.len() > LONGEST {
+        return None;
+    }
     let far = |known: &&str| (distance(word, known), known.len());
     let count = word.chars().count();
     let allowed = (1 + count / 4).min(count.saturating_sub(1));
-    let nearest = known.into_iter().min_by_key(far);
+    let known = known.into_iter().filter(|known| known.len() <= LONGEST);
+    let nearest = known.min_by_key(far);
     nearest.filter(|known| distance(word, known) <= allowed)
 }
 
@@ -87,6 +94,9 @@ mod tests {
         );
         assert_eq!(suggestion("shelf", known), "");
         assert_eq!(nearest("y", ["x"]), None);
+        let long = "x".repeat(1_000_000);
+        assert_eq!(nearest(&long, [&long[1..], "x"]), None);
+        assert_eq!(nearest("xx", [&long[..], "x"]), Some("x"));
     }
 
     #[test]
