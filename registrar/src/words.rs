@@ -39,8 +39,8 @@ impl Word {
     }
 }
 
-/// The words of a line. Where a quote does not fit, those before it and the
-/// fault.
+/// The words of a line. Where a quote or a control character does not fit, those
+/// before it and the fault.
 #[must_use]
 pub fn split(text: &str, line: usize) -> (Vec<Word>, Option<Fault>) {
     let chars: Vec<char> = text.chars().collect();
@@ -56,7 +56,7 @@ pub fn split(text: &str, line: usize) -> (Vec<Word>, Option<Fault>) {
         } else {
             bare(&chars, at)
         };
-        match taken {
+        match taken.and_then(printable) {
             Ok(word) => {
                 at = word.start + word.count;
                 words.push(word);
@@ -76,6 +76,17 @@ type Wrong = ((usize, usize), &'static str);
 /// Some editors put a mark of the byte order in front of a text.
 fn is_blank(c: char) -> bool {
     c.is_whitespace() || c == '\u{feff}'
+}
+
+/// A control character in a word would be lost on a page, or obeyed by a terminal.
+fn printable(word: Word) -> Result<Word, Wrong> {
+    match word.text.contains(char::is_control) {
+        true => Err((
+            (word.start, word.count),
+            "this has a control character in it, such as a tab",
+        )),
+        false => Ok(word),
+    }
 }
 
 fn bare(chars: &[char], start: usize) -> Result<Word, Wrong> {
@@ -170,11 +181,11 @@ impl Line {
         fits
     }
 
-    /// The words behind a name, if there are any.
+    /// The words behind a name, if there are any, without the blanks around them.
     pub fn take_words(&mut self) -> String {
         let quoted = self.peek().map_or(false, |word| word.quoted);
         let word = if quoted { self.take() } else { None };
-        word.map_or_else(String::new, |word| word.text)
+        word.map_or_else(String::new, |word| word.text.trim().to_string())
     }
 
     /// Takes the next word, which is to be this keyword.
@@ -241,8 +252,10 @@ mod tests {
     }
 
     #[test]
-    fn words_before_a_broken_quote() {
+    fn words_before_what_does_not_fit() {
         for (line, mark) in [
+            ("a b c\u{1b}[31m", (4, 6)),
+            ("a \"b\tc\" d", (2, 5)),
             ("a b \"c", (4, 2)),
             ("a b\"c\"", (3, 1)),
             ("a \"b\"c", (5, 1)),
@@ -251,6 +264,14 @@ mod tests {
             let fault = fault.expect(line);
             assert_eq!((fault.line, fault.mark), (3, Some(mark)), "{line}");
             assert_eq!(words[0].text, "a");
+        }
+    }
+
+    #[test]
+    fn words_behind_a_name() {
+        for (text, taken) in [("\" a  b \"", "a  b"), ("\"  \"", ""), ("a", "")] {
+            let mut line = Line::new(1, split(text, 1).0);
+            assert_eq!(line.take_words(), taken, "{text}");
         }
     }
 

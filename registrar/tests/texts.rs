@@ -134,7 +134,7 @@ const WORDS: [&str; 7] = [
     "# no remark",
     "\"",
     "Åsa och Örjan",
-    " in STATE ",
+    "in STATE",
 ];
 
 /// Other names for all that a draft has: states of one name in several tracks,
