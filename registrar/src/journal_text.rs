@@ -24,8 +24,7 @@ const FORM: &str = "[on DAY] [as SOCIETY] [CALL], where CALL is 'event EVENT', '
                     'take back TRACK' or 'take back next'";
 const FIRST_WORDS: [&str; 6] = ["journal", "on", "as", "event", "withdraw", "take"];
 
-/// The calls of a text, or what is wrong with it, in the order of its lines. A
-/// text without words is a journal without calls.
+/// The calls of a text, or what is wrong with it, in the order of its lines.
 pub fn read(text: &str, draft: &Draft) -> Result<Journal, Vec<Fault>> {
     let mut journal = Journal::default();
     let mut faults = Vec::new();
@@ -43,6 +42,9 @@ pub fn read(text: &str, draft: &Draft) -> Result<Journal, Vec<Fault>> {
         };
         headed = true;
         faults.extend(broken.or_else(|| result.err()));
+    }
+    if !headed {
+        faults.push(Line::new(1, Vec::new()).fault(beginning()));
     }
     faults.truncate(MOST_FAULTS);
     match faults.is_empty() {
@@ -64,6 +66,11 @@ pub fn read_line(text: &str, draft: &Draft, journal: &Journal) -> Result<Call, V
         Some(fault) => Err(vec![fault]),
         None => call.map_err(|fault| vec![fault]),
     }
+}
+
+/// What is said where the first line is missing.
+fn beginning() -> String {
+    format!("a journal begins with the line: {HEAD}")
 }
 
 /// The first line, behind its first word.
@@ -94,8 +101,7 @@ impl Journal {
         }
         let word = line.peek().map_or("", |word| &word.text);
         let meant = suggestion(word, ["journal"]);
-        let what = format!("a journal begins with the line: {HEAD}{meant}");
-        let fault = line.fault(what);
+        let fault = line.fault(beginning() + &meant);
         let _ = self.line(line, draft);
         Err(fault)
     }

@@ -169,7 +169,7 @@ as 4
 #[test]
 fn journals_of_plans_without_a_name() {
     let draft = plan_text::read("track a\nstate x").expect("a plan");
-    for text in ["", "# nothing", "journal", "journal of anything"] {
+    for text in ["journal", "# nothing\njournal of anything"] {
         let journal = journal_text::read(text, &draft).expect("a journal");
         assert_eq!(journal, journal_text::Journal::default());
     }
