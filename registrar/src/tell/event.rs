@@ -89,10 +89,13 @@ fn open_scope(scene: &Scene<'_>, track: u16) -> Vec<u16> {
     look::open_scope(&scene.draft.records, &scene.done.before, track.into())
 }
 
-/// What keeps a track from its step.
+/// What keeps a track from its step, first what stays so: a right that is missing.
 fn against(scene: &Scene<'_>, track: u16, before: &Standing, step: usize) -> Option<String> {
     let records = &scene.draft.records;
     let society = scene.done.call.society();
+    if !look::may(records, society, look::MOVE, track.into()) {
+        return Some(format!("{} may not move it", scene.society()));
+    }
     if before.mode == Mode::Undoing {
         return Some("it is being taken back".to_string());
     }
@@ -102,9 +105,6 @@ fn against(scene: &Scene<'_>, track: u16, before: &Standing, step: usize) -> Opt
             "it waits for {}",
             phrase::tracks(scene.draft, &inside)
         ));
-    }
-    if !look::may(records, society, look::MOVE, track.into()) {
-        return Some(format!("{} may not move it", scene.society()));
     }
     let window = records.window_of(step)?;
     let shut = match scene.done.call {

@@ -99,7 +99,7 @@ fn track_not_ready(scene: &Scene<'_>, track: u16) -> String {
     };
     let inside = look::open_scope(&scene.draft.records, &scene.done.before, track.into());
     match before.mode {
-        Mode::Forward => format!("{name} is still forward, for it was not withdrawn"),
+        Mode::Forward => format!("{name} is forward, and only what was withdrawn is taken back"),
         Mode::Undoing if before.entries.is_empty() => format!("{name} holds nothing"),
         Mode::Undoing => format!("{name} waits for {}", phrase::tracks(scene.draft, &inside)),
     }
@@ -118,7 +118,7 @@ fn none_ready(scene: &Scene<'_>) -> String {
         );
     }
     if look::in_mode(before, Mode::Undoing).is_empty() {
-        return "nothing was withdrawn".to_string();
+        return "no track is being taken back".to_string();
     }
     if standing::held(before) == 0 {
         return "nothing is left to take back".to_string();
