@@ -87,7 +87,8 @@ impl Finder<'_> {
         let track = usize::from(state.track);
         let is_first = self.draft.records.states_of(track).next() == Some(at);
         let (track, said) = (self.track(track), self.full(at as u16));
-        let what = format!("track {track} starts in {said}, its first state, which is final");
+        let what =
+            format!("track {track} starts in {said}, its first state by number, which is final");
         Some(what).filter(|_| is_first && state.last != 0)
     }
 
