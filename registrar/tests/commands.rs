@@ -108,11 +108,10 @@ fn usage_is_told_with_status_2() {
     desk.not_done("explain 30", 2, "no refusal '30'");
     desk.not_done("explain fourteen", 2, "no refusal 'fourteen'");
     desk.not_done("help nosuch", 2, "no command 'nosuch'");
-    desk.not_done(
-        "withdraw plan.txt halfway.txt --as nobody",
-        2,
-        "no society 'nobody'",
-    );
+    for command in ["withdraw", "page"] {
+        let line = format!("{command} plan.txt halfway.txt --as nobody");
+        desk.not_done(&line, 2, "no society 'nobody'");
+    }
 }
 
 #[test]
@@ -131,7 +130,11 @@ fn files_are_told_with_status_2() {
         "nosuch/plan.bin: No such file",
     );
     desk.write("latin.txt", b"plan caf\xe9\n");
-    desk.not_done("check latin.txt", 2, "latin.txt: no text, by its byte 8");
+    desk.not_done(
+        "check latin.txt",
+        2,
+        "latin.txt: no UTF-8 text, by its byte 8; save a text as UTF-8",
+    );
     desk.not_done(
         "compare plan.txt halfway.txt ./nosuch ./nosuch",
         2,
@@ -174,6 +177,51 @@ fn a_refused_plan_is_not_built() {
     assert_eq!(desk.read("out.bin"), desk.read("plan.bin"));
     assert_eq!(desk.files(), files, "nothing is left beside it");
     desk.not_done("check final.txt", 1, "final.txt:21: refused, 14:");
+}
+
+/// No answer takes the place of a file that the command reads, under whatever
+/// name.
+#[test]
+fn what_is_read_is_not_written() {
+    let desk = Desk::new("apart");
+    let link = std::os::unix::fs::symlink(desk.path("plan.txt"), desk.path("link.txt"));
+    link.expect("a link");
+    let files = ["plan.txt", "plan.bin", "halfway.txt"];
+    let before = files.map(|file| desk.read(file));
+    for line in [
+        "build plan.txt -o plan.txt",
+        "build plan.txt -o link.txt",
+        "build link.txt -o plan.txt",
+        "draw plan.txt -o ./plan.txt",
+        "text plan.bin -o plan.bin",
+        "text plan.bin --names plan.txt -o plan.txt",
+        "journal plan.txt halfway.txt -o halfway.txt",
+        "timeline plan.txt halfway.txt -o halfway.txt",
+        "page plan.txt halfway.txt -o plan.txt",
+    ] {
+        desk.not_done(line, 2, ": is read here; name another file with -o\n");
+    }
+    assert_eq!(files.map(|file| desk.read(file)), before);
+}
+
+/// A link stays one, and what goes to standard output is the answer alone.
+#[test]
+fn links_and_standard_output() {
+    let desk = Desk::new("links");
+    let plan = desk.read("plan.bin");
+    desk.write("real.bin", "what stood here");
+    let link = std::os::unix::fs::symlink("real.bin", desk.path("link.bin"));
+    link.expect("a link");
+    desk.done("build plan.txt -o link.bin");
+    assert_eq!(desk.read("real.bin"), plan);
+    let link = fs::symlink_metadata(desk.path("link.bin")).expect("a link");
+    assert!(link.file_type().is_symlink());
+    let printed = desk.command("build plan.txt -o /dev/stdout").output();
+    assert_eq!(printed.expect("the program runs").stdout, plan);
+    assert_eq!(
+        desk.done("draw plan.txt -o /dev/stdout"),
+        desk.done("draw plan.txt")
+    );
 }
 
 #[test]
@@ -227,6 +275,19 @@ fn add_appends_what_is_accepted() {
         desk.read("open.txt"),
         b"journal\non 1921-05-02 as desk\nevent film-asked\n"
     );
+    // A day may have a sign.
+    desk.write("begun.txt", "journal\n");
+    desk.done("add plan.txt begun.txt on -30 as desk event film-asked");
+    desk.not_done("add plan.txt begun.txt -x", 2, "no option '-x' here");
+    // What is no journal yet is not added to.
+    desk.write("empty.txt", "");
+    let line = "add plan.txt empty.txt on 0 as desk event film-asked";
+    desk.not_done(
+        line,
+        1,
+        "empty.txt:1: a journal begins with the line: journal",
+    );
+    assert_eq!(desk.read("empty.txt"), b"");
     let bytes = desk.read("halfway.bin");
     desk.done("add plan.txt halfway.bin event film-came");
     let record = [12, 0, 20, 0, 2, 0];
@@ -265,12 +326,30 @@ fn broken_and_long_journals_are_refused() {
     desk.not_done("add plan.txt full.bin withdraw", 1, "full.bin: refused, 1:");
     assert_eq!(desk.read("full.bin").len(), 5461 * 6);
     desk.write("long.bin", record.repeat(5462));
-    let (status, printed, _) = desk.run("tell plan.txt long.bin");
+    let (status, printed, said) = desk.run("tell plan.txt long.bin");
     assert_eq!((status, &printed[..4]), (1, "R 1 "));
+    assert!(said.starts_with("long.bin: refused, 1:"), "{said}");
     desk.write("cut.bin", &desk.read("plan.bin")[..100]);
     let (status, printed, said) = desk.run("tell cut.bin halfway.bin");
     assert_eq!((status, &printed[..4]), (1, "R 5 "));
     assert!(said.contains("record 10, at byte 96"), "{said}");
+    // A text says nothing about a plan whose names are lost.
+    desk.not_done(
+        "compare cut.bin halfway.txt ./nosuch ./nosuch",
+        1,
+        "cut.bin: refused, 5:",
+    );
+}
+
+#[test]
+fn faults_that_are_left_out_are_told() {
+    let desk = Desk::new("faults");
+    desk.write("many.txt", "stat\n".repeat(21));
+    desk.not_done(
+        "check many.txt",
+        1,
+        "many.txt: these are the first 20 faults",
+    );
 }
 
 /// Two programs that agree and two that do not.

@@ -12,7 +12,12 @@ pub fn compare(options: &Options) -> Or<Answer> {
         bytes,
         judged,
     } = files::given(options.word(0))?;
-    let journal = files::journal(options.word(1), &draft)?;
+    let journal = files::journal(options.word(1), &draft);
+    // Of a plan that is refused the names may be lost, and that is the fault then.
+    let journal = journal.map_err(|fault| match &judged {
+        Err((_, told)) => told.clone(),
+        Ok(_) => fault,
+    })?;
     let refusal = judged.as_ref().err().map(|(refusal, _)| *refusal);
     let refusal = refusal.or(journal.refused);
     let run = judged.as_ref().ok().map(|plan| journal.run(plan));

@@ -5,6 +5,7 @@ use crate::draft::{Draft, Records};
 use crate::fault::Fault;
 use crate::journal::{self, Broken, Call};
 use crate::place::{self, Place};
+use crate::plan_text::MOST_FAULTS;
 use crate::run::{self, Run};
 use crate::{journal_text, plan_text};
 use retraction::{Plan, Refusal};
@@ -33,17 +34,21 @@ fn bytes_of(path: &str) -> Or<Vec<u8>> {
 fn text_of(path: &str) -> Or<String> {
     let not_text = |error: std::string::FromUtf8Error| {
         let byte = error.utf8_error().valid_up_to();
-        let hint = "bytes are read from a file whose name ends in .bin";
-        Answer::unfit(format!("{path}: no text, by its byte {byte}; {hint}"))
+        let hint = "save a text as UTF-8; the name of a file with bytes ends in .bin";
+        Answer::unfit(format!("{path}: no UTF-8 text, by its byte {byte}; {hint}"))
     };
     String::from_utf8(bytes_of(path)?).map_err(not_text)
 }
 
-/// All faults of a text, each with its place.
+/// The faults of a text, each with its place.
 #[must_use]
 pub fn faults(path: &str, text: &str, faults: &[Fault]) -> Answer {
     let shown = faults.iter().map(|fault| fault.show(path, text));
-    Answer::refused(shown.collect::<String>())
+    let mut said = shown.collect::<String>();
+    if faults.len() == MOST_FAULTS {
+        let _ = writeln!(said, "{path}: these are the first {MOST_FAULTS} faults");
+    }
+    Answer::refused(said)
 }
 
 /// A plan file, accepted or not.
@@ -193,21 +198,57 @@ pub fn journal(path: &str, draft: &Draft) -> Or<Journal> {
     })
 }
 
+/// Standard output, where it is named as a file.
+const STANDARD_OUTPUT: &str = "/dev/stdout";
+
+/// Writes to the file that was named for an answer, and says what was written
+/// unless it stands on standard output itself.
+pub fn write(path: &str, bytes: &[u8], said: String) -> Or<Answer> {
+    if path == STANDARD_OUTPUT {
+        let mut out = std::io::stdout();
+        let printed = out.write_all(bytes).and_then(|()| out.flush());
+        return printed
+            .map(|()| Answer::default())
+            .map_err(|error| unfit(path, &error));
+    }
+    replace(path, bytes).map_err(|error| unfit(path, &error))?;
+    Ok(Answer::done(said))
+}
+
 /// Writes a file as a whole or not at all: what stood there stays until the new
-/// one is complete.
-pub fn write(path: &str, bytes: &[u8]) -> Or<()> {
-    let special = fs::metadata(path).map_or(false, |found| !found.is_file());
-    let done = if special {
-        fs::write(path, bytes)
-    } else {
-        let beside = format!("{path}.{}.new", std::process::id());
-        let moved = fs::write(&beside, bytes).and_then(|()| fs::rename(&beside, path));
-        if moved.is_err() {
-            let _ = fs::remove_file(&beside);
-        }
-        moved
+/// one is complete. A link stays, and the file that it leads to is written.
+fn replace(path: &str, bytes: &[u8]) -> std::io::Result<()> {
+    let is_special = fs::metadata(path).map_or(false, |found| !found.is_file());
+    if is_special {
+        return fs::write(path, bytes);
+    }
+    let path = fs::canonicalize(path).unwrap_or_else(|_| path.into());
+    let mut beside = path.clone().into_os_string();
+    beside.push(format!(".{}.new", std::process::id()));
+    let moved = fs::write(&beside, bytes).and_then(|()| fs::rename(&beside, path));
+    if moved.is_err() {
+        let _ = fs::remove_file(&beside);
+    }
+    moved
+}
+
+/// Ends the command where its answer would take the place of a file that it
+/// reads.
+pub fn apart<'a>(file: Option<&str>, read: impl IntoIterator<Item = &'a str>) -> Or<()> {
+    let found = |path: &str| fs::canonicalize(path).ok().filter(|path| path.is_file());
+    let written = match file.and_then(found) {
+        Some(written) => written,
+        None => return Ok(()),
     };
-    done.map_err(|error| unfit(path, &error))
+    match read
+        .into_iter()
+        .find(|path| found(path).as_ref() == Some(&written))
+    {
+        Some(path) => Err(Answer::unfit(format!(
+            "{path}: is read here; name another file with -o"
+        ))),
+        None => Ok(()),
+    }
 }
 
 /// Appends to a file; a text whose last line is not ended has it ended first.
@@ -233,9 +274,6 @@ pub fn append(path: &str, bytes: &[u8]) -> Or<()> {
 pub fn deliver(file: Option<&str>, text: String) -> Or<Answer> {
     match file {
         None => Ok(Answer::done(text)),
-        Some(path) => {
-            write(path, text.as_bytes())?;
-            Ok(Answer::done(format!("{path}: written\n")))
-        }
+        Some(path) => write(path, text.as_bytes(), format!("{path}: written\n")),
     }
 }

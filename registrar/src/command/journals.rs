@@ -6,7 +6,7 @@ use super::options::Options;
 use crate::draft::Draft;
 use crate::journal::{self, Call};
 use crate::run::{self, Answer as Told};
-use crate::{journal_text, picture, tell, withdraw};
+use crate::{journal_text, phrase, picture, tell, withdraw};
 
 /// The plan and the journal that a command names first.
 fn both(options: &Options) -> Or<(Filed, Journal)> {
@@ -26,11 +26,10 @@ pub fn journal(options: &Options) -> Or<Answer> {
     let unnamed = || Answer::unfit("a text becomes bytes: name their file with -o");
     let file = options.value("-o").ok_or_else(unnamed)?;
     let bytes = journal::encode(&journal.calls);
-    files::write(file, &bytes)?;
-    let (calls, bytes) = (journal.calls.len(), bytes.len());
-    Ok(Answer::done(format!(
-        "{file}: {calls} records, {bytes} bytes\n"
-    )))
+    let (calls, count) = (journal.calls.len(), bytes.len());
+    let calls = phrase::count(calls, "record");
+    let said = format!("{file}: {calls}, {count} bytes\n");
+    files::write(file, &bytes, said)
 }
 
 pub fn tell(options: &Options) -> Or<Answer> {
@@ -45,7 +44,8 @@ pub fn tell(options: &Options) -> Or<Answer> {
     let path = options.word(1);
     let journal = files::journal(path, &draft)?;
     if let Some(refusal) = journal.refused {
-        return Ok(Answer::done(refused(refusal)).but_refused(""));
+        let said = files::too_long(path, refusal).said;
+        return Ok(Answer::done(refused(refusal)).but_refused(said));
     }
     let run = journal.run(&plan);
     let told = tell::tell(&draft, &run, &journal.lines);

@@ -40,7 +40,7 @@ pub const COMMANDS: [Command; 14] = [
         usage: "PLAN",
         about: "whether a plan is accepted, or its refusal in words",
         more: "A refused text is told with its line, bytes with the record and the byte. So is a text that cannot be read,
-with every fault, its place marked, and a suggestion for a misspelt name.",
+with its faults, the first 20, each place marked, and a suggestion for a misspelt name.",
         words: (1, 1),
         options: &[],
         run: plans::check,
@@ -68,7 +68,7 @@ can ever hold. A plan with a deviation or a circle of steps has no such figure."
         name: "text",
         usage: "PLAN [--names OLD] [-o FILE]",
         about: "a plan's bytes to text",
-        more: "Built again, the text gives the same bytes. Names are taken from an older text, OLD; without one, tracks are t0, t1
+        more: "Built again, the text gives the same bytes; remarks are lost. Names are taken from an older text, OLD; without one, tracks are t0, t1
 and so on, states s0, s1 and so on, and everything else goes by its number.",
         words: (1, 1),
         options: &["--names", "-o"],
@@ -216,5 +216,8 @@ fn ran(words: &[String]) -> Or<Answer> {
         let usage = format!("usage: registrar {} {}", command.name, command.usage);
         return Err(Answer::unfit(usage));
     }
+    let old = options.value("--names");
+    let read = options.words().iter().map(String::as_str).chain(old);
+    files::apart(options.value("-o"), read)?;
     (command.run)(&options)
 }

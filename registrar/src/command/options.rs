@@ -22,7 +22,7 @@ impl Options {
                 options.words.extend(given.cloned());
                 break;
             }
-            if !word.starts_with('-') || word == "-" {
+            if !is_option(word) {
                 options.words.push(word.clone());
                 continue;
             }
@@ -51,6 +51,12 @@ impl Options {
     pub fn value(&self, option: &str) -> Option<&str> {
         self.values.get(option).map(String::as_str)
     }
+}
+
+/// A day before 1900 may be a number with its sign, and is no option.
+fn is_option(word: &str) -> bool {
+    let begins = |rest: &str| rest.starts_with(|c: char| !c.is_ascii_digit());
+    word.strip_prefix('-').map_or(false, begins)
 }
 
 fn unknown(word: &str, known: &[&'static str]) -> Answer {

@@ -22,19 +22,21 @@ pub fn page(options: &Options) -> Or<Answer> {
     };
     let journal = files::journal(path, &filed.draft)?.whole(path)?;
     let run = journal.run(&filed.plan);
-    let due = due(options, &filed, &journal, &run);
+    let due = due(options, &filed, &journal, &run)?;
     parts.journal = Some(page::Journal::of(&filed.draft, &run, &due));
     files::deliver(options.value("-o"), page::page(&parts))
 }
 
-/// What would be taken back now, or why that cannot be said.
-fn due(options: &Options, filed: &Filed, journal: &Journal, run: &Run<'_>) -> String {
+/// What would be taken back now, or why that cannot be said. A society that is
+/// named and not known ends the command.
+fn due(options: &Options, filed: &Filed, journal: &Journal, run: &Run<'_>) -> Or<String> {
     let society = match journals::withdrawing(options, &filed.draft, journal) {
         Ok(society) => society,
-        Err(unknown) => return unknown.said,
+        Err(unknown) if options.value("--as").is_some() => return Err(unknown),
+        Err(_) => return Ok("Who would withdraw was not said, with --as SOCIETY.\n".to_string()),
     };
-    match withdraw::withdraw(&filed.draft, run, society) {
+    Ok(match withdraw::withdraw(&filed.draft, run, society) {
         Ok(withdrawal) => withdrawal.text(&filed.draft),
         Err(refusal) => withdraw::refused(&filed.draft, society, refusal),
-    }
+    })
 }

@@ -36,8 +36,8 @@ pub fn build(options: &Options) -> Or<Answer> {
     let filed = files::plan(options.word(0))?;
     let unnamed = || Answer::unfit("build writes bytes: name their file with -o");
     let file = options.value("-o").ok_or_else(unnamed)?;
-    files::write(file, filed.plan.bytes())?;
-    Ok(Answer::done(format!("{file}: {}\n", figures(&filed))))
+    let said = format!("{file}: {}\n", figures(&filed));
+    files::write(file, filed.plan.bytes(), said)
 }
 
 pub fn list(options: &Options) -> Or<Answer> {
