@@ -199,12 +199,12 @@ If the desk that keeps the link withdrew now, 4 letters would go out, exactly:
     film-dora  1. Call Dora's film back (141)
   round 2, once elder and younger are done:
     link       1. Withdraw the banns (101)
-Nothing is left then: if each retraction undoes its step, the books stand as at the begin.
+Nothing is left then. If each retraction undoes its step, and a step without one changes nothing, the books stand as at the beginning.
 ";
     assert_eq!(brothers_after(6).as_deref(), Ok(halfway));
     let begun = "\
 If the desk that keeps the link withdrew now, no letter would go out: nothing is held.
-Nothing is left then: if each retraction undoes its step, the books stand as at the begin.
+Nothing is left then. If each retraction undoes its step, and a step without one changes nothing, the books stand as at the beginning.
 ";
     assert_eq!(brothers_after(0).as_deref(), Ok(begun));
     let withdrawn = brothers_after(9).expect("not over");
@@ -212,7 +212,7 @@ Nothing is left then: if each retraction undoes its step, the books stand as at 
     let done = brothers_after(12).expect("not over");
     let wanted = "\
 Already withdrawn; no letter is due any more.
-Nothing is left: if each retraction undoes its step, the books stand as at the begin.
+Nothing is left. If each retraction undoes its step, and a step without one changes nothing, the books stand as at the beginning.
 ";
     assert_eq!(done, wanted);
 }

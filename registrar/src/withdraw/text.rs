@@ -101,7 +101,7 @@ impl Withdrawal {
                 " then"
             };
             return vec![format!(
-                "Nothing is left{then}: if each retraction undoes its step, the books stand as at the begin."
+                "Nothing is left{then}. If each retraction undoes its step, and a step without one changes nothing, the books stand as at the beginning."
             )];
         }
         if self.over {
