@@ -2,6 +2,7 @@
 //! each step.
 
 use registrar::command::{self, Answer};
+use registrar::phrase;
 use std::io::{self, ErrorKind, Write};
 use std::process::ExitCode;
 
@@ -22,7 +23,7 @@ fn main() -> ExitCode {
     let answer = command::run(&words);
     match deliver(&answer) {
         Err(error) if error.kind() != ErrorKind::BrokenPipe => {
-            eprintln!("registrar: standard output: {error}");
+            eprintln!("registrar: standard output: {}", phrase::error(&error));
             ExitCode::from(2)
         }
         _ => ExitCode::from(answer.status),

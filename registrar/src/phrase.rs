@@ -14,6 +14,14 @@ pub fn count(number: usize, one: &str) -> String {
     }
 }
 
+/// Why the system did not do something, without its number.
+#[must_use]
+pub fn error(error: &std::io::Error) -> String {
+    let error = error.to_string();
+    let words = error.split(" (os error").next();
+    words.unwrap_or_default().to_string()
+}
+
 /// Several in a row: `a, b and c`.
 #[must_use]
 pub fn row(items: &[String]) -> String {

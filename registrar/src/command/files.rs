@@ -7,7 +7,7 @@ use crate::journal::{self, Broken, Call};
 use crate::place::{self, Place};
 use crate::plan_text::MOST_FAULTS;
 use crate::run::{self, Run};
-use crate::{journal_text, plan_text};
+use crate::{journal_text, phrase, plan_text};
 use retraction::{Plan, Refusal};
 use std::fmt::Write;
 use std::fs;
@@ -22,9 +22,7 @@ pub fn has_bytes(path: &str) -> bool {
 
 /// A file that could not be read or written.
 fn unfit(path: &str, error: &std::io::Error) -> Answer {
-    let error = error.to_string();
-    let words = error.split(" (os error").next().unwrap_or(&error);
-    Answer::unfit(format!("{path}: {words}"))
+    Answer::unfit(format!("{path}: {}", phrase::error(error)))
 }
 
 fn bytes_of(path: &str) -> Or<Vec<u8>> {

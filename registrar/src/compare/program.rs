@@ -1,6 +1,7 @@
 //! A program run as `unwind` is: with plan.bin in the working folder, and the
 //! journal on standard input.
 
+use crate::phrase;
 use std::fs::{self, File};
 use std::io;
 use std::path::{Path, PathBuf};
@@ -34,7 +35,8 @@ pub(super) fn run(program: &Path, plan: &[u8], journal: &[u8]) -> Result<Output,
             status: status.map(|status| status.to_string()),
         })
     };
-    run().map_err(|error| format!("{}: cannot be run: {error}", program.display()))
+    let name = program.display();
+    run().map_err(|error| format!("{name}: cannot be run: {}", phrase::error(&error)))
 }
 
 /// The program from any folder: a path from here on, and a plain name as it is.
