@@ -23,7 +23,7 @@ impl Fault {
         let mut shown = format!("{file}:{}: {}\n", self.line, self.what);
         let line = text.lines().nth(self.line.saturating_sub(1));
         if let Some(line) = line {
-            let _ = writeln!(shown, "  {}", line.trim_end());
+            let _ = writeln!(shown, "  {}", plain(line.trim_end()));
             if let Some((start, count)) = self.mark {
                 let blank = |c: char| if c == '\t' { '\t' } else { ' ' };
                 let before: String = line.chars().take(start).map(blank).collect();
@@ -32,6 +32,12 @@ impl Fault {
         }
         shown
     }
+}
+
+/// A line without the characters that a terminal would obey.
+fn plain(line: &str) -> String {
+    let obeyed = |c: char| c.is_control() && c != '\t';
+    line.replace(obeyed, "\u{fffd}")
 }
 
 /// A word of more bytes is no slip of another.
@@ -108,5 +114,7 @@ mod tests {
         };
         let shown = "a.txt:2: no such state\n    go wat\n       ^^^\n";
         assert_eq!(fault.show("a.txt", "track x\n  go wat\n"), shown);
+        let shown = "a.txt:2: no such state\n  \tgo \u{fffd}[2J\n  \t    ^^^\n";
+        assert_eq!(fault.show("a.txt", "\n\tgo \u{1b}[2J"), shown);
     }
 }
