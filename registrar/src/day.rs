@@ -34,7 +34,7 @@ pub fn parse(word: &str) -> Result<i32, String> {
             let missing = "there is no such date, or its year is not 1600 to 2399";
             day_of_date(date).map_err(|_| missing.to_string())
         }
-        _ => Err("a day is wanted: YYYY-MM-DD, or its number from 1900-01-01 on".to_string()),
+        _ => Err("a day is wanted: YYYY-MM-DD, or a number of days from 1900-01-01".to_string()),
     }
 }
 

@@ -108,7 +108,7 @@ fn page(refusal: Refusal) -> Option<Page> {
         Refusal::FirstState => (
             WHOLE,
             "a track has a state, and starts in the first of them, which is not final.",
-            "write the state where the track starts above its final one.",
+            "write the state where the track starts above its final one, or give it the lower number.",
             &["state shelf", "state released final"],
         ),
         Refusal::Hosting => (
