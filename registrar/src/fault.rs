@@ -26,7 +26,8 @@ impl Fault {
             let _ = writeln!(shown, "  {}", plain(line.trim_end()));
             if let Some((start, count)) = self.mark {
                 let blank = |c: char| if c == '\t' { '\t' } else { ' ' };
-                let before: String = line.chars().take(start).map(blank).collect();
+                let before = line.chars().take(start).filter(|&c| c != BYTE_ORDER);
+                let before: String = before.map(blank).collect();
                 let _ = writeln!(shown, "  {before}{}", "^".repeat(count.max(1)));
             }
         }
@@ -34,10 +35,13 @@ impl Fault {
     }
 }
 
+/// The mark that some editors put in front of a text: it has no width.
+const BYTE_ORDER: char = '\u{feff}';
+
 /// A line without the characters that a terminal would obey.
 fn plain(line: &str) -> String {
     let obeyed = |c: char| c.is_control() && c != '\t';
-    line.replace(obeyed, "\u{fffd}")
+    line.replace(BYTE_ORDER, "").replace(obeyed, "\u{fffd}")
 }
 
 /// A word of more bytes is no slip of another.
@@ -114,6 +118,9 @@ mod tests {
         };
         let shown = "a.txt:2: no such state\n    go wat\n       ^^^\n";
         assert_eq!(fault.show("a.txt", "track x\n  go wat\n"), shown);
+        let marked = "\n\u{feff}track x";
+        let shown = "a.txt:2: no such state\n  track x\n      ^^^\n";
+        assert_eq!(fault.show("a.txt", marked), shown);
         let shown = "a.txt:2: no such state\n  \tgo \u{fffd}[2J\n  \t    ^^^\n";
         assert_eq!(fault.show("a.txt", "\n\tgo \u{1b}[2J"), shown);
     }
