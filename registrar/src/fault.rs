@@ -20,8 +20,10 @@ impl Fault {
     /// itself with the place marked.
     #[must_use]
     pub fn show(&self, file: &str, text: &str) -> String {
-        let mut shown = format!("{file}:{}: {}\n", self.line, self.what);
+        let what: String = self.what.chars().take(WIDEST).collect();
+        let mut shown = format!("{file}:{}: {what}\n", self.line);
         let line = text.lines().nth(self.line.saturating_sub(1));
+        let line = line.filter(|line| line.chars().count() <= WIDEST);
         if let Some(line) = line {
             let _ = writeln!(shown, "  {}", plain(line.trim_end()));
             if let Some((start, count)) = self.mark {
@@ -34,6 +36,9 @@ impl Fault {
         shown
     }
 }
+
+/// A longer line would fill the screen and is not shown.
+const WIDEST: usize = 500;
 
 /// The mark that some editors put in front of a text: it has no width.
 const BYTE_ORDER: char = '\u{feff}';

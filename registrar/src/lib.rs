@@ -22,6 +22,7 @@ pub mod place;
 pub mod plan_text;
 pub mod printed;
 pub mod record;
+pub mod records;
 pub mod run;
 pub mod standing;
 pub mod tell;

@@ -2,8 +2,9 @@
 //! beside each step what takes it back.
 
 use crate::day;
-use crate::draft::{Draft, Grant, Name, Step, RIGHTS};
+use crate::draft::{Draft, Name};
 use crate::phrase;
+use crate::records::{Grant, Step, RIGHTS};
 use retraction::Plan;
 
 /// A row of the list: what it is, the days of a step, and what is beside it.
@@ -194,11 +195,7 @@ impl Rows<'_> {
         let days = window.map(|w| day::span(w.first, w.last));
         let mut beside = self.beside(TAKES_BACK, record.code);
         if let Some(state) = record.deviation {
-            let onward = format!("then on in {}", draft.state(state));
-            beside.words = match beside.words.as_str() {
-                "" => onward,
-                words => format!("{words}, {onward}"),
-            };
+            beside.words += &format!(", then on in {}", draft.state(state));
         }
         self.push(depth, &what, days.unwrap_or_default(), Some(beside));
     }

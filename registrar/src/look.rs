@@ -1,7 +1,7 @@
 //! What a plan's records and the tracks' standings show, for explanations.
 //! Nothing here decides: the proved calls did.
 
-use crate::draft::{Records, RIGHTS};
+use crate::records::{Records, RIGHTS};
 use crate::standing::{Mode, Standing};
 
 /// Each track, as a ledger or a run has it.
@@ -16,7 +16,7 @@ pub const FIRE: u16 = RIGHTS[2].1;
 #[must_use]
 pub fn may(records: &Records, society: u16, right: u16, track: usize) -> bool {
     let root = records.root_of(track);
-    let gives = |grant: &crate::draft::Grant| {
+    let gives = |grant: &crate::records::Grant| {
         grant.society == society && usize::from(grant.root) == root && grant.sum & right != 0
     };
     records.grants.iter().any(gives)

@@ -56,12 +56,10 @@ pub fn society(draft: &Draft, society: u16) -> String {
     articles.into_iter().find_map(rest).unwrap_or(said)
 }
 
-/// The same at the start of a sentence.
+/// The same at the start of a sentence, as the author wrote it.
 #[must_use]
-pub fn capital(text: &str) -> String {
-    let mut letters = text.chars();
-    let first = letters.next().map(char::to_uppercase);
-    first.into_iter().flatten().chain(letters).collect()
+pub fn society_first(draft: &Draft, society: u16) -> String {
+    said(&draft.names.societies, "Society", society)
 }
 
 /// A retraction, with its number.

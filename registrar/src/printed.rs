@@ -67,7 +67,7 @@ fn number(word: &str) -> Option<u16> {
 #[cfg(test)]
 mod tests {
     use super::*;
-    use crate::draft::Records;
+    use crate::records::Records;
 
     #[test]
     fn lines_of_any_program() {

@@ -168,7 +168,10 @@ impl Scene<'_> {
                 };
                 format!("{}{on}{by}", phrase::event(self.draft, event))
             }
-            Call::Signal { .. } => format!("{} withdraws", phrase::capital(&self.society())),
+            Call::Signal { .. } => format!(
+                "{} withdraws",
+                phrase::society_first(self.draft, self.done.call.society())
+            ),
             Call::Fire { track, .. } => format!("Take back {}{by}", self.draft.track(track)),
             Call::FireLowest { .. } => format!("Take back next{by}"),
         }

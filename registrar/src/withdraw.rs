@@ -92,15 +92,13 @@ pub fn withdraw(draft: &Draft, run: &Run<'_>, society: u16) -> Result<Withdrawal
 /// A withdrawal that is refused, in words.
 #[must_use]
 pub fn refused(draft: &Draft, society: u16, refusal: Refusal) -> String {
-    let society = phrase::society(draft, society);
+    let first = phrase::society_first(draft, society);
     let why = match refusal {
         Refusal::Over => "All has ended, and nothing can be taken back any more.".to_string(),
-        Refusal::NoRight => format!(
-            "{} has the signal right nowhere.",
-            phrase::capital(&society)
-        ),
+        Refusal::NoRight => format!("{first} has the signal right nowhere."),
         _ => String::new(),
     };
+    let society = phrase::society(draft, society);
     format!("The withdrawal by {society} is refused as {refusal}. {why}\n")
 }
 

@@ -160,6 +160,36 @@ fn help_is_there_for_each_command() {
     }
 }
 
+/// Bytes and texts go to names that tell what they are.
+#[test]
+fn bytes_and_texts_keep_apart() {
+    let desk = Desk::new("apart");
+    desk.write("other.txt", "what stood here");
+    desk.not_done(
+        "build plan.txt -o other.txt",
+        2,
+        "bytes go into a file whose name ends in .bin",
+    );
+    desk.not_done(
+        "journal plan.txt halfway.txt -o other.txt",
+        2,
+        "ends in .bin",
+    );
+    assert_eq!(desk.read("other.txt"), b"what stood here");
+    let plan = desk.read("plan.bin");
+    for command in [
+        "text plan.bin",
+        "draw plan.txt",
+        "timeline plan.txt halfway.txt",
+        "page plan.txt",
+    ] {
+        desk.not_done(&format!("{command} -o out.bin"), 2, "does not end in .bin");
+    }
+    assert_eq!(desk.read("plan.bin"), plan);
+    let (status, printed, said) = desk.run("build plan.txt -o /dev/null");
+    assert_eq!((status, &said[..]), (0, ""), "{printed}");
+}
+
 /// What is refused is not written, and what stood there stays.
 #[test]
 fn a_refused_plan_is_not_built() {

@@ -16,10 +16,11 @@
 //! - *no track before it is too high*, for 16: it stays when every track behind the
 //!   named one is made a root, and goes when that one is, too.
 
-use registrar::draft::{kind, Draft, Grant, Records, State, Step, Track};
+use registrar::draft::Draft;
 use registrar::place::{self, Place, NOT_FOUND};
 use registrar::plan_text;
 use registrar::record;
+use registrar::records::{kind, Grant, Records, State, Step, Track};
 use retraction::{Plan, Refusal};
 use std::collections::BTreeMap;
 use testing::generate::damage;

@@ -1,8 +1,9 @@
 //! Tracks that are full: where an event is refused as 21, those are named that it
 //! would give an entry.
 
-use registrar::draft::{Draft, Records};
+use registrar::draft::Draft;
 use registrar::journal::{self, Call};
+use registrar::records::Records;
 use registrar::run::{self, Answer, Done, Run};
 use registrar::{journal_text, plan_text, tell};
 use retraction::{Ledger, Plan, Refusal, LEADING_WORDS, TRACK_WORDS};

@@ -1,8 +1,9 @@
 //! Lists of plans: the figures are the library's, and the columns straight.
 
-use registrar::draft::{Draft, Records};
+use registrar::draft::Draft;
 use registrar::list::list;
 use registrar::plan_text;
+use registrar::records::Records;
 use retraction::Plan;
 use testing::generate::{plans, rng::Rng};
 use testing::samples;

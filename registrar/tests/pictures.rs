@@ -8,9 +8,10 @@ mod drawn;
 
 use common::samples;
 use drawn::{apart, elements, inside, texts, Element, Text};
-use registrar::draft::{Draft, Name, Records, State, Step, Track, Window};
+use registrar::draft::{Draft, Name};
 use registrar::picture;
 use registrar::picture::svg::Rect;
+use registrar::records::{Records, State, Step, Track, Window};
 use registrar::run::{Answer, Done, Run};
 use registrar::{journal_text, plan_text};
 use retraction::Plan;

@@ -1,8 +1,9 @@
 //! What a text says: the records and names that its lines become, and texts of
 //! words thrown together.
 
-use registrar::draft::{Grant, Name, State, Step, Track, Window};
+use registrar::draft::Name;
 use registrar::journal::Call;
+use registrar::records::{Grant, State, Step, Track, Window};
 use registrar::{journal_text, plan_text};
 use testing::generate::rng::Rng;
 

@@ -30,7 +30,7 @@ fn written(words: &[&str], scratch: &Path) -> Vec<u8> {
 
 #[test]
 fn samples_are_as_stored() {
-    let scratch = std::env::temp_dir().join(format!("registrar-stored-{}", std::process::id()));
+    let scratch = std::env::temp_dir().join(format!("registrar-stored-{}.bin", std::process::id()));
     let samples = samples();
     assert!(samples.len() >= 6, "the samples are there");
     for sample in &samples {

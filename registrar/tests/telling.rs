@@ -1,10 +1,11 @@
 //! Runs told: the first column is what the program prints, and the meanings
 //! name what changed.
 
-use registrar::draft::{Draft, Records};
+use registrar::draft::Draft;
 use registrar::journal::{self, Call};
 use registrar::look;
 use registrar::plan_text;
+use registrar::records::Records;
 use registrar::run::{fits, Answer, Done, Run};
 use registrar::standing::{self, Mode, Standing};
 use registrar::tell::{self, Told};

@@ -3,8 +3,9 @@
 #[allow(dead_code)]
 mod common;
 
-use registrar::draft::{Draft, Name, Records};
+use registrar::draft::{Draft, Name};
 use registrar::journal::{self, Call};
+use registrar::records::Records;
 use registrar::{journal_text, plan_text};
 use retraction::Plan;
 use std::fs;

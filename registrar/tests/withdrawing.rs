@@ -1,10 +1,11 @@
 //! Withdrawals foretold: every firing is accepted in the order told, the end is
 //! as told, and a number that is called exact is that of the entries held.
 
-use registrar::draft::{Draft, Records};
+use registrar::draft::Draft;
 use registrar::journal;
 use registrar::look;
 use registrar::plan_text;
+use registrar::records::Records;
 use registrar::run::Run;
 use registrar::standing::{self, Mode};
 use registrar::withdraw::{self, withdraw, Withdrawal};
@@ -199,12 +200,14 @@ If the desk that keeps the link withdrew now, 4 letters would go out, exactly:
     film-dora  1. Call Dora's film back (141)
   round 2, once elder and younger are done:
     link       1. Withdraw the banns (101)
-Nothing is left then. If each retraction undoes its step, and a step without one changes nothing, the books stand as at the beginning.
+Nothing is left then: the books stand as at the beginning, if each retraction undoes what it
+stands for, steps without one change nothing, and branches leave each other's books alone.
 ";
     assert_eq!(brothers_after(6).as_deref(), Ok(halfway));
     let begun = "\
 If the desk that keeps the link withdrew now, no letter would go out: nothing is held.
-Nothing is left then. If each retraction undoes its step, and a step without one changes nothing, the books stand as at the beginning.
+Nothing is left then: the books stand as at the beginning, if each retraction undoes what it
+stands for, steps without one change nothing, and branches leave each other's books alone.
 ";
     assert_eq!(brothers_after(0).as_deref(), Ok(begun));
     let withdrawn = brothers_after(9).expect("not over");
@@ -212,7 +215,8 @@ Nothing is left then. If each retraction undoes its step, and a step without one
     let done = brothers_after(12).expect("not over");
     let wanted = "\
 Already withdrawn; no letter is due any more.
-Nothing is left. If each retraction undoes its step, and a step without one changes nothing, the books stand as at the beginning.
+Nothing is left: the books stand as at the beginning, if each retraction undoes what it
+stands for, steps without one change nothing, and branches leave each other's books alone.
 ";
     assert_eq!(done, wanted);
 }

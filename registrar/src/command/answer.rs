@@ -42,14 +42,20 @@ impl Answer {
         }
     }
 
-    /// A word that is wrong, or a file that is.
+    /// How the command is written, where it was not given what it takes.
     #[must_use]
-    pub fn unfit(said: impl AsRef<str>) -> Answer {
+    pub fn usage(said: impl Into<String>) -> Answer {
         Answer {
-            said: format!("registrar: {}\n", said.as_ref()),
+            said: said.into(),
             status: UNFIT,
             ..Answer::default()
         }
+    }
+
+    /// A word that is wrong, or a file that is.
+    #[must_use]
+    pub fn unfit(said: impl AsRef<str>) -> Answer {
+        Answer::usage(format!("registrar: {}\n", said.as_ref()))
     }
 }
 

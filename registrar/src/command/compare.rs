@@ -36,8 +36,10 @@ pub fn compare(options: &Options) -> Or<Answer> {
     let programs = [2, 3].map(|place| Path::new(options.word(place)));
     let compared = compare::compare(&given, programs).map_err(Answer::unfit)?;
     let answer = Answer::done(compared.text);
-    Ok(match compared.alike {
-        true => answer,
-        false => answer.but_refused(""),
+    let right = compared.alike && compared.proved == [true; 2];
+    Ok(if right {
+        answer
+    } else {
+        answer.but_refused("")
     })
 }

@@ -1,18 +1,17 @@
-//! Plans and journals out of files, as text or as bytes, and back.
+//! Plans and journals out of files, as text or as bytes.
 
 use super::answer::{Answer, Or};
-use crate::draft::{Draft, Records};
+use crate::draft::Draft;
 use crate::fault::Fault;
 use crate::journal::{self, Broken, Call};
 use crate::place::{self, Place};
 use crate::plan_text::MOST_FAULTS;
+use crate::records::Records;
 use crate::run::{self, Run};
 use crate::{journal_text, phrase, plan_text};
 use retraction::{Plan, Refusal};
 use std::fmt::Write;
 use std::fs;
-use std::io::Write as _;
-use std::path::Path;
 
 /// Whether a file has bytes; every other is text.
 #[must_use]
@@ -21,11 +20,12 @@ pub fn has_bytes(path: &str) -> bool {
 }
 
 /// A file that could not be read or written.
-fn unfit(path: &str, error: &std::io::Error) -> Answer {
+#[must_use]
+pub fn unfit(path: &str, error: &std::io::Error) -> Answer {
     Answer::unfit(format!("{path}: {}", phrase::error(error)))
 }
 
-fn bytes_of(path: &str) -> Or<Vec<u8>> {
+pub fn bytes_of(path: &str) -> Or<Vec<u8>> {
     fs::read(path).map_err(|error| unfit(path, &error))
 }
 
@@ -194,84 +194,4 @@ pub fn journal(path: &str, draft: &Draft) -> Or<Journal> {
         day: read.day,
         society: read.society,
     })
-}
-
-/// Standard output, where it is named as a file.
-const STANDARD_OUTPUT: &str = "/dev/stdout";
-
-/// Writes to the file that was named for an answer, and says what was written
-/// unless it stands on standard output itself.
-pub fn write(path: &str, bytes: &[u8], said: String) -> Or<Answer> {
-    if path == STANDARD_OUTPUT {
-        let mut out = std::io::stdout();
-        let printed = out.write_all(bytes).and_then(|()| out.flush());
-        return printed
-            .map(|()| Answer::default())
-            .map_err(|error| unfit(path, &error));
-    }
-    replace(path, bytes).map_err(|error| unfit(path, &error))?;
-    Ok(Answer::done(said))
-}
-
-/// Writes a file as a whole or not at all: what stood there stays until the new
-/// one is complete. A link stays, and the file that it leads to is written.
-fn replace(path: &str, bytes: &[u8]) -> std::io::Result<()> {
-    let is_special = fs::metadata(path).map_or(false, |found| !found.is_file());
-    if is_special {
-        return fs::write(path, bytes);
-    }
-    let path = fs::canonicalize(path).unwrap_or_else(|_| path.into());
-    let mut beside = path.clone().into_os_string();
-    beside.push(format!(".{}.new", std::process::id()));
-    let moved = fs::write(&beside, bytes).and_then(|()| fs::rename(&beside, path));
-    if moved.is_err() {
-        let _ = fs::remove_file(&beside);
-    }
-    moved
-}
-
-/// Ends the command where its answer would take the place of a file that it
-/// reads.
-pub fn apart<'a>(file: Option<&str>, read: impl IntoIterator<Item = &'a str>) -> Or<()> {
-    let found = |path: &str| fs::canonicalize(path).ok().filter(|path| path.is_file());
-    let written = match file.and_then(found) {
-        Some(written) => written,
-        None => return Ok(()),
-    };
-    match read
-        .into_iter()
-        .find(|path| found(path).as_ref() == Some(&written))
-    {
-        Some(path) => Err(Answer::unfit(format!(
-            "{path}: is read here; name another file with -o"
-        ))),
-        None => Ok(()),
-    }
-}
-
-/// Appends to a file; a text whose last line is not ended has it ended first.
-pub fn append(path: &str, bytes: &[u8]) -> Or<()> {
-    let before = if has_bytes(path) || !Path::new(path).exists() {
-        Vec::new()
-    } else {
-        bytes_of(path)?
-    };
-    let ended = before.last().map_or(true, |&last| last == b'\n');
-    let mut added = Vec::new();
-    if !ended {
-        added.push(b'\n');
-    }
-    added.extend(bytes);
-    let mut opening = fs::OpenOptions::new();
-    let file = opening.append(true).create(true).open(path);
-    let done = file.and_then(|mut file| file.write_all(&added));
-    done.map_err(|error| unfit(path, &error))
-}
-
-/// Prints an answer, or writes it to the file that was named for it.
-pub fn deliver(file: Option<&str>, text: String) -> Or<Answer> {
-    match file {
-        None => Ok(Answer::done(text)),
-        Some(path) => write(path, text.as_bytes(), format!("{path}: written\n")),
-    }
 }

@@ -3,6 +3,7 @@
 use super::answer::{Answer, Or};
 use super::files::{self, Filed, Given, Journal};
 use super::options::Options;
+use super::output;
 use crate::draft::Draft;
 use crate::journal::{self, Call};
 use crate::run::{self, Answer as Told};
@@ -21,7 +22,7 @@ pub fn journal(options: &Options) -> Or<Answer> {
     let journal = journal.whole(path)?;
     if files::has_bytes(path) {
         let text = journal_text::write(&journal.calls, &filed.draft);
-        return files::deliver(options.value("-o"), text);
+        return output::text(options.value("-o"), text);
     }
     let unnamed = || Answer::unfit("a text becomes bytes: name their file with -o");
     let file = options.value("-o").ok_or_else(unnamed)?;
@@ -29,7 +30,7 @@ pub fn journal(options: &Options) -> Or<Answer> {
     let (calls, count) = (journal.calls.len(), bytes.len());
     let calls = phrase::count(calls, "record");
     let said = format!("{file}: {calls}, {count} bytes\n");
-    files::write(file, &bytes, said)
+    output::bytes(file, &bytes, said)
 }
 
 pub fn tell(options: &Options) -> Or<Answer> {
@@ -75,7 +76,7 @@ pub fn add(options: &Options) -> Or<Answer> {
     } else {
         format!("{}\n", line.trim()).into_bytes()
     };
-    files::append(path, &added)?;
+    output::append(path, &added)?;
     Ok(Answer::done(told))
 }
 
@@ -98,7 +99,7 @@ pub fn timeline(options: &Options) -> Or<Answer> {
     let journal = journal.whole(options.word(1))?;
     let run = journal.run(&filed.plan);
     let picture = picture::timeline(&filed.draft, &run);
-    files::deliver(options.value("-o"), picture)
+    output::text(options.value("-o"), picture)
 }
 
 /// The society that withdraws: the one that is named, or else the one in force at

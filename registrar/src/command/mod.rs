@@ -6,6 +6,7 @@ mod files;
 mod help;
 mod journals;
 mod options;
+mod output;
 mod page;
 mod plans;
 
@@ -194,7 +195,7 @@ pub fn run(words: &[String]) -> Answer {
 
 fn ran(words: &[String]) -> Or<Answer> {
     let (name, rest) = match words {
-        [] => return Err(Answer::unfit(help::overview())),
+        [] => return Err(Answer::usage(help::overview())),
         [name, rest @ ..] => (&name[..], rest),
     };
     match name {
@@ -213,11 +214,11 @@ fn ran(words: &[String]) -> Or<Answer> {
     let (fewest, most) = command.words;
     let count = options.words().len();
     if count < fewest || count > most {
-        let usage = format!("usage: registrar {} {}", command.name, command.usage);
-        return Err(Answer::unfit(usage));
+        let usage = format!("usage: registrar {} {}\n", command.name, command.usage);
+        return Err(Answer::usage(usage));
     }
     let old = options.value("--names");
     let read = options.words().iter().map(String::as_str).chain(old);
-    files::apart(options.value("-o"), read)?;
+    output::apart(options.value("-o"), read)?;
     (command.run)(&options)
 }

@@ -4,6 +4,7 @@ use super::answer::{Answer, Or};
 use super::files::{self, Filed, Journal};
 use super::journals;
 use super::options::Options;
+use super::output;
 use crate::page::{self, Page};
 use crate::run::Run;
 use crate::{list, withdraw};
@@ -17,14 +18,14 @@ pub fn page(options: &Options) -> Or<Answer> {
         journal: None,
     };
     let path = match options.words().get(1) {
-        None => return files::deliver(options.value("-o"), page::page(&parts)),
+        None => return output::text(options.value("-o"), page::page(&parts)),
         Some(path) => path,
     };
     let journal = files::journal(path, &filed.draft)?.whole(path)?;
     let run = journal.run(&filed.plan);
     let due = due(options, &filed, &journal, &run)?;
     parts.journal = Some(page::Journal::of(&filed.draft, &run, &due));
-    files::deliver(options.value("-o"), page::page(&parts))
+    output::text(options.value("-o"), page::page(&parts))
 }
 
 /// What would be taken back now, or why that cannot be said. A society that is

@@ -3,6 +3,7 @@
 use super::answer::{Answer, Or};
 use super::files::{self, Filed};
 use super::options::Options;
+use super::output;
 use crate::plan_text;
 use crate::{list, picture};
 
@@ -37,7 +38,7 @@ pub fn build(options: &Options) -> Or<Answer> {
     let unnamed = || Answer::unfit("build writes bytes: name their file with -o");
     let file = options.value("-o").ok_or_else(unnamed)?;
     let said = format!("{file}: {}\n", figures(&filed));
-    files::write(file, filed.plan.bytes(), said)
+    output::bytes(file, filed.plan.bytes(), said)
 }
 
 pub fn list(options: &Options) -> Or<Answer> {
@@ -51,10 +52,10 @@ pub fn text(options: &Options) -> Or<Answer> {
         let old = files::plan(names)?;
         draft = plan_text::names_from(draft.records, &old.draft);
     }
-    files::deliver(options.value("-o"), plan_text::write(&draft))
+    output::text(options.value("-o"), plan_text::write(&draft))
 }
 
 pub fn draw(options: &Options) -> Or<Answer> {
     let filed = files::plan(options.word(0))?;
-    files::deliver(options.value("-o"), picture::plan(&filed.draft))
+    output::text(options.value("-o"), picture::plan(&filed.draft))
 }

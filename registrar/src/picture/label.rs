@@ -3,7 +3,8 @@
 use super::svg::{Canvas, Rect, Style, EVENT, HOOK, SMALL, UNDO};
 use super::width::shorten;
 use crate::day;
-use crate::draft::{Draft, Grant, Name, Step, Table, Window, RIGHTS};
+use crate::draft::{Draft, Name, Table};
+use crate::records::{Grant, Step, Window, RIGHTS};
 
 /// The most characters of a name and of words that a picture writes out; the
 /// rest is told when pointed at.

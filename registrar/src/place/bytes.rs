@@ -2,8 +2,8 @@
 //! not fit.
 
 use super::Place;
-use crate::draft::{kind, KINDS};
 use crate::record::{self, HEADER};
+use crate::records::{kind, KINDS};
 use retraction::Refusal;
 
 /// The most tracks, states and steps that a plan has.

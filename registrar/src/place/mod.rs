@@ -4,8 +4,9 @@
 mod bytes;
 mod records;
 
-use crate::draft::{kind, Draft, Records, KINDS};
+use crate::draft::Draft;
 use crate::journal::MOST_BYTES;
+use crate::records::{kind, Records, KINDS};
 use retraction::Refusal;
 
 /// Where a plan is wrong.

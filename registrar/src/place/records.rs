@@ -3,7 +3,8 @@
 
 use super::At;
 use crate::day;
-use crate::draft::{kind, Draft, Grant, Step, Window};
+use crate::draft::Draft;
+use crate::records::{kind, Grant, Step, Window};
 use retraction::{Refusal, FIRST_DAY, LAST_DAY};
 
 /// The most rights records, and the most tracks inside one another.

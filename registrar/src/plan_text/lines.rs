@@ -4,9 +4,10 @@
 use super::forms::{form, FORMS};
 use super::heads::{at, head, name, or_nameless, written, Given, Head};
 use super::tables::Rows;
-use crate::draft::{Name, RIGHTS};
+use crate::draft::Name;
 use crate::fault::{nearest, Fault};
 use crate::lookup;
+use crate::records::RIGHTS;
 use crate::words::{self, Line, Word};
 
 pub struct TrackLine {

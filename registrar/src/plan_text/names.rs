@@ -1,6 +1,7 @@
 //! Names for a plan of bytes, taken from an older text of it.
 
-use crate::draft::{Draft, Lines, Name, Names, Records};
+use crate::draft::{Draft, Lines, Name, Names};
+use crate::records::Records;
 
 /// The tables and the plan's name are the old ones. Tracks and states keep their
 /// names where there are as many of them and, for a state, its track is the same;

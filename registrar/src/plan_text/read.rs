@@ -3,9 +3,10 @@
 use super::lines::{StepLine, Text};
 use super::numbers::Numbers;
 use super::MOST_FAULTS;
-use crate::draft::{Draft, Grant, Lines, Name, Names, Records, State, Step, Track, Window};
+use crate::draft::{Draft, Lines, Name, Names};
 use crate::fault::Fault;
 use crate::lookup;
+use crate::records::{Grant, Records, State, Step, Track, Window};
 use crate::words::Word;
 use retraction::NONE;
 use std::collections::BTreeMap;

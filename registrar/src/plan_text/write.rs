@@ -1,7 +1,8 @@
 //! A draft as text, in columns for the eye.
 
 use crate::day;
-use crate::draft::{Draft, Name, Step, Table, RIGHTS};
+use crate::draft::{Draft, Name, Table};
+use crate::records::{Step, RIGHTS};
 use crate::words::quote;
 use std::collections::BTreeMap;
 

@@ -2,10 +2,10 @@
 
 use super::{sentence, Scene};
 use crate::day;
-use crate::draft::Step;
 use crate::journal::Call;
 use crate::look;
 use crate::phrase;
+use crate::records::Step;
 use crate::standing::{Mode, Standing};
 use retraction::{Entry, Moved};
 

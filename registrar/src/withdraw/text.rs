@@ -7,6 +7,10 @@ use crate::phrase;
 use crate::standing::{Mode, Standing};
 use crate::tell;
 
+/// What property 3 says of books, and on which conditions.
+const RESTORED: &str = "the books stand as at the beginning, if each retraction undoes what it
+stands for, steps without one change nothing, and branches leave each other's books alone.";
+
 impl Withdrawal {
     /// The withdrawal in words.
     #[must_use]
@@ -100,9 +104,7 @@ impl Withdrawal {
             } else {
                 " then"
             };
-            return vec![format!(
-                "Nothing is left{then}. If each retraction undoes its step, and a step without one changes nothing, the books stand as at the beginning."
-            )];
+            return vec![format!("Nothing is left{then}: {RESTORED}")];
         }
         if self.over {
             let dropped = match self.dropped() {

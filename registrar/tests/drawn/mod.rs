@@ -2,9 +2,10 @@
 //! the plans and runs that are drawn.
 #![allow(dead_code)]
 
-use registrar::draft::{Draft, Records};
+use registrar::draft::Draft;
 use registrar::journal;
 use registrar::picture::svg::{Rect, STYLES};
+use registrar::records::Records;
 use registrar::run::Run;
 use retraction::Plan;
 use testing::generate::rng::Rng;
