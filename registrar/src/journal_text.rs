@@ -94,6 +94,18 @@ fn a_society(line: &mut Line, draft: &Draft) -> Result<u16, Fault> {
 }
 
 impl Journal {
+    /// The journal of calls that have no text: what the last of them have is in
+    /// force.
+    #[must_use]
+    pub fn of_calls(calls: Vec<Call>) -> Journal {
+        Journal {
+            day: calls.iter().rev().find_map(|call| call.day()),
+            society: calls.last().map(|call| call.society()),
+            lines: Vec::new(),
+            calls,
+        }
+    }
+
     /// A journal whose head is missing is read on, for the lines below.
     fn first_line(&mut self, line: &mut Line, draft: &Draft) -> Result<(), Fault> {
         if line.take_if("journal") {

@@ -50,12 +50,11 @@ pub fn list(draft: &Draft, plan: &Plan) -> String {
     lines.join("\n") + "\n"
 }
 
-/// Name, counts, length and sum.
-fn head(draft: &Draft, plan: &Plan) -> Vec<String> {
+/// How many records of each sort a plan has, its bytes, and its sum as a ledger has
+/// it.
+#[must_use]
+pub fn figures(draft: &Draft, plan: &Plan) -> String {
     let records = &draft.records;
-    let begun = plan.begin();
-    let name = &draft.names.plan;
-    let title = titled(name);
     let counts = [
         (records.tracks.len(), "track"),
         (records.states.len(), "state"),
@@ -64,12 +63,19 @@ fn head(draft: &Draft, plan: &Plan) -> Vec<String> {
         (records.grants.len(), "rights record"),
     ];
     let counts = counts.map(|(number, one)| phrase::count(number, one));
+    let begun = plan.begin();
     let (bytes, sum) = (begun.words()[0], begun.words()[1]);
+    format!("{} ({bytes} bytes, sum {sum})", counts.join(", "))
+}
+
+/// Name and figures.
+fn head(draft: &Draft, plan: &Plan) -> Vec<String> {
+    let title = titled(&draft.names.plan);
     let mut lines = Vec::new();
     if !title.is_empty() {
         lines.push(title);
     }
-    lines.push(format!("{} ({bytes} bytes, sum {sum})", counts.join(", ")));
+    lines.push(figures(draft, plan));
     lines.push("Each track starts in the first of its states.".to_string());
     lines
 }

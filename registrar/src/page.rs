@@ -90,9 +90,9 @@ th,td{text-align:left;vertical-align:top;padding:.25rem .75rem .25rem 0;border-b
 const MOST_WIDTH: i32 = 1150;
 
 /// The decisions and the telling.
-const PROVED: &str = "Whether the plan is accepted, what each call did or why it was refused, what may be taken back, \
-by whom and in which order, and which day a date is: all of this was decided by the calls of the library, which are proved to \
-keep the rules. The words, tables and pictures on this page only tell it; they are tested, not proved. Where they and \
+const PROVED: &str = "Whether the plan is accepted, what each call did or why it was refused, what may be taken back \
+and by whom, and which day a date is: all of this was decided by the calls of the library, which are proved to \
+keep the rules. The words, tables and pictures on this page, and what goes side by side in one round, only tell it; they are tested, not proved. Where they and \
 the plan's file or the printed lines should ever disagree, the file and the lines count.";
 
 /// The page.

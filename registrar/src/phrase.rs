@@ -14,6 +14,16 @@ pub fn count(number: usize, one: &str) -> String {
     }
 }
 
+/// The verb for so many: `is` for one, `are` for several.
+#[must_use]
+pub fn verb(number: usize, one: &'static str, several: &'static str) -> &'static str {
+    if number == 1 {
+        one
+    } else {
+        several
+    }
+}
+
 /// Why the system did not do something, without its number.
 #[must_use]
 pub fn error(error: &std::io::Error) -> String {

@@ -149,15 +149,17 @@ impl Scene<'_> {
         phrase::society(self.draft, self.done.call.society())
     }
 
-    /// What was asked for, in words; the society where there are several, the
-    /// day where the plan has windows.
+    /// By whom, where the plan names several societies.
+    fn by(&self) -> String {
+        match phrase::several_societies(self.draft) {
+            true => format!(", by {}", self.society()),
+            false => String::new(),
+        }
+    }
+
+    /// What was asked for, in words; the day where the plan has windows.
     fn asked(&self) -> String {
-        let several = phrase::several_societies(self.draft);
-        let by = if several {
-            format!(", by {}", self.society())
-        } else {
-            String::new()
-        };
+        let by = self.by();
         match self.done.call {
             Call::Event { event, day, .. } => {
                 let windows = !self.draft.records.windows.is_empty();
@@ -241,10 +243,7 @@ fn begun(draft: &Draft, run: &Run<'_>) -> String {
 /// The last line: what is still held, and how many were fired.
 fn ended(draft: &Draft, run: &Run<'_>) -> String {
     let (_, fired) = run.tally();
-    let fired = match fired {
-        1 => "1 letter went out".to_string(),
-        _ => format!("{} went out", phrase::count(fired, "letter")),
-    };
+    let fired = format!("{} went out", phrase::count(fired, "letter"));
     let at_end = standing::of(&run.ledger);
     let held = held(draft, &at_end);
     if run.ledger.is_over() {

@@ -17,6 +17,15 @@ pub struct Word {
 }
 
 impl Word {
+    /// A word that stands on no line.
+    #[must_use]
+    pub fn of(text: &str) -> Word {
+        Word {
+            text: text.to_string(),
+            ..Word::default()
+        }
+    }
+
     #[must_use]
     pub fn is(&self, keyword: &str) -> bool {
         !self.quoted && self.text == keyword

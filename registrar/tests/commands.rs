@@ -112,6 +112,11 @@ fn usage_is_told_with_status_2() {
         let line = format!("{command} plan.txt halfway.txt --as nobody");
         desk.not_done(&line, 2, "no society 'nobody'");
     }
+    desk.not_done(
+        "withdraw plan.txt halfway.txt --as dsk",
+        2,
+        "there is no society 'dsk'; did you mean 'desk'?",
+    );
 }
 
 #[test]
@@ -202,7 +207,7 @@ fn a_refused_plan_is_not_built() {
     assert_eq!(desk.read("out.bin"), b"what stood here");
     assert_eq!(
         desk.done("build plan.txt -o out.bin"),
-        "out.bin: 2 tracks, 7 states, 5 steps; 176 bytes, sum 351\n"
+        "out.bin: 2 tracks, 7 states, 5 steps, no window, 2 rights records (176 bytes, sum 351)\n"
     );
     assert_eq!(desk.read("out.bin"), desk.read("plan.bin"));
     assert_eq!(desk.files(), files, "nothing is left beside it");

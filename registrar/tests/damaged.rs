@@ -291,7 +291,7 @@ fn check_text(refusal: Refusal, bytes: &[u8], place: &Place) -> bool {
         Ok(draft) if draft.records.encode() == bytes => draft,
         _ => return false,
     };
-    let told = place::of_text(refusal, &draft);
+    let told = place::of(refusal, &draft.records.encode(), Some(&draft));
     assert_eq!((told.record, told.byte), (place.record, place.byte));
     let line = match told.line {
         Some(line) => line,

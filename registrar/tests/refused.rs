@@ -7,7 +7,7 @@ use retraction::Plan;
 fn told(text: &str) -> String {
     let draft = plan_text::read(text).unwrap_or_else(|faults| panic!("{faults:?}\n{text}"));
     let refusal = Plan::read(draft.records.encode()).expect_err(text);
-    let place = place::of_text(refusal, &draft);
+    let place = place::of(refusal, &draft.records.encode(), Some(&draft));
     let at = place
         .line
         .map_or("no line".to_string(), |line| format!("line {line}"));

@@ -96,7 +96,7 @@ fn plan_outcome(text: &str) -> Outcome {
         Ok(_) => return Outcome::Good,
         Err(refusal) => refusal,
     };
-    let place = place::of_text(refusal, &draft);
+    let place = place::of(refusal, &draft.records.encode(), Some(&draft));
     let line = place
         .line
         .unwrap_or_else(|| panic!("{refusal}, no line\n{text}"));

@@ -28,8 +28,7 @@ fn copy(scratch: &Path) {
     assert!(done.expect("cp").success());
 }
 
-/// The search path with the program at its front, and unwind, and the second
-/// program under its own name.
+/// The search path with registrar and unwind at its front.
 fn path(scratch: &Path) -> String {
     let folder = |file: &str| {
         let file = PathBuf::from(file);

@@ -23,7 +23,7 @@ pub fn compare(options: &Options) -> Or<Answer> {
     let run = judged.as_ref().ok().map(|plan| journal.run(plan));
     let run = run.filter(|_| refusal.is_none());
     let told = match (&run, refusal) {
-        (Some(run), _) => tell::tell(&draft, run, &journal.lines),
+        (Some(run), _) => tell::tell(&draft, run, &journal.read.lines),
         (None, refusal) => refusal.into_iter().map(tell::refused).collect(),
     };
     let given = compare::Given {

@@ -3,7 +3,7 @@
 use super::answer::{Answer, Or};
 use crate::draft::Draft;
 use crate::fault::Fault;
-use crate::journal::{self, Broken, Call};
+use crate::journal::{self, Broken};
 use crate::place::{self, Place};
 use crate::plan_text::MOST_FAULTS;
 use crate::records::Records;
@@ -100,36 +100,37 @@ pub fn plan(path: &str) -> Or<Filed> {
 /// A refused plan in words: the line and what is wrong with it, or the record and
 /// its byte.
 fn refused(path: &str, refusal: Refusal, place: &Place, text: Option<&str>) -> Answer {
-    let number = refusal.number();
-    let line = place.line.filter(|_| text.is_some());
-    let at = line.map_or_else(String::new, |line| format!(":{line}"));
-    let mut said = format!("{path}{at}: refused, {number}: {}\n", refusal.text());
-    let _ = match (line, place.record, place.byte) {
-        (None, Some(record), Some(byte)) if text.is_none() => {
-            writeln!(said, "  record {record}, at byte {byte}: {}", place.what)
+    let what = &place.what;
+    let at = match (place.record, place.byte) {
+        (Some(record), Some(byte)) if text.is_none() => {
+            format!("record {record}, at byte {byte}: ")
         }
-        _ => writeln!(said, "  {}", place.what),
+        _ => String::new(),
     };
-    let shown = line.and_then(|line| text?.lines().nth(line - 1));
-    if let Some(shown) = shown {
-        let _ = writeln!(said, "    {}", shown.trim());
-    }
+    let what = format!("refused, {refusal}\n  {at}{what}");
+    let mut said = match (place.line, text) {
+        (Some(line), Some(text)) => Fault {
+            line,
+            mark: None,
+            what,
+        }
+        .show(path, text),
+        _ => format!("{path}: {what}\n"),
+    };
+    let number = refusal.number();
     let _ = writeln!(said, "  'registrar explain {number}' says more");
     Answer::refused(said)
 }
 
 /// A journal out of a file.
 pub struct Journal {
+    /// Its calls, their lines in a text, and the day and the society in force at
+    /// its end.
+    pub read: journal_text::Journal,
     /// All of it, what is broken too.
     pub bytes: Vec<u8>,
-    pub calls: Vec<Call>,
-    /// The line of each call in a text; empty for bytes.
-    pub lines: Vec<usize>,
     /// Where bytes are broken, if they are.
     pub broken: Option<Broken>,
-    /// The day and the society in force at its end.
-    pub day: Option<i32>,
-    pub society: Option<u16>,
     /// Refused for its length.
     pub refused: Option<Refusal>,
 }
@@ -138,7 +139,7 @@ impl Journal {
     /// Runs it by the proved calls.
     #[must_use]
     pub fn run<'plan>(&self, plan: &'plan Plan) -> Run<'plan> {
-        Run::of(plan, &self.calls, self.broken.clone())
+        Run::of(plan, &self.read.calls, self.broken.clone())
     }
 
     /// Ends the command where it is too long or broken.
@@ -169,29 +170,20 @@ pub fn broken_words(path: &str, broken: &Broken) -> String {
 
 /// The journal of a file under a plan.
 pub fn journal(path: &str, draft: &Draft) -> Or<Journal> {
-    if has_bytes(path) {
+    let (read, bytes, broken) = if has_bytes(path) {
         let bytes = bytes_of(path)?;
         let (calls, broken) = journal::decode(&bytes);
-        return Ok(Journal {
-            day: calls.iter().rev().find_map(|call| call.day()),
-            society: calls.last().map(|call| call.society()),
-            lines: Vec::new(),
-            refused: run::fits(&bytes).err(),
-            calls,
-            broken,
-            bytes,
-        });
-    }
-    let text = text_of(path)?;
-    let read = journal_text::read(&text, draft).map_err(|found| faults(path, &text, &found))?;
-    let bytes = journal::encode(&read.calls);
+        (journal_text::Journal::of_calls(calls), bytes, broken)
+    } else {
+        let text = text_of(path)?;
+        let read = journal_text::read(&text, draft).map_err(|found| faults(path, &text, &found))?;
+        let bytes = journal::encode(&read.calls);
+        (read, bytes, None)
+    };
     Ok(Journal {
         refused: run::fits(&bytes).err(),
+        read,
         bytes,
-        calls: read.calls,
-        lines: read.lines,
-        broken: None,
-        day: read.day,
-        society: read.society,
+        broken,
     })
 }

@@ -3,7 +3,7 @@
 use super::answer::{Answer, Or};
 use super::options::Options;
 use super::{named, Command, COMMANDS};
-use crate::explain;
+use crate::{explain, phrase};
 use std::fmt::Write;
 
 /// Every command on a line.
@@ -35,7 +35,7 @@ pub fn about(command: &Command) -> String {
     } = command;
     let mut text = format!("usage: registrar {name} {usage}\n\n{about}\n");
     if !more.is_empty() {
-        let _ = writeln!(text, "\n{more}");
+        let _ = writeln!(text, "\n{}", phrase::wrapped(more, 80, 0));
     }
     text
 }

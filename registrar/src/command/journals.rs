@@ -6,8 +6,9 @@ use super::options::Options;
 use super::output;
 use crate::draft::Draft;
 use crate::journal::{self, Call};
-use crate::run::{self, Answer as Told};
-use crate::{journal_text, phrase, picture, tell, withdraw};
+use crate::run::{self, Answer::Refused};
+use crate::words::Word;
+use crate::{journal_text, lookup, phrase, picture, tell, withdraw};
 
 /// The plan and the journal that a command names first.
 fn both(options: &Options) -> Or<(Filed, Journal)> {
@@ -21,16 +22,14 @@ pub fn journal(options: &Options) -> Or<Answer> {
     let path = options.word(1);
     let journal = journal.whole(path)?;
     if files::has_bytes(path) {
-        let text = journal_text::write(&journal.calls, &filed.draft);
+        let text = journal_text::write(&journal.read.calls, &filed.draft);
         return output::text(options.value("-o"), text);
     }
     let unnamed = || Answer::unfit("a text becomes bytes: name their file with -o");
     let file = options.value("-o").ok_or_else(unnamed)?;
-    let bytes = journal::encode(&journal.calls);
-    let (calls, count) = (journal.calls.len(), bytes.len());
-    let calls = phrase::count(calls, "record");
-    let said = format!("{file}: {calls}, {count} bytes\n");
-    output::bytes(file, &bytes, said)
+    let records = phrase::count(journal.read.calls.len(), "record");
+    let said = format!("{file}: {records}, {} bytes\n", journal.bytes.len());
+    output::bytes(file, &journal.bytes, said)
 }
 
 pub fn tell(options: &Options) -> Or<Answer> {
@@ -49,7 +48,7 @@ pub fn tell(options: &Options) -> Or<Answer> {
         return Ok(Answer::done(refused(refusal)).but_refused(said));
     }
     let run = journal.run(&plan);
-    let told = tell::tell(&draft, &run, &journal.lines);
+    let told = tell::tell(&draft, &run, &journal.read.lines);
     let answer = Answer::done(tell::text(&told));
     Ok(match &run.broken {
         Some(broken) => answer.but_refused(files::broken_words(path, broken)),
@@ -63,12 +62,12 @@ pub fn add(options: &Options) -> Or<Answer> {
     let journal = journal.whole(path)?;
     let line = options.words()[2..].join(" ");
     let call = one_more(&line, &filed.draft, &journal)?;
-    let longer = [&journal.calls[..], &[call]].concat();
+    let longer = [&journal.read.calls[..], &[call]].concat();
     run::fits(&journal::encode(&longer)).map_err(|refusal| files::too_long(path, refusal))?;
     let mut run = journal.run(&filed.plan);
     run.done = vec![run::make(&mut run.ledger, call)];
     let told = tell::text(&[tell::told(&filed.draft, &run, 0)]);
-    if matches!(run.done[0].answer, Told::Refused(_)) {
+    if matches!(run.done[0].answer, Refused(_)) {
         return Ok(Answer::done(told).but_refused(format!("{path}: nothing added\n")));
     }
     let added = if files::has_bytes(path) {
@@ -82,15 +81,10 @@ pub fn add(options: &Options) -> Or<Answer> {
 
 /// The call of a line that follows a journal.
 fn one_more(line: &str, draft: &Draft, journal: &Journal) -> Or<Call> {
-    let so_far = journal_text::Journal {
-        day: journal.day,
-        society: journal.society,
-        ..journal_text::Journal::default()
-    };
     if line.contains('\n') {
         return Err(Answer::unfit("add takes one line"));
     }
-    let read = journal_text::read_line(line, draft, &so_far);
+    let read = journal_text::read_line(line, draft, &journal.read);
     read.map_err(|found| files::faults("LINE", line, &found))
 }
 
@@ -106,9 +100,9 @@ pub fn timeline(options: &Options) -> Or<Answer> {
 /// the journal's end, or else the only one that the plan's rights name.
 pub fn withdrawing(options: &Options, draft: &Draft, journal: &Journal) -> Or<u16> {
     if let Some(word) = options.value("--as") {
-        let number = draft.names.societies.number(word);
-        let unknown = || Answer::unfit(format!("no society '{word}' in this plan"));
-        return number.or_else(|| word.parse().ok()).ok_or_else(unknown);
+        let word = Word::of(word);
+        let society = lookup::in_table(&word, &draft.names.societies, "society");
+        return society.map_err(Answer::unfit);
     }
     let mut named: Vec<u16> = draft.records.grants.iter().map(|g| g.society).collect();
     named.sort_unstable();
@@ -118,7 +112,7 @@ pub fn withdrawing(options: &Options, draft: &Draft, journal: &Journal) -> Or<u1
         _ => None,
     };
     let unknown = || Answer::unfit("who withdraws? say it with --as SOCIETY");
-    journal.society.or(only).ok_or_else(unknown)
+    journal.read.society.or(only).ok_or_else(unknown)
 }
 
 pub fn withdraw(options: &Options) -> Or<Answer> {

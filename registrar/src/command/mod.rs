@@ -40,8 +40,8 @@ pub const COMMANDS: [Command; 14] = [
         name: "check",
         usage: "PLAN",
         about: "whether a plan is accepted, or its refusal in words",
-        more: "A refused text is told with its line, bytes with the record and the byte. So is a text that cannot be read,
-with its faults, the first 20, each place marked, and a suggestion for a misspelt name.",
+        more: "A refused text is told with its line, bytes with the record and the byte. So is a text that cannot be read, \
+               with its faults, the first 20, each place marked, and a suggestion for a misspelt name.",
         words: (1, 1),
         options: &[],
         run: plans::check,
@@ -59,8 +59,8 @@ with its faults, the first 20, each place marked, and a suggestion for a misspel
         name: "list",
         usage: "PLAN",
         about: "what was understood: each step with its retraction beside it",
-        more: "Tracks stand nested in the states that host them, with windows, rights, and the most entries that each track
-can ever hold. A plan with a deviation or a circle of steps has no such figure.",
+        more: "Tracks stand nested in the states that host them, with windows, rights, and the most entries that each track \
+               can ever hold. A plan with a deviation or a circle of steps has no such figure.",
         words: (1, 1),
         options: &[],
         run: plans::list,
@@ -69,8 +69,8 @@ can ever hold. A plan with a deviation or a circle of steps has no such figure."
         name: "text",
         usage: "PLAN [--names OLD] [-o FILE]",
         about: "a plan's bytes to text",
-        more: "Built again, the text gives the same bytes; remarks are lost. Names are taken from an older text, OLD; without one, tracks are t0, t1
-and so on, states s0, s1 and so on, and everything else goes by its number.",
+        more: "Built again, the text gives the same bytes; remarks are lost. Names are taken from an older text, OLD; without one, tracks are t0, t1 \
+               and so on, states s0, s1 and so on, and everything else goes by its number.",
         words: (1, 1),
         options: &["--names", "-o"],
         run: plans::text,
@@ -106,9 +106,9 @@ and so on, states s0, s1 and so on, and everything else goes by its number.",
         name: "add",
         usage: "PLAN JOURNAL LINE",
         about: "tries one line on a journal, and appends it if it is accepted",
-        more: "LINE is a line of a journal's text with a call in it, such as: event banns-read. It is tried after all that stands in the
-journal, on the day and by the society in force there, unless it has its own. What is refused is told and not
-written.",
+        more: "LINE is a line of a journal's text with a call in it, such as: event banns-read. It is tried after all that stands in the \
+               journal, on the day and by the society in force there, unless it has its own. What is refused is told and not \
+               written.",
         words: (3, MANY),
         options: &[],
         run: journals::add,
@@ -117,8 +117,8 @@ written.",
         name: "withdraw",
         usage: "PLAN JOURNAL [--as SOCIETY]",
         about: "what would be taken back now, in which rounds",
-        more: "How many letters would go out, which side by side, and what waits for what. Nothing is written. The society is the one
-in force at the journal's end, or the only one that the plan's rights name, unless it is said.",
+        more: "How many letters would go out, which side by side, and what waits for what. Nothing is written. The society is the one \
+               in force at the journal's end, or the only one that the plan's rights name, unless it is said.",
         words: (2, 2),
         options: &["--as"],
         run: journals::withdraw,
@@ -136,8 +136,8 @@ in force at the journal's end, or the only one that the plan's rights name, unle
         name: "compare",
         usage: "PLAN JOURNAL A B",
         about: "whether two programs print the same, or the first line that differs, in words",
-        more: "A and B are programs that are run as unwind is: with plan.bin in the working folder and the journal on standard
-input. Each is run in a folder of its own, which is removed again.",
+        more: "A and B are programs that are run as unwind is: with plan.bin in the working folder and the journal on standard \
+               input. Each is run in a folder of its own, which is removed again.",
         words: (4, 4),
         options: &[],
         run: compare::compare,
@@ -146,8 +146,8 @@ input. Each is run in a folder of its own, which is removed again.",
         name: "page",
         usage: "PLAN [JOURNAL] [--as SOCIETY] [-o FILE]",
         about: "all of it in one HTML file",
-        more: "The listing, the picture, and with a journal its telling, its timeline and what would be taken back now. The page needs
-no network and has no script.",
+        more: "The listing, the picture, and with a journal its telling, its timeline and what would be taken back now. The page needs \
+               no network and has no script.",
         words: (1, 2),
         options: &["--as", "-o"],
         run: page::page,

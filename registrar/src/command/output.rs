@@ -4,7 +4,6 @@ use super::answer::{Answer, Or};
 use super::files::{bytes_of, has_bytes, unfit};
 use std::fs;
 use std::io::Write;
-use std::path::Path;
 
 /// Standard output, where it is named as a file.
 const STANDARD_OUTPUT: &str = "/dev/stdout";
@@ -88,19 +87,12 @@ pub fn apart<'a>(file: Option<&str>, read: impl IntoIterator<Item = &'a str>) ->
 
 /// Appends to a file; a text whose last line is not ended has it ended first.
 pub fn append(path: &str, bytes: &[u8]) -> Or<()> {
-    let before = if has_bytes(path) || !Path::new(path).exists() {
-        Vec::new()
-    } else {
-        bytes_of(path)?
-    };
-    let ended = before.last().map_or(true, |&last| last == b'\n');
     let mut added = Vec::new();
-    if !ended {
+    if !has_bytes(path) && !bytes_of(path)?.ends_with(b"\n") {
         added.push(b'\n');
     }
     added.extend(bytes);
-    let mut opening = fs::OpenOptions::new();
-    let file = opening.append(true).create(true).open(path);
+    let file = fs::OpenOptions::new().append(true).open(path);
     let done = file.and_then(|mut file| file.write_all(&added));
     done.map_err(|error| unfit(path, &error))
 }

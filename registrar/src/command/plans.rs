@@ -4,41 +4,21 @@ use super::answer::{Answer, Or};
 use super::files::{self, Filed};
 use super::options::Options;
 use super::output;
-use crate::plan_text;
-use crate::{list, picture};
-
-/// How many there are, in words: `1 track`, `3 tracks`.
-fn counted(count: u16, thing: &str) -> String {
-    let plural = if count == 1 { "" } else { "s" };
-    format!("{count} {thing}{plural}")
-}
-
-/// The counts of a plan, its bytes, and its sum as a ledger has it.
-fn figures(filed: &Filed) -> String {
-    let counts = filed.plan.counts();
-    let begun = filed.plan.begin();
-    let (bytes, sum) = (begun.words()[0], begun.words()[1]);
-    let tracks = counted(counts.tracks, "track");
-    let states = counted(counts.states, "state");
-    let steps = counted(counts.transitions, "step");
-    format!("{tracks}, {states}, {steps}; {bytes} bytes, sum {sum}")
-}
+use crate::{list, picture, plan_text};
 
 pub fn check(options: &Options) -> Or<Answer> {
     let path = options.word(0);
-    let filed = files::plan(path)?;
-    Ok(Answer::done(format!(
-        "{path}: accepted: {}\n",
-        figures(&filed)
-    )))
+    let Filed { draft, plan } = files::plan(path)?;
+    let figures = list::figures(&draft, &plan);
+    Ok(Answer::done(format!("{path}: accepted: {figures}\n")))
 }
 
 pub fn build(options: &Options) -> Or<Answer> {
-    let filed = files::plan(options.word(0))?;
+    let Filed { draft, plan } = files::plan(options.word(0))?;
     let unnamed = || Answer::unfit("build writes bytes: name their file with -o");
     let file = options.value("-o").ok_or_else(unnamed)?;
-    let said = format!("{file}: {}\n", figures(&filed));
-    output::bytes(file, filed.plan.bytes(), said)
+    let said = format!("{file}: {}\n", list::figures(&draft, &plan));
+    output::bytes(file, plan.bytes(), said)
 }
 
 pub fn list(options: &Options) -> Or<Answer> {

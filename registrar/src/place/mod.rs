@@ -43,12 +43,6 @@ pub fn of(refusal: Refusal, bytes: &[u8], draft: Option<&Draft>) -> Place {
     place
 }
 
-/// The same of a draft that was read from a text: its line is what matters.
-#[must_use]
-pub fn of_text(refusal: Refusal, draft: &Draft) -> Place {
-    of(refusal, &draft.records.encode(), Some(draft))
-}
-
 /// What is said where no record fits, which a test shows not to happen.
 pub const NOT_FOUND: &str = "its record was not found";
 

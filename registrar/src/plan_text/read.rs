@@ -199,20 +199,16 @@ impl<'a> Reader<'a> {
     /// TRACK.STATE.
     fn dotted(&self, text: &str) -> Result<u16, String> {
         let (track, state) = text.split_once('.').unwrap_or_default();
-        let word = |text: &str| Word {
-            text: text.to_string(),
-            ..Word::default()
-        };
         let number = |t: usize| self.numbers.tracks[t];
         let known = self.tracks.keys().copied();
         let find = |name: &str| self.tracks.get(name).map(|&t| number(t));
-        let track = lookup::resolve(&word(track), "there is no track", find, known)?;
+        let track = lookup::resolve(&Word::of(track), "there is no track", find, known)?;
         let at = self.numbers.tracks.iter().position(|&t| t == track);
         let at = at.ok_or_else(|| format!("there is no track {track}"))?;
-        if word(state).is_number() {
+        if Word::of(state).is_number() {
             return Err("a state's number stands by itself, without a track".to_string());
         }
-        self.state_in(&word(state), at)
+        self.state_in(&Word::of(state), at)
     }
 
     /// A state of whichever track.

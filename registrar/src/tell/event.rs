@@ -244,7 +244,7 @@ fn completion(scene: &Scene<'_>, state: u16, inside: &[u16]) -> String {
         0 => "nothing stands for it".to_string(),
         code => format!("{host} holds {} for it", phrase::retraction(draft, code)),
     };
-    let verb = if inside.len() == 1 { "is" } else { "are" };
+    let verb = phrase::verb(inside.len(), "is", "are");
     let what = format!("{what} {verb} complete in {} of {host}", draft.state(state));
     match dropped.len() {
         0 => format!("{what}, and {stands}"),

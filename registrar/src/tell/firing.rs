@@ -10,11 +10,7 @@ use retraction::Entry;
 /// An accepted firing.
 pub(super) fn told(scene: &Scene<'_>, track: u16, entry: Entry) -> String {
     let name = scene.draft.track(track);
-    let by = if phrase::several_societies(scene.draft) {
-        format!(", by {}", scene.society())
-    } else {
-        String::new()
-    };
+    let by = scene.by();
     let onward = entry.deviation.map(|state| {
         let state = scene.draft.state(state);
         format!("{name} goes forward again in {state}")

@@ -74,7 +74,7 @@ fn full(scene: &Scene<'_>) -> String {
     let asked = full.iter().copied().filter(|&t| event::gives(scene, t));
     let asked: Vec<u16> = asked.collect();
     let named = if asked.is_empty() { full } else { asked };
-    let verb = if named.len() == 1 { "holds" } else { "hold" };
+    let verb = phrase::verb(named.len(), "holds", "hold");
     format!(
         "{} {verb} {MOST} already",
         phrase::tracks(scene.draft, &named)

@@ -60,7 +60,7 @@ pub(super) fn given_up(scene: &Scene<'_>) -> Option<String> {
         return None;
     }
     let gone = look::gone(&scene.done.before, &scene.done.after);
-    let verb = if gone.len() == 1 { "is" } else { "are" };
+    let verb = phrase::verb(gone.len(), "is", "are");
     let tracks = Some(phrase::tracks(scene.draft, &gone)).filter(|tracks| !tracks.is_empty());
     tracks.map(|tracks| format!("{tracks} {verb} given up, with nothing held any more"))
 }
@@ -97,7 +97,7 @@ pub(crate) fn why_not_exact(draft: &Draft, standings: &Standings) -> String {
     if forward.is_empty() {
         return "a track may go on another way once it is fired".to_string();
     }
-    let verb = if forward.len() == 1 { "is" } else { "are" };
+    let verb = phrase::verb(forward.len(), "is", "are");
     format!("{} {verb} still forward", phrase::tracks(draft, &forward))
 }
 

@@ -74,7 +74,7 @@ impl Withdrawal {
     fn staying(&self, draft: &Draft) -> Option<String> {
         let forward = self.forward();
         let tracks = Some(phrase::tracks(draft, &forward)).filter(|_| !forward.is_empty())?;
-        let verb = if forward.len() == 1 { "stays" } else { "stay" };
+        let verb = phrase::verb(forward.len(), "stays", "stay");
         let society = phrase::society(draft, self.society);
         Some(format!(
             "  {tracks} {verb} forward: {society} has no signal right there."
@@ -88,7 +88,7 @@ impl Withdrawal {
             let mut told = format!("  {name} is ready, but nobody has the fire right for it");
             let waiting = waiting_for(draft, &self.end, track);
             if !waiting.is_empty() {
-                let verb = if waiting.len() == 1 { "waits" } else { "wait" };
+                let verb = phrase::verb(waiting.len(), "waits", "wait");
                 told += &format!("; {} {verb} for it", phrase::tracks(draft, &waiting));
             }
             told + "."
@@ -152,7 +152,7 @@ fn waiting_for(draft: &Draft, standings: &[Option<Standing>], track: u16) -> Vec
 fn round_head(draft: &Draft, number: usize, round: &Round) -> String {
     let mut head = format!("  round {}", number + 1);
     if let Some(common) = common_wait(round) {
-        let verb = if common.len() == 1 { "is" } else { "are" };
+        let verb = phrase::verb(common.len(), "is", "are");
         head += &format!(", once {} {verb} done", phrase::tracks(draft, common));
     }
     if round.len() > 1 {
@@ -207,7 +207,7 @@ fn label(draft: &Draft, branch: &Branch) -> String {
 fn notes(draft: &Draft, round: &Round, branch: &Branch) -> Vec<String> {
     let mut notes = Vec::new();
     if common_wait(round).is_none() && !branch.after.is_empty() {
-        let verb = if branch.after.len() == 1 { "is" } else { "are" };
+        let verb = phrase::verb(branch.after.len(), "is", "are");
         let after = phrase::tracks(draft, &branch.after);
         notes.push(format!("once {after} {verb} done"));
     }
