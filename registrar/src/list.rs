@@ -4,7 +4,7 @@
 use crate::day;
 use crate::draft::{Draft, Name};
 use crate::phrase;
-use crate::records::{Grant, Step, RIGHTS};
+use crate::records::{Grant, Step};
 use retraction::Plan;
 
 /// A row of the list: what it is, the days of a step, and what is beside it.
@@ -113,7 +113,7 @@ fn rights(draft: &Draft) -> Vec<String> {
         let none = if of_root.is_empty() { " nobody" } else { "" };
         lines.push(format!("rights over {}:{none}", draft.track(root as u16)));
         for (grant, who) in of_root {
-            lines.push(format!("  {who:width$}  {}", may(grant.sum)));
+            lines.push(format!("  {who:width$}  {}", may(grant)));
         }
     }
     lines.push(String::new());
@@ -129,10 +129,9 @@ fn holder(draft: &Draft, society: u16) -> String {
 }
 
 /// `may move, signal and fire`.
-fn may(sum: u16) -> String {
-    let has = RIGHTS.iter().filter(|(_, part)| sum & part != 0);
-    let names: Vec<String> = has.map(|(name, _)| (*name).to_string()).collect();
-    format!("may {}", phrase::row(&names))
+fn may(grant: &Grant) -> String {
+    let rights: Vec<String> = grant.rights().into_iter().map(String::from).collect();
+    format!("may {}", phrase::row(&rights))
 }
 
 /// Rows in the making.

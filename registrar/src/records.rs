@@ -47,6 +47,15 @@ pub struct Grant {
     pub sum: u16,
 }
 
+impl Grant {
+    /// The rights that it gives, in words.
+    #[must_use]
+    pub fn rights(&self) -> Vec<&'static str> {
+        let given = RIGHTS.iter().filter(|(_, part)| self.sum & part != 0);
+        given.map(|(right, _)| *right).collect()
+    }
+}
+
 /// The rights by their words, with their parts of a sum.
 pub const RIGHTS: [(&str, u16); 3] = [("move", 1), ("signal", 2), ("fire", 4)];
 

@@ -1,9 +1,13 @@
 //! Two programs compared: scripts that print what is right, or nearly so.
 
+#[allow(dead_code)]
+mod common;
+
+use common::brothers;
 use registrar::compare::{compare, Comparison, Given};
 use registrar::draft::Draft;
 use registrar::run::Run;
-use registrar::{journal_text, plan_text, tell};
+use registrar::{journal_text, tell};
 use retraction::{Plan, Refusal};
 use std::fs;
 use std::os::unix::fs::PermissionsExt;
@@ -11,11 +15,6 @@ use std::path::{Path, PathBuf};
 
 const JOURNAL: &str = include_str!("../../samples/brothers_and_sisters/journal.txt");
 const OUTPUT: &str = include_str!("../../samples/brothers_and_sisters/output");
-
-fn brothers() -> Draft {
-    let text = include_str!("../../samples/brothers_and_sisters/plan.txt");
-    plan_text::read(text).expect("a plan's text")
-}
 
 /// Scripts in a folder of this test's own.
 struct Scripts(PathBuf);

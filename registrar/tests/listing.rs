@@ -1,20 +1,15 @@
 //! Lists of plans: the figures are the library's, and the columns straight.
 
+#[allow(dead_code)]
+mod common;
+
+use common::{brothers, BROTHERS};
 use registrar::draft::Draft;
 use registrar::list::list;
-use registrar::plan_text;
 use registrar::records::Records;
 use retraction::Plan;
 use testing::generate::{plans, rng::Rng};
 use testing::samples;
-
-const BROTHERS: &[u8] = include_bytes!("../../samples/brothers_and_sisters/plan.bin");
-
-/// The brothers and sisters with their names.
-fn brothers() -> Draft {
-    let text = include_str!("../../samples/brothers_and_sisters/plan.txt");
-    plan_text::read(text).expect("a plan's text")
-}
 
 /// The list of a plan by its bytes alone.
 fn of_bytes(bytes: Vec<u8>) -> String {

@@ -2,9 +2,10 @@
 //! `REGISTRAR_STORE=1 cargo test --package registrar --test stored` stores them
 //! anew, to be looked at before they are kept.
 
+#[allow(dead_code)]
 mod common;
 
-use common::{assert_stored, samples, Sample};
+use common::{assert_stored, first_column, samples, Sample};
 use registrar::command::{self, Answer};
 use std::fs;
 use std::path::Path;
@@ -74,14 +75,6 @@ fn store_journal(sample: &Sample, journal: &str, scratch: &Path) {
     if journal == "journal" {
         assert_stored(&sample.file("output"), first_column(&told).as_bytes());
     }
-}
-
-/// The first column of a telling: 15 characters.
-fn first_column(told: &str) -> String {
-    let column = |line: &str| line.chars().take(15).collect::<String>();
-    told.lines()
-        .map(|line| column(line).trim_end().to_string() + "\n")
-        .collect()
 }
 
 /// The sample plan of the paper is byte for byte the one that the program has.

@@ -1,10 +1,13 @@
 //! Runs told: the first column is what the program prints, and the meanings
 //! name what changed.
 
+#[allow(dead_code)]
+mod common;
+
+use common::{brothers, first_column, BROTHERS};
 use registrar::draft::Draft;
 use registrar::journal::{self, Call};
 use registrar::look;
-use registrar::plan_text;
 use registrar::records::Records;
 use registrar::run::{fits, Answer, Done, Run};
 use registrar::standing::{self, Mode, Standing};
@@ -16,14 +19,6 @@ use std::path::{Path, PathBuf};
 use std::process::Command;
 use testing::generate::journals::{self, Case};
 use testing::generate::rng::Rng;
-
-const BROTHERS: &[u8] = include_bytes!("../../samples/brothers_and_sisters/plan.bin");
-
-/// The brothers and sisters with their names.
-fn brothers() -> Draft {
-    let text = include_str!("../../samples/brothers_and_sisters/plan.txt");
-    plan_text::read(text).expect("a plan's text")
-}
 
 /// The program of the check.
 fn unwind() -> PathBuf {
@@ -77,15 +72,6 @@ fn told_of(case: &Case, look: impl Fn(&Draft, &Run<'_>, &[Told])) -> Vec<Told> {
     let told = tell::tell(&draft, &run, &lines);
     look(&draft, &run, &told);
     told
-}
-
-/// The first column of a text, as a person cuts it.
-fn first_column(text: &str) -> String {
-    let cut = |line: &str| line.chars().take(15).collect::<String>();
-    let lines = text
-        .lines()
-        .map(|line| cut(line).trim_end().to_string() + "\n");
-    lines.collect()
 }
 
 /// Whether a text has a word by itself.

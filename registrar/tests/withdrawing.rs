@@ -1,10 +1,13 @@
 //! Withdrawals foretold: every firing is accepted in the order told, the end is
 //! as told, and a number that is called exact is that of the entries held.
 
+#[allow(dead_code)]
+mod common;
+
+use common::{brothers, BROTHERS};
 use registrar::draft::Draft;
 use registrar::journal;
 use registrar::look;
-use registrar::plan_text;
 use registrar::records::Records;
 use registrar::run::Run;
 use registrar::standing::{self, Mode};
@@ -13,14 +16,6 @@ use retraction::{Ledger, Plan, Refusal};
 use testing::generate::rng::Rng;
 use testing::generate::{journals, plans, societies};
 use testing::samples;
-
-const BROTHERS: &[u8] = include_bytes!("../../samples/brothers_and_sisters/plan.bin");
-
-/// The brothers and sisters with their names.
-fn brothers() -> Draft {
-    let text = include_str!("../../samples/brothers_and_sisters/plan.txt");
-    plan_text::read(text).expect("a plan's text")
-}
 
 /// Makes the firings in the order told on this ledger.
 fn fire_as_told(ledger: &mut Ledger<'_>, told: &Withdrawal) {

@@ -4,7 +4,7 @@ use super::svg::{Canvas, Rect, Style, EVENT, HOOK, SMALL, UNDO};
 use super::width::shorten;
 use crate::day;
 use crate::draft::{Draft, Name, Table};
-use crate::records::{Grant, Step, Window, RIGHTS};
+use crate::records::{Grant, Step, Window};
 
 /// The most characters of a name and of words that a picture writes out; the
 /// rest is told when pointed at.
@@ -113,7 +113,7 @@ impl Label {
 }
 
 fn term(window: Window) -> String {
-    format!("{} to {}", day::text(window.first), day::text(window.last))
+    day::span(window.first, window.last)
 }
 
 /// A name with its words.
@@ -162,8 +162,7 @@ pub fn step_said(draft: &Draft, step: &Step, window: Option<Window>) -> String {
 /// A society and what it may do.
 #[must_use]
 pub fn grant_said(draft: &Draft, grant: &Grant) -> String {
-    let has = |&&(_, part): &&(&str, u16)| grant.sum & part != 0;
-    let rights: Vec<&str> = RIGHTS.iter().filter(has).map(|&(word, _)| word).collect();
+    let rights = grant.rights();
     let society = draft.names.societies.name(grant.society);
     let society = shorten(&society, MOST_NAME);
     if rights.is_empty() {

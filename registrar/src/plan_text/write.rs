@@ -2,7 +2,7 @@
 
 use crate::day;
 use crate::draft::{Draft, Name, Table};
-use crate::records::{Step, RIGHTS};
+use crate::records::Step;
 use crate::words::quote;
 use std::collections::BTreeMap;
 
@@ -122,8 +122,8 @@ impl<'a> Writer<'a> {
         let grant = self.draft.records.grants[at];
         let society = self.draft.names.societies.name(grant.society);
         let number = numbered(self.grants, at);
-        let rights = RIGHTS.iter().filter(|(_, part)| grant.sum & part != 0);
-        let rights: String = rights.map(|(right, _)| format!(" {right}")).collect();
+        let rights = grant.rights().into_iter();
+        let rights: String = rights.map(|right| format!(" {right}")).collect();
         format!("  right {number}{society}{rights}")
     }
 

@@ -1,5 +1,7 @@
 //! What several tests share: the samples, and files that are stored.
 
+use registrar::draft::Draft;
+use registrar::plan_text;
 use std::fs;
 use std::path::{Path, PathBuf};
 
@@ -39,6 +41,23 @@ fn sample(folder: PathBuf) -> Sample {
     let mut journals: Vec<String> = stems.filter(|stem| stem != "plan").collect();
     journals.sort();
     Sample { folder, journals }
+}
+
+/// The brothers and sisters: their bytes, and their text with its names.
+pub const BROTHERS: &[u8] = include_bytes!("../../../samples/brothers_and_sisters/plan.bin");
+
+pub fn brothers() -> Draft {
+    let text = include_str!("../../../samples/brothers_and_sisters/plan.txt");
+    plan_text::read(text).expect("a plan's text")
+}
+
+/// The first column of a telling, as a person cuts it: 15 characters.
+pub fn first_column(told: &str) -> String {
+    let cut = |line: &str| line.chars().take(15).collect::<String>();
+    let lines = told
+        .lines()
+        .map(|line| cut(line).trim_end().to_string() + "\n");
+    lines.collect()
 }
 
 /// Whether what is stored is to be written anew instead of compared.
