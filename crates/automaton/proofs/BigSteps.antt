@@ -10,6 +10,7 @@ use native.Mathlib.Omega.{arith}
 use lib.Dec.{eqb}
 use borrow.Author.Tests.{eqb-true, eqb-false}
 use Rattle.rules.specs.Names.{Day, Society}
+use Rattle.rules.specs.declared.Terms.{Terms}
 use Rattle.rules.specs.Plan.{Plan, trackCount, optional}
 use Rattle.rules.specs.Rights.{signalRight, isPermitted}
 use Rattle.rules.specs.Ledger.{Ledger}
@@ -165,7 +166,7 @@ module _ (p : Plan) (ρ : FailReading) (ok : Accepted p) (l : Ledger) (n : Neste
       go (nestfailAt A) d r h = clash h refl
       go (nestcompAt A) d r h = clash h refl
 
-module _ (p : Plan) (ρ : FailReading) (ok : Accepted p) (limit : ℕ) (day : Day) (l : Ledger) (s : Sound limit p l) where
+module _ (p : Plan) (ρ : FailReading) (ok : Accepted p) (terms : Terms) (day : Day) (l : Ledger) (s : Sound terms p l) where
   abbrev n : Nested p l
   n = s .formed .nested
 
@@ -189,7 +190,7 @@ module _ (p : Plan) (ρ : FailReading) (ok : Accepted p) (limit : ℕ) (day : Da
       let nm = moved-nested p l e ok n in (
         run-steps p ρ isSilent (closing-run p ρ ok m nm) (closers-silent p ρ m),
         settled-exhausted p ρ (view p ρ (closed p m))
-            (view-settled p ρ ok (closed p m) (closed-nested p ok m nm) (closed-done p m) (event-abandoning limit p ok l (s .formed) e (s .abandoning))),
+            (view-settled p ρ ok (closed p m) (closed-nested p ok m nm) (closed-done p m) (event-abandoning terms p ok l (s .formed) e (s .abandoning))),
       )
 
   pub event-settling-acts : (e : EventArguments) → actsIn p ρ (event-settling e .0) ≡ closers p (moved p l e)
@@ -228,9 +229,9 @@ module _ (p : Plan) (ρ : FailReading) (ok : Accepted p) (limit : ℕ) (day : Da
       (subst (λ z. Exhausts p ρ isSilent z c) (event-between e c x ∙ sym (event-between e d y)) (x .settling)) (y .settling)
 
   -- A signal.
-  signal-big : (a : SignalArguments) → callRefusal limit p day l (signal a) ≡ 0 → OnSignal p ρ (a .society) (view p ρ l) (view p ρ (abandoned p (turned p (a .society) l)))
+  signal-big : (a : SignalArguments) → callRefusal terms p day l (signal a) ≡ 0 → OnSignal p ρ (a .society) (view p ρ l) (view p ρ (abandoned p (turned p (a .society) l)))
   signal-big a h =
-      let k = worked limit p ok l s day (signal a) h in
+      let k = worked terms p ok l s day (signal a) h in
       let m = turned p (a .society) l in
       record {
         between = view p ρ m;
@@ -257,12 +258,12 @@ module _ (p : Plan) (ρ : FailReading) (ok : Accepted p) (limit : ℕ) (day : Da
     pub settling : Exhausts p ρ isSilent between (view p ρ (abandoned p (fired p l t)))
     pub acts : actsIn p ρ (settling .0) ≡ firingActs t
 
-  pub fire-fired : (a : FireArguments) → callRefusal limit p day l (fire a) ≡ 0 → Fired (a .track)
+  pub fire-fired : (a : FireArguments) → callRefusal terms p day l (fire a) ≡ 0 → Fired (a .track)
   unfolding firingActs
   fire-fired a h =
       let t = a .track in
-      let may = fire-accepted limit p day l a h .1 in
-      let k = worked limit p ok l s day (fire a) h in
+      let may = fire-accepted terms p day l a h .1 in
+      let k = worked terms p ok l s day (fire a) h in
       let (b, v, r) = first-of p ρ (fire-run p ρ ok l n t (s .formed .good t) may) _ _ refl in
       let silent =
       back-silent p ρ t (deviationStep t (optional (newest (l t .held) .deviation)) ++ abandonings p ρ (fired p l t))
@@ -279,7 +280,7 @@ module _ (p : Plan) (ρ : FailReading) (ok : Accepted p) (limit : ℕ) (day : Da
         acts = run-acts p ρ isSilent r silent;
       }
 
-  fire-big : (a : FireArguments) → callRefusal limit p day l (fire a) ≡ 0
+  fire-big : (a : FireArguments) → callRefusal terms p day l (fire a) ≡ 0
       → OnFiring p ρ (a .track) (newest (l (a .track) .held) .code) (view p ρ l) (view p ρ (abandoned p (fired p l (a .track))))
   fire-big a h = let x = fire-fired a h in record { between = x .between; firing = x .firing; settling = x .settling }
 
@@ -289,7 +290,7 @@ module _ (p : Plan) (ρ : FailReading) (ok : Accepted p) (limit : ℕ) (day : Da
       silent-unique p ρ ok (y .between) c d (subst (λ z. Exhausts p ρ isSilent z c) same (x .settling)) (y .settling)
 
   -- what is reached before finish is looked for
-  big : (c : Call) → callRefusal limit p day l c ≡ 0 → Big p ρ c (view p ρ l) (view p ρ (work p l c))
+  big : (c : Call) → callRefusal terms p day l c ≡ 0 → Big p ρ c (view p ρ l) (view p ρ (work p l c))
   unfolding Big
   big (event a) h = event-big a
   big (signal a) h = signal-big a h
@@ -303,9 +304,9 @@ module _ (p : Plan) (ρ : FailReading) (ok : Accepted p) (limit : ℕ) (day : Da
   one-only (fire a) d e x y = fire-one (a .track) (x .0) (y .0) d e (x .1) (y .1)
 
   -- an accepted call leads exactly where the automaton's big steps end
-  pub exactly-big : (c : Call) → callRefusal limit p day l c ≡ 0 → (d : Conf) → Ends p ρ c (view p ρ l) d ↔ (d ≡ view p ρ (after p l c))
+  pub exactly-big : (c : Call) → callRefusal terms p day l c ≡ 0 → (d : Conf) → Ends p ρ c (view p ρ l) d ↔ (d ≡ view p ρ (after p l c))
   unfolding Ends
   exactly-big c h d =
       let m = view p ρ (work p l c) in
-      let left = after-view p ρ ok limit day l s c h in
+      let left = after-view p ρ ok terms day l s c h in
       (λ x. let (e, b, q) = x in q ∙ ap (afterFinish p) (one-only c e m b (big c h)) ∙ sym left, λ q. (m, big c h, q ∙ left))

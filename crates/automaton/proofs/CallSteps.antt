@@ -6,6 +6,7 @@ use mathlib.Core.Bool.{cond, and-false, _&&_}
 use mathlib.Core.List.{[]}
 use Prim.Native.Nat.{ℕ}
 use Rattle.rules.specs.Names.{Day}
+use Rattle.rules.specs.declared.Terms.{Terms}
 use Rattle.rules.specs.Plan.{Plan, trackCount, isRoot}
 use Rattle.rules.specs.Ledger.{Configuration, Ledger, isAwake, sleeping}
 use Rattle.rules.specs.Event.{moved, afterEvent}
@@ -55,17 +56,17 @@ module _ (p : Plan) (ρ : FailReading) (ok : Accepted p) where
             ∙ sym (ap (λ x. cond x (Vect []) (view p ρ l)) (sym (finishing-terminated p ρ ok l n roots) ∙ h))
       ]
 
-  module _ (limit : ℕ) (day : Day) (l : Ledger) (s : Sound limit p l) where
+  module _ (terms : Terms) (day : Day) (l : Ledger) (s : Sound terms p l) where
     abbrev n : Nested p l
     n = s .formed .nested
 
     -- the steps of a call, finish apart
-    work-run : (c : Call) → callRefusal limit p day l c ≡ 0 → Run p ρ (view p ρ l) (actsOf p ρ l c) (view p ρ (work p l c))
+    work-run : (c : Call) → callRefusal terms p day l c ≡ 0 → Run p ρ (view p ρ l) (actsOf p ρ l c) (view p ρ (work p l c))
     unfolding actsOf
     work-run (event a) h =
         run-then p ρ (moving-run p l a ρ ok n) (closing-run p ρ ok (moved p l a) (moved-nested p l a ok n))
     work-run (signal a) h = signal-run p ρ ok l n a
-    work-run (fire a) h = fire-run p ρ ok l n (a .track) (s .formed .good (a .track)) (fire-accepted limit p day l a h .1)
+    work-run (fire a) h = fire-run p ρ ok l n (a .track) (s .formed .good (a .track)) (fire-accepted terms p day l a h .1)
 
     -- and then finish
     after-work : (c : Call) → after p l c ≡ finished p (work p l c)
@@ -74,18 +75,18 @@ module _ (p : Plan) (ρ : FailReading) (ok : Accepted p) where
     after-work (signal a) = refl
     after-work (fire a) = refl
 
-    pub after-view : (c : Call) → callRefusal limit p day l c ≡ 0 → view p ρ (after p l c) ≡ afterFinish p (view p ρ (work p l c))
-    after-view c h = let w = worked limit p ok l s day c h in ap (view p ρ) (after-work c) ∙ finished-view (work p l c) (w .nested) (w .roots)
+    pub after-view : (c : Call) → callRefusal terms p day l c ≡ 0 → view p ρ (after p l c) ≡ afterFinish p (view p ρ (work p l c))
+    after-view c h = let w = worked terms p ok l s day c h in ap (view p ρ) (after-work c) ∙ finished-view (work p l c) (w .nested) (w .roots)
 
     -- every accepted call on every sound ledger
-    pub stepwise : (c : Call) → callRefusal limit p day l c ≡ 0 → Stepwise p ρ limit l c
+    pub stepwise : (c : Call) → callRefusal terms p day l c ≡ 0 → Stepwise p ρ terms l c
     stepwise c h =
         let m = work p l c in
-        let w = worked limit p ok l s day c h in
+        let w = worked terms p ok l s day c h in
         record {
           reached = view p ρ m;
           run = work-run c h;
           settled = view-settled p ρ ok m (w .nested) (w .closing) (w .abandoning);
           left = after-view c h;
-          told = figures-counted p ρ ok l n limit c;
+          told = figures-counted p ρ ok l n terms c;
         }

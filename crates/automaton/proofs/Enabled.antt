@@ -14,6 +14,7 @@ use borrow.Author.Tests.{eqb-true, eq-eqb, ne-eqb, lt-ltb, not-true}
 use Rattle.rules.specs.declared.Mode.{Mode}
 use Rattle.rules.specs.declared.Mode.the-variants.{Asleep, Forward, Undoing}
 use Rattle.rules.specs.Names.{Day}
+use Rattle.rules.specs.declared.Terms.{Terms}
 use Rattle.rules.specs.Fold.{everyBelow, firstRefusal}
 use Rattle.rules.specs.Plan.{Plan, trackCount, host, transitionCount, transition, mayTake, takenOn}
 use Rattle.rules.specs.Ledger.{Entry, Ledger, isAwake, isForward, isUndoing, isEmpty}
@@ -210,7 +211,7 @@ module _ (p : Plan) (ρ : FailReading) (l : Ledger) where
     comp-enabled g t = (λ s. comp-newest t (s .0) (s .1) (s .2) .0, λ h. (_, _, comp-step p ρ ok l n t (g t) h))
 
 -- a sound ledger is not over: track 0 is a root
-module _ (p : Plan) (ok : Accepted p) (limit : ℕ) (l : Ledger) (s : Sound limit p l) where
+module _ (p : Plan) (ok : Accepted p) (terms : Terms) (l : Ledger) (s : Sound terms p l) where
   not-over : isOver p l ≡ false
   unfolding isOver
   not-over =
@@ -221,7 +222,7 @@ module _ (p : Plan) (ok : Accepted p) (limit : ℕ) (l : Ledger) (s : Sound limi
         | inl e ↦ clash (s .roots 0 (ok .some-track) e) (not-true (isAwake (l 0 .mode)) (every-at (trackCount p) (λ t. not (isAwake (l t .mode))) h 0 (ok .some-track)))
       ])
 
-module _ (p : Plan) (ρ : FailReading) (ok : Accepted p) (limit : ℕ) (l : Ledger) (s : Sound limit p l) where
+module _ (p : Plan) (ρ : FailReading) (ok : Accepted p) (terms : Terms) (l : Ledger) (s : Sound terms p l) where
   abbrev n′ : Nested p l
   n′ = s .formed .nested
 
@@ -259,44 +260,44 @@ module _ (p : Plan) (passed : Passed p) (ρ : FailReading) where
       go : {c d : Conf} {a : Act} → c ≡ end → VStep p ρ c a d → ⊥
       go e (VECT α β {n = n} s) = filled α n β e
 
-  sound-none : (limit : ℕ) (day : Day) (l : Ledger) → Sound limit p l → (c : Call) (r : ℕ) → callRefusal limit p day l c ≡ suc r
+  sound-none : (terms : Terms) (day : Day) (l : Ledger) → Sound terms p l → (c : Call) (r : ℕ) → callRefusal terms p day l c ≡ suc r
       → (suc r ≡ 21 → ⊥) → (suc r ≡ 26 → ⊥) → StepFor p ρ c (view p ρ l) → ⊥
   unfolding StepFor callRefusal callRefusals firstRefusal
-  sound-none limit day l s (event a) r e f g v =
+  sound-none terms day l s (event a) r e f g v =
       elim (look (eqb (a .event) 0)) [
         | inl z ↦ let (A, d, w) = v in zero-none l (s .formed .nested) A a (eqb-true (a .event) 0 z) d w
         | inr z ↦
             let (A, d, w) = v in
             let (x, q) = moves-some p l a A (suc-enabled p ρ l ok (s .formed .nested) A a .0 (d, w)) in
             let y = permitted-somewhere p moveRight (a .society) A (move-permitted p l a A x q) in
-            rest (badDay day (a .day)) (isFull p limit l a) (rw (z, not-over p ok limit l s, y) at e)
+            rest (badDay day (a .day)) (isFull p terms l a) (rw (z, not-over p ok terms l s, y) at e)
       ]
     where
       rest : (b c : Bool) → _≡_ {A = ℕ} (cond b 26 (cond c 21 0)) (suc r) → ⊥
       rest true c e = g (sym e)
       rest false true e = f (sym e)
       rest false false e = omega arith
-  sound-none limit day l s (signal a) r e f g v =
-      let y = permitted-somewhere p signalRight (a .society) (v .0) (v .1) in let q : 0 ≡ suc r = rw (not-over p ok limit l s, y) at e in omega arith
-  sound-none limit day l s (fire a) r e f g v =
+  sound-none terms day l s (signal a) r e f g v =
+      let y = permitted-somewhere p signalRight (a .society) (v .0) (v .1) in let q : 0 ≡ suc r = rw (not-over p ok terms l s, y) at e in omega arith
+  sound-none terms day l s (fire a) r e f g v =
       let (y, k, d, w) = v in
-      let may = allows p ρ ok limit l s .comp (a .track) .0 (k, d, w) in
-      let q : 0 ≡ suc r = sym (fire-allowed limit p day l a may y) ∙ e in omega arith
+      let may = allows p ρ ok terms l s .comp (a .track) .0 (k, d, w) in
+      let q : 0 ≡ suc r = sym (fire-allowed terms p day l a may y) ∙ e in omega arith
 
   -- of every sound ledger, over ones too
-  pub refused-none : (limit : ℕ) (day : Day) (l : Ledger) → Kept limit p l → (c : Call) (r : ℕ) → callRefusal limit p day l c ≡ suc r
+  pub refused-none : (terms : Terms) (day : Day) (l : Ledger) → Kept terms p l → (c : Call) (r : ℕ) → callRefusal terms p day l c ≡ suc r
       → (suc r ≡ 21 → ⊥) → (suc r ≡ 26 → ⊥) → StepFor p ρ c (view p ρ l) → ⊥
   unfolding StepFor
-  refused-none limit day l (inr s) c r e f g v = sound-none limit day l s c r e f g v
-  refused-none limit day l (inl o) (event a) r e f g v = let (A, d, w) = v in over-none l o (sucAt A a) d w
-  refused-none limit day l (inl o) (signal a) r e f g v = let (A, y, d, w) = v in over-none l o (failAt A) d w
-  refused-none limit day l (inl o) (fire a) r e f g v = let (y, k, d, w) = v in over-none l o (compAt (a .track) k) d w
+  refused-none terms day l (inr s) c r e f g v = sound-none terms day l s c r e f g v
+  refused-none terms day l (inl o) (event a) r e f g v = let (A, d, w) = v in over-none l o (sucAt A a) d w
+  refused-none terms day l (inl o) (signal a) r e f g v = let (A, y, d, w) = v in over-none l o (failAt A) d w
+  refused-none terms day l (inl o) (fire a) r e f g v = let (y, k, d, w) = v in over-none l o (compAt (a .track) k) d w
 
   -- and a firing is accepted wherever its COMP applies
-  pub fire-accepted-if : (limit : ℕ) (day : Day) (l : Ledger) → Sound limit p l → (a : FireArguments)
-      → StepFor p ρ (fire a) (view p ρ l) ↔ (callRefusal limit p day l (fire a) ≡ 0)
+  pub fire-accepted-if : (terms : Terms) (day : Day) (l : Ledger) → Sound terms p l → (a : FireArguments)
+      → StepFor p ρ (fire a) (view p ρ l) ↔ (callRefusal terms p day l (fire a) ≡ 0)
   unfolding StepFor
-  fire-accepted-if limit day l s a = (
-    λ v. let (y, k, d, w) = v in fire-allowed limit p day l a (allows p ρ ok limit l s .comp (a .track) .0 (k, d, w)) y,
-    λ h. let (k, d, w) = allows p ρ ok limit l s .comp (a .track) .1 (fire-accepted limit p day l a h .1) in (fire-permitted limit p day l a h, k, d, w),
+  fire-accepted-if terms day l s a = (
+    λ v. let (y, k, d, w) = v in fire-allowed terms p day l a (allows p ρ ok terms l s .comp (a .track) .0 (k, d, w)) y,
+    λ h. let (k, d, w) = allows p ρ ok terms l s .comp (a .track) .1 (fire-accepted terms p day l a h .1) in (fire-permitted terms p day l a h, k, d, w),
   )

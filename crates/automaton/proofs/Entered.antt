@@ -9,6 +9,7 @@ use Prim.Native.Nat.{ℕ, zero, suc, _+_, _<_, _≤_}
 use native.Mathlib.Omega.{arith}
 use lib.Dec.{eqb}
 use borrow.Author.Tests.{eq-eqb}
+use Rattle.rules.specs.Layout.{mainTerms}
 use Rattle.rules.specs.declared.Mode.{Mode}
 use Rattle.rules.specs.declared.Mode.the-variants.{Forward}
 use Rattle.rules.specs.Plan.{Plan, trackCount, host, owner, isRoot, isStateOf, isIn, isHostedBy, isHosting, firstState}
@@ -169,4 +170,4 @@ module _ (p : Plan) (ok : Accepted p) where
       (λ r. and-both (isRoot p t) (isAwake (begun p t .mode)) r (ap (λ (c : Configuration). isAwake (c .mode)) (begun-root p ok t b (root-none p t r)) ∙ fresh-awake p t)))
       (λ t b h.
       let e = root-none p t (and-holds (isRoot p t) (isAwake (begun p t .mode)) h .0) in
-      (unfold begun stackOf in goes (all-asleep 0 p ok) (asleep-formed 0 p ok .nested) (rootsFirst p) (roots-free 0 p ok) ρ t b .enters (firstState p t) (roots-to p ok t b e))))
+      (unfold begun stackOf in goes (all-asleep mainTerms p ok) (asleep-formed mainTerms p ok .nested) (rootsFirst p) (roots-free mainTerms p ok) ρ t b .enters (firstState p t) (roots-to p ok t b e))))

@@ -12,6 +12,7 @@ use lib.Dec.{eqb}
 use borrow.Author.Tests.{eqb-true, eqb-false, eq-eqb, ne-eqb, not-true}
 use Rattle.rules.specs.Fold.{countBelow}
 use Rattle.rules.specs.Names.{Day}
+use Rattle.rules.specs.declared.Terms.{Terms}
 use Rattle.rules.specs.Plan.{Plan, trackCount, noState, optional}
 use Rattle.rules.specs.Ledger.{Ledger}
 use Rattle.rules.specs.Event.{EventArguments, moves, moved, closesScope}
@@ -157,7 +158,7 @@ deviates-so t d u v h x y =
           dev-some d v (let g : a ≡ 1 = omega arith in g) (let g : a′ ≡ 0 = omega arith in g)
     ]
 
-module _ (p : Plan) (ρ : FailReading) (ok : Accepted p) (limit : ℕ) (day : Day) (l : Ledger) (s : Sound limit p l) where
+module _ (p : Plan) (ρ : FailReading) (ok : Accepted p) (terms : Terms) (day : Day) (l : Ledger) (s : Sound terms p l) where
   abbrev n : Nested p l
   n = s .formed .nested
 
@@ -167,20 +168,20 @@ module _ (p : Plan) (ρ : FailReading) (ok : Accepted p) (limit : ℕ) (day : Da
   event-told a d x =
       let m = moved p l a in
       ap₂ (λ u v. u ∷ v ∷ [])
-      (count-same (trackCount p) (moves p l a) (has (x .order)) (λ A b. sym (order-moves p ρ ok limit day l s a d x A))
+      (count-same (trackCount p) (moves p l a) (has (x .order)) (λ A b. sym (order-moves p ρ ok terms day l s a d x A))
       ∙ once-length (trackCount p) (x .order) (x .once)
-      (λ A h. let (y, q) = moves-some p l a A (sym (order-moves p ρ ok limit day l s a d x A) ∙ h) in n .below A (mover-awake p l a A y q)))
+      (λ A h. let (y, q) = moves-some p l a A (sym (order-moves p ρ ok terms day l s a d x A) ∙ h) in n .below A (mover-awake p l a A y q)))
       (closings-counted p ρ ok m (moved-nested p l a ok n) ∙ listed-length (trackCount p) (closesScope p m) nestsucAt
       ∙ sym (all-listed isNestsuc (closesScope p m) nestsucAt (λ k. unfold isNestsuc in refl) (trackCount p))
-      ∙ ap (numberOf isNestsuc) (sym (event-settling-acts p ρ ok limit day l s a))
-      ∙ sym (same-steps p ρ isNestsuc ok (event-between p ρ ok limit day l s a d x) (x .settling .0) (x .settling .1) (event-settling p ρ ok limit day l s a .0) (event-settling p ρ ok limit day l s a .1)))
+      ∙ ap (numberOf isNestsuc) (sym (event-settling-acts p ρ ok terms day l s a))
+      ∙ sym (same-steps p ρ isNestsuc ok (event-between p ρ ok terms day l s a d x) (x .settling .0) (x .settling .1) (event-settling p ρ ok terms day l s a .0) (event-settling p ρ ok terms day l s a .1)))
 
-  fire-told : (a : FireArguments) → callRefusal limit p day l (fire a) ≡ 0 → (k : ℕ) (d : Conf) (x : OnFiring p ρ (a .track) k (view p ρ l) d)
+  fire-told : (a : FireArguments) → callRefusal terms p day l (fire a) ≡ 0 → (k : ℕ) (d : Conf) (x : OnFiring p ρ (a .track) k (view p ρ l) d)
       → figures p l (fire a) ≡ k ∷ deviationIn (actsIn p ρ (x .settling .0)) ∷ []
   unfolding figures firingActs abandonings
   fire-told a h k d x =
       let t = a .track in
-      let y = fire-fired p ρ ok limit day l s a h in
+      let y = fire-fired p ρ ok terms day l s a h in
       let same = comp-unique p ρ t k (newest (l t .held) .code) (view p ρ l) (x .between) (y .between) (view-once p ρ ok l n t) (x .firing) (y .firing) in
       ap₂ (λ u v. u ∷ v ∷ []) (sym (comp-newest p ρ l ok n t k (x .between) (x .firing) .1))
       (sym (deviates-so t (newest (l t .held) .deviation) (listedDown (trackCount p) (leavesScope p (fired p l t)) (leaveAt ρ)) (actsIn p ρ (x .settling .0))
@@ -188,12 +189,12 @@ module _ (p : Plan) (ρ : FailReading) (ok : Accepted p) (limit : ℕ) (day : Da
       (none-down isDev (leavesScope p (fired p l t)) (leaveAt ρ) (leave-dev ρ) (trackCount p))
       (none-down (isDevElsewhere (newest (l t .held) .deviation)) (leavesScope p (fired p l t)) (leaveAt ρ) (leave-elsewhere (newest (l t .held) .deviation) ρ) (trackCount p))))
 
-  tells : (c : Call) → callRefusal limit p day l c ≡ 0 → (d : Conf) (x : Big p ρ c (view p ρ l) d) → figures p l c ≡ toldBy p ρ l c (view p ρ l) d x
+  tells : (c : Call) → callRefusal terms p day l c ≡ 0 → (d : Conf) (x : Big p ρ c (view p ρ l) d) → figures p l c ≡ toldBy p ρ l c (view p ρ l) d x
   unfolding Big toldBy
   tells (event a) h d x = event-told a d x
   tells (signal a) h d x = turned-counted p ρ ok l n a (x .between) (x .turning .0) (x .turning .1)
   tells (fire a) h d x = fire-told a h (x .0) d (x .1)
 
   -- every accepted call
-  pub exactly : (c : Call) → callRefusal limit p day l c ≡ 0 → Exactly p ρ limit l c
-  exactly c h = record { steps = stepwise p ρ ok limit day l s c h; ends = exactly-big p ρ ok limit day l s c h; tells = tells c h }
+  pub exactly : (c : Call) → callRefusal terms p day l c ≡ 0 → Exactly p ρ terms l c
+  exactly c h = record { steps = stepwise p ρ ok terms day l s c h; ends = exactly-big p ρ ok terms day l s c h; tells = tells c h }

@@ -12,6 +12,7 @@ use lib.Dec.{eqb}
 use borrow.Author.Tests.{eqb-true, eqb-false}
 use Rattle.rules.specs.declared.Mode.{Mode}
 use Rattle.rules.specs.declared.Mode.the-variants.{Asleep, Forward, Undoing}
+use Rattle.rules.specs.declared.Terms.{Terms}
 use Rattle.rules.specs.Plan.{Plan, trackCount, noState, optional, host, owner}
 use Rattle.rules.specs.Ledger.{Entry, Configuration, Ledger, isAwake, isForward}
 use Rattle.rules.specs.Scope.{isOpen, hasOpenScope}
@@ -249,12 +250,12 @@ module _ (p : Plan) (ρ : FailReading) (ok : Accepted p) where
       ])
 
   -- as soundness has it
-  pub sound-faithful : (limit : ℕ) (l m : Ledger) → Sound limit p l → Sound limit p m → view p ρ l ≡ view p ρ m → l ≡ m
-  sound-faithful limit l m s r h = view-faithful l m (s .formed .nested) (r .formed .nested) (s .roots) (r .roots) h
+  pub sound-faithful : (terms : Terms) (l m : Ledger) → Sound terms p l → Sound terms p m → view p ρ l ≡ view p ρ m → l ≡ m
+  sound-faithful terms l m s r h = view-faithful l m (s .formed .nested) (r .formed .nested) (s .roots) (r .roots) h
 
   -- one that is not over is not shown as one that is
-  pub over-unlike : (limit : ℕ) (l : Ledger) → Sound limit p l → view p ρ l ≡ Vect [] → ⊥
-  over-unlike limit l s h =
+  pub over-unlike : (terms : Terms) (l : Ledger) → Sound terms p l → view p ρ l ≡ Vect [] → ⊥
+  over-unlike terms l s h =
       elim (look-option (host p 0)) [
         | inr q ↦ let c = ok .lower 0 (q .0) (q .1) in omega arith
         | inl e ↦
@@ -265,8 +266,8 @@ module _ (p : Plan) (ρ : FailReading) (ok : Accepted p) where
       ]
 
   -- sound or over
-  pub kept-faithful : (limit : ℕ) (l m : Ledger) → Kept limit p l → Kept limit p m → view p ρ l ≡ view p ρ m → l ≡ m
-  kept-faithful limit l m (inl a) (inl b) h = fun-ext (λ t. a t ∙ sym (b t))
-  kept-faithful limit l m (inl a) (inr b) h = absurd (over-unlike limit m b (sym h ∙ over-view p ρ ok l a))
-  kept-faithful limit l m (inr a) (inl b) h = absurd (over-unlike limit l a (h ∙ over-view p ρ ok m b))
-  kept-faithful limit l m (inr a) (inr b) h = sound-faithful limit l m a b h
+  pub kept-faithful : (terms : Terms) (l m : Ledger) → Kept terms p l → Kept terms p m → view p ρ l ≡ view p ρ m → l ≡ m
+  kept-faithful terms l m (inl a) (inl b) h = fun-ext (λ t. a t ∙ sym (b t))
+  kept-faithful terms l m (inl a) (inr b) h = absurd (over-unlike terms m b (sym h ∙ over-view p ρ ok l a))
+  kept-faithful terms l m (inr a) (inl b) h = absurd (over-unlike terms l a (h ∙ over-view p ρ ok m b))
+  kept-faithful terms l m (inr a) (inr b) h = sound-faithful terms l m a b h

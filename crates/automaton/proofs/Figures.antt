@@ -11,6 +11,7 @@ use lib.ListN.{length}
 use lib.Dec.{eqb}
 use borrow.Author.Tests.{eqb-true}
 use Rattle.rules.specs.Names.{Society}
+use Rattle.rules.specs.declared.Terms.{Terms}
 use Rattle.rules.specs.Fold.{countBelow}
 use Rattle.rules.specs.Plan.{Plan, trackCount, noState, optional}
 use Rattle.rules.specs.Rights.{signalRight, isPermitted}
@@ -158,9 +159,9 @@ module _ (p : Plan) (ρ : FailReading) (ok : Accepted p) (l : Ledger) (n : Neste
   left-none a b c e f = omega arith
 
   -- moved and closed are the numbers of SUC and NESTSUC, turned that of FAIL and of the hosts that turn early; a firing tells its COMP and its DEV
-  pub figures-counted : (limit : ℕ) (c : Call) → figures p l c ≡ countedSteps p ρ l c
+  pub figures-counted : (terms : Terms) (c : Call) → figures p l c ≡ countedSteps p ρ l c
   unfolding figures countedSteps actsOf movings closers turners abandonings
-  figures-counted limit (event a) =
+  figures-counted terms (event a) =
       let m = moved p l a in
       let T = trackCount p in
       let go : ℕ → Act = λ t. sucAt t a in
@@ -170,14 +171,14 @@ module _ (p : Plan) (ρ : FailReading) (ok : Accepted p) (l : Ledger) (n : Neste
       (closings-counted p ρ ok m (moved-nested p l a ok n) ∙ listed-length T (closesScope p m) nestsucAt
       ∙ sym (number-joined isNestsuc (listed T (moves p l a) go) (listed T (closesScope p m) nestsucAt)
       ∙ left-none _ _ _ (none-listed isNestsuc (moves p l a) go (λ k. unfold isNestsuc in refl) T) (all-listed isNestsuc (closesScope p m) nestsucAt (λ k. unfold isNestsuc in refl) T)))
-  figures-counted limit (signal a) =
+  figures-counted terms (signal a) =
       let T = trackCount p in
       ap (λ x. x ∷ [])
       (forward-split p l ρ (a .society)
       ∙ ap (λ x. x + countBelow T (isTurnedEarly p ρ l (a .society)))
       (sym (number-joined isFail (listedDown T (isTurning p ρ (a .society) l) failAt) (listedDown T (leavesScope p (turned p (a .society) l)) (leaveAt ρ))
       ∙ right-none _ _ _ (all-down isFail (isTurning p ρ (a .society) l) failAt (λ k. unfold isFail in refl) T) (none-down isFail (leavesScope p (turned p (a .society) l)) (leaveAt ρ) (leave-fail ρ) T))))
-  figures-counted limit (fire a) =
+  figures-counted terms (fire a) =
       let t = a .track in
       let e = newest (l t .held) in
       let w = listedDown (trackCount p) (leavesScope p (fired p l t)) (leaveAt ρ) in

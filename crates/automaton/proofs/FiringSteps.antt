@@ -9,6 +9,7 @@ use Prim.Native.Nat.{ℕ, _<_}
 use native.Mathlib.Omega.{arith}
 use lib.Dec.{eqb}
 use borrow.Author.Tests.{eqb-true, eqb-false, eq-eqb, ne-eqb}
+use Rattle.rules.specs.Layout.{mainTerms}
 use Rattle.rules.specs.Plan.{Plan, trackCount, optional, host, isHostedBy, isAbove}
 use Rattle.rules.specs.Ledger.{Entry, Configuration, Ledger, isAwake, isForward, isEmpty}
 use Rattle.rules.specs.Scope.{hasOpenScope}
@@ -56,16 +57,16 @@ module _ (p : Plan) (ρ : FailReading) (ok : Accepted p) (l : Ledger) (n : Neste
   rest = stackOf (older (l t .held))
 
   low : t < trackCount p
-  low = may-fire 0 p l t may .0
+  low = may-fire mainTerms p l t may .0
 
   free : hasOpenScope p l t ≡ false
-  free = may-fire 0 p l t may .3
+  free = may-fire mainTerms p l t may .3
 
   back : isForward (l t .mode) ≡ false
-  back = undoing-forward (l t .mode) (may-fire 0 p l t may .1)
+  back = undoing-forward (l t .mode) (may-fire mainTerms p l t may .1)
 
   awake : Awake l t
-  awake = undoing-awake (l t .mode) (may-fire 0 p l t may .1)
+  awake = undoing-awake (l t .mode) (may-fire mainTerms p l t may .1)
 
   fired-on : Nested p m
   fired-on = fired-nested p l t ok n g free awake
@@ -106,7 +107,7 @@ module _ (p : Plan) (ρ : FailReading) (ok : Accepted p) (l : Ledger) (n : Neste
   unfolding basic directionOf
   before =
       view-law p ρ l ok t low ∙ shown-free p ρ l t (viewOf p ρ l) free
-      ∙ ap₂ (λ x S. Basic t (l t .state) (directionOf x) S) back (stack-newest (l t .held) (may-fire 0 p l t may .2))
+      ∙ ap₂ (λ x S. Basic t (l t .state) (directionOf x) S) back (stack-newest (l t .held) (may-fire mainTerms p l t may .2))
 
   pub comp-step : VStep p ρ (view p ρ l) (compAt t code) (frames p ρ l (only begun))
   unfolding begun

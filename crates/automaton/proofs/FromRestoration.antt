@@ -11,6 +11,7 @@ use lib.Dec.{eqb}
 use borrow.Author.Tests.{eqb-true, eqb-false, eq-eqb, ne-eqb}
 use Rattle.rules.specs.declared.Counts.{Counts}
 use Rattle.rules.specs.Names.{Day, Society}
+use Rattle.rules.specs.declared.Terms.{Terms}
 use Rattle.rules.specs.Day.{earliestDay}
 use Rattle.rules.specs.Plan.{Plan, trackCount, planOf, optional, isRoot}
 use Rattle.rules.specs.Acceptance.{accepted, readPlan}
@@ -89,13 +90,13 @@ one-symbol A e (suc n) i f b c =
           elim (look (f i)) [ inl y ↦ rw (y, q, ih) | inr y ↦ rw (y, ih) ]
     ]
 
-module _ (limit : ℕ) (p : Plan) (ρ : FailReading) (ok : Accepted p) (comp : ℕ → ℕ) (perfect : Perfect comp p) (tagged : Tagged p)
+module _ (terms : Terms) (p : Plan) (ρ : FailReading) (ok : Accepted p) (comp : ℕ → ℕ) (perfect : Perfect comp p) (tagged : Tagged p)
     (A : ℕ) (low : A < trackCount p) (root : isRoot p A ≡ true) (bs : List ℕ) where
-  abbrev books : Books p limit
-  books = stringBooks p ok comp perfect tagged A root limit
+  abbrev books : Books p terms
+  books = stringBooks p ok comp perfect tagged A root terms
 
   abbrev add : ℕ → List Symbol → List Symbol
-  add = adds p ok comp perfect tagged A root limit
+  add = adds p ok comp perfect tagged A root terms
 
   -- what an event adds
   added : Ledger → EventArguments → List Symbol → List Symbol
@@ -109,7 +110,7 @@ module _ (limit : ℕ) (p : Plan) (ρ : FailReading) (ok : Accepted p) (comp : �
           | inl q ↦ rw (q, taken, moves-not q)
           | inr q ↦
               rw (q .1, taken, some-moves p l e A (q .0) (q .1))
-              (adds-here p ok comp perfect tagged A root limit (q .0) v (mover-is p l e ok n A (q .0) (q .1))
+              (adds-here p ok comp perfect tagged A root terms (q .0) v (mover-is p l e ok n A (q .0) (q .1))
               ∙ ap (λ i. leftAfter comp v (activity i)) (on-event p l e A (q .0) (q .1)))
         ]
       where
@@ -126,7 +127,7 @@ module _ (limit : ℕ) (p : Plan) (ρ : FailReading) (ok : Accepted p) (comp : �
     before-root (suc m) b v =
         act-append add (movesBelow p m (λ t. true) l e) (taken (move p l e m)) v
         ∙ ap (act add (taken (move p l e m))) (before-root m (omega arith) v)
-        ∙ taken-idle p ok comp perfect tagged A root limit l n e m (λ z. let w : m ≡ A = z in omega arith) v
+        ∙ taken-idle p ok comp perfect tagged A root terms l n e m (λ z. let w : m ≡ A = z in omega arith) v
 
     past-root : (m : ℕ) → A < m → (v : List Symbol) → act add (movesBelow p m (λ t. true) l e) v ≡ added l e v
     unfolding movesBelow
@@ -141,7 +142,7 @@ module _ (limit : ℕ) (p : Plan) (ρ : FailReading) (ok : Accepted p) (comp : �
           | inr q ↦
               let d = eqb-false m A q in
               ap (act add (taken (move p l e m))) (past-root m (omega arith) v)
-              ∙ taken-idle p ok comp perfect tagged A root limit l n e m d (added l e v)
+              ∙ taken-idle p ok comp perfect tagged A root terms l n e m d (added l e v)
         ]
 
     -- an event: the books' changes are the string's
@@ -172,30 +173,30 @@ module _ (limit : ℕ) (p : Plan) (ρ : FailReading) (ok : Accepted p) (comp : �
 
   -- a firing: the code is of the track fired
   fire-string : (l m : Ledger) (t c : ℕ) (o : Option ℕ) → isCodeOf p t c ≡ true → (v : List Symbol)
-      → takes p ok comp perfect tagged A root limit c v ≡ leftOf comp v (projected A (compAt t c ∷ nestcompAt t ∷ (deviationStep t o ++ abandonings p ρ m)))
+      → takes p ok comp perfect tagged A root terms c v ≡ leftOf comp v (projected A (compAt t c ∷ nestcompAt t ∷ (deviationStep t o ++ abandonings p ρ m)))
   unfolding projected symbol trace leftOf
   fire-string l m t c o h v =
       elim (look (eqb t A)) [
         | inl q ↦
             rw (q, no-deviation m t o)
-            (takes-here p ok comp perfect tagged A root limit c v (subst (λ x. isCodeOf p x c ≡ true) (eqb-true t A q) h))
+            (takes-here p ok comp perfect tagged A root terms c v (subst (λ x. isCodeOf p x c ≡ true) (eqb-true t A q) h))
         | inr q ↦
             rw (q, no-deviation m t o)
-            (takes-other p ok comp perfect tagged A root limit c v (other-code p ok comp perfect tagged A root limit t c h (eqb-false t A q)))
+            (takes-other p ok comp perfect tagged A root terms c v (other-code p ok comp perfect tagged A root terms t c h (eqb-false t A q)))
       ]
 
-  call-string : (d : Day) (l : Ledger) → Reached p limit d l → Sound limit p l → (c : Call) → callRefusal limit p d l c ≡ 0 → (v : List Symbol)
-      → bookedCall limit bs p books l c v ≡ leftOf comp v (projected A (actsOf p ρ l c))
+  call-string : (d : Day) (l : Ledger) → Reached p terms d l → Sound terms p l → (c : Call) → callRefusal terms p d l c ≡ 0 → (v : List Symbol)
+      → bookedCall terms bs p books l c v ≡ leftOf comp v (projected A (actsOf p ρ l c))
   unfolding bookedCall actsOf
   call-string d l r s (event a) h v = event-string l (s .formed .nested) a v
   call-string d l r s (signal a) h v = sym (ap (leftOf comp v) (no-turns (a .society) l) ∙ (unfold leftOf in refl))
   call-string d l r s (fire a) h v =
       let t = a .track in
-      let (b, u, e, f) = may-fire limit p l t (fire-accepted limit p d l a h .1) in
+      let (b, u, e, f) = may-fire terms p l t (fire-accepted terms p d l a h .1) in
       fire-string l (fired p l t) t (newest (l t .held) .code) (optional (newest (l t .held) .deviation))
-      (newest-own p t (l t .held) (reached-own p ok comp perfect limit r t) e) v
+      (newest-own p t (l t .held) (reached-own p ok comp perfect terms r t) e) v
 
-module _ (ρ : FailReading) (limit : ℕ) (bs : List ℕ) (k : Counts) (read : readPlan bs ≡ accepted k) where
+module _ (ρ : FailReading) (terms : Terms) (bs : List ℕ) (k : Counts) (read : readPlan bs ≡ accepted k) where
   abbrev p : Plan
   p = planOf bs k
 
@@ -203,48 +204,48 @@ module _ (ρ : FailReading) (limit : ℕ) (bs : List ℕ) (k : Counts) (read : r
   ok = accepts bs k read
 
   abbrev led : List ℕ → Ledger
-  led ws = ledgerAt limit ws (trackCount p)
+  led ws = ledgerAt terms ws (trackCount p)
 
   module _ (comp : ℕ → ℕ) (perfect : Perfect comp p) (tagged : Tagged p) (A : ℕ) (low : A < trackCount p) (root : isRoot p A ≡ true) where
-    abbrev theBooks : Books p limit
-    theBooks = stringBooks p ok comp perfect tagged A root limit
+    abbrev theBooks : Books p terms
+    theBooks = stringBooks p ok comp perfect tagged A root terms
 
-    one-call : (c : Call) (ws : List ℕ) (d : Day) (l : Ledger) → Holds limit bs k read ws d l → Reached p limit d l → (v : List Symbol)
-        → booked limit bs p theBooks (led ws) c (callOutcome limit bs ws c .answer) v
-        ≡ leftOf comp v (projected A (made (callOutcome limit bs ws c .answer) (actsOf p ρ (led ws) c)))
+    one-call : (c : Call) (ws : List ℕ) (d : Day) (l : Ledger) → Holds terms bs k read ws d l → Reached p terms d l → (v : List Symbol)
+        → booked terms bs p theBooks (led ws) c (callOutcome terms bs ws c .answer) v
+        ≡ leftOf comp v (projected A (made (callOutcome terms bs ws c .answer) (actsOf p ρ (led ws) c)))
     unfolding booked made
-    one-call c ws d l h r v = go (h .kept) (callRefusal limit p d l c) refl
+    one-call c ws d l h r v = go (h .kept) (callRefusal terms p d l c) refl
       where
-        go : Kept limit p l → (x : ℕ) → callRefusal limit p d l c ≡ x
-            → booked limit bs p theBooks (led ws) c (callOutcome limit bs ws c .answer) v
-            ≡ leftOf comp v (projected A (made (callOutcome limit bs ws c .answer) (actsOf p ρ (led ws) c)))
-        go (inl o) zero e = absurd (over-refused limit p d l (over-is p l o) c e)
+        go : Kept terms p l → (x : ℕ) → callRefusal terms p d l c ≡ x
+            → booked terms bs p theBooks (led ws) c (callOutcome terms bs ws c .answer) v
+            ≡ leftOf comp v (projected A (made (callOutcome terms bs ws c .answer) (actsOf p ρ (led ws) c)))
+        go (inl o) zero e = absurd (over-refused terms p d l (over-is p l o) c e)
         go (inr s) zero e =
-            rw (call-accepted limit bs k read ws d l h c e, h .reads)
-            (call-string limit p ρ ok comp perfect tagged A low root bs d l r s c e v)
-        go w (suc x) e = rw (call-refused limit bs k read ws d l h c x e) (unfold projected leftOf in refl)
+            rw (call-accepted terms bs k read ws d l h c e, h .reads)
+            (call-string terms p ρ ok comp perfect tagged A low root bs d l r s c e v)
+        go w (suc x) e = rw (call-refused terms bs k read ws d l h c x e) (unfold projected leftOf in refl)
 
     -- the books along a list stand as the string of its steps leaves them
-    along : (cs : List Call) (ws : List ℕ) (d : Day) (l : Ledger) → Holds limit bs k read ws d l → Reached p limit d l → (v : List Symbol)
-        → booksFrom limit bs p theBooks ws cs v ≡ leftOf comp v (projected A (actsFrom limit bs p ρ ws cs))
+    along : (cs : List Call) (ws : List ℕ) (d : Day) (l : Ledger) → Holds terms bs k read ws d l → Reached p terms d l → (v : List Symbol)
+        → booksFrom terms bs p theBooks ws cs v ≡ leftOf comp v (projected A (actsFrom terms bs p ρ ws cs))
     unfolding booksFrom actsFrom
     along [] ws d l h r v = unfold projected leftOf in refl
     along (c ∷ cs) ws d l h r v =
-        let words = callOutcome limit bs ws c .words in
-        let here = made (callOutcome limit bs ws c .answer) (actsOf p ρ (led ws) c) in
-        let rest = actsFrom limit bs p ρ words cs in
-        along cs words _ (next limit p d l c) (call-holds limit bs k read ws d l h c) (run.then r c)
-        (booked limit bs p theBooks (led ws) c (callOutcome limit bs ws c .answer) v)
+        let words = callOutcome terms bs ws c .words in
+        let here = made (callOutcome terms bs ws c .answer) (actsOf p ρ (led ws) c) in
+        let rest = actsFrom terms bs p ρ words cs in
+        along cs words _ (next terms p d l c) (call-holds terms bs k read ws d l h c) (run.then r c)
+        (booked terms bs p theBooks (led ws) c (callOutcome terms bs ws c .answer) v)
         ∙ ap (λ z. leftOf comp z (projected A rest)) (one-call c ws d l h r v)
         ∙ sym (left-joined comp v (projected A here) (projected A rest))
         ∙ ap (leftOf comp v) (sym (projected-joined A here rest))
 
     -- Corollary 1 of lists of calls, from "her books stand exactly as at that begin"
-    pub restored-cancel : (lent : List ℕ) (cs : List Call) → beginOutcome limit bs lent .answer ≡ done []
-        → AllWithdrawn p (ledgerAfter limit bs p lent cs) → cancOut comp (projected A (actsAfter limit bs p ρ lent cs)) ≡ []
+    pub restored-cancel : (lent : List ℕ) (cs : List Call) → beginOutcome terms bs lent .answer ≡ done []
+        → AllWithdrawn p (ledgerAfter terms bs p lent cs) → cancOut comp (projected A (actsAfter terms bs p ρ lent cs)) ≡ []
     unfolding cancOut onto actsAfter booksAfter
     restored-cancel lent cs h w =
-        let words = beginOutcome limit bs lent .words in
-        let e : leftOf comp [] (projected A (actsFrom limit bs p ρ words cs)) ≡ [] =
-        sym (along cs words earliestDay (begun p) (begin-holds limit bs k read lent h) run.start []) ∙ restored limit bs k read theBooks lent cs h [] w in
+        let words = beginOutcome terms bs lent .words in
+        let e : leftOf comp [] (projected A (actsFrom terms bs p ρ words cs)) ≡ [] =
+        sym (along cs words earliestDay (begun p) (begin-holds terms bs k read lent h) run.start []) ∙ restored terms bs k read theBooks lent cs h [] w in
         rw e

@@ -9,6 +9,7 @@ use Prim.Native.Nat.{ℕ}
 use lib.Dec.{eqb}
 use borrow.Author.Tests.{eqb-true, eqb-false, eq-eqb}
 use Rattle.rules.specs.Names.{Day}
+use Rattle.rules.specs.declared.Terms.{Terms}
 use Rattle.rules.specs.Plan.{Plan, owner, transition, noState, replacement}
 use Rattle.rules.specs.Ledger.{Entry, Configuration, Ledger, isEmpty, sleeping}
 use Rattle.rules.specs.Opening.{begun, enter}
@@ -121,28 +122,28 @@ module _ (p : Plan) where
           left-own (fired p l (a .track))
           (λ u. ap (λ m. own u (m u .held)) (fired-is p l (a .track)) ∙ enter-own (removed l (a .track)) (deviatesTo l (a .track)) (removed-own l (a .track) h) u)
 
-      module _ (limit : ℕ) where
-        next-own : (d : Day) (l : Ledger) → Kept limit p l → (c : Call) → ((t : ℕ) → own t (l t .held) ≡ true) → (t : ℕ) → own t (next limit p d l c t .held) ≡ true
+      module _ (terms : Terms) where
+        next-own : (d : Day) (l : Ledger) → Kept terms p l → (c : Call) → ((t : ℕ) → own t (l t .held) ≡ true) → (t : ℕ) → own t (next terms p d l c t .held) ≡ true
         next-own d l k c h t =
-            elim (look (eqb (callRefusal limit p d l c) 0)) [
-              | inr z ↦ ap (λ m. own t (m t .held)) (next-refused limit p d l c (eqb-false (callRefusal limit p d l c) 0 z)) ∙ h t
+            elim (look (eqb (callRefusal terms p d l c) 0)) [
+              | inr z ↦ ap (λ m. own t (m t .held)) (next-refused terms p d l c (eqb-false (callRefusal terms p d l c) 0 z)) ∙ h t
               | inl z ↦
-                  let e = eqb-true (callRefusal limit p d l c) 0 z in
-                  elim (next-cases limit p ok d l c e) [
+                  let e = eqb-true (callRefusal terms p d l c) 0 z in
+                  elim (next-cases terms p ok d l c e) [
                     | inl q ↦ ap (λ m. own t (m t .held)) q ∙ work-own l (nested k e) c h t
-                    | inr o ↦ none-own t (next limit p d l c t .held) (ap (λ (x : Configuration). x .held) (o t) ∙ sleeping-held)
+                    | inr o ↦ none-own t (next terms p d l c t .held) (ap (λ (x : Configuration). x .held) (o t) ∙ sleeping-held)
                   ]
             ]
           where
-            nested : Kept limit p l → callRefusal limit p d l c ≡ 0 → Nested p l
-            nested (inl o) e = absurd (over-refused limit p d l (over-is p l o) c e)
+            nested : Kept terms p l → callRefusal terms p d l c ≡ 0 → Nested p l
+            nested (inl o) e = absurd (over-refused terms p d l (over-is p l o) c e)
             nested (inr s) e = s .formed .nested
 
-        reached-held : {d : Day} {l : Ledger} → Reached p limit d l → (t : ℕ) → own t (l t .held) ≡ true
+        reached-held : {d : Day} {l : Ledger} → Reached p terms d l → (t : ℕ) → own t (l t .held) ≡ true
         unfolding begun
-        reached-held run.start t = enter-own (all-asleep limit p ok) _ (λ u. none-own u (sleeping .held) sleeping-held) t
-        reached-held (run.then {d = d} {l = l} r c) t = next-own d l (reached-kept limit p ok r) c (λ u. reached-held r u) t
+        reached-held run.start t = enter-own (all-asleep terms p ok) _ (λ u. none-own u (sleeping .held) sleeping-held) t
+        reached-held (run.then {d = d} {l = l} r c) t = next-own d l (reached-kept terms p ok r) c (λ u. reached-held r u) t
 
-        pub reached-own : {d : Day} {l : Ledger} → Reached p limit d l → Own l
+        pub reached-own : {d : Day} {l : Ledger} → Reached p terms d l → Own l
         unfolding own
         reached-own r t = reached-held r t

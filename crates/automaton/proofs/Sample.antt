@@ -5,7 +5,7 @@ use mathlib.Core.List.{List, [], _∷_}
 use Prim.Native.Nat.{ℕ}
 use lib.IntN.{pos}
 use Rattle.rules.specs.Plan.{Plan, planOf, isRoot}
-use Rattle.rules.specs.Layout.{entryLimit}
+use Rattle.rules.specs.Layout.{mainTerms}
 use Rattle.rules.specs.Ledger.{Ledger}
 use Rattle.rules.specs.Call.{Call, event, signal, fire, figures}
 use Rattle.rules.specs.ReferenceRun.{ledgerAfter}
@@ -30,7 +30,7 @@ s = signal (record { society = 1 })
 
 -- the ledger after begin and a list of calls
 abbrev ledger : List Call → Ledger
-ledger cs = ledgerAfter entryLimit planP P (lentFor 3) cs
+ledger cs = ledgerAfter mainTerms planP P (lentFor 3) cs
 
 -- Begin: the root in its first state.
 pub begun-view : view P basicAlone (ledger []) ≡ Vect (Basic 0 0 forward [] ∷ [])

@@ -12,7 +12,7 @@ use lib.Dec.{eqb, ltb}
 use borrow.Author.Tests.{eqb-true, eq-eqb, ltb-true, ltb-false}
 use Rattle.rules.specs.Fold.{everyBelow}
 use Rattle.rules.specs.Plan.{Plan, State, planOf, stateCount, transitionCount, state, transition, replacement, mover, noState}
-use Rattle.rules.specs.Layout.{entryLimit}
+use Rattle.rules.specs.Layout.{mainTerms}
 use Rattle.rules.specs.Call.{Call, event, signal, fire}
 use Rattle.rules.proofs.Tests.{look, implies}
 use Rattle.rules.proofs.Folds.{every-at}
@@ -112,10 +112,10 @@ f t = fire (record { track = t; society = 1 })
 abbrev calls : List Call
 calls = e 10 ∷ e 11 ∷ e 12 ∷ signal (record { society = 1 }) ∷ f 1 ∷ f 2 ∷ f 0 ∷ []
 
-pub stringQ : projected 0 (actsAfter entryLimit planQ Q basicAlone (lentFor 3) calls) ≡ activity 10 ∷ action 50 ∷ []
+pub stringQ : projected 0 (actsAfter mainTerms planQ Q basicAlone (lentFor 3) calls) ≡ activity 10 ∷ action 50 ∷ []
 unfolding computing listedFrom listed listedDown isWithin leavesScope isGoing isTurning leaveAt abandonings deviationStep movings closers turners actsOf made actsFrom actsAfter trace symbol projected
 stringQ = refl
 
-pub cancelledQ : cancOut comp (projected 0 (actsAfter entryLimit planQ Q basicAlone (lentFor 3) calls)) ≡ []
+pub cancelledQ : cancOut comp (projected 0 (actsAfter mainTerms planQ Q basicAlone (lentFor 3) calls)) ≡ []
 unfolding leftOf leftAfter isPair onto cancOut
 cancelledQ = ap (cancOut comp) stringQ

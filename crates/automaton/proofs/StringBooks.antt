@@ -8,6 +8,7 @@ use Prim.Native.Nat.{ℕ, zero, suc, _<_}
 use lib.Dec.{eqb}
 use borrow.Author.Tests.{eqb-true, eqb-false, eq-eqb, ne-eqb}
 use Rattle.rules.specs.Names.{Day}
+use Rattle.rules.specs.declared.Terms.{Terms}
 use Rattle.rules.specs.Fold.{someBelow}
 use Rattle.rules.specs.Plan.{Plan, owner, trackCount, transitionCount, transition, mover, isRoot, isInside}
 use Rattle.rules.specs.Ledger.{Ledger}
@@ -44,7 +45,7 @@ module _ (p : Plan) where
       let (u, v) = and-holds (eqb (mover p x) t) (eqb (transition p x .code) c) q in
       (x, b, eqb-true (mover p x) t u, eqb-true (transition p x .code) c v)
 
-  module _ (ok : Accepted p) (comp : ℕ → ℕ) (perfect : Perfect comp p) (tagged : Tagged p) (A : ℕ) (root : isRoot p A ≡ true) (limit : ℕ) where
+  module _ (ok : Accepted p) (comp : ℕ → ℕ) (perfect : Perfect comp p) (tagged : Tagged p) (A : ℕ) (root : isRoot p A ≡ true) (terms : Terms) where
     unfoldable pub adds : ℕ → List Symbol → List Symbol
     adds x v = cond (eqb (mover p x) A) (leftAfter comp v (activity (transition p x .event))) v
 
@@ -136,30 +137,30 @@ module _ (p : Plan) where
         ∙ ap (act adds (cond (isInside p s n) (taken (move p l e n)) [])) (inside-idle l k s e n v)
         ∙ elim (look (isInside p s n)) [ inl h ↦ rw h (taken-idle l k e n (not-inside s n h) v) | inr h ↦ rw h ]
 
-    scope-idle : (l : Ledger) → Kept limit p l → (s : ℕ) (e : EventArguments) → (Over l → ⊥) → (v : List Symbol)
+    scope-idle : (l : Ledger) → Kept terms p l → (s : ℕ) (e : EventArguments) → (Over l → ⊥) → (v : List Symbol)
         → act adds (movesOf p (isInside p s) l e) v ≡ v
     unfolding movesOf
     scope-idle l (inl o) s e w v = absurd (w o)
     scope-idle l (inr k) s e w v = inside-idle l (k .formed .nested) s e (trackCount p) v
 
-    run-idle : (s : ℕ) {d : Day} {l : Ledger} {w : List ℕ} → Running p limit s d l w → (v : List Symbol) → act adds w v ≡ v
+    run-idle : (s : ℕ) {d : Day} {l : Ledger} {w : List ℕ} → Running p terms s d l w → (v : List Symbol) → act adds w v ≡ v
     unfolding act
     run-idle s (by-begin o) v = refl
     run-idle s (by-call r c f o) v = refl
     run-idle s (over-event {d = d} {l = l} {w = w} r a h o) v =
         act-append adds w (movesOf p (isInside p s) l a) v
         ∙ ap (act adds (movesOf p (isInside p s) l a)) (run-idle s r v)
-        ∙ scope-idle l (reached-kept limit p ok (running-reached limit p ok r)) s a (λ z. over-refused limit p d l (over-is p l z) (event a) h) v
+        ∙ scope-idle l (reached-kept terms p ok (running-reached terms p ok r)) s a (λ z. over-refused terms p d l (over-is p l z) (event a) h) v
     run-idle s (over-signal r a h f o) v = run-idle s r v
     run-idle s (over-fire r a h o) v = run-idle s r v
 
-    pub finished-idle : (s : ℕ) (w : List ℕ) → Finished p limit s w → (v : List Symbol) → act adds w v ≡ v
+    pub finished-idle : (s : ℕ) (w : List ℕ) → Finished p terms s w → (v : List Symbol) → act adds w v ≡ v
     finished-idle s w₀ (run.closed {d = d} {l = l} {w = w} r a h c) v =
         act-append adds w (movesOf p (isInside p s) l a) v
         ∙ ap (act adds (movesOf p (isInside p s) l a)) (run-idle s r v)
-        ∙ scope-idle l (reached-kept limit p ok (running-reached limit p ok r)) s a (λ z. over-refused limit p d l (over-is p l z) (event a) h) v
+        ∙ scope-idle l (reached-kept terms p ok (running-reached terms p ok r)) s a (λ z. over-refused terms p d l (over-is p l z) (event a) h) v
 
-    abbrev pub stringBooks : Books p limit
+    abbrev pub stringBooks : Books p terms
     stringBooks =
         record {
           State = List Symbol;

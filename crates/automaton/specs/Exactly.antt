@@ -15,6 +15,7 @@ use Rattle.automaton.specs.View.{view, actsOf}
 use Rattle.automaton.specs.CountedSteps.{isTurnedEarly, countedSteps}
 use Rattle.automaton.specs.StepTests.{isNestsuc, isFail, numberOf, deviationIn}
 use Rattle.automaton.specs.BigSteps.{afterFinish, actsIn, Big, Ends}
+use Rattle.rules.specs.declared.Terms.{Terms}
 
 -- the figures as a big step tells them: how many automata moved, how often NESTSUC; how often FAIL, and how many hosts turn early; what COMP
 -- and DEV tell
@@ -24,7 +25,7 @@ toldBy p ρ l (event a) c d x = length (x .order) ∷ numberOf isNestsuc (actsIn
 toldBy p ρ l (signal a) c d x = (numberOf isFail (actsIn p ρ (x .turning .0)) + countBelow (trackCount p) (isTurnedEarly p ρ l (a .society))) ∷ []
 toldBy p ρ l (fire a) c d x = x .0 ∷ deviationIn (actsIn p ρ (x .1 .settling .0)) ∷ []
 
-module _ (p : Plan) (ρ : FailReading) (limit : ℕ) (l : Ledger) (c : Call) where
+module _ (p : Plan) (ρ : FailReading) (terms : Terms) (l : Ledger) (c : Call) where
   -- one way: its steps, one after the other
   pub record Stepwise : Type 0 where
     -- the configuration that they lead to

@@ -12,7 +12,6 @@ use lib.ListN.{length, getD, replicate}
 use borrow.Author.Tests.{ltb-true, ltb-false}
 use Rattle.rules.specs.declared.Counts.{Counts}
 use Rattle.rules.specs.Fold.{someBelow, countBelow}
-use Rattle.rules.specs.Layout.{entryLimit}
 use Rattle.rules.specs.Plan.{Plan, planOf, trackCount, noState, optional, transition, isFinal}
 use Rattle.rules.specs.Ledger.{Configuration, Ledger, isForward, sleeping}
 use Rattle.rules.specs.Event.{EventArguments, isMove, hasCode, move, moves, moved, closed, closings}
@@ -29,6 +28,7 @@ use Rattle.lookup.proofs.Facts.{plan-facts, few-tracks, live-of-going, beyond}
 use Rattle.lookup.proofs.FiguresLaws.{figure-each}
 use Rattle.event_choice.specs.declared.judging.Survey.{Survey}
 use Rattle.event_choice.specs.declared.judging.Verdict.{Verdict}
+use Rattle.rules.specs.declared.Terms.{Terms}
 use Rattle.event_choice.specs.Next.{InRange, movesOf, isLast, closesNext}
 use Rattle.event_choice.specs.Chosen.{Surveyed, Judged, Chosen}
 use Rattle.event_choice.proofs.Visits.{word-some, moves-at}
@@ -43,19 +43,19 @@ pub same-arguments : (e o : ℕ) {d z : ℤ} → d ≡ z
     → _≡_ {A = EventArguments} (record { event = e; day = d; society = o }) (record { event = e; day = z; society = o })
 same-arguments e o q = ap (λ d. record { event = e; day = d; society = o }) q
 
-module _ (bs : List ℕ) (c : Counts) (ws : List ℕ) (g : Going bs c ws) (event : EventArguments) {ts : List ℕ}
-    (took : Numbers ts (c .tracks) (move (planOf bs c) (ledgerOf c ws) event)) where
+module _ (terms : Terms) (bs : List ℕ) (c : Counts) (ws : List ℕ) (g : Going terms bs c ws) (event : EventArguments) {ts : List ℕ}
+    (took : Numbers ts (c .tracks) (move (planOf bs c) (ledgerOf terms c ws) event)) where
   abbrev p : Plan
   p = planOf bs c
 
   abbrev l : Ledger
-  l = ledgerOf c ws
+  l = ledgerOf terms c ws
 
   ok : Accepted p
   ok = plan-facts bs c (g .checked .lent .accepts)
 
   live : Live p l
-  live = live-of-going bs c ws g
+  live = live-of-going terms bs c ws g
 
   pub in-range : InRange c ts
   in-range =
@@ -72,7 +72,7 @@ module _ (bs : List ℕ) (c : Counts) (ws : List ℕ) (g : Going bs c ws) (event
       (λ t.
       elim (look (ltb t (c .tracks))) [
         | inl q ↦ let b = ltb-true t (c .tracks) q in moves-at ts (c .tracks) t b ∙ took .at t b
-        | inr q ↦ let b = ltb-false t (c .tracks) q in (unfold movesOf in rw q (sym (idle t (beyond bs c ws t (omega (arith, track-count bs c))))))
+        | inr q ↦ let b = ltb-false t (c .tracks) q in (unfold movesOf in rw q (sym (idle t (beyond terms bs c ws t (omega (arith, track-count bs c))))))
       ])
     where
       idle : (t : ℕ) → l t ≡ sleeping → move p l event t ≡ none
@@ -89,14 +89,14 @@ module _ (bs : List ℕ) (c : Counts) (ws : List ℕ) (g : Going bs c ws) (event
 
   -- the day, as the choice keeps it
   dayed : {d : ℤ} → d ≡ event .day → {ms : List Bool} {n k : ℕ} {f : Bool}
-      → Chosen p l (record { event = event .event; day = event .day; society = event .society; taken = ts; closing = ms; moved = n; closed = k; full = f })
-      → Chosen p l (record { event = event .event; day = d; society = event .society; taken = ts; closing = ms; moved = n; closed = k; full = f })
+      → Chosen terms p l (record { event = event .event; day = event .day; society = event .society; taken = ts; closing = ms; moved = n; closed = k; full = f })
+      → Chosen terms p l (record { event = event .event; day = d; society = event .society; taken = ts; closing = ms; moved = n; closed = k; full = f })
   dayed e {ms} {n} {k} {f} h =
-      subst (λ d. Chosen p l (record { event = event .event; day = d; society = event .society; taken = ts; closing = ms; moved = n; closed = k; full = f })) (sym e) h
+      subst (λ d. Chosen terms p l (record { event = event .event; day = d; society = event .society; taken = ts; closing = ms; moved = n; closed = k; full = f })) (sym e) h
 
   -- no move leads to a final state
-  pub chosen-early : {d : ℤ} → d ≡ event .day → {v : Survey} → Surveyed p l ts (c .tracks) v → v .ends ≡ false
-      → Chosen p l (record { event = event .event; day = d; society = event .society; taken = ts; closing = replicate slots false; moved = v .moved; closed = 0; full = v .full })
+  pub chosen-early : {d : ℤ} → d ≡ event .day → {v : Survey} → Surveyed terms p l ts (c .tracks) v → v .ends ≡ false
+      → Chosen terms p l (record { event = event .event; day = d; society = event .society; taken = ts; closing = replicate slots false; moved = v .moved; closed = 0; full = v .full })
   unfolding isLast sleeping isForward
   chosen-early on {v} s z =
       dayed on
@@ -106,9 +106,9 @@ module _ (bs : List ℕ) (c : Counts) (ws : List ℕ) (g : Going bs c ws) (event
         many-moved = count-all (s .many);
         many-closed = sym (no-closings p ok l live event stays);
         full =
-            s .fills ∙ ap (λ k. someBelow k (λ t. hasCode p (optional (getD ts t 0)) && leb entryLimit (length (l t .held)))) (sym (track-count bs c))
-            ∙ some-same (trackCount p) _ _ (λ t b. ap (λ o. hasCode p o && leb entryLimit (length (l t .held))) (taken-all .at t b))
-            ∙ sym (full-moves p ok l live event stays entryLimit);
+            s .fills ∙ ap (λ k. someBelow k (λ t. hasCode p (optional (getD ts t 0)) && leb (terms .limit) (length (l t .held)))) (sym (track-count bs c))
+            ∙ some-same (trackCount p) _ _ (λ t b. ap (λ o. hasCode p o && leb (terms .limit) (length (l t .held))) (taken-all .at t b))
+            ∙ sym (full-moves p ok l live event stays terms);
       })
     where
       stays : (t x : ℕ) → move p l event t ≡ some x → isFinal p (transition p x .destination) ≡ false
@@ -120,17 +120,17 @@ module _ (bs : List ℕ) (c : Counts) (ws : List ℕ) (g : Going bs c ws) (event
             | inr h ↦
                 let b = ltb-false t (c .tracks) h in
                 clash (mover-facts p ok l live event t x q .ahead)
-                (ap (λ (y : Configuration). isForward (y .mode)) (beyond bs c ws t (omega (arith, track-count bs c))))
+                (ap (λ (y : Configuration). isForward (y .mode)) (beyond terms bs c ws t (omega (arith, track-count bs c))))
           ]
 
   -- some move may
   module _ {n : ℕ} (count : n ≡ countBelow (c .tracks) (λ t. not (eqb (getD ts t 0) noState))) where
     pub chosen-all : {d : ℤ} → d ≡ event .day → {ms : List Bool} {v : Verdict} → Figures false ms (c .tracks) (closesNext p l (movesOf ts (c .tracks)))
-        → Judged p l (movesOf ts (c .tracks)) (c .tracks) v
-        → Chosen p l (record { event = event .event; day = d; society = event .society; taken = ts; closing = ms; moved = n; closed = v .closed; full = v .full })
+        → Judged terms p l (movesOf ts (c .tracks)) (c .tracks) v
+        → Chosen terms p l (record { event = event .event; day = d; society = event .society; taken = ts; closing = ms; moved = n; closed = v .closed; full = v .full })
     chosen-all on {ms} {v} f j =
         let q = sym (track-count bs c) in
-        let h = subst (λ n. Judged p l (move p l event) n v) q (subst (λ goes. Judged p l goes (c .tracks) v) moves-are j) in
+        let h = subst (λ n. Judged terms p l (move p l event) n v) q (subst (λ goes. Judged terms p l goes (c .tracks) v) moves-are j) in
         let k = subst (λ n. Figures false ms n (closesNext p l (move p l event))) q (subst (λ goes. Figures false ms (c .tracks) (closesNext p l goes)) moves-are f) in
         dayed on
         (record {
@@ -138,5 +138,5 @@ module _ (bs : List ℕ) (c : Counts) (ws : List ℕ) (g : Going bs c ws) (event
           closing = record { size = k .size; at = λ t b. k .at t b ∙ sym (closes-before p ok l live event t b) };
           many-moved = count-all count;
           many-closed = h .closings ∙ sym (closings-before p ok l live event);
-          full = h .fills ∙ sym (full-before p ok l live event entryLimit);
+          full = h .fills ∙ sym (full-before p ok l live event terms);
         })

@@ -19,6 +19,7 @@ use Rattle.rules.proofs.Closing.{closing-alike, closing-final}
 use Rattle.rules.proofs.Soundness.{Live}
 use Rattle.event_choice.proofs.Moved.{moved-mover, moved-woken, moved-kept}
 use Rattle.event_choice.proofs.Still.{count-none}
+use Rattle.rules.specs.declared.Terms.{Terms}
 
 module _ (p : Plan) (ok : Accepted p) (l : Ledger) (live : Live p l) (e : EventArguments)
     (stays : (t x : ℕ) → move p l e t ≡ some x → isFinal p (transition p x .destination) ≡ false) where
@@ -54,8 +55,8 @@ module _ (p : Plan) (ok : Accepted p) (l : Ledger) (live : Live p l) (e : EventA
   unfolding closings
   no-closings = count-none (stateCount p) (isClosing p m) none-due
 
-  pub full-moves : (limit : ℕ) → isFull p limit l e ≡ someBelow (trackCount p) (λ t. hasCode p (move p l e t) && leb limit (length (l t .held)))
+  pub full-moves : (terms : Terms) → isFull p terms l e ≡ someBelow (trackCount p) (λ t. hasCode p (move p l e t) && leb (terms .limit) (length (l t .held)))
   unfolding isFull isReplaced
-  full-moves limit =
+  full-moves terms =
       some-same (trackCount p) _ _
-      (λ t b. rw (none-closes t) (ap (λ z. z && leb limit (length (l t .held))) (or-false (hasCode p (move p l e t)))))
+      (λ t b. rw (none-closes t) (ap (λ z. z && leb (terms .limit) (length (l t .held))) (or-false (hasCode p (move p l e t)))))

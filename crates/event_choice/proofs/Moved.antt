@@ -9,6 +9,7 @@ use lib.Dec.{eqb, leb}
 use lib.ListN.{length}
 use borrow.Author.Tests.{eq-eqb, eqb-true}
 use Rattle.rules.specs.declared.Mode.the-variants.{Forward}
+use Rattle.rules.specs.declared.Terms.{Terms}
 use Rattle.rules.specs.Fold.{someBelow, everyBelow, countBelow}
 use Rattle.rules.specs.Plan.{Plan, trackCount, stateCount, host, owner, transition, mover, replacement, isFinal, isStateOf, isHostedBy, everyIn, firstState}
 use Rattle.rules.specs.Ledger.{Configuration, Ledger, isAwake, isForward}
@@ -260,10 +261,10 @@ module _ (p : Plan) (ok : Accepted p) (l : Ledger) (live : Live p l) (event : Ev
       not-mover : (x : ℕ) → move p l event t ≡ some x → closesNext p l (move p l event) t ≡ false
       not-mover x q = unfold closesNext in rw (mover-facts t x q .free)
 
-  pub full-before : (limit : ℕ) → isFull p limit l event ≡ someBelow (trackCount p) (fullNext p l (move p l event) limit)
+  pub full-before : (terms : Terms) → isFull p terms l event ≡ someBelow (trackCount p) (fullNext p l (move p l event) terms)
   unfolding isFull fullNext
-  full-before limit =
+  full-before terms =
       some-same (trackCount p) _ _
       (λ t b.
-      ap (λ z. z && leb limit (length (l t .held))) (given t b)
-      ∙ and-comm (not (eqb (codeBy p (l t .state) (move p l event t) (closesNext p l (move p l event) t)) 0)) (leb limit (length (l t .held))))
+      ap (λ z. z && leb (terms .limit) (length (l t .held))) (given t b)
+      ∙ and-comm (not (eqb (codeBy p (l t .state) (move p l event t) (closesNext p l (move p l event) t)) 0)) (leb (terms .limit) (length (l t .held))))

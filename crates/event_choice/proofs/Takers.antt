@@ -11,6 +11,7 @@ use lib.Dec.{eqb, ltb}
 use borrow.Author.Tests.{eq-eqb, eqb-true, not-true}
 use Rattle.rules.specs.declared.Counts.{Counts}
 use Rattle.rules.specs.declared.Track.{Track}
+use Rattle.rules.specs.declared.Terms.{Terms}
 use Rattle.rules.specs.Fold.{firstBelow}
 use Rattle.rules.specs.Plan.{Plan, planOf, stateCount, noState, owner, transition, mover, isStateOf, transitionFor}
 use Rattle.rules.specs.Ledger.{Ledger, isForward}
@@ -47,12 +48,12 @@ found-none p l event t = go (isForward (l t .mode) && not (hasOpenScope p l t))
     go true = refl
     go false = refl
 
-module _ (bs : List ℕ) (c : Counts) (ws : List ℕ) (g : Going bs c ws) (event : ℕ) where
+module _ (terms : Terms) (bs : List ℕ) (c : Counts) (ws : List ℕ) (g : Going terms bs c ws) (event : ℕ) where
   abbrev p : Plan
   p = planOf bs c
 
   abbrev l : Ledger
-  l = ledgerOf c ws
+  l = ledgerOf terms c ws
 
   module _ (x : ℕ) where
     parts : (t : ℕ) → isTaken p l event x t ≡ true
@@ -67,7 +68,7 @@ module _ (bs : List ℕ) (c : Counts) (ws : List ℕ) (g : Going bs c ws) (event
     unfolding mover
     taken-there t b h =
         let (q, r) = parts t h in
-        sym (is-owner p t (l t .state) (live-of-going bs c ws g .own t (rw (track-count bs c) b) (forward-awake (l t .mode) (q .0)))) ∙ ap (owner p) (sym (r .0))
+        sym (is-owner p t (l t .state) (live-of-going terms bs c ws g .own t (rw (track-count bs c) b) (forward-awake (l t .mode) (q .0)))) ∙ ap (owner p) (sym (r .0))
 
     -- for another event none takes it
     pub other-event : {e : ℕ} → e ≡ transition p x .event → (e ≡ event → ⊥) → Only (c .tracks) (isTaken p l event x) noState

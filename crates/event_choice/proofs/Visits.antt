@@ -11,8 +11,8 @@ use lib.ListN.{length, getD}
 use borrow.Author.Tests.{eq-eqb, ne-eqb, not-true, not-false, ltb-true, lt-ltb, le-leb, lt-leb}
 use Rattle.rules.specs.declared.Counts.{Counts}
 use Rattle.rules.specs.declared.Track.{Track}
+use Rattle.rules.specs.declared.Terms.{Terms}
 use Rattle.rules.specs.Fold.{everyBelow, someBelow, countBelow}
-use Rattle.rules.specs.Layout.{entryLimit}
 use Rattle.rules.specs.Plan.{Plan, planOf, trackCount, stateCount, noState, optional, owner, transition, mover, replacement, isFinal, isStateOf, isHostedBy, firstState}
 use Rattle.rules.specs.Ledger.{Configuration, Ledger, isAwake, sleeping}
 use Rattle.rules.specs.Scope.{hasOpenScope}
@@ -65,18 +65,18 @@ destination-low bs c {x} {d} a b e =
     let n = state-count bs c in
     omega arith
 
-pub state-low : (bs : List ℕ) (c : Counts) (ws : List ℕ) (t : ℕ) → Going bs c ws → t < c .tracks → {k : Track} → k ≡ trackOf (ledgerOf c ws t) → k .state < c .states
+pub state-low : (terms : Terms) (bs : List ℕ) (c : Counts) (ws : List ℕ) (t : ℕ) → Going terms bs c ws → t < c .tracks → {k : Track} → k ≡ trackOf (ledgerOf terms c ws t) → k .state < c .states
 unfolding sleeping
-state-low bs c ws t g b r =
+state-low terms bs c ws t g b r =
     let p = planOf bs c in
     let low : t < trackCount p = rw (track-count bs c) b in
     let n = state-count bs c in
     let s = state-as _ r in
-    elim (look (isAwake (ledgerOf c ws t .mode))) [
-      | inl a ↦ let q = own-low p t (ledgerOf c ws t .state) (live-of-going bs c ws g .own t low a) in omega arith
+    elim (look (isAwake (ledgerOf terms c ws t .mode))) [
+      | inl a ↦ let q = own-low p t (ledgerOf terms c ws t .state) (live-of-going terms bs c ws g .own t low a) in omega arith
       | inr a ↦
           let q = own-low p t (firstState p t) (plan-facts bs c (g .checked .lent .accepts) .first-own t low) in
-          let z : ledgerOf c ws t .state ≡ 0 = ap (λ (x : Configuration). x .state) (storable bs c ws g .blank t a) in
+          let z : ledgerOf terms c ws t .state ≡ 0 = ap (λ (x : Configuration). x .state) (storable terms bs c ws g .blank t a) in
           omega arith
     ]
 
@@ -116,35 +116,35 @@ module _ (p : Plan) {x : ℕ} where
   pub fills-some : (b : Bool) → (x ≡ noState → ⊥) → (hasCode p (some x) && b) ≡ (hasCode p (optional x) && b)
   fills-some b z = ap (λ o. hasCode p o && b) (sym (word-some z))
 
-module _ (p : Plan) (x : ℕ) {r : ℕ} (e : r ≡ transition p x .code) where
+module _ (terms : Terms) (p : Plan) (x : ℕ) {r : ℕ} (e : r ≡ transition p x .code) where
   pub fills-zero : (b : Bool) → r ≡ 0 → false ≡ (hasCode p (some x) && b)
   unfolding hasCode
   fills-zero b f = rw (eq-eqb (transition p x .code) 0 (sym e ∙ f))
 
-  pub fills-full : (r ≡ 0 → ⊥) → {k : Track} (y : Configuration) → k ≡ trackOf y → leb entryLimit (k .count) ≡ (hasCode p (some x) && leb entryLimit (length (y .held)))
+  pub fills-full : (r ≡ 0 → ⊥) → {k : Track} (y : Configuration) → k ≡ trackOf y → leb (terms .limit) (k .count) ≡ (hasCode p (some x) && leb (terms .limit) (length (y .held)))
   unfolding hasCode
-  fills-full f y h = ap (leb entryLimit) (count-as _ h) ∙ rw (ne-eqb (transition p x .code) 0 (λ q. f (e ∙ q)))
+  fills-full f y h = ap (leb (terms .limit)) (count-as _ h) ∙ rw (ne-eqb (transition p x .code) 0 (λ q. f (e ∙ q)))
 
 -- a track as it was read
-module _ (p : Plan) (l : Ledger) (ts : List ℕ) (n t : ℕ) (b : t < n) {k : Track} (read : k ≡ trackOf (l t)) where
+module _ (terms : Terms) (p : Plan) (l : Ledger) (ts : List ℕ) (n t : ℕ) (b : t < n) {k : Track} (read : k ≡ trackOf (l t)) where
   pub ends-read : {r : Bool} → r ≡ endsBy p (k .mode) (k .state) (optional (getD ts t 0)) → r ≡ endsNext p l (movesOf ts n) t
   unfolding endsNext
   ends-read e =
       e ∙ ap₂ (λ m s. endsBy p m s (optional (getD ts t 0))) (mode-as _ read) (state-as _ read) ∙ ap (endsBy p (l t .mode) (l t .state)) (sym (moves-at ts n t b))
 
   pub full-read : {d r : Bool} → d ≡ closesNext p l (movesOf ts n) t
-      → r ≡ (leb entryLimit (k .count) && not (eqb (codeBy p (k .state) (optional (getD ts t 0)) d) 0)) → r ≡ fullNext p l (movesOf ts n) entryLimit t
+      → r ≡ (leb (terms .limit) (k .count) && not (eqb (codeBy p (k .state) (optional (getD ts t 0)) d) 0)) → r ≡ fullNext p l (movesOf ts n) terms t
   unfolding fullNext
   full-read {d} f e =
-      e ∙ ap₂ (λ i s. leb entryLimit i && not (eqb (codeBy p s (optional (getD ts t 0)) d) 0)) (count-as _ read) (state-as _ read)
-      ∙ ap₂ (λ o b. leb entryLimit (length (l t .held)) && not (eqb (codeBy p (l t .state) o b) 0)) (sym (moves-at ts n t b)) f
+      e ∙ ap₂ (λ i s. leb (terms .limit) i && not (eqb (codeBy p s (optional (getD ts t 0)) d) 0)) (count-as _ read) (state-as _ read)
+      ∙ ap₂ (λ o b. leb (terms .limit) (length (l t .held)) && not (eqb (codeBy p (l t .state) o b) 0)) (sym (moves-at ts n t b)) f
 
 -- room for an entry, or none
-pub not-full : {n : ℕ} (b : Bool) → n < entryLimit → false ≡ (leb entryLimit n && b)
-not-full {n} b h = rw (lt-leb entryLimit n h)
+pub not-full : (terms : Terms) {n : ℕ} (b : Bool) → n < terms .limit → false ≡ (leb (terms .limit) n && b)
+not-full terms {n} b h = rw (lt-leb (terms .limit) n h)
 
-pub full-given : {n d e : ℕ} → entryLimit ≤ n → d ≡ e → not (eqb d 0) ≡ (leb entryLimit n && not (eqb e 0))
-full-given {n} h q = rw (le-leb entryLimit n h, q)
+pub full-given : (terms : Terms) {n d e : ℕ} → terms .limit ≤ n → d ≡ e → not (eqb d 0) ≡ (leb (terms .limit) n && not (eqb e 0))
+full-given terms {n} h q = rw (le-leb (terms .limit) n h, q)
 
 -- whether a track keeps its scope open
 pub asleep-leaves : {a : Bool} (b : Bool) → a ≡ false → (a && b) ≡ false
@@ -183,8 +183,8 @@ none-more f n t e g = let h = count-more t f in let z : _≡_ {A = ℕ} (cond (f
 pub some-or-more : (f : ℕ → Bool) {t : ℕ} {d r e : Bool} → d ≡ someBelow t f → r ≡ f t → e ≡ (d || r) → e ≡ someBelow (t + 1) f
 some-or-more f {t} e g h = h ∙ some-visit f t e g
 
-module _ (p : Plan) (l : Ledger) (ts : List ℕ) (n t : ℕ) (b : t < n) {k : Track} (read : k ≡ trackOf (l t)) where
-  pub full-more : {f r d q : Bool} → f ≡ someBelow t (fullNext p l (movesOf ts n) entryLimit) → q ≡ closesNext p l (movesOf ts n) t
-      → r ≡ (leb entryLimit (k .count) && not (eqb (codeBy p (k .state) (optional (getD ts t 0)) q) 0)) → d ≡ (f || r)
-      → d ≡ someBelow (t + 1) (fullNext p l (movesOf ts n) entryLimit)
-  full-more e f g h = some-or-more (fullNext p l (movesOf ts n) entryLimit) e (full-read p l ts n t b read f g) h
+module _ (terms : Terms) (p : Plan) (l : Ledger) (ts : List ℕ) (n t : ℕ) (b : t < n) {k : Track} (read : k ≡ trackOf (l t)) where
+  pub full-more : {f r d q : Bool} → f ≡ someBelow t (fullNext p l (movesOf ts n) terms) → q ≡ closesNext p l (movesOf ts n) t
+      → r ≡ (leb (terms .limit) (k .count) && not (eqb (codeBy p (k .state) (optional (getD ts t 0)) q) 0)) → d ≡ (f || r)
+      → d ≡ someBelow (t + 1) (fullNext p l (movesOf ts n) terms)
+  full-more e f g h = some-or-more (fullNext p l (movesOf ts n) terms) e (full-read terms p l ts n t b read f g) h

@@ -6,6 +6,7 @@ use mathlib.Core.Option.{Option, none, some}
 use Prim.Native.Nat.{ℕ, _<_}
 use lib.Dec.{eqb, leb, ltb}
 use lib.ListN.{length, getD}
+use Rattle.rules.specs.declared.Terms.{Terms}
 use Rattle.rules.specs.Names.{TrackNumber, StateNumber, TransitionNumber, EventNumber, Code, Day}
 use Rattle.rules.specs.declared.Counts.{Counts}
 use Rattle.rules.specs.declared.Mode.{Mode}
@@ -64,5 +65,5 @@ module _ (p : Plan) (l : Ledger) (goes : ℕ → Option ℕ) where
   closesNext t = hasOpenScope p l t && everyBelow (trackCount p) (λ u. not (isHostedBy p t u && isAwake (l u .mode)) || endsNext u)
 
   -- a track that is given a code holds as many entries as it can
-  unfoldable pub fullNext : ℕ → ℕ → Bool
-  fullNext limit t = leb limit (length (l t .held)) && not (eqb (codeBy p (l t .state) (goes t) (closesNext t)) 0)
+  unfoldable pub fullNext : Terms → ℕ → Bool
+  fullNext terms t = leb (terms .limit) (length (l t .held)) && not (eqb (codeBy p (l t .state) (goes t) (closesNext t)) 0)

@@ -4,6 +4,7 @@ use lookup::reading;
 use plan::fields;
 use plan::fields::NO_STATE;
 use rules::Counts;
+use rules::Terms;
 use rules::Track;
 ghost use mathlib.Core.Path.{_≡_};
 ghost use mathlib.Core.Bool.{false, not, _&&_};
@@ -33,13 +34,20 @@ fn ends(plan: &[u8], c: Counts, k: Track, x: u16) -> bool
 }
 
 // The track whose scope a track keeps open, 65535 for none: its host's, if it is awake and will not be forward in a final state.
-fn kept_open(plan: &[u8], c: Counts, ledger: &[u16], taken: &[u16; 32], t: usize) -> u16
-    requires { ⌜ Going (now plan) c (now ledger) × InRange c (now taken) × (t < c .tracks) ⌝ }
+fn kept_open(
+    terms: Terms,
+    plan: &[u8],
+    c: Counts,
+    ledger: &[u16],
+    taken: &[u16; 32],
+    t: usize,
+) -> u16
+    requires { ⌜ Going terms (now plan) c (now ledger) × InRange c (now taken) × (t < c .tracks) ⌝ }
     ensures { λ r. ⌜ Only (c .tracks)
-        (λ u. isHostedBy (planOf (now (plan .entry)) c) u t && (isAwake (ledgerOf c (now (ledger .entry)) t .mode)
-        && not (endsNext (planOf (now (plan .entry)) c) (ledgerOf c (now (ledger .entry))) (movesOf (now (taken .entry)) (c .tracks)) t))) r ⌝ }
+        (λ u. isHostedBy (planOf (now (plan .entry)) c) u t && (isAwake (ledgerOf terms c (now (ledger .entry)) t .mode)
+        && not (endsNext (planOf (now (plan .entry)) c) (ledgerOf terms c (now (ledger .entry))) (movesOf (now (taken .entry)) (c .tracks)) t))) r ⌝ }
 {
-    let k = reading::track(c, ledger, t);
+    let k = reading::track(terms, c, ledger, t);
     let m = k.mode;
     if !track::is_awake(m) {
         return NO_STATE;
@@ -52,22 +60,23 @@ fn kept_open(plan: &[u8], c: Counts, ledger: &[u16], taken: &[u16; 32], t: usize
 
 // The tracks whose open scope closes, given which have one and what each takes.
 pub fn closing_scopes(
+    terms: Terms,
     plan: &[u8],
     c: Counts,
     ledger: &[u16],
     opens: [bool; 32],
     taken: &[u16; 32],
 ) -> [bool; 32]
-    requires { ⌜ Going (now plan) c (now ledger) × InRange c (now taken)
-        × Figures false opens (c .tracks) (hasOpenScope (planOf (now plan) c) (ledgerOf c (now ledger))) ⌝ }
+    requires { ⌜ Going terms (now plan) c (now ledger) × InRange c (now taken)
+        × Figures false opens (c .tracks) (hasOpenScope (planOf (now plan) c) (ledgerOf terms c (now ledger))) ⌝ }
     ensures { λ r. ⌜ Figures false r (c .tracks)
-        (closesNext (planOf (now (plan .entry)) c) (ledgerOf c (now (ledger .entry))) (movesOf (now (taken .entry)) (c .tracks))) ⌝ }
+        (closesNext (planOf (now (plan .entry)) c) (ledgerOf terms c (now (ledger .entry))) (movesOf (now (taken .entry)) (c .tracks))) ⌝ }
 {
     let mut closing = opens;
     let tracks = c.tracks;
     let mut t: usize = 0;
     while t < tracks {
-        let u = kept_open(plan, c, ledger, taken, t);
+        let u = kept_open(terms, plan, c, ledger, taken, t);
         if u != NO_STATE {
             closing[u as usize] = false;
         }

@@ -3,6 +3,7 @@ use ledger::track;
 use lookup::reading;
 use plan::fields::NO_STATE;
 use rules::Counts;
+use rules::Terms;
 use transition_index::transition_for;
 ghost use mathlib.Core.Path.{_≡_};
 ghost use mathlib.Core.Bool.{false};
@@ -16,6 +17,7 @@ ghost use Rattle.event_choice.specs.Next.{anyDayMove};
 
 // The transition that a track takes, 65535 for none: its state's, if it is forward and has no open scope.
 fn taken_at(
+    terms: Terms,
     plan: &[u8],
     c: Counts,
     ledger: &[u16],
@@ -25,14 +27,14 @@ fn taken_at(
     next: &[u16; 256],
     t: usize,
 ) -> u16
-    requires { ⌜ Lent (now plan) c (now ledger) × (t < c .tracks) × Indexed (now plan) c (now head) (now next)
-        × Figures false (now opens) (c .tracks) (hasOpenScope (planOf (now plan) c) (ledgerOf c (now ledger))) ⌝ }
-    ensures { λ r. ⌜ optional r ≡ anyDayMove (planOf (now (plan .entry)) c) (ledgerOf c (now (ledger .entry))) event t ⌝ }
+    requires { ⌜ Lent terms (now plan) c (now ledger) × (t < c .tracks) × Indexed (now plan) c (now head) (now next)
+        × Figures false (now opens) (c .tracks) (hasOpenScope (planOf (now plan) c) (ledgerOf terms c (now ledger))) ⌝ }
+    ensures { λ r. ⌜ optional r ≡ anyDayMove (planOf (now (plan .entry)) c) (ledgerOf terms c (now (ledger .entry))) event t ⌝ }
 {
     if opens[t] {
         return NO_STATE;
     }
-    let k = reading::track(c, ledger, t);
+    let k = reading::track(terms, c, ledger, t);
     let m = k.mode;
     if !track::is_forward(m) {
         return NO_STATE;
@@ -42,6 +44,7 @@ fn taken_at(
 
 // The transition that each track takes for an event on any day, 65535 for none, given which have an open scope.
 pub fn taken_from(
+    terms: Terms,
     plan: &[u8],
     c: Counts,
     ledger: &[u16],
@@ -50,15 +53,15 @@ pub fn taken_from(
     head: &[u16; 256],
     next: &[u16; 256],
 ) -> [u16; 32]
-    requires { ⌜ Lent (now plan) c (now ledger) × Indexed (now plan) c (now head) (now next)
-        × Figures false (now opens) (c .tracks) (hasOpenScope (planOf (now plan) c) (ledgerOf c (now ledger))) ⌝ }
-    ensures { λ r. ⌜ Numbers r (c .tracks) (anyDayMove (planOf (now (plan .entry)) c) (ledgerOf c (now (ledger .entry))) event) ⌝ }
+    requires { ⌜ Lent terms (now plan) c (now ledger) × Indexed (now plan) c (now head) (now next)
+        × Figures false (now opens) (c .tracks) (hasOpenScope (planOf (now plan) c) (ledgerOf terms c (now ledger))) ⌝ }
+    ensures { λ r. ⌜ Numbers r (c .tracks) (anyDayMove (planOf (now (plan .entry)) c) (ledgerOf terms c (now (ledger .entry))) event) ⌝ }
 {
     let mut taken = [NO_STATE; 32];
     let tracks = c.tracks;
     let mut t: usize = 0;
     while t < tracks {
-        taken[t] = taken_at(plan, c, ledger, event, opens, head, next, t);
+        taken[t] = taken_at(terms, plan, c, ledger, event, opens, head, next, t);
         t += 1;
     }
     taken

@@ -1,9 +1,9 @@
 // What is known of an event before a word is written: whether a track that it gives an entry is full, and the figures.
-use ledger::layout::ENTRY_LIMIT;
 use lookup::reading;
 use plan::fields;
 use plan::fields::NO_STATE;
 use rules::Counts;
+use rules::Terms;
 use rules::Track;
 ghost use mathlib.Core.Path.{_≡_};
 ghost use mathlib.Core.Bool.{false, cond, not, _&&_};
@@ -11,7 +11,6 @@ ghost use mathlib.Core.Option.{some};
 ghost use Prim.Native.Nat.{_<_, _≤_};
 ghost use lib.Dec.{eqb, leb};
 ghost use lib.ListN.{length};
-ghost use Rattle.rules.specs.Layout.{entryLimit};
 ghost use Rattle.rules.specs.Plan.{planOf, noState, optional};
 ghost use Rattle.rules.specs.Event.{hasCode};
 ghost use Rattle.ledger.specs.Ladder.{Accepts, Lent, Going, ledgerOf};
@@ -35,11 +34,11 @@ fn code_given(plan: &[u8], c: Counts, k: Track, x: u16, closes: bool) -> u16
 }
 
 // Whether a track that is given a code is full.
-fn is_full(plan: &[u8], c: Counts, k: Track, x: u16, closes: bool) -> bool
+fn is_full(terms: Terms, plan: &[u8], c: Counts, k: Track, x: u16, closes: bool) -> bool
     requires { ⌜ Accepts (now plan) c × (k .state < c .states) × ((x ≡ noState → ⊥) → x < c .transitions) ⌝ }
-    ensures { λ r. ⌜ r ≡ (leb entryLimit (k .count) && not (eqb (codeBy (planOf (now (plan .entry)) c) (k .state) (optional x) closes) 0)) ⌝ }
+    ensures { λ r. ⌜ r ≡ (leb (terms .limit) (k .count) && not (eqb (codeBy (planOf (now (plan .entry)) c) (k .state) (optional x) closes) 0)) ⌝ }
 {
-    if (k.count as usize) < ENTRY_LIMIT {
+    if k.count < terms.limit {
         return false;
     }
     code_given(plan, c, k, x, closes) != 0
@@ -61,15 +60,15 @@ fn is_last(plan: &[u8], c: Counts, x: u16) -> bool
 }
 
 // Whether a transition gives an entry to a track that is full.
-fn overfills(plan: &[u8], c: Counts, ledger: &[u16], x: u16, t: usize) -> bool
-    requires { ⌜ Lent (now plan) c (now ledger) × (t < c .tracks) × (x < c .transitions) ⌝ }
-    ensures { λ r. ⌜ r ≡ (hasCode (planOf (now (plan .entry)) c) (some x) && leb entryLimit (length (ledgerOf c (now (ledger .entry)) t .held))) ⌝ }
+fn overfills(terms: Terms, plan: &[u8], c: Counts, ledger: &[u16], x: u16, t: usize) -> bool
+    requires { ⌜ Lent terms (now plan) c (now ledger) × (t < c .tracks) × (x < c .transitions) ⌝ }
+    ensures { λ r. ⌜ r ≡ (hasCode (planOf (now (plan .entry)) c) (some x) && leb (terms .limit) (length (ledgerOf terms c (now (ledger .entry)) t .held))) ⌝ }
 {
     if fields::code_of(plan, c, x as usize) == 0 {
         return false;
     }
-    let k = reading::track(c, ledger, t);
-    ENTRY_LIMIT <= k.count as usize
+    let k = reading::track(terms, c, ledger, t);
+    terms.limit <= k.count
 }
 
 // Of the moves: how many, whether one leads to a final state, and whether one gives an entry to a track that is full.
@@ -80,9 +79,9 @@ pub struct Survey {
 }
 
 // What is known of the moves alone.
-pub fn moves(plan: &[u8], c: Counts, ledger: &[u16], taken: &[u16; 32]) -> Survey
-    requires { ⌜ Lent (now plan) c (now ledger) × InRange c (now taken) ⌝ }
-    ensures { λ r. ⌜ Surveyed (planOf (now (plan .entry)) c) (ledgerOf c (now (ledger .entry))) (now (taken .entry)) (c .tracks) r ⌝ }
+pub fn moves(terms: Terms, plan: &[u8], c: Counts, ledger: &[u16], taken: &[u16; 32]) -> Survey
+    requires { ⌜ Lent terms (now plan) c (now ledger) × InRange c (now taken) ⌝ }
+    ensures { λ r. ⌜ Surveyed terms (planOf (now (plan .entry)) c) (ledgerOf terms c (now (ledger .entry))) (now (taken .entry)) (c .tracks) r ⌝ }
 {
     let tracks = c.tracks;
     let mut n: u16 = 0;
@@ -94,7 +93,7 @@ pub fn moves(plan: &[u8], c: Counts, ledger: &[u16], taken: &[u16; 32]) -> Surve
         if x != NO_STATE {
             n += 1;
             ends = ends | is_last(plan, c, x);
-            full = full | overfills(plan, c, ledger, x, t);
+            full = full | overfills(terms, plan, c, ledger, x, t);
         }
         t += 1;
     }
@@ -113,26 +112,27 @@ pub struct Verdict {
 
 // The verdict on the moves and the closings.
 pub fn judge(
+    terms: Terms,
     plan: &[u8],
     c: Counts,
     ledger: &[u16],
     taken: &[u16; 32],
     closing: &[bool; 32],
 ) -> Verdict
-    requires { ⌜ Going (now plan) c (now ledger) × InRange c (now taken)
-        × Figures false (now closing) (c .tracks) (closesNext (planOf (now plan) c) (ledgerOf c (now ledger)) (movesOf (now taken) (c .tracks))) ⌝ }
-    ensures { λ r. ⌜ Judged (planOf (now (plan .entry)) c) (ledgerOf c (now (ledger .entry))) (movesOf (now (taken .entry)) (c .tracks)) (c .tracks) r ⌝ }
+    requires { ⌜ Going terms (now plan) c (now ledger) × InRange c (now taken)
+        × Figures false (now closing) (c .tracks) (closesNext (planOf (now plan) c) (ledgerOf terms c (now ledger)) (movesOf (now taken) (c .tracks))) ⌝ }
+    ensures { λ r. ⌜ Judged terms (planOf (now (plan .entry)) c) (ledgerOf terms c (now (ledger .entry))) (movesOf (now (taken .entry)) (c .tracks)) (c .tracks) r ⌝ }
 {
     let tracks = c.tracks;
     let mut closed: u16 = 0;
     let mut full = false;
     let mut t: usize = 0;
     while t < tracks {
-        let k = reading::track(c, ledger, t);
+        let k = reading::track(terms, c, ledger, t);
         let x = taken[t];
         let closes = closing[t];
         closed += one_where(closes);
-        full = full | is_full(plan, c, k, x, closes);
+        full = full | is_full(terms, plan, c, k, x, closes);
         t += 1;
     }
     Verdict {

@@ -8,6 +8,7 @@ pub mod societies;
 pub mod windows;
 
 use rules::Counts;
+use rules::Terms;
 ghost use mathlib.Core.Path.{_≡_};
 ghost use mathlib.Core.Bool.{false};
 ghost use Rattle.rules.specs.Plan.{planOf};
@@ -33,6 +34,7 @@ pub struct Choice {
 
 // What an event does, given which tracks have an open scope, and its moves. Where none leads to a final state, no scope closes.
 fn choose_by(
+    terms: Terms,
     plan: &[u8],
     c: Counts,
     ledger: &[u16],
@@ -42,12 +44,12 @@ fn choose_by(
     opens: &[bool; 32],
     taken: &[u16; 32],
 ) -> Choice
-    requires { ⌜ Going (now plan) c (now ledger) × Figures false (now opens) (c .tracks) (hasOpenScope (planOf (now plan) c) (ledgerOf c (now ledger)))
-        × Numbers (now taken) (c .tracks) (move (planOf (now plan) c) (ledgerOf c (now ledger)) (record { event = event; day = day; society = society })) ⌝ }
-    ensures { λ r. ⌜ Chosen (planOf (now (plan .entry)) c) (ledgerOf c (now (ledger .entry))) r
+    requires { ⌜ Going terms (now plan) c (now ledger) × Figures false (now opens) (c .tracks) (hasOpenScope (planOf (now plan) c) (ledgerOf terms c (now ledger)))
+        × Numbers (now taken) (c .tracks) (move (planOf (now plan) c) (ledgerOf terms c (now ledger)) (record { event = event; day = day; society = society })) ⌝ }
+    ensures { λ r. ⌜ Chosen terms (planOf (now (plan .entry)) c) (ledgerOf terms c (now (ledger .entry))) r
         × (argumentsOf r ≡ record { event = event; day = day; society = society }) ⌝ }
 {
-    let m = judging::moves(plan, c, ledger, taken);
+    let m = judging::moves(terms, plan, c, ledger, taken);
     if !m.ends {
         return Choice {
             event: event,
@@ -60,8 +62,8 @@ fn choose_by(
             full: m.full,
         };
     }
-    let closing = closing::closing_scopes(plan, c, ledger, *opens, taken);
-    let v = judging::judge(plan, c, ledger, taken, &closing);
+    let closing = closing::closing_scopes(terms, plan, c, ledger, *opens, taken);
+    let v = judging::judge(terms, plan, c, ledger, taken, &closing);
     Choice {
         event: event,
         day: day,
@@ -76,6 +78,7 @@ fn choose_by(
 
 // What an event does, given which tracks have an open scope.
 pub fn choose(
+    terms: Terms,
     plan: &[u8],
     c: Counts,
     ledger: &[u16],
@@ -84,18 +87,19 @@ pub fn choose(
     society: u16,
     opens: &[bool; 32],
 ) -> Choice
-    requires { ⌜ Going (now plan) c (now ledger) × Figures false (now opens) (c .tracks) (hasOpenScope (planOf (now plan) c) (ledgerOf c (now ledger))) ⌝ }
-    ensures { λ r. ⌜ Chosen (planOf (now (plan .entry)) c) (ledgerOf c (now (ledger .entry))) r
+    requires { ⌜ Going terms (now plan) c (now ledger) × Figures false (now opens) (c .tracks) (hasOpenScope (planOf (now plan) c) (ledgerOf terms c (now ledger))) ⌝ }
+    ensures { λ r. ⌜ Chosen terms (planOf (now (plan .entry)) c) (ledgerOf terms c (now (ledger .entry))) r
         × (argumentsOf r ≡ record { event = event; day = day; society = society }) ⌝ }
 {
-    let any = moving::taken_by(plan, c, ledger, event, opens);
+    let any = moving::taken_by(terms, plan, c, ledger, event, opens);
     let all = windows::taken_on(plan, c, day, any);
     let taken = societies::taken_of(plan, c, society, all);
-    choose_by(plan, c, ledger, event, day, society, opens, &taken)
+    choose_by(terms, plan, c, ledger, event, day, society, opens, &taken)
 }
 
 // The same by an index of the transitions.
 pub fn choose_indexed(
+    terms: Terms,
     plan: &[u8],
     c: Counts,
     ledger: &[u16],
@@ -106,13 +110,13 @@ pub fn choose_indexed(
     head: &[u16; 256],
     next: &[u16; 256],
 ) -> Choice
-    requires { ⌜ Going (now plan) c (now ledger) × Figures false (now opens) (c .tracks) (hasOpenScope (planOf (now plan) c) (ledgerOf c (now ledger)))
+    requires { ⌜ Going terms (now plan) c (now ledger) × Figures false (now opens) (c .tracks) (hasOpenScope (planOf (now plan) c) (ledgerOf terms c (now ledger)))
         × Indexed (now plan) c (now head) (now next) ⌝ }
-    ensures { λ r. ⌜ Chosen (planOf (now (plan .entry)) c) (ledgerOf c (now (ledger .entry))) r
+    ensures { λ r. ⌜ Chosen terms (planOf (now (plan .entry)) c) (ledgerOf terms c (now (ledger .entry))) r
         × (argumentsOf r ≡ record { event = event; day = day; society = society }) ⌝ }
 {
-    let any = indexed::taken_from(plan, c, ledger, event, opens, head, next);
+    let any = indexed::taken_from(terms, plan, c, ledger, event, opens, head, next);
     let all = windows::taken_on(plan, c, day, any);
     let taken = societies::taken_of(plan, c, society, all);
-    choose_by(plan, c, ledger, event, day, society, opens, &taken)
+    choose_by(terms, plan, c, ledger, event, day, society, opens, &taken)
 }

@@ -4,6 +4,7 @@ use lookup::reading;
 use plan::fields;
 use plan::fields::NO_STATE;
 use rules::Counts;
+use rules::Terms;
 ghost use mathlib.Core.Bool.{false};
 ghost use Prim.Native.Nat.{_<_};
 ghost use Rattle.rules.specs.Plan.{planOf};
@@ -13,10 +14,18 @@ ghost use Rattle.lookup.specs.Figures.{Figures, Numbers, Only};
 ghost use Rattle.event_choice.specs.Next.{isTaken, anyDayMove};
 
 // The track that takes a transition for the event, 65535 for none: its own, if it is forward in the source and has no open scope.
-fn taker(plan: &[u8], c: Counts, ledger: &[u16], event: u16, opens: &[bool; 32], x: usize) -> u16
-    requires { ⌜ Going (now plan) c (now ledger) × (x < c .transitions)
-        × Figures false (now opens) (c .tracks) (hasOpenScope (planOf (now plan) c) (ledgerOf c (now ledger))) ⌝ }
-    ensures { λ r. ⌜ Only (c .tracks) (isTaken (planOf (now (plan .entry)) c) (ledgerOf c (now (ledger .entry))) event x) r ⌝ }
+fn taker(
+    terms: Terms,
+    plan: &[u8],
+    c: Counts,
+    ledger: &[u16],
+    event: u16,
+    opens: &[bool; 32],
+    x: usize,
+) -> u16
+    requires { ⌜ Going terms (now plan) c (now ledger) × (x < c .transitions)
+        × Figures false (now opens) (c .tracks) (hasOpenScope (planOf (now plan) c) (ledgerOf terms c (now ledger))) ⌝ }
+    ensures { λ r. ⌜ Only (c .tracks) (isTaken (planOf (now (plan .entry)) c) (ledgerOf terms c (now (ledger .entry))) event x) r ⌝ }
 {
     if fields::event_of(plan, c, x) != event {
         return NO_STATE;
@@ -27,7 +36,7 @@ fn taker(plan: &[u8], c: Counts, ledger: &[u16], event: u16, opens: &[bool; 32],
     if opens[t] {
         return NO_STATE;
     }
-    let k = reading::track(c, ledger, t);
+    let k = reading::track(terms, c, ledger, t);
     if s != k.state {
         return NO_STATE;
     }
@@ -39,16 +48,23 @@ fn taker(plan: &[u8], c: Counts, ledger: &[u16], event: u16, opens: &[bool; 32],
 }
 
 // The transition that each track takes for an event on any day, 65535 for none, given which have an open scope.
-pub fn taken_by(plan: &[u8], c: Counts, ledger: &[u16], event: u16, opens: &[bool; 32]) -> [u16; 32]
-    requires { ⌜ Going (now plan) c (now ledger)
-        × Figures false (now opens) (c .tracks) (hasOpenScope (planOf (now plan) c) (ledgerOf c (now ledger))) ⌝ }
-    ensures { λ r. ⌜ Numbers r (c .tracks) (anyDayMove (planOf (now (plan .entry)) c) (ledgerOf c (now (ledger .entry))) event) ⌝ }
+pub fn taken_by(
+    terms: Terms,
+    plan: &[u8],
+    c: Counts,
+    ledger: &[u16],
+    event: u16,
+    opens: &[bool; 32],
+) -> [u16; 32]
+    requires { ⌜ Going terms (now plan) c (now ledger)
+        × Figures false (now opens) (c .tracks) (hasOpenScope (planOf (now plan) c) (ledgerOf terms c (now ledger))) ⌝ }
+    ensures { λ r. ⌜ Numbers r (c .tracks) (anyDayMove (planOf (now (plan .entry)) c) (ledgerOf terms c (now (ledger .entry))) event) ⌝ }
 {
     let mut taken = [NO_STATE; 32];
     let transitions = c.transitions;
     let mut x: usize = 0;
     while x < transitions {
-        let t = taker(plan, c, ledger, event, opens, x);
+        let t = taker(terms, plan, c, ledger, event, opens, x);
         if t != NO_STATE {
             taken[t as usize] = x as u16;
         }

@@ -11,7 +11,6 @@ use Rattle.rules.specs.Day.{isDay}
 use Rattle.rules.specs.declared.Counts.{Counts}
 use Rattle.rules.specs.declared.EventAnswer.the-variants.{Moved, Refused}
 use Rattle.rules.specs.Fold.{countBelow, firstRefusal}
-use Rattle.rules.specs.Layout.{entryLimit}
 use Rattle.rules.specs.Plan.{Plan, planOf, trackCount}
 use Rattle.rules.specs.Rights.{moveRight, holdsSomewhere}
 use Rattle.rules.specs.Leading.{lastDay, dated}
@@ -30,6 +29,7 @@ use Rattle.plan.proofs.FieldLaws.{track-count}
 use Rattle.ledger.specs.Ladder.{Checked, Going, ledgerOf}
 use Rattle.lookup.proofs.Facts.{checked-passes, plan-facts, live-of-going, tidy-words, beyond}
 use Rattle.event_choice.specs.declared.Choice.{Choice}
+use Rattle.rules.specs.declared.Terms.{Terms}
 use Rattle.event_choice.specs.Chosen.{argumentsOf, Chosen}
 use Rattle.event_choice.proofs.Still.{no-moves, after-same, still-closings}
 use Rattle.event_step.specs.Outcome.{earlyRefusal, goingOutcome}
@@ -52,28 +52,28 @@ pub dated-with : (u : List ℕ) {x y : Day} → x ≡ y → {v : List ℕ} → v
 dated-with u e q = q ∙ ap (λ z. dated z u) e
 
 -- a ledger that is going: the choice for this event
-module _ (bs : List ℕ) (c : Counts) (ws : List ℕ) (g : Going bs c ws) (e : EventArguments) {r : Choice}
-    (h : Chosen (planOf bs c) (ledgerOf c ws) r × (argumentsOf r ≡ e)) where
+module _ (terms : Terms) (bs : List ℕ) (c : Counts) (ws : List ℕ) (g : Going terms bs c ws) (e : EventArguments) {r : Choice}
+    (h : Chosen terms (planOf bs c) (ledgerOf terms c ws) r × (argumentsOf r ≡ e)) where
   abbrev p : Plan
   p = planOf bs c
 
   abbrev l : Ledger
-  l = ledgerOf c ws
+  l = ledgerOf terms c ws
 
   outcome : Ledger → Outcome
   outcome x =
       refusedOr ws
-      (record { answer = done (figures p x (event e)); words = written entryLimit (trackCount p) (afterEvent p x e) (dated (e .day) ws) })
-      (firstRefusal ((21, isFull p entryLimit x e) ∷ []))
+      (record { answer = done (figures p x (event e)); words = written terms (trackCount p) (afterEvent p x e) (dated (e .day) ws) })
+      (firstRefusal ((21, isFull p terms x e) ∷ []))
 
-  as-read : goingOutcome p ws e ≡ outcome l
+  as-read : goingOutcome terms p ws e ≡ outcome l
   unfolding goingOutcome outcome ledgerOf
-  as-read = ap outcome (ap (ledgerAt entryLimit ws) (track-count bs c))
+  as-read = ap outcome (ap (ledgerAt terms ws) (track-count bs c))
 
-  full : isFull p entryLimit l e ≡ r .full
-  full = ap (isFull p entryLimit l) (sym (h .1)) ∙ sym (h .0 .full)
+  full : isFull p terms l e ≡ r .full
+  full = ap (isFull p terms l) (sym (h .1)) ∙ sym (h .0 .full)
 
-  pub full-refused : r .full ≡ true → Meets (goingOutcome p ws e) (eventTold (Refused 21)) ws
+  pub full-refused : r .full ≡ true → Meets (goingOutcome terms p ws e) (eventTold (Refused 21)) ws
   unfolding refusedOr firstRefusal eventTold outcome
   full-refused z = met (as-read ∙ (rw (full ∙ z)))
 
@@ -82,34 +82,34 @@ module _ (bs : List ℕ) (c : Counts) (ws : List ℕ) (g : Going bs c ws) (e : E
     count = ap (λ i. countBelow (trackCount p) (moves p l i)) (sym (h .1)) ∙ sym (h .0 .many-moved)
 
     -- the day is written after the tracks, or before them
-    put-last : {u v : List ℕ} → v ≡ dated (r .day) u → u ≡ written entryLimit (c .tracks) (afterEvent p l e) ws
-        → written entryLimit (trackCount p) (afterEvent p l e) (dated (e .day) ws) ≡ v
+    put-last : {u v : List ℕ} → v ≡ dated (r .day) u → u ≡ written terms (c .tracks) (afterEvent p l e) ws
+        → written terms (trackCount p) (afterEvent p l e) (dated (e .day) ws) ≡ v
     put-last {u} {v} d w =
-        ap (λ n. written entryLimit n (afterEvent p l e) (dated (e .day) ws)) (track-count bs c)
-        ∙ sym (dated-written (e .day) entryLimit (c .tracks) (afterEvent p l e) ws (g .checked .lent .room .words))
+        ap (λ n. written terms n (afterEvent p l e) (dated (e .day) ws)) (track-count bs c)
+        ∙ sym (dated-written (e .day) terms (c .tracks) (afterEvent p l e) ws (g .checked .lent .room .words))
         ∙ ap₂ dated (ap (λ (a : EventArguments). a .day) (sym (h .1))) (sym w) ∙ sym d
 
-    pub step-met : {u v : List ℕ} → u ≡ written entryLimit (c .tracks) (afterEvent p l (argumentsOf r)) ws → v ≡ dated (r .day) u
-        → Meets (goingOutcome p ws e) (eventTold (Moved (r .moved) (r .closed))) v
+    pub step-met : {u v : List ℕ} → u ≡ written terms (c .tracks) (afterEvent p l (argumentsOf r)) ws → v ≡ dated (r .day) u
+        → Meets (goingOutcome terms p ws e) (eventTold (Moved (r .moved) (r .closed))) v
     unfolding refusedOr firstRefusal figures eventTold outcome
     step-met w d =
-        let left = put-last d (w ∙ ap (λ a. written entryLimit (c .tracks) (afterEvent p l a) ws) (h .1)) in
+        let left = put-last d (w ∙ ap (λ a. written terms (c .tracks) (afterEvent p l a) ws) (h .1)) in
         let j : closings p (moved p l e) ≡ r .closed = ap (λ i. closings p (moved p l i)) (sym (h .1)) ∙ sym (h .0 .many-closed) in
         met (as-read ∙ (rw (full ∙ z) (λ k. record { answer = done (count k ∷ j k ∷ []); words = left k })))
 
     -- where no track moves nothing changes but the day
-    pub still-met : {v : List ℕ} → r .moved ≡ 0 → v ≡ dated (r .day) ws → Meets (goingOutcome p ws e) (eventTold (Moved 0 0)) v
+    pub still-met : {v : List ℕ} → r .moved ≡ 0 → v ≡ dated (r .day) ws → Meets (goingOutcome terms p ws e) (eventTold (Moved 0 0)) v
     unfolding refusedOr firstRefusal figures eventTold outcome
     still-met y d =
-        let still = no-moves p l e (beyond bs c ws) (count ∙ y) in
+        let still = no-moves p l e (beyond terms bs c ws) (count ∙ y) in
         let ok = plan-facts bs c (g .checked .lent .accepts) in
-        let live = live-of-going bs c ws g in
+        let live = live-of-going terms bs c ws g in
         let j = still-closings p l e ok live still in
-        let left = put-last d (sym (ap (λ m. written entryLimit (c .tracks) m ws) (after-same p l e ok live still) ∙ unchanged)) in
+        let left = put-last d (sym (ap (λ m. written terms (c .tracks) m ws) (after-same p l e ok live still) ∙ unchanged)) in
         met (as-read ∙ (rw (full ∙ z) (λ k. record { answer = done ((count ∙ y) k ∷ j k ∷ []); words = left k })))
       where
-        unchanged : written entryLimit (c .tracks) l ws ≡ ws
-        unchanged = unfold ledgerOf in written-read entryLimit (c .tracks) ws (tidy-words bs c ws (g .checked) .tidy) (g .checked .lent .room .words)
+        unchanged : written terms (c .tracks) l ws ≡ ws
+        unchanged = unfold ledgerOf in written-read terms (c .tracks) ws (tidy-words terms bs c ws (g .checked) .tidy) (g .checked .lent .room .words)
 
 -- the refusals before the moves are chosen, as the code asks them
 module _ (p : Plan) (last : Day) (l : Ledger) (e : EventArguments) where
@@ -158,9 +158,9 @@ pub choice-day : (r : Choice) {e : EventArguments} → argumentsOf r ≡ e → i
 choice-day r q h = ap (λ (x : EventArguments). isDay (x .day)) q ∙ h
 
 -- the call's outcome by them: a refusal before others decides
-module _ (bs : List ℕ) (c : Counts) (ws : List ℕ) (h : Checked bs c ws) (e : EventArguments) where
+module _ (terms : Terms) (bs : List ℕ) (c : Counts) (ws : List ℕ) (h : Checked terms bs c ws) (e : EventArguments) where
   abbrev early : ℕ
-  early = earlyRefusal (planOf bs c) (lastDay ws) (ledgerOf c ws) e
+  early = earlyRefusal (planOf bs c) (lastDay ws) (ledgerOf terms c ws) e
 
   four : (a b o h : Bool) (n : ℕ) → cond a 19 (cond b 26 (cond o 20 (cond h 28 n))) ≡ unlessRefused (cond a 19 (cond b 26 (cond o 20 (cond h 28 0)))) n
   unfolding unlessRefused
@@ -174,47 +174,47 @@ module _ (bs : List ℕ) (c : Counts) (ws : List ℕ) (h : Checked bs c ws) (e :
   lacks = not (holdsSomewhere (planOf bs c) moveRight (e .society))
 
   abbrev read : Ledger
-  read = ledgerAt entryLimit ws (trackCount (planOf bs c))
+  read = ledgerAt terms ws (trackCount (planOf bs c))
 
   abbrev later : ℕ
-  later = firstRefusal ((21, isFull (planOf bs c) entryLimit read e) ∷ [])
+  later = firstRefusal ((21, isFull (planOf bs c) terms read e) ∷ [])
 
   abbrev answered : ℕ → Outcome
   answered =
       refusedOr ws
       (record {
         answer = done (figures (planOf bs c) read (event e));
-        words = written entryLimit (trackCount (planOf bs c)) (afterEvent (planOf bs c) read e) (dated (e .day) ws);
+        words = written terms (trackCount (planOf bs c)) (afterEvent (planOf bs c) read e) (dated (e .day) ws);
       })
 
-  plain : eventOutcome entryLimit bs ws e
+  plain : eventOutcome terms bs ws e
       ≡ answered (cond (eqb (e .event) 0) 19 (cond (badDay (lastDay ws) (e .day)) 26 (cond (isOver (planOf bs c) read) 20 (cond lacks 28 later))))
   unfolding eventOutcome callOutcome underPlan callRefusals firstRefusal after datedBy
-  plain = rw (h .lent .accepts .read, underPlan, passes-first entryLimit bs (planOf bs c) ws (checked-passes bs c ws h))
+  plain = rw (h .lent .accepts .read, underPlan, passes-first terms bs (planOf bs c) ws (checked-passes terms bs c ws h))
 
   by-counts : earlyRefusal (planOf bs c) (lastDay ws) read e ≡ early
   unfolding ledgerOf
-  by-counts = ap (λ n. earlyRefusal (planOf bs c) (lastDay ws) (ledgerAt entryLimit ws n) e) (track-count bs c)
+  by-counts = ap (λ n. earlyRefusal (planOf bs c) (lastDay ws) (ledgerAt terms ws n) e) (track-count bs c)
 
-  checked : eventOutcome entryLimit bs ws e ≡ answered (unlessRefused early later)
+  checked : eventOutcome terms bs ws e ≡ answered (unlessRefused early later)
   unfolding earlyRefusal firstRefusal
   checked =
       plain
       ∙ ap answered
       (four (eqb (e .event) 0) (badDay (lastDay ws) (e .day)) (isOver (planOf bs c) read) lacks later ∙ ap (λ n. unlessRefused n later) by-counts)
 
-  pub event-refused : (r : ℕ) → r ≡ early → (r ≡ 0 → ⊥) → Meets (eventOutcome entryLimit bs ws e) (eventTold (Refused r)) ws
+  pub event-refused : (r : ℕ) → r ≡ early → (r ≡ 0 → ⊥) → Meets (eventOutcome terms bs ws e) (eventTold (Refused r)) ws
   unfolding refusedOr eventTold unlessRefused
   event-refused zero q n = absurd (n refl)
   event-refused (suc r) q n = met (checked ∙ (rw (← q)))
 
   module _ (z : early ≡ 0) where
-    pub going-of : Going bs c ws
-    going-of = record { checked = h; goes-on = early-passed (planOf bs c) (lastDay ws) (ledgerOf c ws) e z .1 }
+    pub going-of : Going terms bs c ws
+    going-of = record { checked = h; goes-on = early-passed (planOf bs c) (lastDay ws) (ledgerOf terms c ws) e z .1 }
 
-    pub event-going : (x : EventArguments) (a : Answer) (v : List ℕ) → x ≡ e → Meets (goingOutcome (planOf bs c) ws x) a v
-        → Meets (eventOutcome entryLimit bs ws e) a v
+    pub event-going : (x : EventArguments) (a : Answer) (v : List ℕ) → x ≡ e → Meets (goingOutcome terms (planOf bs c) ws x) a v
+        → Meets (eventOutcome terms bs ws e) a v
     unfolding goingOutcome unlessRefused
     event-going x a v f =
-        let s : eventOutcome entryLimit bs ws e ≡ goingOutcome (planOf bs c) ws e = checked ∙ (rw z) in
-        subst (λ (y : Outcome). Meets y a v) (ap (goingOutcome (planOf bs c) ws) f ∙ sym s)
+        let s : eventOutcome terms bs ws e ≡ goingOutcome terms (planOf bs c) ws e = checked ∙ (rw z) in
+        subst (λ (y : Outcome). Meets y a v) (ap (goingOutcome terms (planOf bs c) ws) f ∙ sym s)

@@ -3,8 +3,8 @@ use mathlib.Core.Bool.{not}
 use mathlib.Core.List.{[], _∷_}
 use lib.Dec.{eqb}
 use Rattle.rules.specs.Names.{Words, Refusal, Day}
+use Rattle.rules.specs.declared.Terms.{Terms}
 use Rattle.rules.specs.Fold.{firstRefusal}
-use Rattle.rules.specs.Layout.{entryLimit}
 use Rattle.rules.specs.Plan.{Plan, trackCount}
 use Rattle.rules.specs.Rights.{moveRight, holdsSomewhere}
 use Rattle.rules.specs.Leading.{dated}
@@ -20,11 +20,11 @@ earlyRefusal p day l a =
     ((19, eqb (a .event) 0) ∷ (26, badDay day (a .day)) ∷ (20, isOver p l) ∷ (28, not (holdsSomewhere p moveRight (a .society))) ∷ [])
 
 -- An event that none of them turns back: 21, or the step.
-unfoldable pub goingOutcome : Plan → Words → EventArguments → Outcome
-goingOutcome p ws a =
+unfoldable pub goingOutcome : (terms : Terms) → Plan → Words → EventArguments → Outcome
+goingOutcome terms p ws a =
     refusedOr ws
     (record {
-      answer = done (figures p (ledgerAt entryLimit ws (trackCount p)) (event a));
-      words = written entryLimit (trackCount p) (afterEvent p (ledgerAt entryLimit ws (trackCount p)) a) (dated (a .day) ws);
+      answer = done (figures p (ledgerAt terms ws (trackCount p)) (event a));
+      words = written terms (trackCount p) (afterEvent p (ledgerAt terms ws (trackCount p)) a) (dated (a .day) ws);
     })
-    (firstRefusal ((21, isFull p entryLimit (ledgerAt entryLimit ws (trackCount p)) a) ∷ []))
+    (firstRefusal ((21, isFull p terms (ledgerAt terms ws (trackCount p)) a) ∷ []))

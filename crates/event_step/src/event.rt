@@ -8,11 +8,12 @@ use lookup::reading;
 use rights::MOVE;
 use rules::Counts;
 use rules::EventAnswer;
+use rules::Terms;
 ghost use mathlib.Core.Path.{_≡_};
 ghost use mathlib.Core.Bool.{true, false};
 ghost use Prim.Native.Nat.{_≤_};
 ghost use lib.ListN.{length};
-ghost use Rattle.rules.specs.Layout.{entryLimit, leadingWords};
+ghost use Rattle.rules.specs.Layout.{leadingWords};
 ghost use Rattle.rules.specs.Day.{isDay};
 ghost use Rattle.rules.specs.Leading.{lastDay};
 ghost use Rattle.rules.specs.Plan.{planOf, firstState};
@@ -37,9 +38,17 @@ fn is_bad_day(ledger: &[u16], day: i32) -> bool
 }
 
 // The refusal 19, 26, 20 or 28 that turns an event back, the first of them that applies; 0 where none does.
-fn refusal_of(plan: &[u8], c: Counts, ledger: &[u16], event: u16, day: i32, society: u16) -> u8
-    requires { ⌜ Checked (now plan) c (now ledger) ⌝ }
-    ensures { λ r. ⌜ r ≡ earlyRefusal (planOf (now (plan .entry)) c) (lastDay (now (ledger .entry))) (ledgerOf c (now (ledger .entry)))
+fn refusal_of(
+    terms: Terms,
+    plan: &[u8],
+    c: Counts,
+    ledger: &[u16],
+    event: u16,
+    day: i32,
+    society: u16,
+) -> u8
+    requires { ⌜ Checked terms (now plan) c (now ledger) ⌝ }
+    ensures { λ r. ⌜ r ≡ earlyRefusal (planOf (now (plan .entry)) c) (lastDay (now (ledger .entry))) (ledgerOf terms c (now (ledger .entry)))
         (record { event = event; day = day; society = society }) ⌝ }
 {
     if event == 0 {
@@ -48,7 +57,7 @@ fn refusal_of(plan: &[u8], c: Counts, ledger: &[u16], event: u16, day: i32, soci
     if is_bad_day(ledger, day) {
         return 26;
     }
-    if reading::is_over(plan, c, ledger) {
+    if reading::is_over(terms, plan, c, ledger) {
         return 20;
     }
     if !rights::holds_somewhere(plan, c, MOVE, society) {
@@ -60,6 +69,7 @@ fn refusal_of(plan: &[u8], c: Counts, ledger: &[u16], event: u16, day: i32, soci
 // An event that none of these turns back, its choice made, given which tracks have an open scope and the first state of
 // each. Where no track moves nothing changes but the day.
 fn go_on(
+    terms: Terms,
     plan: &[u8],
     c: Counts,
     ledger: &mut [u16],
@@ -67,10 +77,10 @@ fn go_on(
     opens: &[bool; 32],
     firsts: &[u16; 32],
 ) -> EventAnswer
-    requires { ⌜ Going (now plan) c (now ledger) × Chosen (planOf (now plan) c) (ledgerOf c (now ledger)) choice
-        × Figures false (now opens) (c .tracks) (hasOpenScope (planOf (now plan) c) (ledgerOf c (now ledger)))
+    requires { ⌜ Going terms (now plan) c (now ledger) × Chosen terms (planOf (now plan) c) (ledgerOf terms c (now ledger)) choice
+        × Figures false (now opens) (c .tracks) (hasOpenScope (planOf (now plan) c) (ledgerOf terms c (now ledger)))
         × Figures 0 (now firsts) (c .tracks) (firstState (planOf (now plan) c)) × (isDay (choice .day) ≡ true) ⌝ }
-    ensures { λ r. ⌜ Meets (goingOutcome (planOf (now (plan .entry)) c) (now (ledger .entry)) (argumentsOf choice)) (eventTold r) (now (ledger .exit)) ⌝ }
+    ensures { λ r. ⌜ Meets (goingOutcome terms (planOf (now (plan .entry)) c) (now (ledger .entry)) (argumentsOf choice)) (eventTold r) (now (ledger .exit)) ⌝ }
 {
     if choice.full {
         return EventAnswer::Refused(21);
@@ -82,14 +92,15 @@ fn go_on(
         return EventAnswer::Moved(0, 0);
     }
     let closed = choice.closed;
-    event_writing::write(plan, c, &mut ledger[..], choice, firsts);
-    finishing::finish(plan, c, &mut ledger[..], opens);
+    event_writing::write(terms, plan, c, &mut ledger[..], choice, firsts);
+    finishing::finish(terms, plan, c, &mut ledger[..], opens);
     leading::put_day(&mut ledger[..], day);
     EventAnswer::Moved(movers, closed)
 }
 
 // An event under an accepted plan, on a sound ledger, given the first state of each track and, unless it is over, which have an open scope.
 pub fn event(
+    terms: Terms,
     plan: &[u8],
     c: Counts,
     ledger: &mut [u16],
@@ -99,24 +110,25 @@ pub fn event(
     opens: &[bool; 32],
     firsts: &[u16; 32],
 ) -> EventAnswer
-    requires { ⌜ Checked (now plan) c (now ledger)
-        × (isOver (planOf (now plan) c) (ledgerOf c (now ledger)) ≡ false
-        → Figures false (now opens) (c .tracks) (hasOpenScope (planOf (now plan) c) (ledgerOf c (now ledger))))
+    requires { ⌜ Checked terms (now plan) c (now ledger)
+        × (isOver (planOf (now plan) c) (ledgerOf terms c (now ledger)) ≡ false
+        → Figures false (now opens) (c .tracks) (hasOpenScope (planOf (now plan) c) (ledgerOf terms c (now ledger))))
         × Figures 0 (now firsts) (c .tracks) (firstState (planOf (now plan) c)) ⌝ }
-    ensures { λ r. ⌜ Meets (eventOutcome entryLimit (now (plan .entry)) (now (ledger .entry))
+    ensures { λ r. ⌜ Meets (eventOutcome terms (now (plan .entry)) (now (ledger .entry))
         (record { event = event; day = day; society = society })) (eventTold r) (now (ledger .exit)) ⌝ }
 {
-    let refusal = refusal_of(plan, c, &ledger[..], event, day, society);
+    let refusal = refusal_of(terms, plan, c, &ledger[..], event, day, society);
     if refusal != 0 {
         return EventAnswer::Refused(refusal);
     }
-    let choice = event_choice::choose(plan, c, &ledger[..], event, day, society, opens);
-    go_on(plan, c, &mut ledger[..], choice, opens, firsts)
+    let choice = event_choice::choose(terms, plan, c, &ledger[..], event, day, society, opens);
+    go_on(terms, plan, c, &mut ledger[..], choice, opens, firsts)
 }
 
 // The same, given the first state of each track and an index of the transitions: who has many events makes them once. The open scopes
 // it finds itself.
 pub fn event_indexed(
+    terms: Terms,
     plan: &[u8],
     c: Counts,
     ledger: &mut [u16],
@@ -127,17 +139,18 @@ pub fn event_indexed(
     head: &[u16; 256],
     next: &[u16; 256],
 ) -> EventAnswer
-    requires { ⌜ Checked (now plan) c (now ledger) × Figures 0 (now firsts) (c .tracks) (firstState (planOf (now plan) c))
+    requires { ⌜ Checked terms (now plan) c (now ledger) × Figures 0 (now firsts) (c .tracks) (firstState (planOf (now plan) c))
         × Indexed (now plan) c (now head) (now next) ⌝ }
-    ensures { λ r. ⌜ Meets (eventOutcome entryLimit (now (plan .entry)) (now (ledger .entry))
+    ensures { λ r. ⌜ Meets (eventOutcome terms (now (plan .entry)) (now (ledger .entry))
         (record { event = event; day = day; society = society })) (eventTold r) (now (ledger .exit)) ⌝ }
 {
-    let refusal = refusal_of(plan, c, &ledger[..], event, day, society);
+    let refusal = refusal_of(terms, plan, c, &ledger[..], event, day, society);
     if refusal != 0 {
         return EventAnswer::Refused(refusal);
     }
-    let opens = opens::open_scopes(plan, c, &ledger[..]);
+    let opens = opens::open_scopes(terms, plan, c, &ledger[..]);
     let choice = event_choice::choose_indexed(
+        terms,
         plan,
         c,
         &ledger[..],
@@ -148,5 +161,5 @@ pub fn event_indexed(
         head,
         next,
     );
-    go_on(plan, c, &mut ledger[..], choice, &opens, firsts)
+    go_on(terms, plan, c, &mut ledger[..], choice, &opens, firsts)
 }

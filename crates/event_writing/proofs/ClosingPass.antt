@@ -10,7 +10,7 @@ use lib.Dec.{eqb}
 use lib.ListN.{length, getD}
 use borrow.Author.Tests.{ne-eqb}
 use Rattle.rules.specs.declared.Counts.{Counts}
-use Rattle.rules.specs.Layout.{entryLimit}
+use Rattle.rules.specs.declared.Terms.{Terms}
 use Rattle.rules.specs.Plan.{Plan, planOf, trackCount, noState, host, owner, replacement}
 use Rattle.rules.specs.Ledger.{Configuration, Ledger, isAwake, sleeping, written}
 use Rattle.rules.specs.Event.{installed, isClosing, isClosed, closesScope, closed, isReplaced}
@@ -25,13 +25,13 @@ use Rattle.lookup.proofs.OneTrackLaws.{Stores, stores-sleeping, stores-at, hold
 use Rattle.event_writing.specs.EventParts.{Closings, isClosedBy, closedBy}
 use Rattle.event_writing.proofs.InstallingPass.{installed-stores}
 
-module _ (bs : List ℕ) (c : Counts) (acc : Accepts bs c) (ws : List ℕ) (o : Tidy ws (c .tracks)) (ms : List Bool)
-    (k : Closings (planOf bs c) (ledgerOf c ws) ms) where
+module _ (terms : Terms) (bs : List ℕ) (c : Counts) (acc : Accepts bs c) (ws : List ℕ) (o : Tidy terms ws (c .tracks)) (ms : List Bool)
+    (k : Closings terms (planOf bs c) (ledgerOf terms c ws) ms) where
   abbrev p : Plan
   p = planOf bs c
 
   abbrev l : Ledger
-  l = ledgerOf c ws
+  l = ledgerOf terms c ws
 
   low : {t : ℕ} → t < c .tracks → t < trackCount p
   low b = omega (arith, track-count bs c)
@@ -68,42 +68,42 @@ module _ (bs : List ℕ) (c : Counts) (acc : Accepts bs c) (ws : List ℕ) (o : 
   closing t x = closedBy p ms t x
 
   -- room for the replacement
-  spare : {t : ℕ} → t < c .tracks → getD ms t false ≡ true → not (eqb (replacement p (l t .state)) 0) ≡ true → length (l t .held) < entryLimit
+  spare : {t : ℕ} → t < c .tracks → getD ms t false ≡ true → not (eqb (replacement p (l t .state)) 0) ≡ true → length (l t .held) < terms .limit
   unfolding isReplaced
   spare {t} b y n = k .room t (low b) (and-both (closesScope p l t) _ (sym (marked b) ∙ y) n)
 
-  closing-stores : (t : ℕ) → t < c .tracks → Stores entryLimit (closing t (l t))
+  closing-stores : (t : ℕ) → t < c .tracks → Stores terms (closing t (l t))
   unfolding closedBy
   closing-stores t b =
-      let s = stores-at entryLimit (c .tracks) l (holds c ws o) t in
+      let s = stores-at terms (c .tracks) l (holds terms c ws o) t in
       elim (look (isClosedBy p ms t (isAwake (l t .mode)))) [
-        | inl q ↦ rw q (stores-sleeping entryLimit)
+        | inl q ↦ rw q (stores-sleeping terms)
         | inr q ↦
             elim (look (getD ms t false)) [
-              | inl y ↦ rw (q, y) (installed-stores (replacement p (l t .state)) noState (l t) s (marked-awake b y) (spare b y))
+              | inl y ↦ rw (q, y) (installed-stores terms (replacement p (l t .state)) noState (l t) s (marked-awake b y) (spare b y))
               | inr y ↦ rw (q, y) s
             ]
       ]
 
-  pub closing-fits : Fitting c ws o closing
+  pub closing-fits : Fitting terms c ws o closing
   closing-fits = record { fits = λ t b. closing-stores t b .fits; blank = λ t b. closing-stores t b .blank }
 
-  pub closing-start : ws ≡ written entryLimit (c .tracks) (through c ws o closing 0) ws
-  closing-start = pass-start c ws o closing
+  pub closing-start : ws ≡ written terms (c .tracks) (through terms c ws o closing 0) ws
+  closing-start = pass-start terms c ws o closing
 
   -- all visits together
-  pub closing-all : written entryLimit (c .tracks) (passed c ws o closing) ws ≡ written entryLimit (c .tracks) (closed p l) ws
+  pub closing-all : written terms (c .tracks) (passed terms c ws o closing) ws ≡ written terms (c .tracks) (closed p l) ws
   unfolding closed closedBy
   closing-all =
-      written-same entryLimit (c .tracks) _ _ ws
+      written-same terms (c .tracks) _ _ ws
       (λ t b. ap₂ (λ x y. cond x sleeping (cond y (installed (replacement p (l t .state)) noState (l t)) (l t))) (closed-is t) (marked b))
 
-  module _ (i : ℕ) (b : i < c .tracks) {vs : List ℕ} (e : vs ≡ written entryLimit (c .tracks) (through c ws o closing i) ws) (y : getD ms i false ≡ true) where
-    as-it-was : ledgerOf c vs i ≡ l i
-    as-it-was = pass-old c ws o closing closing-fits i (omega arith) e i (omega arith)
+  module _ (i : ℕ) (b : i < c .tracks) {vs : List ℕ} (e : vs ≡ written terms (c .tracks) (through terms c ws o closing i) ws) (y : getD ms i false ≡ true) where
+    as-it-was : ledgerOf terms c vs i ≡ l i
+    as-it-was = pass-old terms c ws o closing closing-fits i (omega arith) e i (omega arith)
 
     -- what a visit needs
-    pub closing-needs : (ledgerOf c vs i .state < c .states) × ((replacement p (ledgerOf c vs i .state) ≡ 0 → ⊥) → length (ledgerOf c vs i .held) < entryLimit)
+    pub closing-needs : (ledgerOf terms c vs i .state < c .states) × ((replacement p (ledgerOf terms c vs i .state) ≡ 0 → ⊥) → length (ledgerOf terms c vs i .held) < terms .limit)
     closing-needs =
         let n = state-count bs c in
         let s = k .state i (low b) (sym (marked b) ∙ y) in (

@@ -11,7 +11,6 @@ use lib.Dec.{eqb, leb, ltb}
 use lib.ListN.{length}
 use borrow.Author.Tests.{leb-false, ltb-true, ltb-false}
 use Rattle.rules.specs.declared.Counts.{Counts}
-use Rattle.rules.specs.Layout.{entryLimit}
 use Rattle.rules.specs.Plan.{Plan, planOf, trackCount, noState, host, replacement}
 use Rattle.rules.specs.Ledger.{Configuration, Ledger, isAwake, isForward, sleeping, written}
 use Rattle.rules.specs.Opening.{fresh, wakes, entered, enter}
@@ -32,6 +31,7 @@ use Rattle.lookup.proofs.OneTrackLaws.{Stores, stores-sleeping, stores-at, stor
 use Rattle.opening.specs.Entering.{statesOf, Sleepers}
 use Rattle.opening.proofs.EnteringLaws.{entered-stores}
 use Rattle.event_choice.specs.declared.Choice.{Choice}
+use Rattle.rules.specs.declared.Terms.{Terms}
 use Rattle.event_choice.specs.Next.{InRange, movesOf}
 use Rattle.event_choice.specs.Chosen.{argumentsOf, Chosen}
 use Rattle.event_choice.proofs.Visits.{own-low}
@@ -41,12 +41,12 @@ use Rattle.event_choice.proofs.Choosing as choosing
 use Rattle.event_writing.specs.EventParts.{Movers, Closings}
 use Rattle.event_writing.proofs.InstallingPass.{installed-stores, installing-stores}
 
-module _ (bs : List ℕ) (c : Counts) (ws : List ℕ) (g : Going bs c ws) (r : Choice) (ch : Chosen (planOf bs c) (ledgerOf c ws) r) where
+module _ (terms : Terms) (bs : List ℕ) (c : Counts) (ws : List ℕ) (g : Going terms bs c ws) (r : Choice) (ch : Chosen terms (planOf bs c) (ledgerOf terms c ws) r) where
   abbrev p : Plan
   p = planOf bs c
 
   abbrev l : Ledger
-  l = ledgerOf c ws
+  l = ledgerOf terms c ws
 
   abbrev e : EventArguments
   e = argumentsOf r
@@ -61,40 +61,40 @@ module _ (bs : List ℕ) (c : Counts) (ws : List ℕ) (g : Going bs c ws) (r : C
   ok = plan-facts bs c (g .checked .lent .accepts)
 
   live : Live p l
-  live = live-of-going bs c ws g
+  live = live-of-going terms bs c ws g
 
-  o : Tidy ws (c .tracks)
-  o = tidy-words bs c ws (g .checked)
+  o : Tidy terms ws (c .tracks)
+  o = tidy-words terms bs c ws (g .checked)
 
   took : Numbers (r .taken) (c .tracks) (move p l e)
   took = subst (λ n. Numbers (r .taken) n (move p l e)) (track-count bs c) (ch .taken)
 
   pub in-range : InRange c (r .taken)
-  in-range = choosing.in-range bs c ws g e took
+  in-range = choosing.in-range terms bs c ws g e took
 
   moves-are : movesOf (r .taken) (c .tracks) ≡ move p l e
-  moves-are = choosing.moves-are bs c ws g e took
+  moves-are = choosing.moves-are terms bs c ws g e took
 
   module _ (free : r .full ≡ false) where
     -- a track that is given an entry has room for it
-    spare : (t : ℕ) → t < trackCount p → (hasCode p (move p l e t) || isReplaced p m t) ≡ true → length (l t .held) < entryLimit
+    spare : (t : ℕ) → t < trackCount p → (hasCode p (move p l e t) || isReplaced p m t) ≡ true → length (l t .held) < terms .limit
     unfolding isFull
     spare t b h =
-        let q = some-not (trackCount p) (λ t. (hasCode p (move p l e t) || isReplaced p m t) && leb entryLimit (length (l t .held))) (sym (ch .full) ∙ free) t b in
-        leb-false entryLimit (length (l t .held)) (refuted (leb entryLimit (length (l t .held))) (λ f. clash (and-both (hasCode p (move p l e t) || isReplaced p m t) _ h f) q))
+        let q = some-not (trackCount p) (λ t. (hasCode p (move p l e t) || isReplaced p m t) && leb (terms .limit) (length (l t .held))) (sym (ch .full) ∙ free) t b in
+        leb-false (terms .limit) (length (l t .held)) (refuted (leb (terms .limit) (length (l t .held))) (λ f. clash (and-both (hasCode p (move p l e t) || isReplaced p m t) _ h f) q))
 
     mover-low : (t x : ℕ) → move p l e t ≡ some x → t < trackCount p
     unfolding sleeping isForward
     mover-low t x q =
         elim (look (ltb t (trackCount p))) [
           | inl b ↦ ltb-true t (trackCount p) b
-          | inr b ↦ clash (mover-facts p ok l live e t x q .ahead) (ap (λ (y : Configuration). isForward (y .mode)) (beyond bs c ws t (ltb-false t (trackCount p) b)))
+          | inr b ↦ clash (mover-facts p ok l live e t x q .ahead) (ap (λ (y : Configuration). isForward (y .mode)) (beyond terms bs c ws t (ltb-false t (trackCount p) b)))
         ]
 
-    pub movers : Movers p l (movesOf (r .taken) (c .tracks))
+    pub movers : Movers terms p l (movesOf (r .taken) (c .tracks))
     unfolding hasCode
     movers =
-        subst (Movers p l) (sym moves-are)
+        subst (Movers terms p l) (sym moves-are)
         (record {
           awake = λ t x q. forward-awake (l t .mode) (mover-facts p ok l live e t x q .ahead);
           room = λ t h.
@@ -120,23 +120,23 @@ module _ (bs : List ℕ) (c : Counts) (ws : List ℕ) (g : Going bs c ws) (r : C
         elim (look-option (move p l e t)) [ inl q ↦ q | inr q ↦ absurd (let k = mover-low t (q .0) (q .1) in let n = track-count bs c in omega arith) ]
 
     asleep-beyond : (t : ℕ) → c .tracks ≤ t → l t ≡ sleeping
-    asleep-beyond t b = beyond bs c ws t (omega (arith, track-count bs c))
+    asleep-beyond t b = beyond terms bs c ws t (omega (arith, track-count bs c))
 
-    stores-first : Storable entryLimit (c .tracks) first
+    stores-first : Storable terms (c .tracks) first
     stores-first =
-        storable-of entryLimit (c .tracks) first (installing-stores c ws o p (r .taken) movers) (λ t b. idle t (none-beyond t b) ∙ asleep-beyond t b)
+        storable-of terms (c .tracks) first (installing-stores terms c ws o p (r .taken) movers) (λ t b. idle t (none-beyond t b) ∙ asleep-beyond t b)
 
     no-host : (t : ℕ) → c .tracks ≤ t → host p t ≡ none
     no-host t b = elim (look-option (host p t)) [ inl q ↦ q | inr q ↦ absurd (let k = ok .hosted t (q .0) (q .1) in let n = track-count bs c in omega arith) ]
 
     -- the ledger after the moves can be written
-    stores-second : Storable entryLimit (c .tracks) m
+    stores-second : Storable terms (c .tracks) m
     unfolding moved enter
     stores-second =
-        storable-of entryLimit (c .tracks) m
+        storable-of terms (c .tracks) m
         (λ t.
-        let s = subst (λ x. Stores entryLimit x) (same t) (installing-stores c ws o p (r .taken) movers t) in
-        entered-stores entryLimit p (installedBy p (move p l e t) (l t)) t (to t) (wakes p to t) s)
+        let s = subst (λ x. Stores terms x) (same t) (installing-stores terms c ws o p (r .taken) movers t) in
+        entered-stores terms p (installedBy p (move p l e t) (l t)) t (to t) (wakes p to t) s)
         (λ t b. moved-kept p ok l live e t (none-beyond t b) (wakes-root p ok to t (no-host t b)) ∙ asleep-beyond t b)
 
     -- what is awake then is one of the plan's tracks
@@ -149,43 +149,43 @@ module _ (bs : List ℕ) (c : Counts) (ws : List ℕ) (g : Going bs c ws) (r : C
         ]
 
     -- room for the replacement
-    replaced-room : (t : ℕ) → t < trackCount p → isReplaced p m t ≡ true → length (m t .held) < entryLimit
+    replaced-room : (t : ℕ) → t < trackCount p → isReplaced p m t ≡ true → length (m t .held) < terms .limit
     unfolding isReplaced
     replaced-room t b h =
         let s = closing-still p ok l live e t (sym (closes-before p ok l live e t b) ∙ and-holds (closesScope p m t) _ h .0) in
         let k = spare t b (or-right (hasCode p (move p l e t)) (isReplaced p m t) h) in
         omega (arith, ap (λ (x : Configuration). length (x .held)) s)
 
-    stores-closed : (t : ℕ) → Stores entryLimit (closed p m t)
+    stores-closed : (t : ℕ) → Stores terms (closed p m t)
     unfolding closesScope isReplaced
     stores-closed t =
-        let s = stores-at entryLimit (c .tracks) m stores-second t in
+        let s = stores-at terms (c .tracks) m stores-second t in
         elim (look (isClosed p m t)) [
-          | inl q ↦ subst (Stores entryLimit) (sym (closed-asleep p m t q)) (stores-sleeping entryLimit)
+          | inl q ↦ subst (Stores terms) (sym (closed-asleep p m t q)) (stores-sleeping terms)
           | inr q ↦
               elim (look (closesScope p m t)) [
-                | inr y ↦ subst (Stores entryLimit) (sym (closed-kept p m t q y)) s
+                | inr y ↦ subst (Stores terms) (sym (closed-kept p m t q y)) s
                 | inl y ↦
                     let a = and-holds (isAwake (m t .mode)) _ y .0 in
-                    subst (Stores entryLimit) (sym (closed-replaced p m t q y))
-                    (installed-stores (replacement p (m t .state)) noState (m t) s a
+                    subst (Stores terms) (sym (closed-replaced p m t q y))
+                    (installed-stores terms (replacement p (m t .state)) noState (m t) s a
                     (λ n. replaced-room t (awake-low t a) (and-both (closesScope p m t) (not (eqb (replacement p (m t .state)) 0)) y n)))
               ]
         ]
 
     -- so can the ledger after the closings
-    pub stores-all : Storable entryLimit (c .tracks) (closed p m)
+    pub stores-all : Storable terms (c .tracks) (closed p m)
     unfolding closesScope sleeping isAwake
     stores-all =
-        storable-of entryLimit (c .tracks) (closed p m) stores-closed
+        storable-of terms (c .tracks) (closed p m) stores-closed
         (λ t b.
         let z = stores-second .beyond t b in
         let n : closesScope p m t ≡ false = ap (λ (x : Configuration). isAwake (x .mode) && isClosing p m (x .state)) z in
         closed-kept p m t (closed-root p m t (no-host t b)) n ∙ z)
 
-    module _ {vs : List ℕ} (d : vs ≡ written entryLimit (c .tracks) first ws) where
-      pub first-tidy : Tidy vs (c .tracks)
-      first-tidy = orderly-after c ws o first stores-first d
+    module _ {vs : List ℕ} (d : vs ≡ written terms (c .tracks) first ws) where
+      pub first-tidy : Tidy terms vs (c .tracks)
+      first-tidy = orderly-after terms c ws o first stores-first d
 
       module _ {ts : List ℕ} (n : Numbers ts (c .tracks) (λ t. destinationOf p (movesOf (r .taken) (c .tracks) t))) where
         goes-to : (t : ℕ) → t < trackCount p → statesOf ts t ≡ to t
@@ -193,36 +193,36 @@ module _ (bs : List ℕ) (c : Counts) (ws : List ℕ) (g : Going bs c ws) (r : C
         goes-to t b = n .at t (omega (arith, track-count bs c)) ∙ ap (λ goes. destinationOf p (goes t)) moves-are
 
         -- what wakes was asleep
-        pub sleepers : Sleepers p (statesOf ts) (ledgerOf c vs)
+        pub sleepers : Sleepers p (statesOf ts) (ledgerOf terms c vs)
         sleepers u w =
             let a = woken-asleep p ok l live e u (sym (wakes-same p ok (statesOf ts) to goes-to u) ∙ w) in
-            ap (λ (k : Ledger). k u) (read-back c ws o first stores-first d)
+            ap (λ (k : Ledger). k u) (read-back terms c ws o first stores-first d)
             ∙ elim (look-option (move p l e u)) [
-              | inl q ↦ idle u q ∙ storable bs c ws g .blank u a
+              | inl q ↦ idle u q ∙ storable terms bs c ws g .blank u a
               | inr q ↦ clash (forward-awake (l u .mode) (mover-facts p ok l live e u (q .0) (q .1) .ahead)) a
             ]
 
         -- the states are entered
-        module _ {us : List ℕ} (f : us ≡ written entryLimit (c .tracks) (enter p (statesOf ts) (ledgerOf c vs)) vs) where
-          second : us ≡ written entryLimit (c .tracks) m ws
+        module _ {us : List ℕ} (f : us ≡ written terms (c .tracks) (enter p (statesOf ts) (ledgerOf terms c vs)) vs) where
+          second : us ≡ written terms (c .tracks) m ws
           unfolding enter moved
           second =
-              then c ws o first stores-first d (enter p (statesOf ts)) f
-              ∙ written-same entryLimit (c .tracks) _ _ ws
+              then terms c ws o first stores-first d (enter p (statesOf ts)) f
+              ∙ written-same terms (c .tracks) _ _ ws
               (λ t b.
               let h : t < trackCount p = omega (arith, track-count bs c) in
               (λ i. entered (same t i) (fresh p t) (goes-to t h i) (wakes-same p ok (statesOf ts) to goes-to t i)))
 
-          read-second : ledgerOf c us ≡ m
-          read-second = read-back c ws o m stores-second second
+          read-second : ledgerOf terms c us ≡ m
+          read-second = read-back terms c ws o m stores-second second
 
-          pub second-tidy : Tidy us (c .tracks)
-          second-tidy = orderly-after c ws o m stores-second second
+          pub second-tidy : Tidy terms us (c .tracks)
+          second-tidy = orderly-after terms c ws o m stores-second second
 
-          pub closings : Closings p (ledgerOf c us) (r .closing)
+          pub closings : Closings terms p (ledgerOf terms c us) (r .closing)
           unfolding closesScope
           closings =
-              subst (λ (k : Ledger). Closings p k (r .closing)) (sym read-second)
+              subst (λ (k : Ledger). Closings terms p k (r .closing)) (sym read-second)
               (record {
                 marks = ch .closing;
                 state = λ t b h. own-low p t (m t .state) (moved-own p ok l live e t b (and-holds (isAwake (m t .mode)) _ h .0));
@@ -231,9 +231,9 @@ module _ (bs : List ℕ) (c : Counts) (ws : List ℕ) (g : Going bs c ws) (r : C
               })
 
           -- the scopes are closed, if any is due to
-          pub none-closed : r .closed ≡ 0 → us ≡ written entryLimit (c .tracks) (closed p m) ws
-          none-closed n = second ∙ ap (λ (x : Ledger). written entryLimit (c .tracks) x ws) (sym (none-close p ok m (sym (ch .many-closed) ∙ n)))
+          pub none-closed : r .closed ≡ 0 → us ≡ written terms (c .tracks) (closed p m) ws
+          none-closed n = second ∙ ap (λ (x : Ledger). written terms (c .tracks) x ws) (sym (none-close p ok m (sym (ch .many-closed) ∙ n)))
 
-          pub all-written : {xs : List ℕ} → xs ≡ written entryLimit (c .tracks) (closed p (ledgerOf c us)) us
-              → xs ≡ written entryLimit (c .tracks) (closed p m) ws
-          all-written x = then c ws o m stores-second second (closed p) x
+          pub all-written : {xs : List ℕ} → xs ≡ written terms (c .tracks) (closed p (ledgerOf terms c us)) us
+              → xs ≡ written terms (c .tracks) (closed p m) ws
+          all-written x = then terms c ws o m stores-second second (closed p) x

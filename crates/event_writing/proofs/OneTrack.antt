@@ -10,7 +10,7 @@ use lib.ListN.{length, getD}
 use borrow.Author.Tests.{eq-eqb, ne-eqb, not-true, not-false}
 use Rattle.rules.specs.declared.Counts.{Counts}
 use Rattle.rules.specs.declared.Track.{Track}
-use Rattle.rules.specs.Layout.{entryLimit}
+use Rattle.rules.specs.declared.Terms.{Terms}
 use Rattle.rules.specs.Plan.{Plan, planOf, noState, optional, transition, replacement}
 use Rattle.rules.specs.Ledger.{Configuration, isAwake}
 use Rattle.rules.specs.Event.{install, installed, destinationOf, installedBy, hasCode}
@@ -25,20 +25,20 @@ use Rattle.event_choice.proofs.Visits.{word-none, word-some, word-small}
 use Rattle.event_writing.specs.EventParts.{isClosedBy, closedBy}
 
 -- a code given
-module _ (c : Counts) (ws : List ℕ) (o : Tidy ws (c .tracks)) (t : ℕ) (b : t < c .tracks) (code deviation : ℕ) where
-  pub give-none : code ≡ 0 → ws ≡ withConfiguration c ws t (installed code deviation (ledgerOf c ws t))
+module _ (terms : Terms) (c : Counts) (ws : List ℕ) (o : Tidy terms ws (c .tracks)) (t : ℕ) (b : t < c .tracks) (code deviation : ℕ) where
+  pub give-none : code ≡ 0 → ws ≡ withConfiguration terms c ws t (installed code deviation (ledgerOf terms c ws t))
   unfolding installed install
-  give-none z = kept-track c ws o t _ (rw (eq-eqb code 0 z))
+  give-none z = kept-track terms c ws o t _ (rw (eq-eqb code 0 z))
 
-  module _ (room : length (ledgerOf c ws t .held) < entryLimit) where
-    pub give-room : trackAt ws t .count < entryLimit
+  module _ (room : length (ledgerOf terms c ws t .held) < terms .limit) where
+    pub give-room : trackAt terms ws t .count < terms .limit
     unfolding trackOf
-    give-room = let e = ap (λ (k : Track). k .count) (track-read c ws t b) in omega (arith, e)
+    give-room = let e = ap (λ (k : Track). k .count) (track-read terms c ws t b) in omega (arith, e)
 
-    pub give-some : (code ≡ 0 → ⊥) → {vs : List ℕ} → vs ≡ withInstalled ws t code deviation
-        → vs ≡ withConfiguration c ws t (installed code deviation (ledgerOf c ws t))
+    pub give-some : (code ≡ 0 → ⊥) → {vs : List ℕ} → vs ≡ withInstalled terms ws t code deviation
+        → vs ≡ withConfiguration terms c ws t (installed code deviation (ledgerOf terms c ws t))
     unfolding installed install
-    give-some n d = d ∙ put-installed c ws o t b (record { code = code; deviation = deviation }) room ∙ ap (withConfiguration c ws t) (sym (rw (ne-eqb code 0 n)))
+    give-some n d = d ∙ put-installed terms c ws o t b (record { code = code; deviation = deviation }) room ∙ ap (withConfiguration terms c ws t) (sym (rw (ne-eqb code 0 n)))
 
 -- what a transition installs, and where it leads
 module _ (p : Plan) (x : ℕ) where
@@ -51,11 +51,11 @@ module _ (p : Plan) (x : ℕ) where
   enters-none z = word-none refl ∙ sym (rw (word-none z, destinationOf))
 
   module _ (n : x ≡ noState → ⊥) where
-    pub installs : {code deviation : ℕ} → code ≡ transition p x .code → deviation ≡ transition p x .deviation → (c : Counts) (ws : List ℕ) (t : ℕ) {vs : List ℕ}
-        → vs ≡ withConfiguration c ws t (installed code deviation (ledgerOf c ws t))
-        → vs ≡ withConfiguration c ws t (installedBy p (optional x) (ledgerOf c ws t))
+    pub installs : {code deviation : ℕ} → code ≡ transition p x .code → deviation ≡ transition p x .deviation → (terms : Terms) (c : Counts) (ws : List ℕ) (t : ℕ) {vs : List ℕ}
+        → vs ≡ withConfiguration terms c ws t (installed code deviation (ledgerOf terms c ws t))
+        → vs ≡ withConfiguration terms c ws t (installedBy p (optional x) (ledgerOf terms c ws t))
     unfolding installedBy
-    installs e f c ws t d = d ∙ ap (withConfiguration c ws t) (rw (word-some n, installedBy, e, f))
+    installs e f terms c ws t d = d ∙ ap (withConfiguration terms c ws t) (rw (word-some n, installedBy, e, f))
 
     pub enters-some : {d : ℕ} → d ≡ transition p x .destination → d < 256 → optional d ≡ destinationOf p (optional x)
     unfolding destinationOf
@@ -83,23 +83,23 @@ module _ (bs : List ℕ) (c : Counts) (ms : List Bool) (a : Bool) (t u : ℕ) (g
         rw (q, isClosedBy, sym e ∙ not-false r h) (ap (λ (v : ℕ). getD ms v false) (g ∙ sym o))
 
 -- the closing of one track
-module _ (c : Counts) (ws : List ℕ) (o : Tidy ws (c .tracks)) (t : ℕ) (b : t < c .tracks) (p : Plan) (ms : List Bool) {k : Track}
-    (read : k ≡ trackOf (ledgerOf c ws t)) {q : Bool} (e : q ≡ isClosedBy p ms t (isAwake (k .mode))) where
-  is : isClosedBy p ms t (isAwake (ledgerOf c ws t .mode)) ≡ q
+module _ (terms : Terms) (c : Counts) (ws : List ℕ) (o : Tidy terms ws (c .tracks)) (t : ℕ) (b : t < c .tracks) (p : Plan) (ms : List Bool) {k : Track}
+    (read : k ≡ trackOf (ledgerOf terms c ws t)) {q : Bool} (e : q ≡ isClosedBy p ms t (isAwake (k .mode))) where
+  is : isClosedBy p ms t (isAwake (ledgerOf terms c ws t .mode)) ≡ q
   is = sym (e ∙ ap (λ m. isClosedBy p ms t (isAwake m)) (mode-as _ read))
 
-  pub put-closed : q ≡ true → {vs : List ℕ} → vs ≡ withAsleep ws t → vs ≡ withConfiguration c ws t (closedBy p ms t (ledgerOf c ws t))
+  pub put-closed : q ≡ true → {vs : List ℕ} → vs ≡ withAsleep terms ws t → vs ≡ withConfiguration terms c ws t (closedBy p ms t (ledgerOf terms c ws t))
   unfolding closedBy
-  put-closed y d = d ∙ put-asleep c ws o t b ∙ ap (withConfiguration c ws t) (sym (rw (is ∙ y)))
+  put-closed y d = d ∙ put-asleep terms c ws o t b ∙ ap (withConfiguration terms c ws t) (sym (rw (is ∙ y)))
 
   module _ (n : q ≡ false) where
-    pub put-kept : getD ms t false ≡ false → ws ≡ withConfiguration c ws t (closedBy p ms t (ledgerOf c ws t))
+    pub put-kept : getD ms t false ≡ false → ws ≡ withConfiguration terms c ws t (closedBy p ms t (ledgerOf terms c ws t))
     unfolding closedBy
-    put-kept z = kept-track c ws o t _ (rw (is ∙ n, z))
+    put-kept z = kept-track terms c ws o t _ (rw (is ∙ n, z))
 
     pub put-replaced : getD ms t false ≡ true → {code : ℕ} → code ≡ replacement p (k .state)
-        → {vs : List ℕ} → vs ≡ withConfiguration c ws t (installed code noState (ledgerOf c ws t)) → vs ≡ withConfiguration c ws t (closedBy p ms t (ledgerOf c ws t))
+        → {vs : List ℕ} → vs ≡ withConfiguration terms c ws t (installed code noState (ledgerOf terms c ws t)) → vs ≡ withConfiguration terms c ws t (closedBy p ms t (ledgerOf terms c ws t))
     unfolding closedBy
     put-replaced y f d =
-        d ∙ ap (λ i. withConfiguration c ws t (installed i noState (ledgerOf c ws t))) (f ∙ ap (replacement p) (state-as _ read))
-        ∙ ap (withConfiguration c ws t) (sym (rw (is ∙ n, y)))
+        d ∙ ap (λ i. withConfiguration terms c ws t (installed i noState (ledgerOf terms c ws t))) (f ∙ ap (replacement p) (state-as _ read))
+        ∙ ap (withConfiguration terms c ws t) (sym (rw (is ∙ n, y)))

@@ -9,7 +9,9 @@ use lib.Dec.{ltb, eqb}
 use lib.ListN.{length, take, drop}
 use borrow.Author.Tests.{ltb-true, eqb-true, eq-eqb, ne-eqb}
 use Rattle.rules.specs.declared.Counts.{Counts}
-use Rattle.rules.specs.Layout.{entryLimit, entryWidth, trackWidth, headWords, leadingWords, trackPlace, entriesPlace}
+use Rattle.rules.specs.declared.Terms.{Terms}
+use Rattle.rules.specs.Layout.{entryWidth, headWords, entriesPlace}
+use Rattle.ledger.proofs.LayoutLaws.{place-small}
 use Rattle.rules.specs.Plan.{planOf, trackCount}
 use Rattle.rules.specs.Acceptance.{Reading, turnedBack, accepted, readPlan}
 use Rattle.rules.specs.Ledger.{ledgerAt}
@@ -37,57 +39,57 @@ take-again zero xs = refl
 take-again (suc n) [] = refl
 take-again (suc n) (x ∷ xs) = ap (λ (r : List ℕ). x ∷ r) (take-again n xs)
 
-module _ (bs ws : List ℕ) (t : ℕ) where
+module _ (terms : Terms) (bs ws : List ℕ) (t : ℕ) where
   -- a part that is not empty
   pub record Held : Type 0 where
     pub exists : t < 32
-    pub few : length (entriesPart entryLimit bs ws t) ≤ 64
-    pub there : entriesPart entryLimit bs ws t ≡ take (length (entriesPart entryLimit bs ws t)) (drop (entriesPlace entryLimit t) ws)
+    pub few : length (entriesPart terms bs ws t) ≤ entryWidth * terms .limit
+    pub there : entriesPart terms bs ws t ≡ take (length (entriesPart terms bs ws t)) (drop (entriesPlace terms t) ws)
 
-  held-at : (k : ℕ) → t < 32 → k ≤ entryLimit → entriesPart entryLimit bs ws t ≡ take (entryWidth * k) (drop (entriesPlace entryLimit t) ws) → Held
-  unfolding entryWidth entryLimit
+  held-at : (k : ℕ) → t < 32 → k ≤ terms .limit → entriesPart terms bs ws t ≡ take (entryWidth * k) (drop (entriesPlace terms t) ws) → Held
+  unfolding entryWidth
   held-at k h m e =
       record {
         exists = h;
-        few = rw e (omega (arith, take-within (entryWidth * k) (drop (entriesPlace entryLimit t) ws)));
-        there = rw e (take-again (entryWidth * k) (drop (entriesPlace entryLimit t) ws));
+        few = rw e (omega (arith, take-within (entryWidth * k) (drop (entriesPlace terms t) ws)));
+        there = rw e (take-again (entryWidth * k) (drop (entriesPlace terms t) ws));
       }
 
-  held-under : (c : Counts) → readPlan bs ≡ accepted c → (eqb (ledgerRefusal entryLimit bs (planOf bs c) ws) 0 && ltb t (trackCount (planOf bs c))) ≡ true → Held
+  held-under : (c : Counts) → readPlan bs ≡ accepted c → (eqb (ledgerRefusal terms bs (planOf bs c) ws) 0 && ltb t (trackCount (planOf bs c))) ≡ true → Held
   unfolding entriesPart heldPart
   held-under c a e =
-      let (f, l) = and-holds (eqb (ledgerRefusal entryLimit bs (planOf bs c) ws) 0) (ltb t (trackCount (planOf bs c))) e in
-      let s = none-passes entryLimit bs (planOf bs c) ws (eqb-true _ 0 f) .sound in
-      let y = sound-words entryLimit (planOf bs c) ws s .tidy in
+      let (f, l) = and-holds (eqb (ledgerRefusal terms bs (planOf bs c) ws) 0) (ltb t (trackCount (planOf bs c))) e in
+      let s = none-passes terms bs (planOf bs c) ws (eqb-true _ 0 f) .sound in
+      let y = sound-words terms (planOf bs c) ws s .tidy in
       let b = ltb-true t (trackCount (planOf bs c)) l in
       held-at
-      (length (ledgerAt entryLimit ws (trackCount (planOf bs c)) t .held))
+      (length (ledgerAt terms ws (trackCount (planOf bs c)) t .held))
       (omega (arith, b, track-count bs c, accepted-holds bs c a .tracks))
-      (count-within entryLimit (trackCount (planOf bs c)) ws t _ y refl)
+      (count-within terms (trackCount (planOf bs c)) ws t _ y refl)
       (rw (a, entriesPart, e))
 
-  pub held : (length (entriesPart entryLimit bs ws t) ≡ 0 → ⊥) → Held
+  pub held : (length (entriesPart terms bs ws t) ≡ 0 → ⊥) → Held
   unfolding entriesPart
   held h = go (readPlan bs) refl
     where
-      tested : (c : Counts) (b : Bool) → readPlan bs ≡ accepted c → (eqb (ledgerRefusal entryLimit bs (planOf bs c) ws) 0 && ltb t (trackCount (planOf bs c))) ≡ b → Held
+      tested : (c : Counts) (b : Bool) → readPlan bs ≡ accepted c → (eqb (ledgerRefusal terms bs (planOf bs c) ws) 0 && ltb t (trackCount (planOf bs c))) ≡ b → Held
       tested c true a e = held-under c a e
       tested c false a e = absurd (h (rw (a, entriesPart, e)))
 
       go : (x : Reading) → readPlan bs ≡ x → Held
       go (turnedBack r) a = absurd (h (rw (a, entriesPart)))
-      go (accepted c) a = tested c (eqb (ledgerRefusal entryLimit bs (planOf bs c) ws) 0 && ltb t (trackCount (planOf bs c))) a refl
+      go (accepted c) a = tested c (eqb (ledgerRefusal terms bs (planOf bs c) ws) 0 && ltb t (trackCount (planOf bs c))) a refl
 
 -- the number of the empty part, and of another
-pub part-empty : (part : List ℕ) (t : ℕ) → length part ≡ 0 → 0 ≡ packedPart part t
+pub part-empty : (terms : Terms) (part : List ℕ) (t : ℕ) → length part ≡ 0 → 0 ≡ packedPart terms part t
 unfolding packedPart
-part-empty part t h = rw (eq-eqb (length part) 0 h)
+part-empty terms part t h = rw (eq-eqb (length part) 0 h)
 
-pub part-packed : (part xs : List ℕ) (t from : ℕ) → xs ≡ part → (length xs ≡ 0 → ⊥) → from ≡ entriesPlace entryLimit t + entryWidth * 0 → length xs + from * 65536 ≡ packedPart part t
+pub part-packed : (terms : Terms) (part xs : List ℕ) (t from : ℕ) → xs ≡ part → (length xs ≡ 0 → ⊥) → from ≡ entriesPlace terms t + entryWidth * 0 → length xs + from * 65536 ≡ packedPart terms part t
 unfolding packedPart bit16 entryWidth
-part-packed part xs t from e h f = rw (sym e, ne-eqb (length xs) 0 h) (omega arith)
+part-packed terms part xs t from e h f = rw (sym e, ne-eqb (length xs) 0 h) (omega arith)
 
--- the place of a track's entry is a 16-bit number
-pub place-small : (t u k from : ℕ) → u ≡ t → t < 32 → from ≡ entriesPlace entryLimit u + entryWidth * k → k ≤ 32 → from < 65536
-unfolding entriesPlace trackPlace trackWidth headWords entryWidth entryLimit leadingWords
-place-small t u k from e h f m = omega arith
+-- a track's entries start at a small place
+pub part-small : (terms : Terms) (t u from : ℕ) → terms .limit < 65536 → u ≡ t → t < 32 → from ≡ entriesPlace terms u + entryWidth * 0 → from < 4194344
+unfolding entriesPlace headWords entryWidth
+part-small terms t u from l e h f = omega (arith, place-small terms u l (omega arith))

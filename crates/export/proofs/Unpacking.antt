@@ -9,9 +9,10 @@ use borrow.Author.Tests.{ne-eqb}
 use Rattle.rules.specs.Names.{Day}
 use Rattle.rules.specs.Signed.{signedOf, bitsOf}
 use Rattle.rules.specs.Day.{isDay}
-use Rattle.rules.specs.Layout.{entryLimit, entriesPlace}
+use Rattle.rules.specs.Layout.{entryWidth, entriesPlace}
 use Rattle.rules.specs.declared.Counts.{Counts}
 use Rattle.rules.specs.declared.Date.{Date}
+use Rattle.rules.specs.declared.Terms.{Terms}
 use Rattle.rules.specs.Acceptance.{turnedBack, accepted}
 use Rattle.rules.specs.Call.{refusal, done, entriesPart}
 use Rattle.rules.specs.Conversion as converted
@@ -97,20 +98,20 @@ unfolding packedDay bit16
 no-day-read n h = omega arith
 
 -- the part that entries speaks of, from the number alone
-module _ (ws : List ℕ) (t : ℕ) where
-  held-read : (part : List ℕ) → (length part ≡ 0 → ⊥) → length part ≤ 64
-      → part ≡ take (length part) (drop (entriesPlace entryLimit t) ws) → take (packedPart part t % bit16) (drop (packedPart part t / bit16) ws) ≡ part
-  unfolding packedPart bit16
-  held-read part h few e =
-      let n : packedPart part t ≡ length part + entriesPlace entryLimit t * bit16 = rw (ne-eqb (length part) 0 h, packedPart) in
-      let count : packedPart part t % bit16 ≡ length part = omega arith in
-      let index : packedPart part t / bit16 ≡ entriesPlace entryLimit t = omega arith in
+module _ (terms : Terms) (few : terms .limit < 32768) (ws : List ℕ) (t : ℕ) where
+  held-read : (part : List ℕ) → (length part ≡ 0 → ⊥) → length part ≤ entryWidth * terms .limit
+      → part ≡ take (length part) (drop (entriesPlace terms t) ws) → take (packedPart terms part t % bit16) (drop (packedPart terms part t / bit16) ws) ≡ part
+  unfolding packedPart bit16 entryWidth
+  held-read part h most e =
+      let n : packedPart terms part t ≡ length part + entriesPlace terms t * bit16 = rw (ne-eqb (length part) 0 h, packedPart) in
+      let count : packedPart terms part t % bit16 ≡ length part = omega arith in
+      let index : packedPart terms part t / bit16 ≡ entriesPlace terms t = omega arith in
       rw (count, index) (sym e)
 
-  pub part-read : (bs : List ℕ) (part : List ℕ) → part ≡ entriesPart entryLimit bs ws t
-      → take (packedPart part t % bit16) (drop (packedPart part t / bit16) ws) ≡ part
+  pub part-read : (bs : List ℕ) (part : List ℕ) → part ≡ entriesPart terms bs ws t
+      → take (packedPart terms part t % bit16) (drop (packedPart terms part t / bit16) ws) ≡ part
   unfolding packedPart bit16
   part-read bs [] e = refl
   part-read bs (x ∷ xs) e =
-      let h = held bs ws t (λ z. let y : _≡_ {A = ℕ} (length (x ∷ xs)) 0 = ap length e ∙ z in absurd (omega arith)) in
+      let h = held terms bs ws t (λ z. let y : _≡_ {A = ℕ} (length (x ∷ xs)) 0 = ap length e ∙ z in absurd (omega arith)) in
       held-read (x ∷ xs) (λ z. absurd (omega arith)) (rw (sym e) at (h .few)) (rw (sym e) at (h .there))

@@ -6,9 +6,10 @@ use Prim.Native.Nat.{ℕ, _+_, _*_}
 use lib.ListN.{length}
 use lib.Dec.{eqb}
 use Rattle.rules.specs.Names.{Words, Day}
-use Rattle.rules.specs.Layout.{entryLimit, entriesPlace}
+use Rattle.rules.specs.Layout.{entriesPlace}
 use Rattle.rules.specs.declared.Counts.{Counts}
 use Rattle.rules.specs.declared.Date.{Date}
+use Rattle.rules.specs.declared.Terms.{Terms}
 use Rattle.rules.specs.Signed.{bitsOf}
 use Rattle.rules.specs.Acceptance.{Reading, turnedBack, accepted}
 use Rattle.rules.specs.Call.{Answer, refusal, done, Outcome}
@@ -44,8 +45,8 @@ packedReady (done []) = 0
 packedReady (done (bits ∷ _)) = bits * bit32
 
 -- Entries': bits 0 to 15 the count of words of a track's part, bits 16 to 47 the index of its first word; 0 for the empty part
-unfoldable pub packedPart : List ℕ → ℕ → ℕ
-packedPart part t = cond (eqb (length part) 0) 0 (length part + entriesPlace entryLimit t * bit16)
+unfoldable pub packedPart : (terms : Terms) → List ℕ → ℕ → ℕ
+packedPart terms part t = cond (eqb (length part) 0) 0 (length part + entriesPlace terms t * bit16)
 
 -- The date of a day: bits 0 to 15 the refusal, bits 16 to 31 the year, 32 to 47 the month, 48 to 63 the day
 unfoldable pub packedDate : Converted Date → ℕ

@@ -13,9 +13,9 @@ use rules::LargestAnswer;
 use rules::PlanAnswer;
 use rules::ReadyAnswer;
 use rules::SignalAnswer;
+use rules::Terms;
 ghost use mathlib.Core.Path.{_≡_};
 ghost use Prim.Native.Nat.{_+_, _*_, _<_};
-ghost use Rattle.rules.specs.Layout.{entryLimit};
 ghost use Rattle.rules.specs.Acceptance.{readPlan};
 ghost use Rattle.rules.specs.Conversion.{dateOfDay, dayOfDate};
 ghost use Rattle.rules.specs.Call.{beginOutcome, eventOutcome, signalOutcome, fireOutcome, readyOutcome, entriesPart};
@@ -85,10 +85,10 @@ pub extern "C" fn retraction_read(plan: &[u8]) -> u64
 }
 
 #[no_mangle]
-pub extern "C" fn retraction_begin(plan: &[u8], ledger: &mut [u16]) -> u64
-    ensures { λ r. ⌜ Returns packed (beginOutcome entryLimit (now (plan .entry)) (now (ledger .entry))) r (now (ledger .exit)) ⌝ }
+pub extern "C" fn retraction_begin(limit: u16, plan: &[u8], ledger: &mut [u16]) -> u64
+    ensures { λ r. ⌜ Returns packed (beginOutcome (record { limit = limit }) (now (plan .entry)) (now (ledger .entry))) r (now (ledger .exit)) ⌝ }
 {
-    let answer = manager::begin(plan, &mut ledger[..]);
+    let answer = manager::begin(Terms { limit: limit }, plan, &mut ledger[..]);
     match answer {
         BeginAnswer::Refused(n) => at_bit0(n),
         BeginAnswer::Begun => 0,
@@ -97,16 +97,24 @@ pub extern "C" fn retraction_begin(plan: &[u8], ledger: &mut [u16]) -> u64
 
 #[no_mangle]
 pub extern "C" fn retraction_event(
+    limit: u16,
     plan: &[u8],
     ledger: &mut [u16],
     event: u16,
     day: i32,
     society: u16,
 ) -> u64
-    ensures { λ r. ⌜ Returns packed (eventOutcome entryLimit (now (plan .entry)) (now (ledger .entry))
+    ensures { λ r. ⌜ Returns packed (eventOutcome (record { limit = limit }) (now (plan .entry)) (now (ledger .entry))
         (record { event = event; day = day; society = society })) r (now (ledger .exit)) ⌝ }
 {
-    let answer = manager::event(plan, &mut ledger[..], event, day, society);
+    let answer = manager::event(
+        Terms { limit: limit },
+        plan,
+        &mut ledger[..],
+        event,
+        day,
+        society,
+    );
     match answer {
         EventAnswer::Refused(n) => at_bit0(n),
         EventAnswer::Moved(moved, closed) => pair(moved, closed),
@@ -114,11 +122,16 @@ pub extern "C" fn retraction_event(
 }
 
 #[no_mangle]
-pub extern "C" fn retraction_signal(plan: &[u8], ledger: &mut [u16], society: u16) -> u64
-    ensures { λ r. ⌜ Returns packed (signalOutcome entryLimit (now (plan .entry)) (now (ledger .entry)) (record { society = society }))
+pub extern "C" fn retraction_signal(
+    limit: u16,
+    plan: &[u8],
+    ledger: &mut [u16],
+    society: u16,
+) -> u64
+    ensures { λ r. ⌜ Returns packed (signalOutcome (record { limit = limit }) (now (plan .entry)) (now (ledger .entry)) (record { society = society }))
         r (now (ledger .exit)) ⌝ }
 {
-    let answer = manager::signal(plan, &mut ledger[..], society);
+    let answer = manager::signal(Terms { limit: limit }, plan, &mut ledger[..], society);
     match answer {
         SignalAnswer::Refused(n) => at_bit0(n),
         SignalAnswer::Turned(turned) => at_bit16(turned),
@@ -126,11 +139,23 @@ pub extern "C" fn retraction_signal(plan: &[u8], ledger: &mut [u16], society: u1
 }
 
 #[no_mangle]
-pub extern "C" fn retraction_fire(plan: &[u8], ledger: &mut [u16], track: u16, society: u16) -> u64
-    ensures { λ r. ⌜ Returns packed (fireOutcome entryLimit (now (plan .entry)) (now (ledger .entry))
+pub extern "C" fn retraction_fire(
+    limit: u16,
+    plan: &[u8],
+    ledger: &mut [u16],
+    track: u16,
+    society: u16,
+) -> u64
+    ensures { λ r. ⌜ Returns packed (fireOutcome (record { limit = limit }) (now (plan .entry)) (now (ledger .entry))
         (record { track = track; society = society })) r (now (ledger .exit)) ⌝ }
 {
-    let answer = manager::fire(plan, &mut ledger[..], track, society);
+    let answer = manager::fire(
+        Terms { limit: limit },
+        plan,
+        &mut ledger[..],
+        track,
+        society,
+    );
     match answer {
         FireAnswer::Refused(n) => at_bit0(n),
         FireAnswer::Fired(code, deviation) => pair(code, deviation),
@@ -138,10 +163,10 @@ pub extern "C" fn retraction_fire(plan: &[u8], ledger: &mut [u16], track: u16, s
 }
 
 #[no_mangle]
-pub extern "C" fn retraction_ready(plan: &[u8], ledger: &mut [u16]) -> u64
-    ensures { λ r. ⌜ Returns packedReady (readyOutcome entryLimit (now (plan .entry)) (now (ledger .entry))) r (now (ledger .exit)) ⌝ }
+pub extern "C" fn retraction_ready(limit: u16, plan: &[u8], ledger: &mut [u16]) -> u64
+    ensures { λ r. ⌜ Returns packedReady (readyOutcome (record { limit = limit }) (now (plan .entry)) (now (ledger .entry))) r (now (ledger .exit)) ⌝ }
 {
-    let answer = manager::ready(plan, &mut ledger[..]);
+    let answer = manager::ready(Terms { limit: limit }, plan, &mut ledger[..]);
     match answer {
         ReadyAnswer::Refused(n) => at_bit0(n),
         ReadyAnswer::Ready(bits) => at_bit32(bits),
@@ -149,15 +174,15 @@ pub extern "C" fn retraction_ready(plan: &[u8], ledger: &mut [u16]) -> u64
 }
 
 #[no_mangle]
-pub extern "C" fn retraction_entries(plan: &[u8], ledger: &[u16], track: u16) -> u64
-    ensures { λ r. ⌜ r ≡ packedPart (entriesPart entryLimit (now (plan .entry)) (now (ledger .entry)) track) track ⌝ }
+pub extern "C" fn retraction_entries(limit: u16, plan: &[u8], ledger: &[u16], track: u16) -> u64
+    ensures { λ r. ⌜ r ≡ packedPart (record { limit = limit }) (entriesPart (record { limit = limit }) (now (plan .entry)) (now (ledger .entry)) track) track ⌝ }
 {
-    let part = manager::entries(plan, ledger, track);
+    let part = manager::entries(Terms { limit: limit }, plan, ledger, track);
     let count = part.len();
     if count == 0 {
         return 0;
     }
-    let from = layout::entry_place(layout::wide(track), 0);
+    let from = layout::entry_place(Terms { limit: limit }, layout::wide(track), 0);
     (count as u64) + (from as u64) * BIT16
 }
 

@@ -12,6 +12,7 @@ use lib.ListN.{length}
 use lib.Dec.{eqb, ltb, leb}
 use borrow.Author.Tests.{not-true}
 use Rattle.rules.specs.Names.{Day}
+use Rattle.rules.specs.declared.Terms.{Terms}
 use Rattle.rules.specs.Fold.{firstRefusal, countBelow}
 use Rattle.rules.specs.Plan.{Plan, trackCount, stateCount, host, owner, rootOf, replacement}
 use Rattle.rules.specs.Rights.{moveRight, signalRight, fireRight, holds, isPermitted}
@@ -48,7 +49,7 @@ no-right p society root h =
 abbrev judged : Plan → Ledger → FireArguments → ℕ
 judged p l f = cond (lacksFireRight p f) 28 (cond (not (mayFire p l (f .track))) 22 0)
 
-module _ (limit : ℕ) (p : Plan) (ok : Accepted p) (own : ℕ) where
+module _ (terms : Terms) (p : Plan) (ok : Accepted p) (own : ℕ) where
   under-up : (t h : ℕ) → host p t ≡ some h → isUnder p own t ≡ isUnder p own (owner p h)
   unfolding isUnder
   under-up t h e = ap (holdsAny p own) (root-up p ok t h e)
@@ -81,7 +82,7 @@ module _ (limit : ℕ) (p : Plan) (ok : Accepted p) (own : ℕ) where
   fired-under t k = elim (look (isUnder p own t)) [ inl i ↦ i | inr i ↦ clash k (without t (ap not i) .no-fire) ]
 
   -- Another society's call leaves its trees as they are.
-  module _ (alone : Alone p own) (l : Ledger) (s : Sound limit p l) where
+  module _ (alone : Alone p own) (l : Ledger) (s : Sound terms p l) where
     others : (c : Call) → (societyOf c ≡ own → ⊥) → (t : ℕ) → isUnder p own t ≡ true → isPermitted p (rightOf c) (societyOf c) t ≡ false
     unfolding isUnder isPermitted
     others c n t i = go c (no-right p (societyOf c) (rootOf p t) (alone (societyOf c) (rootOf p t) n i))
@@ -91,11 +92,11 @@ module _ (limit : ℕ) (p : Plan) (ok : Accepted p) (own : ℕ) where
         go (signal a) q = q .no-signal
         go (fire a) q = q .no-fire
 
-    pub left-alone : (d : Day) (c : Call) → (societyOf c ≡ own → ⊥) → callRefusal limit p d l c ≡ 0 → Same (work p l c) l
-    left-alone d c n h t i = call-leaves limit p ok l s d c h t (others c n t i)
+    pub left-alone : (d : Day) (c : Call) → (societyOf c ≡ own → ⊥) → callRefusal terms p d l c ≡ 0 → Same (work p l c) l
+    left-alone d c n h t i = call-leaves terms p ok l s d c h t (others c n t i)
 
   -- Its own call, elsewhere: nothing moves, and nothing closes.
-  module _ (l : Ledger) (s : Sound limit p l) (e : EventArguments) (mine : e .society ≡ own) where
+  module _ (l : Ledger) (s : Sound terms p l) (e : EventArguments) (mine : e .society ≡ own) where
     no-move : (t : ℕ) → isElsewhere t ≡ true → move p l e t ≡ none
     unfolding isPermitted
     no-move t i = unpermitted-stays p l e t (ap (λ x. isPermitted p moveRight x t) mine ∙ without t i .no-move)
@@ -115,16 +116,16 @@ module _ (limit : ℕ) (p : Plan) (ok : Accepted p) (own : ℕ) where
         clash c (no-closing (moved p l e t .state) (owned isElsewhere (moved p l e) (moved-nested p l e ok (s .formed .nested)) t i w)))))
 
   -- Its own call on two ledgers.
-  module _ (l m : Ledger) (s : Sound limit p l) (r : Sound limit p m) (a : Same l m) where
+  module _ (l m : Ledger) (s : Sound terms p l) (r : Sound terms p m) (a : Same l m) where
     module _ (e : EventArguments) (mine : e .society ≡ own) where
       moved-same : Same (moved p l e) (moved p m e)
       moved-same = local.moved-agree p ok (isUnder p own) under-up l m a e
 
-      same-full : isFull p limit l e ≡ isFull p limit m e
+      same-full : isFull p terms l e ≡ isFull p terms m e
       unfolding isFull
       same-full =
-          some-same (trackCount p) (λ t. (hasCode p (move p l e t) || isReplaced p (moved p l e) t) && leb limit (length (l t .held)))
-          (λ t. (hasCode p (move p m e t) || isReplaced p (moved p m e) t) && leb limit (length (m t .held)))
+          some-same (trackCount p) (λ t. (hasCode p (move p l e t) || isReplaced p (moved p l e) t) && leb (terms .limit) (length (l t .held)))
+          (λ t. (hasCode p (move p m e t) || isReplaced p (moved p m e) t) && leb (terms .limit) (length (m t .held)))
           (λ t b.
           elim (look (isUnder p own t)) [
             | inl i ↦
@@ -132,7 +133,7 @@ module _ (limit : ℕ) (p : Plan) (ok : Accepted p) (own : ℕ) where
                 (ap₂ (λ x y. hasCode p x || y) (local.move-agree p ok (isUnder p own) under-up l m a e t i)
                 (local.replaced-agree p ok (isUnder p own) under-up (moved p l e) (moved p m e) moved-same
                 (owned (isUnder p own) (moved p l e) (moved-nested p l e ok (s .formed .nested))) t i))
-                (ap (λ (x : Configuration). leb limit (length (x .held))) (a t i))
+                (ap (λ (x : Configuration). leb (terms .limit) (length (x .held))) (a t i))
             | inr i ↦ rw (no-entry l s e mine t (ap not i), no-entry m r e mine t (ap not i))
           ])
 
@@ -200,18 +201,18 @@ module _ (limit : ℕ) (p : Plan) (ok : Accepted p) (own : ℕ) where
         (local.fired-agree p ok (isUnder p own) under-up l m a (e .track))
 
     -- what an accepted one is answered
-    pub same-figures : (d : Day) (c : Call) → societyOf c ≡ own → callRefusal limit p d l c ≡ 0 → figures p l c ≡ figures p m c
+    pub same-figures : (d : Day) (c : Call) → societyOf c ≡ own → callRefusal terms p d l c ≡ 0 → figures p l c ≡ figures p m c
     unfolding figures societyOf
     same-figures d (event e) mine h = ap₂ (λ x y. x ∷ y ∷ []) (same-moves e mine) (same-closings e mine)
     same-figures d (signal e) mine h = ap (λ x. x ∷ []) (same-turnings (e .society) mine)
     same-figures d (fire e) mine h =
         ap (λ (x : Configuration). newest (x .held) .code ∷ newest (x .held) .deviation ∷ [])
         (a (e .track)
-        (fired-under (e .track) (ap (λ x. isPermitted p fireRight x (e .track)) (sym mine) ∙ fire-permitted limit p d l e h)))
+        (fired-under (e .track) (ap (λ x. isPermitted p fireRight x (e .track)) (sym mine) ∙ fire-permitted terms p d l e h)))
 
     -- and by which number it is refused, if not for its day
     pub same-refusal : isOver p l ≡ false → isOver p m ≡ false → (d d′ : Day) (c : Call) → societyOf c ≡ own
-        → (callRefusal limit p d l c ≡ 26 → ⊥) → (callRefusal limit p d′ m c ≡ 26 → ⊥) → callRefusal limit p d l c ≡ callRefusal limit p d′ m c
+        → (callRefusal terms p d l c ≡ 26 → ⊥) → (callRefusal terms p d′ m c ≡ 26 → ⊥) → callRefusal terms p d l c ≡ callRefusal terms p d′ m c
     unfolding callRefusal callRefusals firstRefusal societyOf
     same-refusal nl nm d d′ (event e) mine u v =
         elim (look (eqb (e .event) 0)) [

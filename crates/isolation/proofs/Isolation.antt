@@ -11,6 +11,7 @@ use lib.ListN.{length}
 use lib.Dec.{eqb, ltb}
 use borrow.Author.Tests.{eqb-true, eqb-false, eq-eqb, not-true}
 use Rattle.rules.specs.declared.Counts.{Counts}
+use Rattle.rules.specs.declared.Terms.{Terms}
 use Rattle.rules.specs.Plan.{Plan, trackCount, planOf}
 use Rattle.rules.specs.Acceptance.{accepted, readPlan}
 use Rattle.rules.specs.Leading.{lastDay}
@@ -54,7 +55,7 @@ nil-cons h = let z : _≡_ {A = ℕ} 0 1 = cc in absurd (omega arith)
 heads : (c d : Call) (cs ds : List Call) → c ∷ cs ≡ d ∷ ds → (c ≡ d) × (cs ≡ ds)
 heads c d cs ds h = (cc, cc)
 
-module _ (limit : ℕ) (bs : List ℕ) (k : Counts) (read : readPlan bs ≡ accepted k) where
+module _ (terms : Terms) (bs : List ℕ) (k : Counts) (read : readPlan bs ≡ accepted k) where
   abbrev p : Plan
   p = planOf bs k
 
@@ -62,64 +63,64 @@ module _ (limit : ℕ) (bs : List ℕ) (k : Counts) (read : readPlan bs ≡ acce
   ok = accepts bs k read
 
   abbrev Checked : List ℕ → Type 0
-  Checked ws = Passes limit bs p ws
+  Checked ws = Passes terms bs p ws
 
   abbrev ledger : List ℕ → Ledger
-  ledger ws = ledgerAt limit ws (trackCount p)
+  ledger ws = ledgerAt terms ws (trackCount p)
 
   abbrev refused : List ℕ → Call → ℕ
-  refused ws c = callRefusal limit p (lastDay ws) (ledger ws) c
+  refused ws c = callRefusal terms p (lastDay ws) (ledger ws) c
 
   abbrev left : List ℕ → Call → List ℕ
-  left ws c = callOutcome limit bs ws c .words
+  left ws c = callOutcome terms bs ws c .words
 
   abbrev told : List ℕ → Call → Answer
-  told ws c = callOutcome limit bs ws c .answer
+  told ws c = callOutcome terms bs ws c .answer
 
   -- Words that pass the checks: what a call answers them and leaves.
-  held : (ws : List ℕ) → Checked ws → Holds limit bs k read ws (lastDay ws) (ledger ws)
-  held = passes-holds limit bs k read
+  held : (ws : List ℕ) → Checked ws → Holds terms bs k read ws (lastDay ws) (ledger ws)
+  held = passes-holds terms bs k read
 
   call-held : (ws : List ℕ) → Checked ws → (c : Call)
-      → Holds limit bs k read (left ws c) (nextDay limit p (lastDay ws) (ledger ws) c) (next limit p (lastDay ws) (ledger ws) c)
-  call-held ws h c = call-holds limit bs k read ws (lastDay ws) (ledger ws) (held ws h) c
+      → Holds terms bs k read (left ws c) (nextDay terms p (lastDay ws) (ledger ws) c) (next terms p (lastDay ws) (ledger ws) c)
+  call-held ws h c = call-holds terms bs k read ws (lastDay ws) (ledger ws) (held ws h) c
 
   call-passes : (ws : List ℕ) → Checked ws → (c : Call) → Checked (left ws c)
-  call-passes ws h c = holds-passes limit bs k read (left ws c) _ _ (call-held ws h c)
+  call-passes ws h c = holds-passes terms bs k read (left ws c) _ _ (call-held ws h c)
 
   answer-accepted : (ws : List ℕ) → Checked ws → (c : Call) → refused ws c ≡ 0 → told ws c ≡ done (figures p (ledger ws) c)
-  answer-accepted ws h c e = ap (λ (o : Outcome). o .answer) (call-accepted limit bs k read ws (lastDay ws) (ledger ws) (held ws h) c e)
+  answer-accepted ws h c e = ap (λ (o : Outcome). o .answer) (call-accepted terms bs k read ws (lastDay ws) (ledger ws) (held ws h) c e)
 
   all-refused : (ws : List ℕ) → Checked ws → (c : Call) (r : ℕ) → refused ws c ≡ suc r
-      → callOutcome limit bs ws c ≡ record { answer = refusal (suc r); words = ws }
-  all-refused ws h = call-refused limit bs k read ws (lastDay ws) (ledger ws) (held ws h)
+      → callOutcome terms bs ws c ≡ record { answer = refusal (suc r); words = ws }
+  all-refused ws h = call-refused terms bs k read ws (lastDay ws) (ledger ws) (held ws h)
 
   -- and that one that is not over is sound
-  sound : (ws : List ℕ) → Checked ws → isOverNow limit bs p ws ≡ false → Sound limit p (ledger ws)
+  sound : (ws : List ℕ) → Checked ws → isOverNow terms bs p ws ≡ false → Sound terms p (ledger ws)
   unfolding isOverNow
-  sound ws h n = kept-sound limit p (ledger ws) (held ws h .kept) n
+  sound ws h n = kept-sound terms p (ledger ws) (held ws h .kept) n
 
   -- a ledger that is over stays so: every call is refused
-  over-stays : (ws : List ℕ) → Checked ws → (c : Call) → isOverNow limit bs p ws ≡ true → isOverNow limit bs p (left ws c) ≡ true
+  over-stays : (ws : List ℕ) → Checked ws → (c : Call) → isOverNow terms bs p ws ≡ true → isOverNow terms bs p (left ws c) ≡ true
   unfolding isOverNow
   over-stays ws h c o = go (refused ws c) refl
     where
       go : (r : ℕ) → refused ws c ≡ r → isOver p (ledger (left ws c)) ≡ true
-      go zero e = absurd (over-refused limit p (lastDay ws) (ledger ws) o c e)
+      go zero e = absurd (over-refused terms p (lastDay ws) (ledger ws) o c e)
       go (suc r) e = ap (λ (x : Outcome). isOver p (ledger (x .words))) (all-refused ws h c r e) ∙ o
 
-  was-not-over : (ws : List ℕ) → Checked ws → (c : Call) → isOverNow limit bs p (left ws c) ≡ false → isOverNow limit bs p ws ≡ false
-  was-not-over ws h c n = refuted (isOverNow limit bs p ws) (λ o. clash (over-stays ws h c o) n)
+  was-not-over : (ws : List ℕ) → Checked ws → (c : Call) → isOverNow terms bs p (left ws c) ≡ false → isOverNow terms bs p ws ≡ false
+  was-not-over ws h c n = refuted (isOverNow terms bs p ws) (λ o. clash (over-stays ws h c o) n)
 
   -- an accepted call that leaves a ledger that is not over leaves its work
-  left-work : (ws : List ℕ) → Checked ws → (c : Call) → isOverNow limit bs p (left ws c) ≡ false → refused ws c ≡ 0
+  left-work : (ws : List ℕ) → Checked ws → (c : Call) → isOverNow terms bs p (left ws c) ≡ false → refused ws c ≡ 0
       → ledger (left ws c) ≡ work p (ledger ws) c
   unfolding isOverNow
   left-work ws h c n e =
       let q = call-held ws h c .reads in
-      elim (next-cases limit p ok (lastDay ws) (ledger ws) c e) [
+      elim (next-cases terms p ok (lastDay ws) (ledger ws) c e) [
         | inl w ↦ q ∙ w
-        | inr o ↦ clash (ap (isOver p) q ∙ over-is p (next limit p (lastDay ws) (ledger ws) c) o) n
+        | inr o ↦ clash (ap (isOver p) q ∙ over-is p (next terms p (lastDay ws) (ledger ws) c) o) n
       ]
 
   -- a refused one leaves the words
@@ -136,23 +137,23 @@ module _ (limit : ℕ) (bs : List ℕ) (k : Counts) (read : readPlan bs ≡ acce
     Same ws vs = (t : ℕ) → isUnder p own t ≡ true → ledger ws t ≡ ledger vs t
 
     -- Another society's call.
-    others : Alone p own → (ws : List ℕ) → Checked ws → (c : Call) → eqb (societyOf c) own ≡ false → isOverNow limit bs p (left ws c) ≡ false → Same (left ws c) ws
+    others : Alone p own → (ws : List ℕ) → Checked ws → (c : Call) → eqb (societyOf c) own ≡ false → isOverNow terms bs p (left ws c) ≡ false → Same (left ws c) ws
     unfolding isOverNow
     others alone ws h c other n = go (refused ws c) refl
       where
         go : (r : ℕ) → refused ws c ≡ r → Same (left ws c) ws
         go zero e t i =
             ap (λ (l : Ledger). l t) (left-work ws h c n e)
-            ∙ alike.left-alone limit p ok own alone (ledger ws) (sound ws h (was-not-over ws h c n)) (lastDay ws) c (eqb-false (societyOf c) own other) e t i
+            ∙ alike.left-alone terms p ok own alone (ledger ws) (sound ws h (was-not-over ws h c n)) (lastDay ws) c (eqb-false (societyOf c) own other) e t i
         go (suc r) e t i = ap (λ (l : Ledger). l t) (left-words ws h c r e)
 
     -- Its own call, on two ledgers that are not over and agree under its roots.
-    module _ (ws vs : List ℕ) (h : Checked ws) (g : Checked vs) (n : isOverNow limit bs p ws ≡ false) (m : isOverNow limit bs p vs ≡ false) (a : Same ws vs)
+    module _ (ws vs : List ℕ) (h : Checked ws) (g : Checked vs) (n : isOverNow terms bs p ws ≡ false) (m : isOverNow terms bs p vs ≡ false) (a : Same ws vs)
         (c : Call) (mine : eqb (societyOf c) own ≡ true) (u : isForDay (told ws c) ≡ false) (v : isForDay (told vs c) ≡ false) where
       alike-refused : refused ws c ≡ refused vs c
       unfolding isOverNow
       alike-refused =
-          alike.same-refusal limit p ok own (ledger ws) (ledger vs) (sound ws h n) (sound vs g m) a n m (lastDay ws) (lastDay vs) c
+          alike.same-refusal terms p ok own (ledger ws) (ledger vs) (sound ws h n) (sound vs g m) a n m (lastDay ws) (lastDay vs) c
           (eqb-true (societyOf c) own mine) (not-for-day ws h c u) (not-for-day vs g c v)
 
       alike-told : told ws c ≡ told vs c
@@ -162,19 +163,19 @@ module _ (limit : ℕ) (bs : List ℕ) (k : Counts) (read : readPlan bs ≡ acce
           go : (r : ℕ) → refused ws c ≡ r → told ws c ≡ told vs c
           go zero e =
               answer-accepted ws h c e
-              ∙ ap done (alike.same-figures limit p ok own (ledger ws) (ledger vs) (sound ws h n) (sound vs g m) a (lastDay ws) c (eqb-true (societyOf c) own mine) e)
+              ∙ ap done (alike.same-figures terms p ok own (ledger ws) (ledger vs) (sound ws h n) (sound vs g m) a (lastDay ws) c (eqb-true (societyOf c) own mine) e)
               ∙ sym (answer-accepted vs g c (sym alike-refused ∙ e))
           go (suc r) e =
               ap (λ (x : Outcome). x .answer) (all-refused ws h c r e) ∙ sym (ap (λ (x : Outcome). x .answer) (all-refused vs g c r (sym alike-refused ∙ e)))
 
-      alike-left : isOverNow limit bs p (left ws c) ≡ false → isOverNow limit bs p (left vs c) ≡ false → Same (left ws c) (left vs c)
+      alike-left : isOverNow terms bs p (left ws c) ≡ false → isOverNow terms bs p (left vs c) ≡ false → Same (left ws c) (left vs c)
       unfolding isOverNow
       alike-left x y = go (refused ws c) refl
         where
           go : (r : ℕ) → refused ws c ≡ r → Same (left ws c) (left vs c)
           go zero e t i =
               ap (λ (l : Ledger). l t) (left-work ws h c x e)
-              ∙ alike.work-same limit p ok own (ledger ws) (ledger vs) (sound ws h n) (sound vs g m) a c t i
+              ∙ alike.work-same terms p ok own (ledger ws) (ledger vs) (sound ws h n) (sound vs g m) a c t i
               ∙ sym (ap (λ (l : Ledger). l t) (left-work vs g c y (sym alike-refused ∙ e)))
           go (suc r) e t i =
               ap (λ (l : Ledger). l t) (left-words ws h c r e) ∙ a t i
@@ -182,59 +183,59 @@ module _ (limit : ℕ) (bs : List ℕ) (k : Counts) (read : readPlan bs ≡ acce
 
     -- two ledgers that agree under its roots unless one of them is over
     abbrev SameWhileGoing : List ℕ → List ℕ → Type 0
-    SameWhileGoing ws vs = isOverNow limit bs p ws ≡ false → isOverNow limit bs p vs ≡ false → Same ws vs
+    SameWhileGoing ws vs = isOverNow terms bs p ws ≡ false → isOverNow terms bs p vs ≡ false → Same ws vs
 
     -- what `lasts` says of the first call
     record Lasts (ws : List ℕ) (c : Call) (cs : List Call) : Type 0 where
-      going : eqb (societyOf c) own ≡ true → isOverNow limit bs p ws ≡ false
+      going : eqb (societyOf c) own ≡ true → isOverNow terms bs p ws ≡ false
       timely : isForDay (told ws c) ≡ false
-      rest : lasts limit bs p own (left ws c) cs ≡ true
+      rest : lasts terms bs p own (left ws c) cs ≡ true
 
-    lasts-first : (ws : List ℕ) (c : Call) (cs : List Call) → lasts limit bs p own ws (c ∷ cs) ≡ true → Lasts ws c cs
+    lasts-first : (ws : List ℕ) (c : Call) (cs : List Call) → lasts terms bs p own ws (c ∷ cs) ≡ true → Lasts ws c cs
     unfolding lasts
     lasts-first ws c cs h =
-        let X = eqb (societyOf c) own && isOverNow limit bs p ws in
-        let (x, z) = and-holds (not X && not (isForDay (told ws c))) (lasts limit bs p own (left ws c) cs) h in
+        let X = eqb (societyOf c) own && isOverNow terms bs p ws in
+        let (x, z) = and-holds (not X && not (isForDay (told ws c))) (lasts terms bs p own (left ws c) cs) h in
         let (w, y) = and-holds (not X) (not (isForDay (told ws c))) x in
         record {
-          going = λ mine. sym (ap (λ b. b && isOverNow limit bs p ws) mine) ∙ not-true X w;
+          going = λ mine. sym (ap (λ b. b && isOverNow terms bs p ws) mine) ∙ not-true X w;
           timely = not-true (isForDay (told ws c)) y;
           rest = z;
         }
 
     -- lasting along a list is lasting along its beginning, and from there along the rest
-    lasts-begins : (cs ds : List Call) (ws : List ℕ) → lasts limit bs p own ws (cs ++ ds) ≡ true
-        → (lasts limit bs p own ws cs ≡ true) × (lasts limit bs p own (wordsFrom limit bs ws cs) ds ≡ true)
+    lasts-begins : (cs ds : List Call) (ws : List ℕ) → lasts terms bs p own ws (cs ++ ds) ≡ true
+        → (lasts terms bs p own ws cs ≡ true) × (lasts terms bs p own (wordsFrom terms bs ws cs) ds ≡ true)
     unfolding lasts wordsFrom
     lasts-begins [] ds ws h = (refl, h)
     lasts-begins (c ∷ cs) ds ws h =
-        let X = not (eqb (societyOf c) own && isOverNow limit bs p ws) && not (isForDay (told ws c)) in
-        let (x, z) = and-holds X (lasts limit bs p own (left ws c) (cs ++ ds)) h in
+        let X = not (eqb (societyOf c) own && isOverNow terms bs p ws) && not (isForDay (told ws c)) in
+        let (x, z) = and-holds X (lasts terms bs p own (left ws c) (cs ++ ds)) h in
         let (y, w) = lasts-begins cs ds (left ws c) z in
-        (and-both X (lasts limit bs p own (left ws c) cs) x y, w)
+        (and-both X (lasts terms bs p own (left ws c) cs) x y, w)
 
     abbrev heard : List ℕ → List Call → List Answer
-    heard ws cs = ownAnswers own cs (answersFrom limit bs ws cs)
+    heard ws cs = ownAnswers own cs (answersFrom terms bs ws cs)
 
     heard-own : (ws : List ℕ) (c : Call) (cs : List Call) → eqb (societyOf c) own ≡ true → heard ws (c ∷ cs) ≡ told ws c ∷ heard (left ws c) cs
     unfolding answersFrom
-    heard-own ws c cs mine = answer-taken own c cs (told ws c) (answersFrom limit bs (left ws c) cs) mine
+    heard-own ws c cs mine = answer-taken own c cs (told ws c) (answersFrom terms bs (left ws c) cs) mine
 
     heard-other : (ws : List ℕ) (c : Call) (cs : List Call) → eqb (societyOf c) own ≡ false → heard ws (c ∷ cs) ≡ heard (left ws c) cs
     unfolding answersFrom
-    heard-other ws c cs other = answer-passed own c cs (told ws c) (answersFrom limit bs (left ws c) cs) other
+    heard-other ws c cs other = answer-passed own c cs (told ws c) (answersFrom terms bs (left ws c) cs) other
 
     abbrev Result : List ℕ → List Call → List ℕ → List Call → Type 0
-    Result ws cs vs ds = (heard ws cs ≡ heard vs ds) × SameWhileGoing (wordsFrom limit bs ws cs) (wordsFrom limit bs vs ds)
+    Result ws cs vs ds = (heard ws cs ≡ heard vs ds) × SameWhileGoing (wordsFrom terms bs ws cs) (wordsFrom terms bs vs ds)
 
     -- The walk, by the sum of the lists' lengths: first the others' calls of either list, and then its own of both.
     module _ (alone : Alone p own) where
       abbrev Walk : ℕ → Type 0
       Walk f = (cs ds : List Call) → length cs + length ds ≤ f → (ws vs : List ℕ) → Checked ws → Checked vs → SameWhileGoing ws vs
-          → ownCalls own cs ≡ ownCalls own ds → lasts limit bs p own ws cs ≡ true → lasts limit bs p own vs ds ≡ true → Result ws cs vs ds
+          → ownCalls own cs ≡ ownCalls own ds → lasts terms bs p own ws cs ≡ true → lasts terms bs p own vs ds ≡ true → Result ws cs vs ds
 
       first-other : (f : ℕ) → Walk f → (c : Call) (cs ds : List Call) → length cs + length ds ≤ f → (ws vs : List ℕ) → Checked ws → Checked vs
-          → SameWhileGoing ws vs → ownCalls own (c ∷ cs) ≡ ownCalls own ds → lasts limit bs p own ws (c ∷ cs) ≡ true → lasts limit bs p own vs ds ≡ true
+          → SameWhileGoing ws vs → ownCalls own (c ∷ cs) ≡ ownCalls own ds → lasts terms bs p own ws (c ∷ cs) ≡ true → lasts terms bs p own vs ds ≡ true
           → eqb (societyOf c) own ≡ false → Result ws (c ∷ cs) vs ds
       unfolding wordsFrom
       first-other f go c cs ds b ws vs h g a q x y other =
@@ -246,7 +247,7 @@ module _ (limit : ℕ) (bs : List ℕ) (k : Counts) (read : readPlan bs ≡ acce
           (heard-other ws c cs other ∙ e, r)
 
       second-other : (f : ℕ) → Walk f → (d : Call) (cs ds : List Call) → length cs + length ds ≤ f → (ws vs : List ℕ) → Checked ws → Checked vs
-          → SameWhileGoing ws vs → ownCalls own cs ≡ ownCalls own (d ∷ ds) → lasts limit bs p own ws cs ≡ true → lasts limit bs p own vs (d ∷ ds) ≡ true
+          → SameWhileGoing ws vs → ownCalls own cs ≡ ownCalls own (d ∷ ds) → lasts terms bs p own ws cs ≡ true → lasts terms bs p own vs (d ∷ ds) ≡ true
           → eqb (societyOf d) own ≡ false → Result ws cs vs (d ∷ ds)
       unfolding wordsFrom
       second-other f go d cs ds b ws vs h g a q x y other =
@@ -258,7 +259,7 @@ module _ (limit : ℕ) (bs : List ℕ) (k : Counts) (read : readPlan bs ≡ acce
           (e ∙ sym (heard-other vs d ds other), r)
 
       both-own : (f : ℕ) → Walk f → (c : Call) (cs ds : List Call) → length cs + length ds ≤ f → (ws vs : List ℕ) → Checked ws → Checked vs
-          → SameWhileGoing ws vs → ownCalls own cs ≡ ownCalls own ds → lasts limit bs p own ws (c ∷ cs) ≡ true → lasts limit bs p own vs (c ∷ ds) ≡ true
+          → SameWhileGoing ws vs → ownCalls own cs ≡ ownCalls own ds → lasts terms bs p own ws (c ∷ cs) ≡ true → lasts terms bs p own vs (c ∷ ds) ≡ true
           → eqb (societyOf c) own ≡ true → Result ws (c ∷ cs) vs (c ∷ ds)
       unfolding wordsFrom
       both-own f go c cs ds b ws vs h g a q x y mine =
@@ -303,7 +304,7 @@ module _ (limit : ℕ) (bs : List ℕ) (k : Counts) (read : readPlan bs ≡ acce
                   | inl j ↦
                       let (e, r) = heads c d (ownCalls own cs) (ownCalls own ds) (sym (own-taken own c cs i) ∙ q ∙ own-taken own d ds j) in
                       subst (λ d. Result ws (c ∷ cs) vs (d ∷ ds)) e
-                      (both-own f go c cs ds (omega arith) ws vs h g a r x (subst (λ d. lasts limit bs p own vs (d ∷ ds) ≡ true) (sym e) y) i)
+                      (both-own f go c cs ds (omega arith) ws vs h g a r x (subst (λ d. lasts terms bs p own vs (d ∷ ds) ≡ true) (sym e) y) i)
                 ]
           ]
 
@@ -312,62 +313,62 @@ module _ (limit : ℕ) (bs : List ℕ) (k : Counts) (read : readPlan bs ≡ acce
       walk (suc f) = more f (walk f)
 
       -- what the walk shows of both lists, from two ledgers
-      both-told : (cs ds : List Call) (ws vs : List ℕ) → Checked (wordsFrom limit bs ws cs) → Checked (wordsFrom limit bs vs ds) → Result ws cs vs ds
-          → Isolated limit bs p own cs (answersFrom limit bs ws cs) (wordsFrom limit bs ws cs) ds (answersFrom limit bs vs ds) (wordsFrom limit bs vs ds)
+      both-told : (cs ds : List Call) (ws vs : List ℕ) → Checked (wordsFrom terms bs ws cs) → Checked (wordsFrom terms bs vs ds) → Result ws cs vs ds
+          → Isolated terms bs p own cs (answersFrom terms bs ws cs) (wordsFrom terms bs ws cs) ds (answersFrom terms bs vs ds) (wordsFrom terms bs vs ds)
       both-told cs ds ws vs h g r =
-          let end = wordsFrom limit bs ws cs in
-          let end′ = wordsFrom limit bs vs ds in
+          let end = wordsFrom terms bs ws cs in
+          let end′ = wordsFrom terms bs vs ds in
           record {
             answers = r .0;
             ready = λ n m t i.
-                ready-told limit bs k read end h t ∙ alike.may-same limit p ok own (ledger end) (ledger end′) (r .1 n m) t i
-                ∙ sym (ready-told limit bs k read end′ g t);
+                ready-told terms bs k read end h t ∙ alike.may-same terms p ok own (ledger end) (ledger end′) (r .1 n m) t i
+                ∙ sym (ready-told terms bs k read end′ g t);
             entries = λ n m t i.
-                entries-told limit bs k read end h t
+                entries-told terms bs k read end h t
                 ∙ ap (λ (c : Configuration). cond (ltb t (trackCount p)) (heldWords (c .held)) []) (r .1 n m t i)
-                ∙ sym (entries-told limit bs k read end′ g t);
+                ∙ sym (entries-told terms bs k read end′ g t);
           }
 
-      list-passes : (cs : List Call) (ws : List ℕ) → Checked ws → Checked (wordsFrom limit bs ws cs)
+      list-passes : (cs : List Call) (ws : List ℕ) → Checked ws → Checked (wordsFrom terms bs ws cs)
       unfolding wordsFrom
       list-passes [] ws h = h
       list-passes (c ∷ cs) ws h = list-passes cs (left ws c) (call-passes ws h c)
 
       -- from any one ledger that passes the checks, a crafted one too
       pub isolated-from : (ws : List ℕ) → Checked ws → (cs ds : List Call) → ownCalls own cs ≡ ownCalls own ds
-          → lasts limit bs p own ws cs ≡ true → lasts limit bs p own ws ds ≡ true
-          → Isolated limit bs p own cs (answersFrom limit bs ws cs) (wordsFrom limit bs ws cs) ds (answersFrom limit bs ws ds) (wordsFrom limit bs ws ds)
+          → lasts terms bs p own ws cs ≡ true → lasts terms bs p own ws ds ≡ true
+          → Isolated terms bs p own cs (answersFrom terms bs ws cs) (wordsFrom terms bs ws cs) ds (answersFrom terms bs ws ds) (wordsFrom terms bs ws ds)
       isolated-from ws h cs ds q x y =
           both-told cs ds ws ws (list-passes cs ws h) (list-passes ds ws h)
           (walk (length cs + length ds) cs ds (omega arith) ws ws h h (λ n m t i. refl) q x y)
 
 -- The theorem, of the reference run: for every plan, every begin that is accepted, and every two lists of calls after it.
-module _ (limit : ℕ) (bs : List ℕ) (k : Counts) (read : readPlan bs ≡ accepted k) (lent : List ℕ) (begun : beginOutcome limit bs lent .answer ≡ done []) where
+module _ (terms : Terms) (bs : List ℕ) (k : Counts) (read : readPlan bs ≡ accepted k) (lent : List ℕ) (begun : beginOutcome terms bs lent .answer ≡ done []) where
   pub isolation : (own : ℕ) → Alone (planOf bs k) own → (cs ds : List Call) → ownCalls own cs ≡ ownCalls own ds
-      → lasts limit bs (planOf bs k) own (beginOutcome limit bs lent .words) cs ≡ true
-      → lasts limit bs (planOf bs k) own (beginOutcome limit bs lent .words) ds ≡ true
-      → Isolated limit bs (planOf bs k) own cs (answersAfter limit bs lent cs) (wordsAfter limit bs lent cs) ds (answersAfter limit bs lent ds) (wordsAfter limit bs lent ds)
+      → lasts terms bs (planOf bs k) own (beginOutcome terms bs lent .words) cs ≡ true
+      → lasts terms bs (planOf bs k) own (beginOutcome terms bs lent .words) ds ≡ true
+      → Isolated terms bs (planOf bs k) own cs (answersAfter terms bs lent cs) (wordsAfter terms bs lent cs) ds (answersAfter terms bs lent ds) (wordsAfter terms bs lent ds)
   unfolding wordsAfter answersAfter
   isolation own alone =
-      isolated-from limit bs k read own alone (beginOutcome limit bs lent .words)
-      (holds-passes limit bs k read _ _ _ (begin-holds limit bs k read lent begun))
+      isolated-from terms bs k read own alone (beginOutcome terms bs lent .words)
+      (holds-passes terms bs k read _ _ _ (begin-holds terms bs k read lent begun))
 
   -- "at each of its calls": wherever a call of its own stands in both lists after the same calls of its own, neither ledger is over before it, and
   -- under its roots ready's bits and the entries are the same there
   pub isolation-at : (own : ℕ) → Alone (planOf bs k) own → (c : Call) → societyOf c ≡ own → (xs us ys vs : List Call)
       → ownCalls own xs ≡ ownCalls own us
-      → lasts limit bs (planOf bs k) own (beginOutcome limit bs lent .words) (xs ++ (c ∷ ys)) ≡ true
-      → lasts limit bs (planOf bs k) own (beginOutcome limit bs lent .words) (us ++ (c ∷ vs)) ≡ true
+      → lasts terms bs (planOf bs k) own (beginOutcome terms bs lent .words) (xs ++ (c ∷ ys)) ≡ true
+      → lasts terms bs (planOf bs k) own (beginOutcome terms bs lent .words) (us ++ (c ∷ vs)) ≡ true
       → (t : ℕ) → isUnder (planOf bs k) own t ≡ true
-      → (readyBit (readyOutcome limit bs (wordsAfter limit bs lent xs) .answer) t ≡ readyBit (readyOutcome limit bs (wordsAfter limit bs lent us) .answer) t)
-      × (entriesPart limit bs (wordsAfter limit bs lent xs) t ≡ entriesPart limit bs (wordsAfter limit bs lent us) t)
+      → (readyBit (readyOutcome terms bs (wordsAfter terms bs lent xs) .answer) t ≡ readyBit (readyOutcome terms bs (wordsAfter terms bs lent us) .answer) t)
+      × (entriesPart terms bs (wordsAfter terms bs lent xs) t ≡ entriesPart terms bs (wordsAfter terms bs lent us) t)
   unfolding wordsAfter
   isolation-at own alone c mine xs us ys vs q x y t i =
-      let ws = beginOutcome limit bs lent .words in
-      let (a, z) = lasts-begins limit bs k read own xs (c ∷ ys) ws x in
-      let (b, w) = lasts-begins limit bs k read own us (c ∷ vs) ws y in
+      let ws = beginOutcome terms bs lent .words in
+      let (a, z) = lasts-begins terms bs k read own xs (c ∷ ys) ws x in
+      let (b, w) = lasts-begins terms bs k read own us (c ∷ vs) ws y in
       let m = eq-eqb (societyOf c) own mine in
-      let n = lasts-first limit bs k read own (wordsFrom limit bs ws xs) c ys z .going m in
-      let o = lasts-first limit bs k read own (wordsFrom limit bs ws us) c vs w .going m in
+      let n = lasts-first terms bs k read own (wordsFrom terms bs ws xs) c ys z .going m in
+      let o = lasts-first terms bs k read own (wordsFrom terms bs ws us) c vs w .going m in
       let r = isolation own alone xs us q a b in
       (r .ready n o t i, r .entries n o t i)

@@ -11,6 +11,7 @@ use lib.Seq.{ext-getD, length-take-le, getD-take, getD-drop}
 use lib.Dec.{eqb, ltb}
 use borrow.Author.Tests.{lt-ltb, ltb-true, ltb-false}
 use Rattle.rules.specs.declared.Counts.{Counts}
+use Rattle.rules.specs.declared.Terms.{Terms}
 use Rattle.rules.specs.Plan.{Plan, trackCount, planOf}
 use Rattle.rules.specs.Acceptance.{accepted, readPlan}
 use Rattle.rules.specs.Layout.{headWords, countPlace, entryWidth, trackWidth, trackPlace, entriesPlace, wordCount}
@@ -47,45 +48,45 @@ part-words ws at n b =
     let m : i < entryWidth * n = omega (arith, a, j) in
     getD-take (entryWidth * n) (drop at ws) i 0 m ∙ getD-drop at ws i 0 ∙ sym (held-word n ws at i m))
 
-module _ (limit : ℕ) (bs : List ℕ) (k : Counts) (read : readPlan bs ≡ accepted k) (ws : List ℕ) (h : Passes limit bs (planOf bs k) ws) where
+module _ (terms : Terms) (bs : List ℕ) (k : Counts) (read : readPlan bs ≡ accepted k) (ws : List ℕ) (h : Passes terms bs (planOf bs k) ws) where
   abbrev p : Plan
   p = planOf bs k
 
   abbrev l : Ledger
-  l = ledgerAt limit ws (trackCount p)
+  l = ledgerAt terms ws (trackCount p)
 
-  pub ready-told : (t : ℕ) → readyBit (readyOutcome limit bs ws .answer) t ≡ mayFire p l t
+  pub ready-told : (t : ℕ) → readyBit (readyOutcome terms bs ws .answer) t ≡ mayFire p l t
   unfolding readyOutcome underPlan refusedOr readyBit
-  ready-told t = rw (read, underPlan, passes-none limit bs p ws h) (ready-bit p l t)
+  ready-told t = rw (read, underPlan, passes-none terms bs p ws h) (ready-bit p l t)
 
   -- a track of the plan has room for its entries
-  room : (t n : ℕ) → t < trackCount p → n ≤ limit → trackPlace limit t + headWords + entryWidth * n ≤ length ws
+  room : (t n : ℕ) → t < trackCount p → n ≤ terms .limit → trackPlace terms t + headWords + entryWidth * n ≤ length ws
   unfolding tooShort wordCount trackWidth entryWidth
-  room t n b m = omega (arith, ltb-false (length ws) (wordCount limit (trackCount p)) (h .long), place-below limit (trackCount p) t b)
+  room t n b m = omega (arith, ltb-false (length ws) (wordCount terms (trackCount p)) (h .long), place-below terms (trackCount p) t b)
 
   -- the words of what a track of the plan holds
-  held-words : (t : ℕ) → t < trackCount p → heldPart limit p ws t ≡ heldWords (l t .held)
+  held-words : (t : ℕ) → t < trackCount p → heldPart terms p ws t ≡ heldWords (l t .held)
   unfolding heldPart ledgerAt configurationAt areTidy entriesPlace
   held-words t b =
-      let at = trackPlace limit t in
+      let at = trackPlace terms t in
       let n = getD ws (countPlace at) 0 in
-      let tidy = every-at (trackCount p) (λ t. isTidy limit ws (trackPlace limit t)) (sound-words limit p ws (h .sound) .tidy) t b in
+      let tidy = every-at (trackCount p) (λ t. isTidy terms ws (trackPlace terms t)) (sound-words terms p ws (h .sound) .tidy) t b in
       let e : l t ≡ configurationAt ws at = rw (lt-ltb t (trackCount p) b) in
-      ap (λ (c : Configuration). take (entryWidth * length (c .held)) (drop (entriesPlace limit t) ws)) e
-      ∙ ap (λ m. take (entryWidth * m) (drop (entriesPlace limit t) ws)) (length-heldAt ws (at + headWords) n)
-      ∙ part-words ws (at + headWords) n (room t n b (tidy-count limit ws at tidy))
+      ap (λ (c : Configuration). take (entryWidth * length (c .held)) (drop (entriesPlace terms t) ws)) e
+      ∙ ap (λ m. take (entryWidth * m) (drop (entriesPlace terms t) ws)) (length-heldAt ws (at + headWords) n)
+      ∙ part-words ws (at + headWords) n (room t n b (tidy-count terms ws at tidy))
       ∙ ap (λ (c : Configuration). heldWords (c .held)) (sym e)
 
-  pub entries-told : (t : ℕ) → entriesPart limit bs ws t ≡ cond (ltb t (trackCount p)) (heldWords (l t .held)) []
+  pub entries-told : (t : ℕ) → entriesPart terms bs ws t ≡ cond (ltb t (trackCount p)) (heldWords (l t .held)) []
   unfolding entriesPart
   entries-told t =
       elim (look (ltb t (trackCount p))) [
-        | inl b ↦ rw (read, entriesPart, passes-none limit bs p ws h, b) (held-words t (ltb-true t (trackCount p) b))
-        | inr b ↦ rw (read, entriesPart, passes-none limit bs p ws h, b)
+        | inl b ↦ rw (read, entriesPart, passes-none terms bs p ws h, b) (held-words t (ltb-true t (trackCount p) b))
+        | inr b ↦ rw (read, entriesPart, passes-none terms bs p ws h, b)
       ]
 
   -- two words for each entry
-  pub part-length : (t : ℕ) → t < trackCount p → length (entriesPart limit bs ws t) ≡ 2 * length (l t .held)
+  pub part-length : (t : ℕ) → t < trackCount p → length (entriesPart terms bs ws t) ≡ 2 * length (l t .held)
   unfolding entryWidth
   part-length t b =
       ap length (entries-told t) ∙ (rw (lt-ltb t (trackCount p) b) (length-heldWords (l t .held)))

@@ -8,6 +8,7 @@ use lib.Dec.{eqb}
 use lib.ListN.{length}
 use borrow.Author.Tests.{eq-eqb, ne-eqb}
 use Rattle.rules.specs.declared.Track.{Track}
+use Rattle.rules.specs.declared.Terms.{Terms}
 use Rattle.rules.specs.Ledger.{Entry, Configuration, isEmpty, ledgerAt}
 use Rattle.rules.specs.Soundness.{areTidy}
 use Rattle.rules.proofs.Stored.{storable-read}
@@ -39,5 +40,5 @@ module _ {k : Track} (x : Configuration) (e : k ≡ trackOf x) where
   held-as h = empty-count (x .held) ∙ ne-eqb (length (x .held)) 0 (λ q. h (count-as ∙ q))
 
 -- a track of a tidy ledger holds no more than the limit
-pub count-within : (limit n : ℕ) (ws : List ℕ) (t k : ℕ) → areTidy limit ws n ≡ true → k ≡ length (ledgerAt limit ws n t .held) → k ≤ limit
-count-within limit n ws t k h e = omega (arith, storable-read limit n ws h .fits t)
+pub count-within : (terms : Terms) (n : ℕ) (ws : List ℕ) (t k : ℕ) → areTidy terms ws n ≡ true → k ≡ length (ledgerAt terms ws n t .held) → k ≤ terms .limit
+count-within terms n ws t k h e = omega (arith, storable-read terms n ws h .fits t)

@@ -11,6 +11,7 @@ use lib.Bits.{bitOr, bitAnd, or-add-and, and-le-l, and-le-r}
 use lib.ListN.{getD}
 use lib.Dec.{eqb, ltb}
 use borrow.Author.Tests.{eqb-true, eq-eqb, ne-eqb, ltb-false, le-ltb, le-leb, lt-leb}
+use Rattle.rules.specs.declared.Terms.{Terms}
 use Rattle.rules.specs.Fold.{everyBelow}
 use Rattle.rules.specs.Layout.{entryWidth, headWords, trackWidth}
 use Rattle.rules.specs.Soundness.{goodMode, goodCount, unusedZero, asleepZero, isTidy}
@@ -41,35 +42,35 @@ every-from m n f l =
     ]))
     (λ h. every-of (n - m) _ (λ j b. rw (le-ltb (m + j) m (omega arith)) at (every-at n (λ j. ltb j m || f j) h (m + j) (omega arith))))
 
-module _ (limit : ℕ) (ws : List ℕ) (at : ℕ) where
-  pub asleep-tidy : {r : Bool} → getD ws at 0 ≡ 0 → r ≡ everyBelow (trackWidth limit) (λ j. eqb (getD ws (at + j) 0) 0) → r ≡ isTidy limit ws at
+module _ (terms : Terms) (ws : List ℕ) (at : ℕ) where
+  pub asleep-tidy : {r : Bool} → getD ws at 0 ≡ 0 → r ≡ everyBelow (trackWidth terms) (λ j. eqb (getD ws (at + j) 0) 0) → r ≡ isTidy terms ws at
   unfolding isTidy goodMode goodCount unusedZero asleepZero trackWidth headWords entryWidth
   asleep-tidy z e =
       e
       ∙ same-test _ _
       (λ h.
-      let zero : (j : ℕ) → j < 3 + 2 * limit → eqb (getD ws (at + j) 0) 0 ≡ true = every-at (3 + 2 * limit) _ h in
+      let zero : (j : ℕ) → j < 3 + 2 * terms .limit → eqb (getD ws (at + j) 0) 0 ≡ true = every-at (3 + 2 * terms .limit) _ h in
       let k : getD ws (at + 2) 0 ≡ 0 = eqb-true _ 0 (zero 2 (omega arith)) in
-      let u = every-of (2 * limit) (λ j. ltb j (2 * getD ws (at + 2) 0) || eqb (getD ws (at + 3 + j) 0) 0) (λ j b. or-right (ltb j (2 * getD ws (at + 2) 0)) (eqb (getD ws (at + 3 + j) 0) 0) (rw add-assoc (zero (3 + j) (omega arith)))) in
-      rw (le-leb (getD ws at 0) 2 (omega arith), le-leb (getD ws (at + 2) 0) limit (omega arith), u, h, eq-eqb (getD ws at 0) 0 z))
-      (λ h. implies (eqb (getD ws at 0) 0) _ (and-holds (goodMode ws at && goodCount limit ws at && unusedZero limit ws at) (asleepZero limit ws at) h .1) (eq-eqb (getD ws at 0) 0 z))
+      let u = every-of (2 * terms .limit) (λ j. ltb j (2 * getD ws (at + 2) 0) || eqb (getD ws (at + 3 + j) 0) 0) (λ j b. or-right (ltb j (2 * getD ws (at + 2) 0)) (eqb (getD ws (at + 3 + j) 0) 0) (rw add-assoc (zero (3 + j) (omega arith)))) in
+      rw (le-leb (getD ws at 0) 2 (omega arith), le-leb (getD ws (at + 2) 0) (terms .limit) (omega arith), u, h, eq-eqb (getD ws at 0) 0 z))
+      (λ h. implies (eqb (getD ws at 0) 0) _ (and-holds (goodMode ws at && goodCount terms ws at && unusedZero terms ws at) (asleepZero terms ws at) h .1) (eq-eqb (getD ws at 0) 0 z))
 
-  pub bad-mode : 2 < getD ws at 0 → false ≡ isTidy limit ws at
+  pub bad-mode : 2 < getD ws at 0 → false ≡ isTidy terms ws at
   unfolding isTidy goodMode
   bad-mode l = rw (lt-leb (getD ws at 0) 2 l)
 
   module _ (low : getD ws at 0 ≤ 2) where
-    pub bad-count : limit < getD ws (at + 2) 0 → false ≡ isTidy limit ws at
+    pub bad-count : terms .limit < getD ws (at + 2) 0 → false ≡ isTidy terms ws at
     unfolding isTidy goodMode goodCount
-    bad-count l = rw (le-leb (getD ws at 0) 2 low, lt-leb (getD ws (at + 2) 0) limit l)
+    bad-count l = rw (le-leb (getD ws at 0) 2 low, lt-leb (getD ws (at + 2) 0) (terms .limit) l)
 
-    pub awake-tidy : {r : Bool} (m : ℕ) → (getD ws at 0 ≡ 0 → ⊥) → getD ws (at + 2) 0 ≤ limit → m ≡ entryWidth * getD ws (at + 2) 0
-        → r ≡ everyBelow (entryWidth * limit - m) (λ j. eqb (getD ws (at + headWords + m + j) 0) 0) → r ≡ isTidy limit ws at
+    pub awake-tidy : {r : Bool} (m : ℕ) → (getD ws at 0 ≡ 0 → ⊥) → getD ws (at + 2) 0 ≤ terms .limit → m ≡ entryWidth * getD ws (at + 2) 0
+        → r ≡ everyBelow (entryWidth * terms .limit - m) (λ j. eqb (getD ws (at + headWords + m + j) 0) 0) → r ≡ isTidy terms ws at
     unfolding isTidy goodMode goodCount unusedZero asleepZero entryWidth
     awake-tidy m n l i e =
         let f : ℕ → Bool = λ j. eqb (getD ws (at + headWords + j) 0) 0 in
         e
-        ∙ every-same (2 * limit - m) _ _ (λ j b. ap (λ k. eqb (getD ws k 0) 0) (add-assoc (at + headWords) m j))
-        ∙ every-from m (2 * limit) f (omega arith)
-        ∙ ap (λ k. everyBelow (2 * limit) (λ j. ltb j k || f j)) i
-        ∙ rw (le-leb (getD ws at 0) 2 low, le-leb (getD ws (at + 2) 0) limit l, ne-eqb (getD ws at 0) 0 n) (sym (mathlib.Core.Bool.and-true _))
+        ∙ every-same (2 * terms .limit - m) _ _ (λ j b. ap (λ k. eqb (getD ws k 0) 0) (add-assoc (at + headWords) m j))
+        ∙ every-from m (2 * terms .limit) f (omega arith)
+        ∙ ap (λ k. everyBelow (2 * terms .limit) (λ j. ltb j k || f j)) i
+        ∙ rw (le-leb (getD ws at 0) 2 low, le-leb (getD ws (at + 2) 0) (terms .limit) l, ne-eqb (getD ws at 0) 0 n) (sym (mathlib.Core.Bool.and-true _))

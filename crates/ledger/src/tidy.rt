@@ -1,16 +1,15 @@
-// Whether a ledger's words are as the layout has them: modes 0 to 2, at most 32 entries, unused pairs zero, an asleep track all zeros.
+// Whether a ledger's words are as the layout has them: modes 0 to 2, at most so many entries as the terms allow, unused pairs zero, an asleep track all zeros.
 use crate::layout;
 use crate::layout::COUNT_WORD;
-use crate::layout::ENTRY_LIMIT;
 use crate::layout::ENTRY_WIDTH;
 use crate::layout::HEAD_WORDS;
-use crate::layout::TRACK_WIDTH;
+use rules::Terms;
 ghost use mathlib.Core.Path.{_≡_};
 ghost use Prim.Native.Nat.{_+_, _≤_};
 ghost use lib.Dec.{eqb};
 ghost use lib.ListN.{length, getD};
 ghost use Rattle.rules.specs.Fold.{everyBelow};
-ghost use Rattle.rules.specs.Layout.{entryLimit, trackWidth};
+ghost use Rattle.rules.specs.Layout.{trackWidth};
 ghost use Rattle.rules.specs.Soundness.{isTidy, areTidy};
 ghost use Rattle.ledger.specs.Ladder.{Room};
 
@@ -29,38 +28,35 @@ fn are_zero(ledger: &[u16], from: usize, count: usize) -> bool
 }
 
 // Whether the words of the track at a place are as the layout has them.
-fn is_tidy(ledger: &[u16], at: usize) -> bool
-    requires { ⌜ at + trackWidth entryLimit ≤ length (now ledger) ⌝ }
-    ensures { λ r. ⌜ r ≡ isTidy entryLimit (now (ledger .entry)) at ⌝ }
+fn is_tidy(terms: Terms, ledger: &[u16], at: usize) -> bool
+    requires { ⌜ at + trackWidth terms ≤ length (now ledger) ⌝ }
+    ensures { λ r. ⌜ r ≡ isTidy terms (now (ledger .entry)) at ⌝ }
 {
     let mode = ledger[at];
     if mode == 0 {
-        return are_zero(ledger, at, TRACK_WIDTH);
+        return are_zero(ledger, at, layout::track_width(terms));
     }
     if 2 < mode {
         return false;
     }
     let count = layout::wide(ledger[at + COUNT_WORD]);
-    if ENTRY_LIMIT < count {
+    let limit = layout::limit(terms);
+    if limit < count {
         return false;
     }
     let held = ENTRY_WIDTH * count;
-    are_zero(
-        ledger,
-        at + HEAD_WORDS + held,
-        ENTRY_WIDTH * ENTRY_LIMIT - held,
-    )
+    are_zero(ledger, at + HEAD_WORDS + held, ENTRY_WIDTH * limit - held)
 }
 
 // Whether those of every track are.
-pub fn are_tidy(ledger: &[u16], tracks: usize) -> bool
-    requires { ⌜ Room (now ledger) tracks ⌝ }
-    ensures { λ r. ⌜ r ≡ areTidy entryLimit (now (ledger .entry)) tracks ⌝ }
+pub fn are_tidy(terms: Terms, ledger: &[u16], tracks: usize) -> bool
+    requires { ⌜ Room terms (now ledger) tracks ⌝ }
+    ensures { λ r. ⌜ r ≡ areTidy terms (now (ledger .entry)) tracks ⌝ }
 {
     let mut all = true;
     let mut t: usize = 0;
     while t < tracks {
-        let tidy = is_tidy(ledger, layout::track_place(t));
+        let tidy = is_tidy(terms, ledger, layout::track_place(terms, t));
         all = all & tidy;
         t += 1;
     }

@@ -11,8 +11,9 @@ use lib.Dec.{eqb, ltb}
 use lib.ListN.{length}
 use borrow.Author.Tests.{eq-eqb, eqb-true, lt-ltb, le-ltb, ltb-false}
 use Rattle.rules.specs.declared.Counts.{Counts}
+use Rattle.rules.specs.declared.Terms.{Terms}
 use Rattle.rules.specs.Plan.{Plan, planOf, trackCount, noState, hostWord, host, owner, isHostedBy}
-use Rattle.rules.specs.Layout.{entryLimit, wordCount}
+use Rattle.rules.specs.Layout.{wordCount}
 use Rattle.rules.specs.Ledger.{Ledger, isAwake, isUndoing, isEmpty, sleeping, ledgerAt}
 use Rattle.rules.specs.Scope.{isOver, hasOpenScope}
 use Rattle.rules.specs.Fire.{mayFire}
@@ -40,36 +41,36 @@ pub few-tracks : (bs : List ℕ) (c : Counts) → Accepts bs c → trackCount (p
 few-tracks bs c a = let h = a .holds .tracks in omega (arith, track-count bs c)
 
 -- what the checks of the ledger establish, in the rules' terms and in the ladder's
-pub room-long : (bs : List ℕ) (c : Counts) (ws : List ℕ) → Room ws (c .tracks) → tooShort entryLimit (planOf bs c) ws ≡ false
+pub room-long : (terms : Terms) (bs : List ℕ) (c : Counts) (ws : List ℕ) → Room terms ws (c .tracks) → tooShort terms (planOf bs c) ws ≡ false
 unfolding tooShort
-room-long bs c ws r = rw (track-count bs c) (le-ltb (length ws) (wordCount entryLimit (c .tracks)) (r .words))
+room-long terms bs c ws r = rw (track-count bs c) (le-ltb (length ws) (wordCount terms (c .tracks)) (r .words))
 
-pub long-room : (bs : List ℕ) (c : Counts) (ws : List ℕ) → Accepts bs c → tooShort entryLimit (planOf bs c) ws ≡ false → Room ws (c .tracks)
+pub long-room : (terms : Terms) (bs : List ℕ) (c : Counts) (ws : List ℕ) → Accepts bs c → tooShort terms (planOf bs c) ws ≡ false → Room terms ws (c .tracks)
 unfolding tooShort
-long-room bs c ws a h = record { few = a .holds .tracks; words = ltb-false (length ws) (wordCount entryLimit (c .tracks)) (rw track-count at h) }
+long-room terms bs c ws a h = record { few = a .holds .tracks; words = ltb-false (length ws) (wordCount terms (c .tracks)) (rw track-count at h) }
 
-pub checked-passes : (bs : List ℕ) (c : Counts) (ws : List ℕ) → Checked bs c ws → Passes entryLimit bs (planOf bs c) ws
-checked-passes bs c ws k = record { long = room-long bs c ws (k .lent .room); own = k .own; sound = k .sound }
+pub checked-passes : (terms : Terms) (bs : List ℕ) (c : Counts) (ws : List ℕ) → Checked terms bs c ws → Passes terms bs (planOf bs c) ws
+checked-passes terms bs c ws k = record { long = room-long terms bs c ws (k .lent .room); own = k .own; sound = k .sound }
 
-pub passes-checked : (bs : List ℕ) (c : Counts) (ws : List ℕ) → Accepts bs c → Passes entryLimit bs (planOf bs c) ws → Checked bs c ws
-passes-checked bs c ws a h = record { lent = record { accepts = a; room = long-room bs c ws a (h .long) }; own = h .own; sound = h .sound }
+pub passes-checked : (terms : Terms) (bs : List ℕ) (c : Counts) (ws : List ℕ) → Accepts bs c → Passes terms bs (planOf bs c) ws → Checked terms bs c ws
+passes-checked terms bs c ws a h = record { lent = record { accepts = a; room = long-room terms bs c ws a (h .long) }; own = h .own; sound = h .sound }
 
 -- the ledger's facts
-pub tidy-words : (bs : List ℕ) (c : Counts) (ws : List ℕ) → Checked bs c ws → Tidy ws (c .tracks)
-tidy-words bs c ws k =
+pub tidy-words : (terms : Terms) (bs : List ℕ) (c : Counts) (ws : List ℕ) → Checked terms bs c ws → Tidy terms ws (c .tracks)
+tidy-words terms bs c ws k =
     record {
       room = k .lent .room;
-      tidy = ap (areTidy entryLimit ws) (sym (track-count bs c)) ∙ sound-words entryLimit (planOf bs c) ws (k .sound) .tidy;
+      tidy = ap (areTidy terms ws) (sym (track-count bs c)) ∙ sound-words terms (planOf bs c) ws (k .sound) .tidy;
     }
 
-pub live-of-going : (bs : List ℕ) (c : Counts) (ws : List ℕ) → Going bs c ws → Live (planOf bs c) (ledgerOf c ws)
+pub live-of-going : (terms : Terms) (bs : List ℕ) (c : Counts) (ws : List ℕ) → Going terms bs c ws → Live (planOf bs c) (ledgerOf terms c ws)
 unfolding ledgerOf
-live-of-going bs c ws g =
+live-of-going terms bs c ws g =
     let p = planOf bs c in
-    let l : ℕ → Ledger = ledgerAt entryLimit ws in
-    let q = sound-words entryLimit p ws (g .checked .sound) .rest in
+    let l : ℕ → Ledger = ledgerAt terms ws in
+    let q = sound-words terms p ws (g .checked .sound) .rest in
     let r : (isOver p (l (c .tracks)) || isLive p (l (c .tracks))) ≡ true = ap (λ (m : ℕ). isOver p (l m) || isLive p (l m)) (sym (track-count bs c)) ∙ q in
-    live-facts p (plan-facts bs c (g .checked .lent .accepts)) (ledgerOf c ws)
+    live-facts p (plan-facts bs c (g .checked .lent .accepts)) (ledgerOf terms c ws)
     (elim (or-holds (isOver p (l (c .tracks))) (isLive p (l (c .tracks))) r) [ inl o ↦ clash o (g .goes-on) | inr v ↦ v ])
 
 -- a host is a state of a lower-numbered track, so the first track is a root; of a sound ledger it is awake unless all are asleep
@@ -80,29 +81,29 @@ first-root : (bs : List ℕ) (c : Counts) → Accepts bs c → host (planOf bs c
 first-root bs c a =
     elim (look-option (host (planOf bs c) 0)) [ inl z ↦ z | inr z ↦ absurd (not-suc-le-zero (plan-facts bs c a .lower 0 (z .0) (z .1))) ]
 
-pub over-by-first : (bs : List ℕ) (c : Counts) (ws : List ℕ) → Checked bs c ws → {r : Bool} → r ≡ isAwake (ledgerOf c ws 0 .mode)
-    → not r ≡ isOver (planOf bs c) (ledgerOf c ws)
+pub over-by-first : (terms : Terms) (bs : List ℕ) (c : Counts) (ws : List ℕ) → Checked terms bs c ws → {r : Bool} → r ≡ isAwake (ledgerOf terms c ws 0 .mode)
+    → not r ≡ isOver (planOf bs c) (ledgerOf terms c ws)
 unfolding isOver
-over-by-first bs c ws k e =
+over-by-first terms bs c ws k e =
     let a = k .lent .accepts in
     let some-track = plan-facts bs c a .some-track in
-    elim (look (isOver (planOf bs c) (ledgerOf c ws))) [
+    elim (look (isOver (planOf bs c) (ledgerOf terms c ws))) [
       | inl o ↦ ap not e ∙ every-at (trackCount (planOf bs c)) _ o 0 some-track ∙ sym o
-      | inr n ↦ ap not (e ∙ live-of-going bs c ws (record { checked = k; goes-on = n }) .roots 0 some-track (first-root bs c a)) ∙ sym n
+      | inr n ↦ ap not (e ∙ live-of-going terms bs c ws (record { checked = k; goes-on = n }) .roots 0 some-track (first-root bs c a)) ∙ sym n
     ]
 
-pub storable : (bs : List ℕ) (c : Counts) (ws : List ℕ) → Going bs c ws → Storable entryLimit (c .tracks) (ledgerOf c ws)
+pub storable : (terms : Terms) (bs : List ℕ) (c : Counts) (ws : List ℕ) → Going terms bs c ws → Storable terms (c .tracks) (ledgerOf terms c ws)
 unfolding ledgerOf
-storable bs c ws g = storable-read entryLimit (c .tracks) ws (tidy-words bs c ws (g .checked) .tidy)
+storable terms bs c ws g = storable-read terms (c .tracks) ws (tidy-words terms bs c ws (g .checked) .tidy)
 
-pub beyond : (bs : List ℕ) (c : Counts) (ws : List ℕ) (t : ℕ) → trackCount (planOf bs c) ≤ t → ledgerOf c ws t ≡ sleeping
+pub beyond : (terms : Terms) (bs : List ℕ) (c : Counts) (ws : List ℕ) (t : ℕ) → trackCount (planOf bs c) ≤ t → ledgerOf terms c ws t ≡ sleeping
 unfolding ledgerOf
-beyond bs c ws t h = read-beyond entryLimit (c .tracks) ws t (rw (track-count bs c) at h)
+beyond terms bs c ws t h = read-beyond terms (c .tracks) ws t (rw (track-count bs c) at h)
 
 -- a track's words
-pub track-read : (c : Counts) (ws : List ℕ) (t : ℕ) → t < c .tracks → trackAt ws t ≡ trackOf (ledgerOf c ws t)
+pub track-read : (terms : Terms) (c : Counts) (ws : List ℕ) (t : ℕ) → t < c .tracks → trackAt terms ws t ≡ trackOf (ledgerOf terms c ws t)
 unfolding trackAt ledgerOf
-track-read c ws t b = ap trackOf (sym (read-at entryLimit (c .tracks) ws t b))
+track-read terms c ws t b = ap trackOf (sym (read-at terms (c .tracks) ws t b))
 
 -- a track's host
 pub host-root : (p : Plan) (t h : ℕ) → h ≡ hostWord p t → h ≡ noState → noState ≡ hostTrack p t

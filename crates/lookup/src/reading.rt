@@ -3,6 +3,7 @@ use ledger::track;
 use plan::fields;
 use plan::fields::NO_STATE;
 use rules::Counts;
+use rules::Terms;
 use rules::Track;
 ghost use mathlib.Core.Path.{_≡_};
 ghost use mathlib.Core.Bool.{not};
@@ -16,32 +17,32 @@ ghost use Rattle.lookup.specs.HostTrack.{hostTrack};
 ghost use Rattle.ledger.specs.Words.{trackOf};
 
 // A track of the ledger.
-pub fn track(c: Counts, ledger: &[u16], t: usize) -> Track
-    requires { ⌜ Room (now ledger) (c .tracks) × (t < c .tracks) ⌝ }
-    ensures { λ r. ⌜ r ≡ trackOf (ledgerOf c (now (ledger .entry)) t) ⌝ }
+pub fn track(terms: Terms, c: Counts, ledger: &[u16], t: usize) -> Track
+    requires { ⌜ Room terms (now ledger) (c .tracks) × (t < c .tracks) ⌝ }
+    ensures { λ r. ⌜ r ≡ trackOf (ledgerOf terms c (now (ledger .entry)) t) ⌝ }
 {
-    track::track_at(ledger, t)
+    track::track_at(terms, ledger, t)
 }
 
 // Whether a track is awake.
-pub fn is_awake(c: Counts, ledger: &[u16], t: usize) -> bool
-    requires { ⌜ Room (now ledger) (c .tracks) × (t < c .tracks) ⌝ }
-    ensures { λ r. ⌜ r ≡ isAwake (ledgerOf c (now (ledger .entry)) t .mode) ⌝ }
+pub fn is_awake(terms: Terms, c: Counts, ledger: &[u16], t: usize) -> bool
+    requires { ⌜ Room terms (now ledger) (c .tracks) × (t < c .tracks) ⌝ }
+    ensures { λ r. ⌜ r ≡ isAwake (ledgerOf terms c (now (ledger .entry)) t .mode) ⌝ }
 {
-    let k = track(c, ledger, t);
+    let k = track(terms, c, ledger, t);
     let m = k.mode;
     track::is_awake(m)
 }
 
 // "all asleep ("over")", of any ledger.
-pub fn all_asleep(c: Counts, ledger: &[u16]) -> bool
-    requires { ⌜ Room (now ledger) (c .tracks) ⌝ }
-    ensures { λ r. ⌜ r ≡ everyBelow (c .tracks) (λ t. not (isAwake (ledgerOf c (now (ledger .entry)) t .mode))) ⌝ }
+pub fn all_asleep(terms: Terms, c: Counts, ledger: &[u16]) -> bool
+    requires { ⌜ Room terms (now ledger) (c .tracks) ⌝ }
+    ensures { λ r. ⌜ r ≡ everyBelow (c .tracks) (λ t. not (isAwake (ledgerOf terms c (now (ledger .entry)) t .mode))) ⌝ }
 {
     let tracks = c.tracks;
     let mut t: usize = 0;
     while t < tracks {
-        if is_awake(c, ledger, t) {
+        if is_awake(terms, c, ledger, t) {
             return false;
         }
         t += 1;
@@ -50,11 +51,11 @@ pub fn all_asleep(c: Counts, ledger: &[u16]) -> bool
 }
 
 // The same of a sound ledger: its first track is a root, and every root is awake unless it is over.
-pub fn is_over(plan: &[u8], c: Counts, ledger: &[u16]) -> bool
-    requires { ⌜ Checked (now plan) c (now ledger) ⌝ }
-    ensures { λ r. ⌜ r ≡ isOver (planOf (now (plan .entry)) c) (ledgerOf c (now (ledger .entry))) ⌝ }
+pub fn is_over(terms: Terms, plan: &[u8], c: Counts, ledger: &[u16]) -> bool
+    requires { ⌜ Checked terms (now plan) c (now ledger) ⌝ }
+    ensures { λ r. ⌜ r ≡ isOver (planOf (now (plan .entry)) c) (ledgerOf terms c (now (ledger .entry))) ⌝ }
 {
-    !is_awake(c, ledger, 0)
+    !is_awake(terms, c, ledger, 0)
 }
 
 // The track of a track's host, 65535 for a root.

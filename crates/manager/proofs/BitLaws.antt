@@ -9,6 +9,7 @@ use native.Mathlib.Nat.{pow-suc}
 use lib.Pow.{pow-mono}
 use Rattle.rules.specs.Fold.{sumBelow}
 use Rattle.rules.specs.declared.Counts.{Counts}
+use Rattle.rules.specs.declared.Terms.{Terms}
 use Rattle.rules.specs.Plan.{planOf, trackCount}
 use Rattle.rules.specs.Fire.{mayFire, ready}
 use Rattle.rules.proofs.Folds.{sum-more}
@@ -49,9 +50,9 @@ pub bits-no : (t n : ℕ) (f : ℕ → Bool) {r : Bool} → n ≡ bitsBelow t f 
 unfolding bitsBelow
 bits-no t n f e i h = sym (sum-more t _ ∙ rw (sym i ∙ h, e) (omega arith))
 
-pub bits-ready : (bs : List ℕ) (c : Counts) (ws : List ℕ) (t n : ℕ) → n ≡ bitsBelow t (mayFire (planOf bs c) (ledgerOf c ws)) → t ≤ c .tracks → c .tracks ≤ t
-    → n ≡ ready (planOf bs c) (ledgerOf c ws)
+pub bits-ready : (terms : Terms) (bs : List ℕ) (c : Counts) (ws : List ℕ) (t n : ℕ) → n ≡ bitsBelow t (mayFire (planOf bs c) (ledgerOf terms c ws)) → t ≤ c .tracks → c .tracks ≤ t
+    → n ≡ ready (planOf bs c) (ledgerOf terms c ws)
 unfolding ready bitsBelow
-bits-ready bs c ws t n e a b =
+bits-ready terms bs c ws t n e a b =
     let i : t ≡ trackCount (planOf bs c) = omega (arith, track-count bs c) in
-    e ∙ ap (λ (x : ℕ). sumBelow x (λ t. cond (mayFire (planOf bs c) (ledgerOf c ws) t) (2 ^ t) 0)) i
+    e ∙ ap (λ (x : ℕ). sumBelow x (λ t. cond (mayFire (planOf bs c) (ledgerOf terms c ws) t) (2 ^ t) 0)) i

@@ -13,23 +13,23 @@ use rules::FireAnswer;
 use rules::PlanAnswer;
 use rules::ReadyAnswer;
 use rules::SignalAnswer;
+use rules::Terms;
 ghost use mathlib.Core.Path.{_≡_};
 ghost use Prim.Native.Nat.{_<_};
-ghost use Rattle.rules.specs.Layout.{entryLimit};
 ghost use Rattle.rules.specs.Call.{beginOutcome, eventOutcome, signalOutcome, fireOutcome, readyOutcome, HandsBack, Meets};
 ghost use Rattle.rules.specs.Answers.{beginTold, eventTold, signalTold, fireTold, readyTold};
 ghost use Rattle.manager.specs.Checked.{Span};
 
 // Overwrites the ledger: roots forward in their first states and holding nothing, others asleep.
-pub fn begin(plan: &[u8], ledger: &mut [u16]) -> BeginAnswer
-    ensures { λ r. ⌜ Meets (beginOutcome entryLimit (now (plan .entry)) (now (ledger .entry))) (beginTold r) (now (ledger .exit)) ⌝ }
+pub fn begin(terms: Terms, plan: &[u8], ledger: &mut [u16]) -> BeginAnswer
+    ensures { λ r. ⌜ Meets (beginOutcome terms (now (plan .entry)) (now (ledger .entry))) (beginTold r) (now (ledger .exit)) ⌝ }
 {
     let mut firsts: [u16; 32] = [0; 32];
-    let answer = verify::read_lent(plan, &ledger[..], &mut firsts);
+    let answer = verify::read_lent(terms, plan, &ledger[..], &mut firsts);
     match answer {
         PlanAnswer::Refused(n) => BeginAnswer::Refused(n),
         PlanAnswer::Accepted(c) => {
-            opening::begin::begin_all(plan, c, &mut ledger[..], &firsts);
+            opening::begin::begin_all(terms, plan, c, &mut ledger[..], &firsts);
             BeginAnswer::Begun
         }
     }
@@ -37,17 +37,25 @@ pub fn begin(plan: &[u8], ledger: &mut [u16]) -> BeginAnswer
 
 // Moves each forward track without an open scope that the society may move and that has a transition for the event on that day, then closes,
 // replaces, and finishes where that is due. The day is kept as the last accepted one. Answers how many tracks moved and how many scopes closed.
-pub fn event(plan: &[u8], ledger: &mut [u16], event: u16, day: i32, society: u16) -> EventAnswer
-    ensures { λ r. ⌜ Meets (eventOutcome entryLimit (now (plan .entry)) (now (ledger .entry))
+pub fn event(
+    terms: Terms,
+    plan: &[u8],
+    ledger: &mut [u16],
+    event: u16,
+    day: i32,
+    society: u16,
+) -> EventAnswer
+    ensures { λ r. ⌜ Meets (eventOutcome terms (now (plan .entry)) (now (ledger .entry))
         (record { event = event; day = day; society = society })) (eventTold r) (now (ledger .exit)) ⌝ }
 {
     let mut opens = [false; 32];
     let mut firsts: [u16; 32] = [0; 32];
-    let answer = verify::verify(plan, &ledger[..], &mut opens, &mut firsts);
+    let answer = verify::verify(terms, plan, &ledger[..], &mut opens, &mut firsts);
     match answer {
         PlanAnswer::Refused(n) => EventAnswer::Refused(n),
         PlanAnswer::Accepted(c) => {
             event_step::event::event(
+                terms,
                 plan,
                 c,
                 &mut ledger[..],
@@ -63,47 +71,62 @@ pub fn event(plan: &[u8], ledger: &mut [u16], event: u16, day: i32, society: u16
 
 // Turns every forward track that the society may turn to undoing, puts to sleep the scopes that then have nothing to take back, and finishes
 // where that is due. Answers how many turned.
-pub fn signal(plan: &[u8], ledger: &mut [u16], society: u16) -> SignalAnswer
-    ensures { λ r. ⌜ Meets (signalOutcome entryLimit (now (plan .entry)) (now (ledger .entry)) (record { society = society }))
+pub fn signal(terms: Terms, plan: &[u8], ledger: &mut [u16], society: u16) -> SignalAnswer
+    ensures { λ r. ⌜ Meets (signalOutcome terms (now (plan .entry)) (now (ledger .entry)) (record { society = society }))
         (signalTold r) (now (ledger .exit)) ⌝ }
 {
     let mut opens = [false; 32];
     let mut firsts: [u16; 32] = [0; 32];
-    let answer = verify::verify(plan, &ledger[..], &mut opens, &mut firsts);
+    let answer = verify::verify(terms, plan, &ledger[..], &mut opens, &mut firsts);
     match answer {
         PlanAnswer::Refused(n) => SignalAnswer::Refused(n),
-        PlanAnswer::Accepted(c) => withdrawal::signal::signal(plan, c, &mut ledger[..], society),
+        PlanAnswer::Accepted(c) => withdrawal::signal::signal(
+            terms,
+            plan,
+            c,
+            &mut ledger[..],
+            society,
+        ),
     }
 }
 
 // Fires a named track that the society may fire: its newest entry is removed, a deviation is entered, scopes with nothing left are put to sleep,
 // and it finishes where that is due. Answers the code and the deviation.
-pub fn fire(plan: &[u8], ledger: &mut [u16], track: u16, society: u16) -> FireAnswer
-    ensures { λ r. ⌜ Meets (fireOutcome entryLimit (now (plan .entry)) (now (ledger .entry))
+pub fn fire(terms: Terms, plan: &[u8], ledger: &mut [u16], track: u16, society: u16) -> FireAnswer
+    ensures { λ r. ⌜ Meets (fireOutcome terms (now (plan .entry)) (now (ledger .entry))
         (record { track = track; society = society })) (fireTold r) (now (ledger .exit)) ⌝ }
 {
     let mut opens = [false; 32];
     let mut firsts: [u16; 32] = [0; 32];
-    let answer = verify::verify(plan, &ledger[..], &mut opens, &mut firsts);
+    let answer = verify::verify(terms, plan, &ledger[..], &mut opens, &mut firsts);
     match answer {
         PlanAnswer::Refused(n) => FireAnswer::Refused(n),
         PlanAnswer::Accepted(c) => {
-            withdrawal::fire::fire(plan, c, &mut ledger[..], track, society, &opens, &firsts)
+            withdrawal::fire::fire(
+                terms,
+                plan,
+                c,
+                &mut ledger[..],
+                track,
+                society,
+                &opens,
+                &firsts,
+            )
         }
     }
 }
 
 // A number with bit n set exactly if track n may be fired.
-pub fn ready(plan: &[u8], ledger: &mut [u16]) -> ReadyAnswer
-    ensures { λ r. ⌜ Meets (readyOutcome entryLimit (now (plan .entry)) (now (ledger .entry))) (readyTold r) (now (ledger .exit)) ⌝ }
+pub fn ready(terms: Terms, plan: &[u8], ledger: &mut [u16]) -> ReadyAnswer
+    ensures { λ r. ⌜ Meets (readyOutcome terms (now (plan .entry)) (now (ledger .entry))) (readyTold r) (now (ledger .exit)) ⌝ }
 {
     let mut opens = [false; 32];
     let mut firsts: [u16; 32] = [0; 32];
-    let answer = verify::verify(plan, &ledger[..], &mut opens, &mut firsts);
+    let answer = verify::verify(terms, plan, &ledger[..], &mut opens, &mut firsts);
     match answer {
         PlanAnswer::Refused(n) => ReadyAnswer::Refused(n),
         PlanAnswer::Accepted(c) => {
-            let bits = bits::ready_bits(plan, c, &ledger[..], &opens);
+            let bits = bits::ready_bits(terms, plan, c, &ledger[..], &opens);
             ReadyAnswer::Ready(bits)
         }
     }
@@ -116,12 +139,12 @@ struct Part {
 }
 
 // The part that holds a track's entries.
-fn part_of(plan: &[u8], ledger: &[u16], track: u16) -> Part
-    ensures { λ r. ⌜ Span (now (plan .entry)) (now (ledger .entry)) track (r .from) (r .to) ⌝ }
+fn part_of(terms: Terms, plan: &[u8], ledger: &[u16], track: u16) -> Part
+    ensures { λ r. ⌜ Span terms (now (plan .entry)) (now (ledger .entry)) track (r .from) (r .to) ⌝ }
 {
     let mut opens = [false; 32];
     let mut firsts: [u16; 32] = [0; 32];
-    let answer = verify::verify(plan, ledger, &mut opens, &mut firsts);
+    let answer = verify::verify(terms, plan, ledger, &mut opens, &mut firsts);
     match answer {
         PlanAnswer::Refused(_) => Part { from: 0, to: 0 },
         PlanAnswer::Accepted(c) => {
@@ -129,8 +152,8 @@ fn part_of(plan: &[u8], ledger: &[u16], track: u16) -> Part
             if c.tracks <= t {
                 return Part { from: 0, to: 0 };
             }
-            let k = track::track_at(ledger, t);
-            let from = layout::entry_place(t, 0);
+            let k = track::track_at(terms, ledger, t);
+            let from = layout::entry_place(terms, t, 0);
             Part {
                 from: from,
                 to: from + ENTRY_WIDTH * layout::wide(k.count),
@@ -140,10 +163,10 @@ fn part_of(plan: &[u8], ledger: &[u16], track: u16) -> Part
 }
 
 // The part of the ledger that holds a track's entries: those held, and no unused pairs. Only an empty part may lie anywhere.
-pub fn entries<'a>(plan: &[u8], ledger: &'a [u16], track: u16) -> &'a [u16]
-    ensures { λ r. ⌜ HandsBack entryLimit (now (plan .entry)) (now (ledger .entry)) track (ledger .entry .ptr) (r .ptr) (now r) (now (ledger .exit)) ⌝ }
+pub fn entries<'a>(terms: Terms, plan: &[u8], ledger: &'a [u16], track: u16) -> &'a [u16]
+    ensures { λ r. ⌜ HandsBack terms (now (plan .entry)) (now (ledger .entry)) track (ledger .entry .ptr) (r .ptr) (now r) (now (ledger .exit)) ⌝ }
 {
-    let part = part_of(plan, ledger, track);
+    let part = part_of(terms, plan, ledger, track);
     let from = part.from;
     let to = part.to;
     &ledger[from..to]

@@ -8,7 +8,7 @@ use lib.Dec.{ltb}
 use lib.ListN.{length}
 use borrow.Author.Tests.{ne-eqb, not-true, not-false, ltb-true}
 use Rattle.rules.specs.declared.Counts.{Counts}
-use Rattle.rules.specs.Layout.{entryLimit}
+use Rattle.rules.specs.declared.Terms.{Terms}
 use Rattle.rules.specs.Leading.{stamped}
 use Rattle.rules.specs.Plan.{Plan, planOf, trackCount, stateCount, noState, optional, isRoot, isStateOf, firstState}
 use Rattle.rules.specs.Ledger.{Ledger, sleeping, written}
@@ -45,8 +45,8 @@ module _ (bs : List ℕ) (c : Counts) (a : Accepts bs c) (t : ℕ) (b : t < c .t
       ∙ sym (roots-to p (plan-facts bs c a) t d (root-none p t (sym e ∙ not-false _ h)))
 
 -- a ledger keeps its room when it is stamped, and the plan's length is a word
-pub stamped-room : (bs ws : List ℕ) {vs : List ℕ} {tracks : ℕ} → Room ws tracks → vs ≡ stamped bs ws → Room vs tracks
-stamped-room bs ws r e = record { few = r .few; words = omega (arith, r .words, ap length e, length-stamped bs ws (leading-room r)) }
+pub stamped-room : (terms : Terms) (bs ws : List ℕ) {vs : List ℕ} {tracks : ℕ} → Room terms ws tracks → vs ≡ stamped bs ws → Room terms vs tracks
+stamped-room terms bs ws r e = record { few = r .few; words = omega (arith, r .words, ap length e, length-stamped bs ws (leading-room r)) }
 
 pub length-word : {bs : List ℕ} {c : Counts} → Accepts bs c → length bs < 65536
 length-word {bs} {c} a = omega (arith, length-most bs c (plan-facts bs c a .windows) (plan-facts bs c a .grants) (a .holds))
@@ -55,27 +55,27 @@ length-word {bs} {c} a = omega (arith, length-most bs c (plan-facts bs c a .wind
 abbrev asleep : Ledger
 asleep t = sleeping
 
-storable-asleep : (limit n : ℕ) → Storable limit n asleep
+storable-asleep : (terms : Terms) (n : ℕ) → Storable terms n asleep
 unfolding sleeping
-storable-asleep limit n = record { fits = λ t. omega arith; beyond = λ t b. refl; blank = λ t a. refl }
+storable-asleep terms n = record { fits = λ t. omega arith; beyond = λ t b. refl; blank = λ t a. refl }
 
-module _ (bs : List ℕ) (c : Counts) (a : Accepts bs c) (ws : List ℕ) (r : Room ws (c .tracks)) {vs : List ℕ}
-    (e : vs ≡ written entryLimit (c .tracks) (λ t. sleeping) ws) where
+module _ (terms : Terms) (bs : List ℕ) (c : Counts) (a : Accepts bs c) (ws : List ℕ) (r : Room terms ws (c .tracks)) {vs : List ℕ}
+    (e : vs ≡ written terms (c .tracks) (λ t. sleeping) ws) where
   pub begin-length : length vs ≡ length ws
-  begin-length = ap length e ∙ length-written entryLimit (c .tracks) asleep ws (storable-asleep entryLimit (c .tracks) .fits) (r .words)
+  begin-length = ap length e ∙ length-written terms (c .tracks) asleep ws (storable-asleep terms (c .tracks) .fits) (r .words)
 
-  pub begin-tidy : Tidy vs (c .tracks)
+  pub begin-tidy : Tidy terms vs (c .tracks)
   begin-tidy =
       record {
         room = record { few = r .few; words = omega (arith, begin-length, r .words) };
-        tidy = rw e (tidy-written entryLimit (c .tracks) asleep ws (storable-asleep entryLimit (c .tracks)) (r .words));
+        tidy = rw e (tidy-written terms (c .tracks) asleep ws (storable-asleep terms (c .tracks)) (r .words));
       }
 
-  all-asleep : ledgerOf c vs ≡ asleep
+  all-asleep : ledgerOf terms c vs ≡ asleep
   unfolding ledgerOf
-  all-asleep = rw e (read-written entryLimit (c .tracks) asleep ws (storable-asleep entryLimit (c .tracks) .fits) (r .words) (λ t b. refl))
+  all-asleep = rw e (read-written terms (c .tracks) asleep ws (storable-asleep terms (c .tracks) .fits) (r .words) (λ t b. refl))
 
-  pub begin-sleepers : (to : List ℕ) → Sleepers (planOf bs c) (statesOf to) (ledgerOf c vs)
+  pub begin-sleepers : (to : List ℕ) → Sleepers (planOf bs c) (statesOf to) (ledgerOf terms c vs)
   begin-sleepers to u w = ap (λ (l : Ledger). l u) all-asleep
 
   module _ (to : List ℕ) (m : Numbers to (c .tracks) (rootsFirst (planOf bs c))) where
@@ -84,15 +84,15 @@ module _ (bs : List ℕ) (c : Counts) (a : Accepts bs c) (ws : List ℕ) (r : Ro
     roots-enter t h = m .at t (omega (arith, track-count bs c))
 
     -- the pass after the sleep is begin
-    pub begin-done : {us : List ℕ} → us ≡ written entryLimit (c .tracks) (enter (planOf bs c) (statesOf to) (ledgerOf c vs)) vs
-        → us ≡ written entryLimit (c .tracks) (begun (planOf bs c)) ws
+    pub begin-done : {us : List ℕ} → us ≡ written terms (c .tracks) (enter (planOf bs c) (statesOf to) (ledgerOf terms c vs)) vs
+        → us ≡ written terms (c .tracks) (begun (planOf bs c)) ws
     unfolding begun enter
     begin-done d =
         let p = planOf bs c in
         d
-        ∙ ap (λ (v : List ℕ). written entryLimit (c .tracks) (enter p (statesOf to) (ledgerOf c vs)) v) e
-        ∙ written-twice entryLimit (c .tracks) asleep ws (storable-asleep entryLimit (c .tracks) .fits) (r .words) (enter p (statesOf to) (ledgerOf c vs))
-        ∙ written-same entryLimit (c .tracks) _ _ ws
+        ∙ ap (λ (v : List ℕ). written terms (c .tracks) (enter p (statesOf to) (ledgerOf terms c vs)) v) e
+        ∙ written-twice terms (c .tracks) asleep ws (storable-asleep terms (c .tracks) .fits) (r .words) (enter p (statesOf to) (ledgerOf terms c vs))
+        ∙ written-same terms (c .tracks) _ _ ws
         (λ t b.
         let h : t < trackCount p = omega (arith, track-count bs c) in
         (λ i. entered (all-asleep i t) (fresh p t) (roots-enter t h i) (wakes-same p (plan-facts bs c a) (statesOf to) (rootsFirst p) roots-enter t i)))

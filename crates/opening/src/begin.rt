@@ -5,9 +5,9 @@ use ledger::track;
 use plan::fields;
 use plan::fields::NO_STATE;
 use rules::Counts;
+use rules::Terms;
 ghost use mathlib.Core.Path.{_≡_};
 ghost use Prim.Native.Nat.{_<_};
-ghost use Rattle.rules.specs.Layout.{entryLimit};
 ghost use Rattle.rules.specs.Plan.{planOf, optional, firstState};
 ghost use Rattle.rules.specs.Leading.{stamped};
 ghost use Rattle.rules.specs.Ledger.{written};
@@ -43,13 +43,13 @@ fn root_words(plan: &[u8], c: Counts, firsts: &[u16; 32]) -> [u16; 32]
 
 // Overwrites the ledger, given the first state of each track: the plan's length and sum, every track asleep, then the roots enter their first
 // states.
-pub fn begin_all(plan: &[u8], c: Counts, ledger: &mut [u16], firsts: &[u16; 32])
-    requires { ⌜ Lent (now plan) c (now ledger) × Figures 0 (now firsts) (c .tracks) (firstState (planOf (now plan) c)) ⌝ }
+pub fn begin_all(terms: Terms, plan: &[u8], c: Counts, ledger: &mut [u16], firsts: &[u16; 32])
+    requires { ⌜ Lent terms (now plan) c (now ledger) × Figures 0 (now firsts) (c .tracks) (firstState (planOf (now plan) c)) ⌝ }
     ensures { λ _. ⌜ now (ledger .exit)
-        ≡ written entryLimit (c .tracks) (begun (planOf (now (plan .entry)) c)) (stamped (now (plan .entry)) (now (ledger .entry))) ⌝ }
+        ≡ written terms (c .tracks) (begun (planOf (now (plan .entry)) c)) (stamped (now (plan .entry)) (now (ledger .entry))) ⌝ }
 {
     leading::stamp(plan, &mut ledger[..]);
-    track::put_all_to_sleep(&mut ledger[..], c.tracks);
+    track::put_all_to_sleep(terms, &mut ledger[..], c.tracks);
     let to = root_words(plan, c, firsts);
-    entering::enter_all(plan, c, &mut ledger[..], *firsts, to);
+    entering::enter_all(terms, plan, c, &mut ledger[..], *firsts, to);
 }

@@ -3,6 +3,7 @@ use ledger::track;
 use lookup::reading;
 use rules::Counts;
 use rules::Mode;
+use rules::Terms;
 use rules::Track;
 ghost use mathlib.Core.Path.{_≡_};
 ghost use Prim.Native.Nat.{_<_};
@@ -10,15 +11,15 @@ ghost use Rattle.ledger.specs.Ladder.{Tidy, ledgerOf};
 ghost use Rattle.lookup.specs.OneTrack.{withConfiguration, withMode};
 
 // A track's mode and state; it holds what it held.
-pub fn put_mode(c: Counts, ledger: &mut [u16], t: usize, m: Mode, s: u16)
-    requires { ⌜ Tidy (now ledger) (c .tracks) × (t < c .tracks) ⌝ }
-    ensures { λ _. ⌜ now (ledger .exit) ≡ withConfiguration c (now (ledger .entry)) t (withMode m s (ledgerOf c (now (ledger .entry)) t)) ⌝ }
+pub fn put_mode(terms: Terms, c: Counts, ledger: &mut [u16], t: usize, m: Mode, s: u16)
+    requires { ⌜ Tidy terms (now ledger) (c .tracks) × (t < c .tracks) ⌝ }
+    ensures { λ _. ⌜ now (ledger .exit) ≡ withConfiguration terms c (now (ledger .entry)) t (withMode m s (ledgerOf terms c (now (ledger .entry)) t)) ⌝ }
 {
-    let k = reading::track(c, &ledger[..], t);
+    let k = reading::track(terms, c, &ledger[..], t);
     let next = Track {
         mode: m,
         state: s,
         count: k.count,
     };
-    track::put_track(&mut ledger[..], t, next);
+    track::put_track(terms, &mut ledger[..], t, next);
 }

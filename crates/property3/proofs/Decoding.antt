@@ -8,6 +8,7 @@ use native.Mathlib.Omega.{arith}
 use mir.Syntax.{w32}
 use mir.Val.{SFits}
 use Rattle.rules.specs.declared.Counts.{Counts}
+use Rattle.rules.specs.declared.Terms.{Terms}
 use Rattle.rules.specs.Plan.{Plan, planOf, trackCount}
 use Rattle.rules.specs.Leading.{lastDay}
 use Rattle.rules.specs.Ledger.{Ledger, ledgerAt, written}
@@ -61,21 +62,21 @@ unfolding refusedOr
 or-not-0 ws o fs d zero e = let z : _≡_ {A = ℕ} 0 1 = cc in absurd (omega arith)
 or-not-0 ws o fs d (suc n) e = let z : suc n ≡ 0 = cc in absurd (omega arith)
 
-module _ (limit : ℕ) (bs : List ℕ) (k : Counts) (read : readPlan bs ≡ accepted k) where
-  not-0 : (ws : List ℕ) (c : Call) → callOutcome limit bs ws c .answer ≡ refusal 0 → ⊥
+module _ (terms : Terms) (bs : List ℕ) (k : Counts) (read : readPlan bs ≡ accepted k) where
+  not-0 : (ws : List ℕ) (c : Call) → callOutcome terms bs ws c .answer ≡ refusal 0 → ⊥
   unfolding callOutcome underPlan
   not-0 ws c =
       let p : Plan = planOf bs k in
-      let l : Ledger = ledgerAt limit ws (trackCount p) in
+      let l : Ledger = ledgerAt terms ws (trackCount p) in
       rw (read, callOutcome, underPlan)
-      (or-not-0 ws (record { answer = done (figures p l c); words = written limit (trackCount p) (after p l c) (datedBy c ws) })
-      (figures p l c) refl (firstRefusal (ledgerRefusals limit bs p ws ++ callRefusals limit p (lastDay ws) l c)))
+      (or-not-0 ws (record { answer = done (figures p l c); words = written terms (trackCount p) (after p l c) (datedBy c ws) })
+      (figures p l c) refl (firstRefusal (ledgerRefusals terms bs p ws ++ callRefusals terms p (lastDay ws) l c)))
 
   pub answers-back : (cs : List Call) (ws rest : List ℕ)
-      → decodedAnswers cs (encodedAnswers (answersFrom limit bs ws cs) ++ rest) ≡ answersFrom limit bs ws cs
+      → decodedAnswers cs (encodedAnswers (answersFrom terms bs ws cs) ++ rest) ≡ answersFrom terms bs ws cs
   unfolding answersFrom encodedAnswers decodedAnswers
   answers-back [] ws rest = refl
   answers-back (c ∷ cs) ws rest =
-      let o = callOutcome limit bs ws c in
-      one-back c (o .answer) (shaped limit bs ws c) (not-0 ws c) cs (encodedAnswers (answersFrom limit bs (o .words) cs)) rest
+      let o = callOutcome terms bs ws c in
+      one-back c (o .answer) (shaped terms bs ws c) (not-0 ws c) cs (encodedAnswers (answersFrom terms bs (o .words) cs)) rest
       ∙ ap (λ rs. o .answer ∷ rs) (answers-back cs (o .words) rest)

@@ -6,10 +6,10 @@ use native.Mathlib.Omega.{arith}
 use lib.ListN.{length, take, drop, getD, length-drop, length-append, take-append-drop}
 use lib.Seq.{drop-cons, drop-drop, take-at, drop-at, length-take-le}
 use Rattle.rules.specs.Signed.{joined}
-use Rattle.rules.specs.Layout.{entryLimit}
 use Rattle.rules.specs.Call.{Call, callOutcome}
 use Rattle.rules.specs.ReferenceRun.{wordsFrom, answersFrom}
 use Rattle.property3.specs.declared.EncodedAnswer.{EncodedAnswer}
+use Rattle.rules.specs.declared.Terms.{Terms}
 use Rattle.property3.specs.Encoding.{decodedCall, decodedCalls, encodedAnswers, answerRoom, encodedWords, CallMade}
 use Rattle.property3.specs.CallsRun.{CallsMade}
 
@@ -46,12 +46,12 @@ calls-at ws i h =
     ∙ ap (λ (l : List ℕ). getD ws (5 * i + 3) 0 ∷ l)
     (word (5 * i + 4) (5 * (i + 1)) (omega arith) (omega arith))))))
 
-module _ (bs : List ℕ) where
+module _ (terms : Terms) (bs : List ℕ) where
   abbrev words : List ℕ → List Call → List ℕ
-  words = wordsFrom entryLimit bs
+  words = wordsFrom terms bs
 
   abbrev answers : List ℕ → List Call → List ℕ
-  answers ws cs = encodedAnswers (answersFrom entryLimit bs ws cs)
+  answers ws cs = encodedAnswers (answersFrom terms bs ws cs)
 
   -- before call number i: from the words ws and the answers out, the calls before it led to ws₁ and out₁
   pub record Underway (ws calls out ws₁ out₁ : List ℕ) (i : ℕ) : Type 0 where
@@ -66,7 +66,7 @@ module _ (bs : List ℕ) where
   pub underway-next : (ws calls out ws₁ out₁ : List ℕ) (i : ℕ) → i < length calls / 5 → answerRoom calls ≤ length out₁
       → Underway ws calls out ws₁ out₁ i
       → (told : EncodedAnswer) (ws₂ out₂ : List ℕ)
-      → CallMade (callOutcome entryLimit bs ws₁ (callAt calls (5 * i))) told ws₂
+      → CallMade (callOutcome terms bs ws₁ (callAt calls (5 * i))) told ws₂
       → out₂ ≡ take (3 * i) out₁ ++ (encodedWords told ++ drop (3 * i + 3) out₁)
       → Underway ws calls out ws₂ out₂ (i + 1)
   unfolding answerRoom wordsFrom answersFrom encodedAnswers encodedWords
@@ -86,8 +86,8 @@ module _ (bs : List ℕ) where
       record {
         left = ap (λ (v : List ℕ). words v rest) (m .left) ∙ sym (ap (words ws₁) q) ∙ u .left;
         written = ap₂ (λ (x y : List ℕ). x ++ answers y rest) t3 (m .left)
-            ∙ append-assoc before (encodedWords told) (answers (callOutcome entryLimit bs ws₁ d .words) rest)
-            ∙ ap (λ (x : List ℕ). before ++ (x ++ answers (callOutcome entryLimit bs ws₁ d .words) rest)) (m .answered)
+            ∙ append-assoc before (encodedWords told) (answers (callOutcome terms bs ws₁ d .words) rest)
+            ∙ ap (λ (x : List ℕ). before ++ (x ++ answers (callOutcome terms bs ws₁ d .words) rest)) (m .answered)
             ∙ sym (ap (λ (cs : List Call). before ++ answers ws₁ cs) q)
             ∙ u .written;
         beyond = d3 ∙ sym (drop-drop 3 (3 * i) out₁) ∙ ap (drop 3) (u .beyond) ∙ drop-drop 3 (3 * i) out ∙ ap (λ (k : ℕ). drop k out) (sym s);
@@ -95,7 +95,7 @@ module _ (bs : List ℕ) where
       }
 
   pub underway-done : (ws calls out ws₁ out₁ : List ℕ) (i : ℕ) → length calls / 5 ≤ i
-      → Underway ws calls out ws₁ out₁ i → CallsMade bs ws calls out ws₁ out₁
+      → Underway ws calls out ws₁ out₁ i → CallsMade terms bs ws calls out ws₁ out₁
   unfolding answerRoom wordsFrom answersFrom encodedAnswers
   underway-done ws calls out ws₁ out₁ i h u =
       let q : decodedCalls (drop (5 * i) calls) ≡ [] = calls-end calls i h in

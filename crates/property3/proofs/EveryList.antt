@@ -8,6 +8,7 @@ use Rattle.rules.specs.declared.FireAnswer.{FireAnswer}
 use Rattle.rules.specs.declared.EventAnswer.the-variants as event-answer
 use Rattle.rules.specs.declared.SignalAnswer.the-variants as signal-answer
 use Rattle.rules.specs.declared.FireAnswer.the-variants as fire-answer
+use Rattle.rules.specs.declared.Terms.{Terms}
 use Rattle.rules.specs.Event.{EventArguments}
 use Rattle.rules.specs.Call.{Answer, SignalArguments, FireArguments, Call, event, signal, fire, callOutcome, eventOutcome, signalOutcome, fireOutcome}
 use Rattle.rules.specs.Answers.{eventTold, signalTold, fireTold}
@@ -31,18 +32,18 @@ fire-tells a (refused n) = (fire-answer.Refused n, refl)
 fire-tells a (figured x y) = (fire-answer.Fired x y, refl)
 
 -- "for every list of events, signals and firings": `property3` is about each of them, not about those alone that happen to have a history
-pub every-list : (limit : ℕ) (bs : List ℕ) (cs : List Call) (ws : List ℕ) → (rs : List Answer) × (end : List ℕ) × History limit bs ws cs rs end
+pub every-list : (terms : Terms) (bs : List ℕ) (cs : List Call) (ws : List ℕ) → (rs : List Answer) × (end : List ℕ) × History terms bs ws cs rs end
 unfolding eventOutcome signalOutcome fireOutcome
-every-list limit bs [] ws = ([], ws, none)
-every-list limit bs (event a ∷ cs) ws =
-    let (r, e) = event-tells a (shaped limit bs ws (event a)) in
-    let (rs, end, h) = every-list limit bs cs (callOutcome limit bs ws (event a) .words) in
+every-list terms bs [] ws = ([], ws, none)
+every-list terms bs (event a ∷ cs) ws =
+    let (r, e) = event-tells a (shaped terms bs ws (event a)) in
+    let (rs, end, h) = every-list terms bs cs (callOutcome terms bs ws (event a) .words) in
     (eventTold r ∷ rs, end, event-made a r (record { answered = e; left = refl }) h)
-every-list limit bs (signal a ∷ cs) ws =
-    let (r, e) = signal-tells a (shaped limit bs ws (signal a)) in
-    let (rs, end, h) = every-list limit bs cs (callOutcome limit bs ws (signal a) .words) in
+every-list terms bs (signal a ∷ cs) ws =
+    let (r, e) = signal-tells a (shaped terms bs ws (signal a)) in
+    let (rs, end, h) = every-list terms bs cs (callOutcome terms bs ws (signal a) .words) in
     (signalTold r ∷ rs, end, signal-made a r (record { answered = e; left = refl }) h)
-every-list limit bs (fire a ∷ cs) ws =
-    let (r, e) = fire-tells a (shaped limit bs ws (fire a)) in
-    let (rs, end, h) = every-list limit bs cs (callOutcome limit bs ws (fire a) .words) in
+every-list terms bs (fire a ∷ cs) ws =
+    let (r, e) = fire-tells a (shaped terms bs ws (fire a)) in
+    let (rs, end, h) = every-list terms bs cs (callOutcome terms bs ws (fire a) .words) in
     (fireTold r ∷ rs, end, fire-made a r (record { answered = e; left = refl }) h)

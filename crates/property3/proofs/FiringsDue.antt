@@ -16,11 +16,11 @@ use Rattle.rules.specs.declared.Counts.{Counts}
 use Rattle.rules.specs.declared.BeginAnswer.the-variants.{Begun}
 use Rattle.rules.specs.declared.SignalAnswer.the-variants.{Turned}
 use Rattle.rules.specs.declared.ReadyAnswer.the-variants.{Ready}
+use Rattle.rules.specs.declared.Terms.{Terms}
 use Rattle.rules.specs.Plan.{Plan, trackCount, planOf}
 use Rattle.rules.specs.Acceptance.{accepted, readPlan}
 use Rattle.rules.specs.Fold.{sumBelow}
 use Rattle.rules.specs.Rights.{fireRight, isPermitted}
-use Rattle.rules.specs.Layout.{entryLimit}
 use Rattle.rules.specs.Ledger.{Ledger, ledgerAt}
 use Rattle.rules.specs.Call.{Answer, done, SignalArguments, Call, readyOutcome, entriesPart}
 use Rattle.rules.specs.Answers.{signalTold, readyTold}
@@ -49,74 +49,76 @@ use Rattle.property3.proofs.Calls.{Calls, calls-follow}
 use Rattle.property3.proofs.WrongPlan.{begun, words}
 
 -- ready was called on these words and answered so, by its own promise
-pub record ReadyIs (bs ws : List ℕ) (bits : ℕ) : Type 0 where
+pub record ReadyIs (terms : Terms) (bs ws : List ℕ) (bits : ℕ) : Type 0 where
   pub κs : Lfts 2
   pub a : ArgsD ready.signature κs
   pub r : ResD ready.signature κs
   pub s : AtExit (endedOf 2 ready-kinds.ps ready-kinds.r) κs
   pub promise : ready-reads.Post κs a r s
-  pub plan : now (a .0) ≡ bs
-  pub ledger : now (a .1 .0) ≡ ws
+  pub one-limit : a .0 ≡ terms
+  pub plan : now (a .1 .0) ≡ bs
+  pub ledger : now (a .1 .1 .0) ≡ ws
   pub answer : r ≡ Ready bits
 
-ready-is : (bs ws : List ℕ) (bits : ℕ) → ReadyIs bs ws bits → readyOutcome entryLimit bs ws .answer ≡ done (bits ∷ [])
+ready-is : (terms : Terms) (bs ws : List ℕ) (bits : ℕ) → ReadyIs terms bs ws bits → readyOutcome terms bs ws .answer ≡ done (bits ∷ [])
 unfolding readyTold
-ready-is bs ws bits z =
-    sym (z .promise .answered ∙ ap₂ (λ u v. readyOutcome entryLimit u v .answer) (z .plan) (z .ledger)) ∙ ap readyTold (z .answer)
+ready-is terms bs ws bits z =
+    sym (z .promise .answered ∙ ap₂ (λ u v. readyOutcome (z .a .0) u v .answer) (z .plan) (z .ledger) ∙ ap (λ (i : Terms). readyOutcome i bs ws .answer) (z .one-limit)) ∙ ap readyTold (z .answer)
 
 -- entries was called for this track of the words and handed back this part, by its own promise
-pub record PartIs (bs ws : List ℕ) (t : ℕ) (part : List ℕ) : Type 0 where
+pub record PartIs (terms : Terms) (bs ws : List ℕ) (t : ℕ) (part : List ℕ) : Type 0 where
   pub κs : Lfts 2
   pub a : ArgsD entries.signature κs
   pub r : ResD entries.signature κs
   pub s : AtExit (endedOf 2 entries-kinds.ps entries-kinds.r) κs
   pub promise : entries-reads.Post κs a r s
-  pub plan : now (a .0) ≡ bs
-  pub ledger : now (a .1 .0) ≡ ws
-  pub track : a .1 .1 .0 ≡ t
+  pub one-limit : a .0 ≡ terms
+  pub plan : now (a .1 .0) ≡ bs
+  pub ledger : now (a .1 .1 .0) ≡ ws
+  pub track : a .1 .1 .1 .0 ≡ t
   pub handed : now r ≡ part
 
-part-is : (bs ws : List ℕ) (t : ℕ) (part : List ℕ) → PartIs bs ws t part → part ≡ entriesPart entryLimit bs ws t
-part-is bs ws t part e =
-    sym (e .handed) ∙ e .promise .held-as ∙ ap₂ (λ u v. entriesPart entryLimit u v (e .a .1 .1 .0)) (e .plan) (e .ledger)
-    ∙ ap (entriesPart entryLimit bs ws) (e .track)
+part-is : (terms : Terms) (bs ws : List ℕ) (t : ℕ) (part : List ℕ) → PartIs terms bs ws t part → part ≡ entriesPart terms bs ws t
+part-is terms bs ws t part e =
+    sym (e .handed) ∙ e .promise .held-as ∙ ap₂ (λ u v. entriesPart (e .a .0) u v (e .a .1 .1 .1 .0)) (e .plan) (e .ledger)
+    ∙ ap (λ (i : Terms). entriesPart i bs ws (e .a .1 .1 .1 .0)) (e .one-limit) ∙ ap (entriesPart terms bs ws) (e .track)
 
-module _ (bs : List ℕ) (k : Counts) (read : readPlan bs ≡ accepted k) where
+module _ (terms : Terms) (bs : List ℕ) (k : Counts) (read : readPlan bs ≡ accepted k) where
   abbrev p : Plan
   p = planOf bs k
 
   abbrev ledger : List ℕ → Ledger
-  ledger ws = ledgerAt entryLimit ws (trackCount p)
+  ledger ws = ledgerAt terms ws (trackCount p)
 
   abbrev held : List ℕ → ℕ
-  held ws = heldBy entryLimit p ws
+  held ws = heldBy terms p ws
 
   -- any calls, whoever made them, refused ones too
-  module _ {ws end : List ℕ} {cs : List Call} {rs : List Answer} (calls : Calls bs ws cs rs end)
+  module _ {ws end : List ℕ} {cs : List Call} {rs : List Answer} (calls : Calls terms bs ws cs rs end)
       (f : noneForward p (ledger ws) ≡ true) (n : holdsNoDeviation p (ledger ws) ≡ true) where
-    pub counted-of-calls : Counted entryLimit bs p ws cs rs end
+    pub counted-of-calls : Counted terms bs p ws cs rs end
     counted-of-calls =
-        let (e, q) = calls-follow bs calls in rw (e, q) (counted entryLimit bs k read ws f n cs)
+        let (e, q) = calls-follow terms bs calls in rw (e, q) (counted terms bs k read ws f n cs)
 
     -- "any allowed firing order that goes on until ready is 0 has exactly as many firings as there were entries held"
-    pub exactly-of-calls : isFiringOrder cs rs ≡ true → ReadyIs bs end 0 → length cs ≡ held ws
-    exactly-of-calls o z = counted-of-calls .exactly o (ready-is bs end 0 z)
+    pub exactly-of-calls : isFiringOrder cs rs ≡ true → ReadyIs terms bs end 0 → length cs ≡ held ws
+    exactly-of-calls o z = counted-of-calls .exactly o (ready-is terms bs end 0 z)
 
   -- The entries held can be counted by entries: what it hands back of all tracks has two words for each, on words that ready does not refuse
-  pub held-of-entries : (ws : List ℕ) (bits : ℕ) → ReadyIs bs ws bits → (parts : ℕ → List ℕ) → ((t : ℕ) → t < trackCount p → PartIs bs ws t (parts t))
+  pub held-of-entries : (ws : List ℕ) (bits : ℕ) → ReadyIs terms bs ws bits → (parts : ℕ → List ℕ) → ((t : ℕ) → t < trackCount p → PartIs terms bs ws t (parts t))
       → sumBelow (trackCount p) (λ t. length (parts t)) ≡ 2 * held ws
   unfolding heldBy heldTotal
   held-of-entries ws bits z parts told =
-      let h = ready-passes entryLimit bs k read ws (bits ∷ []) (ready-is bs ws bits z) in
+      let h = ready-passes terms bs k read ws (bits ∷ []) (ready-is terms bs ws bits z) in
       sum-same (trackCount p) (λ t. length (parts t)) (λ t. 2 * length (ledger ws t .held))
-      (λ t b. ap length (part-is bs ws t (parts t) (told t b)) ∙ part-length entryLimit bs k read ws h t b)
+      (λ t b. ap length (part-is terms bs ws t (parts t) (told t b)) ∙ part-length terms bs k read ws h t b)
       ∙ sum-twice (trackCount p) (λ t. length (ledger ws t .held))
 
   -- rights aside: every order on words that ready does not refuse
-  pub fires-exactly-of-ready : (ws : List ℕ) (bits : ℕ) → ReadyIs bs ws bits → noneForward p (ledger ws) ≡ true → holdsNoDeviation p (ledger ws) ≡ true
+  pub fires-exactly-of-ready : (ws : List ℕ) (bits : ℕ) → ReadyIs terms bs ws bits → noneForward p (ledger ws) ≡ true → holdsNoDeviation p (ledger ws) ≡ true
       → FiresExactly p (ledger ws)
   fires-exactly-of-ready ws bits z =
-      fires-exactly-of-words entryLimit bs k read ws (ready-passes entryLimit bs k read ws (bits ∷ []) (ready-is bs ws bits z))
+      fires-exactly-of-words terms bs k read ws (ready-passes terms bs k read ws (bits ∷ []) (ready-is terms bs ws bits z))
 
   -- for each track a society that may fire it
   abbrev pub MayFire : (ℕ → ℕ) → Type 0
@@ -126,68 +128,68 @@ module _ (bs : List ℕ) (k : Counts) (read : readPlan bs ≡ accepted k) where
   abbrev pub OrderFrom : List ℕ → (ℕ → ℕ) → Type 0
   OrderFrom ws firer =
       (ts : List ℕ) × (length ts ≡ held ws)
-      × ((rs : List Answer) (end : List ℕ) → Calls bs ws (firingCalls firer ts) rs end
-      → (isFiringOrder (firingCalls firer ts) rs ≡ true) × NoneReady entryLimit bs end)
+      × ((rs : List Answer) (end : List ℕ) → Calls terms bs ws (firingCalls firer ts) rs end
+      → (isFiringOrder (firingCalls firer ts) rs ≡ true) × NoneReady terms bs end)
 
-  order-from : (ws : List ℕ) → Passes entryLimit bs p ws → noneForward p (ledger ws) ≡ true → holdsNoDeviation p (ledger ws) ≡ true
+  order-from : (ws : List ℕ) → Passes terms bs p ws → noneForward p (ledger ws) ≡ true → holdsNoDeviation p (ledger ws) ≡ true
       → (firer : ℕ → ℕ) → MayFire firer → OrderFrom ws firer
   order-from ws h f n firer able =
-      let (ts, o, z) = order-there entryLimit bs k read firer able ws h f n in
+      let (ts, o, z) = order-there terms bs k read firer able ws h f n in
       let fs = firingCalls firer ts in (
         ts,
-        sym (calls-length firer ts) ∙ counted entryLimit bs k read ws f n fs .exactly o z,
+        sym (calls-length firer ts) ∙ counted terms bs k read ws f n fs .exactly o z,
         λ rs end made.
-            let (e, q) = calls-follow bs made in
-            (ap (isFiringOrder fs) q ∙ o, ap (λ v. readyOutcome entryLimit bs v .answer) e ∙ z),
+            let (e, q) = calls-follow terms bs made in
+            (ap (isFiringOrder fs) q ∙ o, ap (λ v. readyOutcome terms bs v .answer) e ∙ z),
       )
 
   -- on any words that ready does not refuse
-  pub order-of-calls : (ws : List ℕ) (bits : ℕ) → ReadyIs bs ws bits → noneForward p (ledger ws) ≡ true → holdsNoDeviation p (ledger ws) ≡ true
+  pub order-of-calls : (ws : List ℕ) (bits : ℕ) → ReadyIs terms bs ws bits → noneForward p (ledger ws) ≡ true → holdsNoDeviation p (ledger ws) ≡ true
       → (firer : ℕ → ℕ) → MayFire firer → OrderFrom ws firer
-  order-of-calls ws bits z = order-from ws (ready-passes entryLimit bs k read ws (bits ∷ []) (ready-is bs ws bits z))
+  order-of-calls ws bits z = order-from ws (ready-passes terms bs k read ws (bits ∷ []) (ready-is terms bs ws bits z))
 
 -- "After a signal that turns every forward track", whose society is who it may be
 module _ (κs : Lfts 2) (a : ArgsD signal.signature κs) (r : ResD signal.signature κs) (s : AtExit (endedOf 2 signal-kinds.ps signal-kinds.r) κs)
-    (post : signal-reads.Post κs a r s) (n : ℕ) (done-signal : r ≡ Turned n) (k : Counts) (read : readPlan (now (a .0)) ≡ accepted k)
-    (all : turnsEvery (planOf (now (a .0)) k) (a .1 .1 .0) (ledgerAt entryLimit (now (a .1 .0)) (trackCount (planOf (now (a .0)) k))) ≡ true)
-    (plain : holdsNoDeviation (planOf (now (a .0)) k) (ledgerAt entryLimit (now (a .1 .0)) (trackCount (planOf (now (a .0)) k))) ≡ true) where
+    (post : signal-reads.Post κs a r s) (n : ℕ) (done-signal : r ≡ Turned n) (k : Counts) (read : readPlan (now (a .1 .0)) ≡ accepted k)
+    (all : turnsEvery (planOf (now (a .1 .0)) k) (a .1 .1 .1 .0) (ledgerAt (a .0) (now (a .1 .1 .0)) (trackCount (planOf (now (a .1 .0)) k))) ≡ true)
+    (plain : holdsNoDeviation (planOf (now (a .1 .0)) k) (ledgerAt (a .0) (now (a .1 .1 .0)) (trackCount (planOf (now (a .1 .0)) k))) ≡ true) where
   abbrev bs : List ℕ
-  bs = now (a .0)
+  bs = now (a .1 .0)
 
   abbrev before : List ℕ
-  before = now (a .1 .0)
+  before = now (a .1 .1 .0)
 
   abbrev after : List ℕ
-  after = now (s .1 .0)
+  after = now (s .1 .1 .0)
 
   -- no track is forward, no entry carries a deviation, all are held that were, and the ledger is not over
-  pub signalled-of-call : Signalled entryLimit bs k read before after
+  pub signalled-of-call : Signalled (a .0) bs k read before after
   unfolding signalTold
   signalled-of-call =
       let m = signal-meets κs a r s post in
-      let x : SignalArguments = record { society = a .1 .1 .0 } in
-      subst (Signalled entryLimit bs k read before) (sym (m .left))
-      (signalled entryLimit bs k read before x (n ∷ []) (sym (m .answered) ∙ ap signalTold done-signal) all plain)
+      let x : SignalArguments = record { society = a .1 .1 .1 .0 } in
+      subst (Signalled (a .0) bs k read before) (sym (m .left))
+      (signalled (a .0) bs k read before x (n ∷ []) (sym (m .answered) ∙ ap signalTold done-signal) all plain)
 
-  module _ {end : List ℕ} {cs : List Call} {rs : List Answer} (calls : Calls bs after cs rs end) where
-    counted-after : Counted entryLimit bs (planOf bs k) after cs rs end
-    counted-after = counted-of-calls bs k read calls (signalled-of-call .unforward) (signalled-of-call .plain)
+  module _ {end : List ℕ} {cs : List Call} {rs : List Answer} (calls : Calls (a .0) bs after cs rs end) where
+    counted-after : Counted (a .0) bs (planOf bs k) after cs rs end
+    counted-after = counted-of-calls (a .0) bs k read calls (signalled-of-call .unforward) (signalled-of-call .plain)
 
-    pub still-due-after-signal : firingsIn cs rs + heldBy entryLimit (planOf bs k) end ≡ heldBy entryLimit (planOf bs k) before
+    pub still-due-after-signal : firingsIn cs rs + heldBy (a .0) (planOf bs k) end ≡ heldBy (a .0) (planOf bs k) before
     still-due-after-signal = counted-after .still-due ∙ signalled-of-call .held
 
-    pub exactly-after-signal : isFiringOrder cs rs ≡ true → ReadyIs bs end 0 → length cs ≡ heldBy entryLimit (planOf bs k) before
-    exactly-after-signal o z = counted-after .exactly o (ready-is bs end 0 z) ∙ signalled-of-call .held
+    pub exactly-after-signal : isFiringOrder cs rs ≡ true → ReadyIs (a .0) bs end 0 → length cs ≡ heldBy (a .0) (planOf bs k) before
+    exactly-after-signal o z = counted-after .exactly o (ready-is (a .0) bs end 0 z) ∙ signalled-of-call .held
 
 -- There is such a list, after a begin that answered `Begun` and any calls
 module _ (κs : Lfts 2) (a : ArgsD begin.signature κs) (r : ResD begin.signature κs) (s : AtExit (endedOf 2 begin-kinds.ps begin-kinds.r) κs)
     (post : begin-reads.Post κs a r s) (done-begin : r ≡ Begun) {cs : List Call} {rs : List Answer} {ws : List ℕ}
-    (calls : Calls (now (a .0)) (now (s .1 .0)) cs rs ws) (k : Counts) (read : readPlan (now (a .0)) ≡ accepted k) where
-  pub order-after-begin : noneForward (planOf (now (a .0)) k) (ledgerAt entryLimit ws (trackCount (planOf (now (a .0)) k))) ≡ true
-      → holdsNoDeviation (planOf (now (a .0)) k) (ledgerAt entryLimit ws (trackCount (planOf (now (a .0)) k))) ≡ true
-      → (firer : ℕ → ℕ) → MayFire (now (a .0)) k read firer → OrderFrom (now (a .0)) k read ws firer
+    (calls : Calls (a .0) (now (a .1 .0)) (now (s .1 .1 .0)) cs rs ws) (k : Counts) (read : readPlan (now (a .1 .0)) ≡ accepted k) where
+  pub order-after-begin : noneForward (planOf (now (a .1 .0)) k) (ledgerAt (a .0) ws (trackCount (planOf (now (a .1 .0)) k))) ≡ true
+      → holdsNoDeviation (planOf (now (a .1 .0)) k) (ledgerAt (a .0) ws (trackCount (planOf (now (a .1 .0)) k))) ≡ true
+      → (firer : ℕ → ℕ) → MayFire (a .0) (now (a .1 .0)) k read firer → OrderFrom (a .0) (now (a .1 .0)) k read ws firer
   order-after-begin =
-      order-from (now (a .0)) k read ws
-      (subst (Passes entryLimit (now (a .0)) (planOf (now (a .0)) k)) (sym (words κs a r s post done-begin calls))
-      (holds-passes entryLimit (now (a .0)) k read _ _ _
-      (history-holds entryLimit (now (a .0)) k read (now (a .1 .0)) cs (begun κs a r s post done-begin calls))))
+      order-from (a .0) (now (a .1 .0)) k read ws
+      (subst (Passes (a .0) (now (a .1 .0)) (planOf (now (a .1 .0)) k)) (sym (words κs a r s post done-begin calls))
+      (holds-passes (a .0) (now (a .1 .0)) k read _ _ _
+      (history-holds (a .0) (now (a .1 .0)) k read (now (a .1 .1 .0)) cs (begun κs a r s post done-begin calls))))

@@ -13,13 +13,14 @@ use Rattle.rules.specs.ReferenceRun.{bookedCall, booked, booksFrom, booksAfter,
 use Rattle.rules.specs.History.{Property3}
 use Rattle.property3.specs.FreeBooks.{FreeState, freeBooks}
 use Rattle.property3.specs.SmallProperty3.{FreeRestored, SmallProperty3}
+use Rattle.rules.specs.declared.Terms.{Terms}
 
-module _ (p : Plan) (limit : ℕ) where
+module _ (p : Plan) (terms : Terms) where
   abbrev Free : Type 0
-  Free = FreeState p limit
+  Free = FreeState p terms
 
   -- the books k, from their state b₀ at the begin
-  module _ (k : Books p limit) (b₀ : k .State) where
+  module _ (k : Books p terms) (b₀ : k .State) where
     into : Free → k .State
     unfolding act does
     into FreeState.at-begin = b₀
@@ -37,58 +38,58 @@ module _ (p : Plan) (limit : ℕ) where
     into (FreeState.undo-run s t e w f b i) = k .undo-run s t e w f (into b) i
     into (FreeState.commute t u a d e b i) = k .commute t u a d e (into b) i
 
-    into-act : (w : List ℕ) (b : Free) → into (act (freeBooks p limit .changed) w b) ≡ act (k .changed) w (into b)
+    into-act : (w : List ℕ) (b : Free) → into (act (freeBooks p terms .changed) w b) ≡ act (k .changed) w (into b)
     unfolding into act
     into-act [] b = refl
     into-act (x ∷ w) b = into-act w (FreeState.changed x b)
 
     -- the clerk's books along a list of calls
     module _ (bs : List ℕ) where
-      into-call : (l : Ledger) (c : Call) (b : Free) → into (bookedCall limit bs p (freeBooks p limit) l c b) ≡ bookedCall limit bs p k l c (into b)
+      into-call : (l : Ledger) (c : Call) (b : Free) → into (bookedCall terms bs p (freeBooks p terms) l c b) ≡ bookedCall terms bs p k l c (into b)
       unfolding bookedCall into
       into-call l (event a) b = into-act (movesOf p (λ t. true) l a) b
       into-call l (signal a) b = refl
       into-call l (fire a) b = refl
 
       into-booked : (l : Ledger) (c : Call) (r : Answer) (b : Free)
-          → into (booked limit bs p (freeBooks p limit) l c r b) ≡ booked limit bs p k l c r (into b)
+          → into (booked terms bs p (freeBooks p terms) l c r b) ≡ booked terms bs p k l c r (into b)
       unfolding booked
       into-booked l c (refusal n) b = refl
       into-booked l c (done figures) b = into-call l c b
 
       into-books : (cs : List Call) (ws : List ℕ) (b : Free)
-          → into (booksFrom limit bs p (freeBooks p limit) ws cs b) ≡ booksFrom limit bs p k ws cs (into b)
+          → into (booksFrom terms bs p (freeBooks p terms) ws cs b) ≡ booksFrom terms bs p k ws cs (into b)
       unfolding booksFrom
       into-books [] ws b = refl
       into-books (c ∷ cs) ws b =
-          let l = ledgerAt limit ws (trackCount p) in
-          let o = callOutcome limit bs ws c in
-          into-books cs (o .words) (booked limit bs p (freeBooks p limit) l c (o .answer) b)
-          ∙ ap (booksFrom limit bs p k (o .words) cs) (into-booked l c (o .answer) b)
+          let l = ledgerAt terms ws (trackCount p) in
+          let o = callOutcome terms bs ws c in
+          into-books cs (o .words) (booked terms bs p (freeBooks p terms) l c (o .answer) b)
+          ∙ ap (booksFrom terms bs p k (o .words) cs) (into-booked l c (o .answer) b)
 
-  from-free : (bs lent : List ℕ) (cs : List Call) → FreeRestored limit bs p lent cs
-      → (k : Books p limit) (b : k .State) → AllWithdrawn p (ledgerAfter limit bs p lent cs) → booksAfter limit bs p k lent cs b ≡ b
+  from-free : (bs lent : List ℕ) (cs : List Call) → FreeRestored terms bs p lent cs
+      → (k : Books p terms) (b : k .State) → AllWithdrawn p (ledgerAfter terms bs p lent cs) → booksAfter terms bs p k lent cs b ≡ b
   unfolding booksAfter into
   from-free bs lent cs h k b w =
-      sym (into-books k b bs cs (beginOutcome limit bs lent .words) FreeState.at-begin) ∙ ap (into k b) (h w)
+      sym (into-books k b bs cs (beginOutcome terms bs lent .words) FreeState.at-begin) ∙ ap (into k b) (h w)
 
-module _ (limit : ℕ) (bs : List ℕ) (p : Plan) (lent : List ℕ) (cs : List Call) (rs : List Answer) (end : List ℕ) where
+module _ (terms : Terms) (bs : List ℕ) (p : Plan) (lent : List ℕ) (cs : List Call) (rs : List Answer) (end : List ℕ) where
   -- the claim at all books, from the form that a contract carries
-  pub from-small : SmallProperty3 limit bs p lent cs rs end → Property3 limit bs p lent cs rs end
+  pub from-small : SmallProperty3 terms bs p lent cs rs end → Property3 terms bs p lent cs rs end
   from-small s =
       record {
         word-for-word = s .word-for-word;
         answered = s .answered;
-        restored = λ k b w. from-free p limit bs lent cs (s .restored) k b w;
+        restored = λ k b w. from-free p terms bs lent cs (s .restored) k b w;
         progress = s .progress;
       }
 
   -- and back
-  pub to-small : Property3 limit bs p lent cs rs end → SmallProperty3 limit bs p lent cs rs end
+  pub to-small : Property3 terms bs p lent cs rs end → SmallProperty3 terms bs p lent cs rs end
   to-small s =
       record {
         word-for-word = s .word-for-word;
         answered = s .answered;
-        restored = λ w. s .restored (freeBooks p limit) FreeState.at-begin w;
+        restored = λ w. s .restored (freeBooks p terms) FreeState.at-begin w;
         progress = s .progress;
       }

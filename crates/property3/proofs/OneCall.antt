@@ -12,6 +12,7 @@ use mir.ValLaws.{toZ-ofZ}
 use Rattle.rules.specs.Names.{Day}
 use Rattle.rules.specs.Call.{Answer, Outcome, callOutcome, eventOutcome, signalOutcome, fireOutcome, Meets}
 use Rattle.property3.specs.declared.EncodedAnswer.{EncodedAnswer}
+use Rattle.rules.specs.declared.Terms.{Terms}
 use Rattle.rules.specs.Journal.{eventKind, signalKind}
 use Rattle.property3.specs.Encoding.{decodedCall, encodedAnswer, encodedWords, CallMade}
 
@@ -19,29 +20,29 @@ pub encoded : (o : Outcome) (told : Answer) (t : EncodedAnswer) (ws : List ℕ) 
 encoded o told t ws m e = record { answered = e ∙ ap encodedAnswer (m .answered); left = m .left }
 
 -- a day is read back from its bits: of an event, and of a call whose day was read off words
-module _ (limit : ℕ) (bs ws : List ℕ) (t : EncodedAnswer) (ws′ : List ℕ) (day : Day) (f : SFits w32 day) where
-  pub on-day : (x o : ℕ) → CallMade (eventOutcome limit bs ws (record { event = x; day = toZ w32 (ofZ w32 day); society = o })) t ws′
-      → CallMade (eventOutcome limit bs ws (record { event = x; day = day; society = o })) t ws′
-  on-day x o m = subst (λ z. CallMade (eventOutcome limit bs ws (record { event = x; day = z; society = o })) t ws′) (toZ-ofZ w32 day f) m
+module _ (terms : Terms) (bs ws : List ℕ) (t : EncodedAnswer) (ws′ : List ℕ) (day : Day) (f : SFits w32 day) where
+  pub on-day : (x o : ℕ) → CallMade (eventOutcome terms bs ws (record { event = x; day = toZ w32 (ofZ w32 day); society = o })) t ws′
+      → CallMade (eventOutcome terms bs ws (record { event = x; day = day; society = o })) t ws′
+  on-day x o m = subst (λ z. CallMade (eventOutcome terms bs ws (record { event = x; day = z; society = o })) t ws′) (toZ-ofZ w32 day f) m
 
-  pub on-read : (kind x o : ℕ) (d : Day) → day ≡ d → CallMade (callOutcome limit bs ws (decodedCall kind x (toZ w32 (ofZ w32 day)) o)) t ws′
-      → CallMade (callOutcome limit bs ws (decodedCall kind x d o)) t ws′
-  on-read kind x o d e m = subst (λ z. CallMade (callOutcome limit bs ws (decodedCall kind x z o)) t ws′) (toZ-ofZ w32 day f ∙ e) m
+  pub on-read : (kind x o : ℕ) (d : Day) → day ≡ d → CallMade (callOutcome terms bs ws (decodedCall kind x (toZ w32 (ofZ w32 day)) o)) t ws′
+      → CallMade (callOutcome terms bs ws (decodedCall kind x d o)) t ws′
+  on-read kind x o d e m = subst (λ z. CallMade (callOutcome terms bs ws (decodedCall kind x z o)) t ws′) (toZ-ofZ w32 day f ∙ e) m
 
 -- by the kind
-module _ (limit : ℕ) (bs ws : List ℕ) (kind x : ℕ) (day : Day) (o : ℕ) (t : EncodedAnswer) (ws′ : List ℕ) where
-  pub made-event : kind ≡ eventKind → CallMade (eventOutcome limit bs ws (record { event = x; day = day; society = o })) t ws′
-      → CallMade (callOutcome limit bs ws (decodedCall kind x day o)) t ws′
+module _ (terms : Terms) (bs ws : List ℕ) (kind x : ℕ) (day : Day) (o : ℕ) (t : EncodedAnswer) (ws′ : List ℕ) where
+  pub made-event : kind ≡ eventKind → CallMade (eventOutcome terms bs ws (record { event = x; day = day; society = o })) t ws′
+      → CallMade (callOutcome terms bs ws (decodedCall kind x day o)) t ws′
   unfolding eventOutcome decodedCall
   made-event e m = rw (eq-eqb kind 20 e, decodedCall) m
 
-  pub made-signal : (kind ≡ eventKind → ⊥) → kind ≡ signalKind → CallMade (signalOutcome limit bs ws (record { society = o })) t ws′
-      → CallMade (callOutcome limit bs ws (decodedCall kind x day o)) t ws′
+  pub made-signal : (kind ≡ eventKind → ⊥) → kind ≡ signalKind → CallMade (signalOutcome terms bs ws (record { society = o })) t ws′
+      → CallMade (callOutcome terms bs ws (decodedCall kind x day o)) t ws′
   unfolding signalOutcome decodedCall
   made-signal e f m = rw (ne-eqb kind 20 e, eq-eqb kind 17 f, decodedCall) m
 
-  pub made-fire : (kind ≡ eventKind → ⊥) → (kind ≡ signalKind → ⊥) → CallMade (fireOutcome limit bs ws (record { track = x; society = o })) t ws′
-      → CallMade (callOutcome limit bs ws (decodedCall kind x day o)) t ws′
+  pub made-fire : (kind ≡ eventKind → ⊥) → (kind ≡ signalKind → ⊥) → CallMade (fireOutcome terms bs ws (record { track = x; society = o })) t ws′
+      → CallMade (callOutcome terms bs ws (decodedCall kind x day o)) t ws′
   unfolding fireOutcome decodedCall
   made-fire e f m = rw (ne-eqb kind 20 e, ne-eqb kind 17 f, decodedCall) m
 

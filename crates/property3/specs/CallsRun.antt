@@ -8,11 +8,11 @@ use lib.ListN.{drop}
 use Rattle.rules.specs.declared.Counts.{Counts}
 use Rattle.rules.specs.Plan.{planOf}
 use Rattle.rules.specs.Acceptance.{accepted, readPlan}
-use Rattle.rules.specs.Layout.{entryLimit}
 use Rattle.rules.specs.Call.{refusal, done, beginOutcome}
 use Rattle.rules.specs.ReferenceRun.{wordsFrom, answersFrom, answersAfter}
 use Rattle.property3.specs.declared.CallsAnswer.{CallsAnswer}
 use Rattle.property3.specs.declared.CallsAnswer.the-variants.{Begun, Refused, NoRoom}
+use Rattle.rules.specs.declared.Terms.{Terms}
 use Rattle.property3.specs.SmallProperty3.{SmallProperty3}
 use Rattle.property3.specs.Encoding.{decodedCalls, decodedAnswers, encodedAnswers, answerRoom, lacksRoom}
 
@@ -23,22 +23,22 @@ pub record Untouched (told answer : CallsAnswer) (lent out end out′ : List ℕ
   pub answers : out′ ≡ out
 
 -- Where the begin was accepted: property 3 of the calls and of the answers that the lent words hold, and each of these words.
-pub record BeginAccepted (bs lent calls out : List ℕ) (told : CallsAnswer) (end out′ : List ℕ) : Type 0 where
+pub record BeginAccepted (terms : Terms) (bs lent calls out : List ℕ) (told : CallsAnswer) (end out′ : List ℕ) : Type 0 where
   pub answered : told ≡ Begun
   pub counts : Counts
   pub read : readPlan bs ≡ accepted counts
-  pub property3 : SmallProperty3 entryLimit bs (planOf bs counts) lent (decodedCalls calls) (decodedAnswers (decodedCalls calls) out′) end
-  pub written : out′ ≡ encodedAnswers (answersAfter entryLimit bs lent (decodedCalls calls)) ++ drop (answerRoom calls) out
+  pub property3 : SmallProperty3 terms bs (planOf bs counts) lent (decodedCalls calls) (decodedAnswers (decodedCalls calls) out′) end
+  pub written : out′ ≡ encodedAnswers (answersAfter terms bs lent (decodedCalls calls)) ++ drop (answerRoom calls) out
 
 -- The whole promise: too few words for the answers, a begin refused, a begin accepted.
-pub record CallsRun (bs lent calls out : List ℕ) (told : CallsAnswer) (end out′ : List ℕ) : Type 0 where
+pub record CallsRun (terms : Terms) (bs lent calls out : List ℕ) (told : CallsAnswer) (end out′ : List ℕ) : Type 0 where
   pub short : lacksRoom calls out ≡ true → Untouched told NoRoom lent out end out′
-  pub refused : lacksRoom calls out ≡ false → (n : ℕ) → beginOutcome entryLimit bs lent .answer ≡ refusal n
+  pub refused : lacksRoom calls out ≡ false → (n : ℕ) → beginOutcome terms bs lent .answer ≡ refusal n
       → Untouched told (Refused n) lent out end out′
-  pub begun : lacksRoom calls out ≡ false → beginOutcome entryLimit bs lent .answer ≡ done []
-      → BeginAccepted bs lent calls out told end out′
+  pub begun : lacksRoom calls out ≡ false → beginOutcome terms bs lent .answer ≡ done []
+      → BeginAccepted terms bs lent calls out told end out′
 
 -- The calls alone, from the words that a begin left.
-pub record CallsMade (bs ws calls out end out′ : List ℕ) : Type 0 where
-  pub left : end ≡ wordsFrom entryLimit bs ws (decodedCalls calls)
-  pub written : out′ ≡ encodedAnswers (answersFrom entryLimit bs ws (decodedCalls calls)) ++ drop (answerRoom calls) out
+pub record CallsMade (terms : Terms) (bs ws calls out end out′ : List ℕ) : Type 0 where
+  pub left : end ≡ wordsFrom terms bs ws (decodedCalls calls)
+  pub written : out′ ≡ encodedAnswers (answersFrom terms bs ws (decodedCalls calls)) ++ drop (answerRoom calls) out

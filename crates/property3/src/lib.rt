@@ -4,12 +4,12 @@ use rules::BeginAnswer;
 use rules::EventAnswer;
 use rules::FireAnswer;
 use rules::SignalAnswer;
+use rules::Terms;
 use signed::words;
 ghost use mathlib.Core.Path.{_≡_};
 ghost use mathlib.Core.List.{_++_};
 ghost use Prim.Native.Nat.{_+_, _≤_};
 ghost use lib.ListN.{length, take, drop};
-ghost use Rattle.rules.specs.Layout.{entryLimit};
 ghost use Rattle.rules.specs.Call.{callOutcome, eventOutcome, signalOutcome, fireOutcome};
 ghost use Rattle.property3.specs.Encoding.{decodedCall, encodedWords, answerRoom, CallMade};
 ghost use Rattle.property3.specs.CallsRun.{CallsMade, CallsRun};
@@ -49,11 +49,18 @@ fn encoded_refusal(n: u8) -> EncodedAnswer
     }
 }
 
-fn make_event(plan: &[u8], ledger: &mut [u16], name: u16, day: i32, society: u16) -> EncodedAnswer
-    ensures { λ r. ⌜ CallMade (eventOutcome entryLimit (now (plan .entry)) (now (ledger .entry)) (record { event = name; day = day; society = society }))
+fn make_event(
+    terms: Terms,
+    plan: &[u8],
+    ledger: &mut [u16],
+    name: u16,
+    day: i32,
+    society: u16,
+) -> EncodedAnswer
+    ensures { λ r. ⌜ CallMade (eventOutcome terms (now (plan .entry)) (now (ledger .entry)) (record { event = name; day = day; society = society }))
         r (now (ledger .exit)) ⌝ }
 {
-    let answer = manager::event(plan, &mut ledger[..], name, day, society);
+    let answer = manager::event(terms, plan, &mut ledger[..], name, day, society);
     match answer {
         EventAnswer::Refused(n) => encoded_refusal(n),
         EventAnswer::Moved(moved, closed) => EncodedAnswer {
@@ -64,10 +71,10 @@ fn make_event(plan: &[u8], ledger: &mut [u16], name: u16, day: i32, society: u16
     }
 }
 
-fn make_signal(plan: &[u8], ledger: &mut [u16], society: u16) -> EncodedAnswer
-    ensures { λ r. ⌜ CallMade (signalOutcome entryLimit (now (plan .entry)) (now (ledger .entry)) (record { society = society })) r (now (ledger .exit)) ⌝ }
+fn make_signal(terms: Terms, plan: &[u8], ledger: &mut [u16], society: u16) -> EncodedAnswer
+    ensures { λ r. ⌜ CallMade (signalOutcome terms (now (plan .entry)) (now (ledger .entry)) (record { society = society })) r (now (ledger .exit)) ⌝ }
 {
-    let answer = manager::signal(plan, &mut ledger[..], society);
+    let answer = manager::signal(terms, plan, &mut ledger[..], society);
     match answer {
         SignalAnswer::Refused(n) => encoded_refusal(n),
         SignalAnswer::Turned(turned) => EncodedAnswer {
@@ -78,11 +85,17 @@ fn make_signal(plan: &[u8], ledger: &mut [u16], society: u16) -> EncodedAnswer
     }
 }
 
-fn make_fire(plan: &[u8], ledger: &mut [u16], track: u16, society: u16) -> EncodedAnswer
-    ensures { λ r. ⌜ CallMade (fireOutcome entryLimit (now (plan .entry)) (now (ledger .entry)) (record { track = track; society = society }))
+fn make_fire(
+    terms: Terms,
+    plan: &[u8],
+    ledger: &mut [u16],
+    track: u16,
+    society: u16,
+) -> EncodedAnswer
+    ensures { λ r. ⌜ CallMade (fireOutcome terms (now (plan .entry)) (now (ledger .entry)) (record { track = track; society = society }))
         r (now (ledger .exit)) ⌝ }
 {
-    let answer = manager::fire(plan, &mut ledger[..], track, society);
+    let answer = manager::fire(terms, plan, &mut ledger[..], track, society);
     match answer {
         FireAnswer::Refused(n) => encoded_refusal(n),
         FireAnswer::Fired(code, deviation) => EncodedAnswer {
@@ -95,6 +108,7 @@ fn make_fire(plan: &[u8], ledger: &mut [u16], track: u16, society: u16) -> Encod
 
 // Makes the call that a kind, an argument, a day and a society stand for.
 fn make_call(
+    terms: Terms,
     plan: &[u8],
     ledger: &mut [u16],
     kind: u16,
@@ -102,15 +116,15 @@ fn make_call(
     day: i32,
     society: u16,
 ) -> EncodedAnswer
-    ensures { λ r. ⌜ CallMade (callOutcome entryLimit (now (plan .entry)) (now (ledger .entry)) (decodedCall kind argument day society)) r (now (ledger .exit)) ⌝ }
+    ensures { λ r. ⌜ CallMade (callOutcome terms (now (plan .entry)) (now (ledger .entry)) (decodedCall kind argument day society)) r (now (ledger .exit)) ⌝ }
 {
     if kind == EVENT {
-        return make_event(plan, &mut ledger[..], argument, day, society);
+        return make_event(terms, plan, &mut ledger[..], argument, day, society);
     }
     if kind == SIGNAL {
-        return make_signal(plan, &mut ledger[..], society);
+        return make_signal(terms, plan, &mut ledger[..], society);
     }
-    make_fire(plan, &mut ledger[..], argument, society)
+    make_fire(terms, plan, &mut ledger[..], argument, society)
 }
 
 fn write_answer(answers: &mut [u16], at: usize, told: EncodedAnswer)
@@ -123,9 +137,9 @@ fn write_answer(answers: &mut [u16], at: usize, told: EncodedAnswer)
 }
 
 // Makes the calls, one after the other, and writes their answers.
-fn make_calls(plan: &[u8], ledger: &mut [u16], calls: &[u16], answers: &mut [u16])
+fn make_calls(terms: Terms, plan: &[u8], ledger: &mut [u16], calls: &[u16], answers: &mut [u16])
     requires { ⌜ answerRoom (now calls) ≤ length (now answers) ⌝ }
-    ensures { λ r. ⌜ CallsMade (now (plan .entry)) (now (ledger .entry)) (now (calls .entry)) (now (answers .entry))
+    ensures { λ r. ⌜ CallsMade terms (now (plan .entry)) (now (ledger .entry)) (now (calls .entry)) (now (answers .entry))
         (now (ledger .exit)) (now (answers .exit)) ⌝ }
 {
     let count = calls.len() / CALL_WIDTH;
@@ -137,25 +151,31 @@ fn make_calls(plan: &[u8], ledger: &mut [u16], calls: &[u16], answers: &mut [u16
         let high = calls[CALL_WIDTH * i + 3];
         let day = words::join(low, high);
         let society = calls[CALL_WIDTH * i + 4];
-        let told = make_call(plan, &mut ledger[..], kind, argument, day, society);
+        let told = make_call(terms, plan, &mut ledger[..], kind, argument, day, society);
         write_answer(&mut answers[..], ANSWER_WIDTH * i, told);
         i += 1;
     }
 }
 
 // Begins, makes the calls after it, and writes the answer of each: where the begin is accepted, property 3 holds of them.
-pub fn run_calls(plan: &[u8], ledger: &mut [u16], calls: &[u16], answers: &mut [u16]) -> CallsAnswer
-    ensures { λ r. ⌜ CallsRun (now (plan .entry)) (now (ledger .entry)) (now (calls .entry)) (now (answers .entry)) r
+pub fn run_calls(
+    terms: Terms,
+    plan: &[u8],
+    ledger: &mut [u16],
+    calls: &[u16],
+    answers: &mut [u16],
+) -> CallsAnswer
+    ensures { λ r. ⌜ CallsRun terms (now (plan .entry)) (now (ledger .entry)) (now (calls .entry)) (now (answers .entry)) r
         (now (ledger .exit)) (now (answers .exit)) ⌝ }
 {
     if answers.len() / ANSWER_WIDTH < calls.len() / CALL_WIDTH {
         return CallsAnswer::NoRoom;
     }
-    let answer = manager::begin(plan, &mut ledger[..]);
+    let answer = manager::begin(terms, plan, &mut ledger[..]);
     match answer {
         BeginAnswer::Refused(n) => CallsAnswer::Refused(n),
         BeginAnswer::Begun => {
-            make_calls(plan, &mut ledger[..], calls, &mut answers[..]);
+            make_calls(terms, plan, &mut ledger[..], calls, &mut answers[..]);
             CallsAnswer::Begun
         }
     }

@@ -3,9 +3,9 @@ use mathlib.Core.Bool.{Bool, true, false, cond}
 use mathlib.Core.List.{List, [], _∷_, _++_}
 use Prim.Native.Nat.{ℕ, zero, suc, _+_}
 use Rattle.rules.specs.Names.{Bytes, Words, Place}
+use Rattle.rules.specs.declared.Terms.{Terms}
 use Rattle.rules.specs.Record.{sizeAt}
 use Rattle.rules.specs.Plan.{Plan}
-use Rattle.rules.specs.Layout.{entryLimit}
 use Rattle.rules.specs.Call.{Answer, Call, callOutcome}
 use Rattle.rules.specs.Journal.{ended, broken, fireLowest, called, itemAt, fireLowestCall}
 use Rattle.rules.specs.Transcript.{refusalLine, callLine, ledgerOf}
@@ -32,7 +32,7 @@ module _ (js : Bytes) where
         | called c ↦ endsBroken n (at + sizeAt js at)
       ]
 
-module _ (bs js : Bytes) (p : Plan) where
+module _ (terms : Terms) (bs js : Bytes) (p : Plan) where
   -- the calls that the records from a place on are, from the words ws; kind 19 is the firing that it comes to on the ledger before it
   unfoldable pub callsFrom : ℕ → Place → Words → List Call
   callsFrom zero at ws = []
@@ -41,7 +41,7 @@ module _ (bs js : Bytes) (p : Plan) where
         | ended ↦ []
         | broken ↦ []
         | fireLowest o ↦
-            fireLowestCall p (ledgerOf p ws) o
-            ∷ callsFrom n (at + sizeAt js at) (callOutcome entryLimit bs ws (fireLowestCall p (ledgerOf p ws) o) .words)
-        | called c ↦ c ∷ callsFrom n (at + sizeAt js at) (callOutcome entryLimit bs ws c .words)
+            fireLowestCall p (ledgerOf terms p ws) o
+            ∷ callsFrom n (at + sizeAt js at) (callOutcome terms bs ws (fireLowestCall p (ledgerOf terms p ws) o) .words)
+        | called c ↦ c ∷ callsFrom n (at + sizeAt js at) (callOutcome terms bs ws c .words)
       ]

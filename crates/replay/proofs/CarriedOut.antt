@@ -9,7 +9,6 @@ use lib.ListN.{length}
 use Rattle.rules.specs.declared.Counts.{Counts}
 use Rattle.rules.specs.Fold.{sumBelow}
 use Rattle.rules.specs.Plan.{planOf}
-use Rattle.rules.specs.Layout.{entryLimit}
 use Rattle.rules.specs.Event.{EventArguments}
 use Rattle.rules.specs.Call.{Answer, refusal, done, Call, event, signal, fire, SignalArguments, FireArguments, callOutcome, Meets}
 use Rattle.rules.specs.Journal.{Item}
@@ -22,6 +21,7 @@ use Rattle.journal.specs.Records.{recordTold, sizeOf}
 use Rattle.journal.specs.Writing.{Lined}
 use Rattle.journal.proofs.Written.{wrote-then}
 use Rattle.replay.specs.declared.carry_out.Progress.{Progress}
+use Rattle.rules.specs.declared.Terms.{Terms}
 use Rattle.replay.specs.CarriedOut.{CameTo, CarriedOut, isBrokenRecord, Closed}
 
 pub event-fires : (a : EventArguments) (x : Answer) → 0 ≡ firingsOf (event a) x
@@ -40,30 +40,30 @@ fires-one a (refusal n) = omega arith
 fires-one a (done figures) = omega arith
 
 -- the entries held, by either count of the tracks
-pub held-told : (bs : List ℕ) (c : Counts) (ws : List ℕ) (held : ℕ) → held ≡ sumBelow (c .tracks) (λ t. length (ledgerOf c ws t .held)) → held ≡ heldTotal (planOf bs c) (ledgerOf c ws)
+pub held-told : (terms : Terms) (bs : List ℕ) (c : Counts) (ws : List ℕ) (held : ℕ) → held ≡ sumBelow (c .tracks) (λ t. length (ledgerOf terms c ws t .held)) → held ≡ heldTotal (planOf bs c) (ledgerOf terms c ws)
 unfolding heldTotal
-held-told bs c ws held e = rw track-count e
+held-told terms bs c ws held e = rw track-count e
 
-pub carried-out : (bs : List ℕ) (c : Counts) (d : Call) (ws out : List ℕ) (from : Progress) (ws′ out′ : List ℕ) (place : ℕ) (told : Answer) (fired : ℕ) (next : Progress)
-    → Meets (callOutcome entryLimit bs ws d) told ws′
+pub carried-out : (terms : Terms) (bs : List ℕ) (c : Counts) (d : Call) (ws out : List ℕ) (from : Progress) (ws′ out′ : List ℕ) (place : ℕ) (told : Answer) (fired : ℕ) (next : Progress)
+    → Meets (callOutcome terms bs ws d) told ws′
     → Lined out (from .place) (callLine d told) out′ place
     → fired ≡ firingsOf d told
-    → CameTo c ws′ from place fired next
-    → CarriedOut bs c d ws out from ws′ out′ next
-carried-out bs c d ws out from ws′ out′ place told fired next m l f e =
+    → CameTo terms c ws′ from place fired next
+    → CarriedOut terms bs c d ws out from ws′ out′ next
+carried-out terms bs c d ws out from ws′ out′ place told fired next m l f e =
     record {
       words = m .left;
       line = rw (← m .answered, e .place) l;
       fired = e .fired ∙ ap (λ (n : ℕ). from .tally .fired + n) (f ∙ ap (firingsOf d) (m .answered));
-      held = held-told bs c ws′ (next .tally .held) (e .held);
+      held = held-told terms bs c ws′ (next .tally .held) (e .held);
     }
 
 -- an event's day as it was given
-pub carried-on : (e o : ℕ) {x y : ℤ} → x ≡ y → {bs : List ℕ} {c : Counts} {ws out : List ℕ} {from : Progress} {ws′ out′ : List ℕ} {next : Progress}
-    → CarriedOut bs c (event (record { event = e; day = x; society = o })) ws out from ws′ out′ next
-    → CarriedOut bs c (event (record { event = e; day = y; society = o })) ws out from ws′ out′ next
-carried-on e o q {bs} {c} {ws} {out} {from} {ws′} {out′} {next} h =
-    subst (λ d. CarriedOut bs c (event (record { event = e; day = d; society = o })) ws out from ws′ out′ next) q h
+pub carried-on : (terms : Terms) (e o : ℕ) {x y : ℤ} → x ≡ y → {bs : List ℕ} {c : Counts} {ws out : List ℕ} {from : Progress} {ws′ out′ : List ℕ} {next : Progress}
+    → CarriedOut terms bs c (event (record { event = e; day = x; society = o })) ws out from ws′ out′ next
+    → CarriedOut terms bs c (event (record { event = e; day = y; society = o })) ws out from ws′ out′ next
+carried-on terms e o q {bs} {c} {ws} {out} {from} {ws′} {out′} {next} h =
+    subst (λ d. CarriedOut terms bs c (event (record { event = e; day = d; society = o })) ws out from ws′ out′ next) q h
 
 -- where the reading ends no record is left to do
 pub ended-none : (x : Record) → x ≡ Ended → 0 < sizeOf (recordTold x) → ⊥
@@ -93,6 +93,6 @@ closed-whole x b out from out′ end e t l =
     record { wrote = rw i (l .wrote); short = omega arith }
 
 -- the same call under another name
-pub carried-out-as : (bs : List ℕ) (c : Counts) (d e : Call) (ws out : List ℕ) (from : Progress) (ws′ out′ : List ℕ) (next : Progress) → d ≡ e
-    → CarriedOut bs c d ws out from ws′ out′ next → CarriedOut bs c e ws out from ws′ out′ next
-carried-out-as bs c d e ws out from ws′ out′ next q t = subst (λ (x : Call). CarriedOut bs c x ws out from ws′ out′ next) q t
+pub carried-out-as : (terms : Terms) (bs : List ℕ) (c : Counts) (d e : Call) (ws out : List ℕ) (from : Progress) (ws′ out′ : List ℕ) (next : Progress) → d ≡ e
+    → CarriedOut terms bs c d ws out from ws′ out′ next → CarriedOut terms bs c e ws out from ws′ out′ next
+carried-out-as terms bs c d e ws out from ws′ out′ next q t = subst (λ (x : Call). CarriedOut terms bs c x ws out from ws′ out′ next) q t

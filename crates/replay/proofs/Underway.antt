@@ -11,7 +11,6 @@ use lib.ListN.{length}
 use Rattle.rules.specs.declared.Counts.{Counts}
 use Rattle.rules.specs.Plan.{Plan, planOf}
 use Rattle.rules.specs.Record.{sizeAt}
-use Rattle.rules.specs.Layout.{entryLimit}
 use Rattle.rules.specs.Ledger.{Ledger, ledgerAt}
 use Rattle.rules.specs.Call.{Answer, refusal, done, Call, event, signal, fire, callOutcome}
 use Rattle.rules.specs.Journal.{Item, ended, broken, fireLowest, called, itemAt}
@@ -24,15 +23,16 @@ use Rattle.journal.specs.Writing.{Wrote, lineRoom}
 use Rattle.journal.proofs.Records.{stands}
 use Rattle.journal.proofs.Written.{written-none, retold, wrote-then}
 use Rattle.replay.specs.declared.carry_out.Progress.{Progress}
+use Rattle.rules.specs.declared.Terms.{Terms}
 use Rattle.replay.specs.Left.{wordsFrom}
 use Rattle.replay.specs.CarriedOut.{isBrokenRecord, callAt, Prepared, CarriedOut, Closed}
 use Rattle.replay.specs.Runs.{RanFrom}
 use Rattle.replay.proofs.Keeping.{call-keeps}
 
 -- the ledger that the text speaks of is the one that the steps work on
-ledgers : (bs js : List ℕ) (c : Counts) (ws : List ℕ) → ledgerOf c ws ≡ text.ledgerOf (planOf bs c) ws
+ledgers : (terms : Terms) (bs js : List ℕ) (c : Counts) (ws : List ℕ) → ledgerOf terms c ws ≡ text.ledgerOf terms (planOf bs c) ws
 unfolding ledgerOf text.ledgerOf
-ledgers bs js c ws = ap (ledgerAt entryLimit ws) (sym (track-count bs c))
+ledgers terms bs js c ws = ap (ledgerAt terms ws) (sym (track-count bs c))
 
 -- a record has four bytes or more, and does one firing at most
 size-least : (x : Item) → 0 < sizeOf x → 4 ≤ sizeOf x
@@ -51,8 +51,8 @@ firings-most (signal a) (done figures) = omega arith
 firings-most (fire a) (done figures) = omega arith
 
 -- a visit, where the reading ends and where a call stands
-module _ (bs js : List ℕ) (p : Plan) (n at : ℕ) (ws : List ℕ) where
-  words-stopped : (x : Item) → itemAt js at ≡ x → sizeOf x ≡ 0 → wordsFrom bs js p (suc n) at ws ≡ ws
+module _ (terms : Terms) (bs js : List ℕ) (p : Plan) (n at : ℕ) (ws : List ℕ) where
+  words-stopped : (x : Item) → itemAt js at ≡ x → sizeOf x ≡ 0 → wordsFrom terms bs js p (suc n) at ws ≡ ws
   unfolding wordsFrom
   words-stopped ended e z = rw (e, wordsFrom)
   words-stopped broken e z = rw (e, wordsFrom)
@@ -62,15 +62,15 @@ module _ (bs js : List ℕ) (p : Plan) (n at : ℕ) (ws : List ℕ) where
   words-stopped (called (fire a)) e z = absurd (omega arith)
 
   words-call : (x : Item) → itemAt js at ≡ x → 0 < sizeOf x
-      → wordsFrom bs js p (suc n) at ws ≡ wordsFrom bs js p n (at + sizeAt js at) (callOutcome entryLimit bs ws (callOf p (text.ledgerOf p ws) x) .words)
+      → wordsFrom terms bs js p (suc n) at ws ≡ wordsFrom terms bs js p n (at + sizeAt js at) (callOutcome terms bs ws (callOf p (text.ledgerOf terms p ws) x) .words)
   unfolding wordsFrom
   words-call ended e l = absurd (omega arith)
   words-call broken e l = absurd (omega arith)
   words-call (fireLowest o) e l = rw (e, wordsFrom)
   words-call (called d) e l = rw (e, wordsFrom)
 
-  text-stopped : (fired : ℕ) (last : List ℕ) → last ≡ lastLine p ws fired → (x : Item) → itemAt js at ≡ x → sizeOf x ≡ 0
-      → replay bs js p (suc n) at ws fired ≡ cond (isBrokenRecord x) (refusalLine 23 ++ last) last
+  text-stopped : (fired : ℕ) (last : List ℕ) → last ≡ lastLine terms p ws fired → (x : Item) → itemAt js at ≡ x → sizeOf x ≡ 0
+      → replay terms bs js p (suc n) at ws fired ≡ cond (isBrokenRecord x) (refusalLine 23 ++ last) last
   unfolding replay
   text-stopped fired last f ended e z = rw (e, replay, f)
   text-stopped fired last f broken e z = rw (e, replay, f)
@@ -80,7 +80,7 @@ module _ (bs js : List ℕ) (p : Plan) (n at : ℕ) (ws : List ℕ) where
   text-stopped fired last f (called (fire a)) e z = absurd (omega arith)
 
   text-call : (fired : ℕ) (x : Item) → itemAt js at ≡ x → 0 < sizeOf x
-      → replay bs js p (suc n) at ws fired ≡ callText bs js p (replay bs js p n (at + sizeAt js at)) ws fired (callOf p (text.ledgerOf p ws) x)
+      → replay terms bs js p (suc n) at ws fired ≡ callText terms bs js p (replay terms bs js p n (at + sizeAt js at)) ws fired (callOf p (text.ledgerOf terms p ws) x)
   unfolding replay
   text-call fired ended e l = absurd (omega arith)
   text-call fired broken e l = absurd (omega arith)
@@ -88,23 +88,23 @@ module _ (bs js : List ℕ) (p : Plan) (n at : ℕ) (ws : List ℕ) where
   text-call fired (called d) e l = rw (e, replay)
 
 -- `whole` is to be written into `out` from `start` on, and `words` to be left in the ledger.
-module _ (bs js : List ℕ) (c : Counts) (out : List ℕ) (start : ℕ) (whole words : List ℕ) where
+module _ (terms : Terms) (bs js : List ℕ) (c : Counts) (out : List ℕ) (start : ℕ) (whole words : List ℕ) where
   -- the records before `at` are done: their text is written
   pub record Underway (at : ℕ) (ws out′ : List ℕ) (so-far : Progress) : Type 0 where
     pub text : List ℕ
     pub wrote : Wrote out start text out′ (so-far .place)
     pub visits : ℕ
     pub enough : length js ≤ at + visits
-    pub rest : text ++ replay bs js (planOf bs c) (suc visits) at ws (so-far .tally .fired) ≡ whole
-    pub leaves : wordsFrom bs js (planOf bs c) (suc visits) at ws ≡ words
+    pub rest : text ++ replay terms bs js (planOf bs c) (suc visits) at ws (so-far .tally .fired) ≡ whole
+    pub leaves : wordsFrom terms bs js (planOf bs c) (suc visits) at ws ≡ words
     pub near : so-far .place ≤ start + 6 * at
     pub few : so-far .tally .fired ≤ at
     pub within : at ≤ length js
-    pub checked : Checked bs c ws
-    pub held : so-far .tally .held ≡ heldTotal (planOf bs c) (ledgerOf c ws)
+    pub checked : Checked terms bs c ws
+    pub held : so-far .tally .held ≡ heldTotal (planOf bs c) (ledgerOf terms c ws)
 
-  pub underway-start : (ws : List ℕ) (held : ℕ) → Checked bs c ws → held ≡ heldTotal (planOf bs c) (ledgerOf c ws)
-      → replay bs js (planOf bs c) (suc (length js)) 0 ws 0 ≡ whole → wordsFrom bs js (planOf bs c) (suc (length js)) 0 ws ≡ words
+  pub underway-start : (ws : List ℕ) (held : ℕ) → Checked terms bs c ws → held ≡ heldTotal (planOf bs c) (ledgerOf terms c ws)
+      → replay terms bs js (planOf bs c) (suc (length js)) 0 ws 0 ≡ whole → wordsFrom terms bs js (planOf bs c) (suc (length js)) 0 ws ≡ words
       → Underway 0 ws out (record { place = start; tally = record { held = held; fired = 0 } })
   underway-start ws held k h e f =
       record {
@@ -126,7 +126,7 @@ module _ (bs js : List ℕ) (c : Counts) (out : List ℕ) (start : ℕ) (whole w
     pub within-close : so-far .place + 2 * lineRoom ≤ length out′
     within-close = let n = u .near in let w = u .within in omega arith
 
-    pub prepared : Prepared bs c ws out′ so-far
+    pub prepared : Prepared terms bs c ws out′ so-far
     prepared =
         let n = u .near in
         let f = u .few in
@@ -139,7 +139,7 @@ module _ (bs js : List ℕ) (c : Counts) (out : List ℕ) (start : ℕ) (whole w
 
     -- one record more
     pub underway-next : (x : Item) (size : ℕ) → x ≡ itemAt js at → size ≡ sizeOf x → (size ≡ 0 → ⊥)
-        → (ws′ out″ : List ℕ) (next : Progress) → CarriedOut bs c (callAt bs c ws x) ws out′ so-far ws′ out″ next
+        → (ws′ out″ : List ℕ) (next : Progress) → CarriedOut terms bs c (callAt terms bs c ws x) ws out′ so-far ws′ out″ next
         → Underway (at + size) ws′ out″ next
     unfolding callText
     underway-next x size e s z ws′ out″ next t = go (u .visits) refl
@@ -148,24 +148,24 @@ module _ (bs js : List ℕ) (c : Counts) (out : List ℕ) (start : ℕ) (whole w
         p = planOf bs c
 
         d : Call
-        d = callAt bs c ws x
+        d = callAt terms bs c ws x
 
         some : 0 < sizeOf x
         some = omega arith
 
-        asked : d ≡ callOf p (text.ledgerOf p ws) x
-        asked = ap (λ (k : Ledger). callOf p k x) (ledgers bs js c ws)
+        asked : d ≡ callOf p (text.ledgerOf terms p ws) x
+        asked = ap (λ (k : Ledger). callOf p k x) (ledgers terms bs js c ws)
 
         -- the size as the journal tells it
         told : size ≡ sizeAt js at
         told = s ∙ stands js at x (sym e) some .size
 
-        text-next : (n : ℕ) → callLine d (callOutcome entryLimit bs ws d .answer) ++ replay bs js p n (at + size) ws′ (next .tally .fired)
-            ≡ replay bs js p (suc n) at ws (so-far .tally .fired)
-        text-next n = rw (told, t .words, t .fired) (sym (text-call bs js p n at ws (so-far .tally .fired) x (sym e) some ∙ ap (callText bs js p (replay bs js p n (at + sizeAt js at)) ws (so-far .tally .fired)) (sym asked)))
+        text-next : (n : ℕ) → callLine d (callOutcome terms bs ws d .answer) ++ replay terms bs js p n (at + size) ws′ (next .tally .fired)
+            ≡ replay terms bs js p (suc n) at ws (so-far .tally .fired)
+        text-next n = rw (told, t .words, t .fired) (sym (text-call terms bs js p n at ws (so-far .tally .fired) x (sym e) some ∙ ap (callText terms bs js p (replay terms bs js p n (at + sizeAt js at)) ws (so-far .tally .fired)) (sym asked)))
 
-        words-next : (n : ℕ) → wordsFrom bs js p n (at + size) ws′ ≡ wordsFrom bs js p (suc n) at ws
-        words-next n = rw (told, t .words) (sym (words-call bs js p n at ws x (sym e) some ∙ ap (λ (y : Call). wordsFrom bs js p n (at + sizeAt js at) (callOutcome entryLimit bs ws y .words)) (sym asked)))
+        words-next : (n : ℕ) → wordsFrom terms bs js p n (at + size) ws′ ≡ wordsFrom terms bs js p (suc n) at ws
+        words-next n = rw (told, t .words) (sym (words-call terms bs js p n at ws x (sym e) some ∙ ap (λ (y : Call). wordsFrom terms bs js p n (at + sizeAt js at) (callOutcome terms bs ws y .words)) (sym asked)))
 
         go : (n : ℕ) → u .visits ≡ n → Underway (at + size) ws′ out″ next
         go zero i = let w = next-within x size e s z in let m = u .enough in absurd (omega arith)
@@ -173,22 +173,22 @@ module _ (bs js : List ℕ) (c : Counts) (out : List ℕ) (start : ℕ) (whole w
             let w = next-within x size e s z in
             let m = u .enough in
             let b = size-least x some in
-            let f = firings-most d (callOutcome entryLimit bs ws d .answer) in
+            let f = firings-most d (callOutcome terms bs ws d .answer) in
             let k = t .line .short in
             let g = t .fired in
             let v = u .near in
             let y = u .few in
             record {
-              text = u .text ++ callLine d (callOutcome entryLimit bs ws d .answer);
+              text = u .text ++ callLine d (callOutcome terms bs ws d .answer);
               wrote = wrote-then (omega arith) (u .wrote) (t .line .wrote);
               visits = n;
               enough = omega arith;
-              rest = append-assoc (u .text) (callLine d (callOutcome entryLimit bs ws d .answer)) _ ∙ ap (λ (l : List ℕ). u .text ++ l) (text-next (suc n)) ∙ (rw i at (u .rest));
+              rest = append-assoc (u .text) (callLine d (callOutcome terms bs ws d .answer)) _ ∙ ap (λ (l : List ℕ). u .text ++ l) (text-next (suc n)) ∙ (rw i at (u .rest));
               leaves = words-next (suc n) ∙ (rw i at (u .leaves));
               near = omega arith;
               few = omega arith;
               within = w;
-              checked = subst (Checked bs c) (sym (t .words)) (call-keeps bs c ws (u .checked) d);
+              checked = subst (Checked terms bs c) (sym (t .words)) (call-keeps terms bs c ws (u .checked) d);
               held = t .held;
             }
 
@@ -200,11 +200,11 @@ module _ (bs js : List ℕ) (c : Counts) (out : List ℕ) (start : ℕ) (whole w
         let n = u .near in
         let w = u .within in
         let b = k .short in
-        let last = ap (λ (m : ℕ). tallyLine m (so-far .tally .fired)) (u .held ∙ ap (heldTotal (planOf bs c)) (ledgers bs js c ws)) in
+        let last = ap (λ (m : ℕ). tallyLine m (so-far .tally .fired)) (u .held ∙ ap (heldTotal (planOf bs c)) (ledgers terms bs js c ws)) in
         record {
           wrote =
-              retold (ap (λ (t : List ℕ). u .text ++ t) (sym (text-stopped bs js (planOf bs c) (u .visits) at ws (so-far .tally .fired) _ last x (sym e) (sym s ∙ z))) ∙ u .rest)
+              retold (ap (λ (t : List ℕ). u .text ++ t) (sym (text-stopped terms bs js (planOf bs c) (u .visits) at ws (so-far .tally .fired) _ last x (sym e) (sym s ∙ z))) ∙ u .rest)
               (wrote-then (omega arith) (u .wrote) (k .wrote));
-          left = sym (words-stopped bs js (planOf bs c) (u .visits) at ws x (sym e) (sym s ∙ z)) ∙ u .leaves;
+          left = sym (words-stopped terms bs js (planOf bs c) (u .visits) at ws x (sym e) (sym s ∙ z)) ∙ u .leaves;
           short = omega arith;
         }

@@ -13,7 +13,7 @@ use Rattle.rules.specs.Day.{earliestDay}
 use Rattle.rules.specs.Record.{mostOf}
 use Rattle.rules.specs.Plan.{planOf}
 use Rattle.rules.specs.Acceptance.{turnedBack, accepted, readPlan}
-use Rattle.rules.specs.Layout.{entryLimit, wordCount}
+use Rattle.rules.specs.Layout.{wordCount}
 use Rattle.rules.specs.Leading.{stamped}
 use Rattle.rules.specs.Ledger.{written}
 use Rattle.rules.specs.Opening.{begun}
@@ -26,6 +26,7 @@ use Rattle.plan_reader.proofs.Reader.{accepted-holds}
 use Rattle.journal.specs.Writing.{Lined, lineRoom, writtenAt}
 use Rattle.journal.proofs.Written.{wrote-then}
 use Rattle.replay.specs.declared.RunAnswer.the-variants.{Written, TooSmall, ShortLedger}
+use Rattle.rules.specs.declared.Terms.{Terms}
 use Rattle.replay.specs.Left.{wordsFrom, wordsLeft}
 use Rattle.replay.specs.Runs.{textRoom, runOutcome, Ran, RanFrom, RanRecords, RanPlan}
 use Rattle.replay.proofs.Keeping.{begin-words, begin-holding}
@@ -34,20 +35,20 @@ use Rattle.replay.proofs.SameText.{replay-same}
 pub accepts : (bs : List ℕ) (c : Counts) → readPlan bs ≡ accepted c → Accepts bs c
 accepts bs c e = record { read = e; holds = accepted-holds bs c e }
 
-pub roomy : (bs : List ℕ) (c : Counts) → readPlan bs ≡ accepted c → (ws : List ℕ) → wordCount entryLimit (mostOf 1) ≤ length ws → Room ws (c .tracks)
-roomy bs c e ws h =
+pub roomy : (terms : Terms) (bs : List ℕ) (c : Counts) → readPlan bs ≡ accepted c → (ws : List ℕ) → wordCount terms (mostOf 1) ≤ length ws → Room terms ws (c .tracks)
+roomy terms bs c e ws h =
     let n = accepted-holds bs c e .tracks in
-    let m = fewer-words entryLimit (c .tracks) (mostOf 1) (unfold mostOf in n) in
+    let m = fewer-words terms (c .tracks) (mostOf 1) (unfold mostOf in n) in
     record { few = n; words = omega arith }
 
-own-long : wordCount entryLimit (mostOf 1) ≤ length ownWords
+own-long : (terms : Terms) → wordCount terms (mostOf 1) ≤ length (ownWords terms)
 unfolding ownWords
-own-long = let e = length-replicate {A = ℕ} (wordCount entryLimit (mostOf 1)) 0 in omega arith
+own-long terms = let e = length-replicate {A = ℕ} (wordCount terms (mostOf 1)) 0 in omega arith
 
 -- what the tests of the run tell: of the ledger's length, and of the output's
-pub long-ledger : (n : ℕ) (q : Bool) → q ≡ not (ltb n (wordCount entryLimit 32)) → not q ≡ false → wordCount entryLimit (mostOf 1) ≤ n
+pub long-ledger : (terms : Terms) (n : ℕ) (q : Bool) → q ≡ not (ltb n (wordCount terms 32)) → not q ≡ false → wordCount terms (mostOf 1) ≤ n
 unfolding mostOf
-long-ledger n q f g = ltb-false n (wordCount entryLimit 32) (not-true _ (sym f ∙ not-false _ g))
+long-ledger terms n q f g = ltb-false n (wordCount terms 32) (not-true _ (sym f ∙ not-false _ g))
 
 pub line-fits : (js : List ℕ) (room n : ℕ) → room ≡ textRoom js → room ≤ n → lineRoom ≤ n
 unfolding textRoom
@@ -73,23 +74,23 @@ pub ran-refused : (out out′ : List ℕ) (end n : ℕ) (ws : List ℕ) → line
 ran-refused out out′ end n ws h l = let s = l .short in record { wrote = l .wrote; left = refl; short = omega arith }
 
 -- begin's words under either name
-pub ran-begun : (bs js : List ℕ) (c : Counts) (a : Accepts bs c) (ws ws′ : List ℕ) → Room ws (c .tracks) → ws′ ≡ written entryLimit (c .tracks) (begun (planOf bs c)) (stamped bs ws)
+pub ran-begun : (terms : Terms) (bs js : List ℕ) (c : Counts) (a : Accepts bs c) (ws ws′ : List ℕ) → Room terms ws (c .tracks) → ws′ ≡ written terms (c .tracks) (begun (planOf bs c)) (stamped bs ws)
     → (mid : List ℕ) (start : ℕ) (vs out′ : List ℕ) (end : ℕ)
-    → RanRecords bs js c ws′ mid start vs out′ end → RanRecords bs js c (beginOutcome entryLimit bs ws .words) mid start vs out′ end
-ran-begun bs js c a ws ws′ r e mid start vs out′ end g =
-    subst (λ (us : List ℕ). RanRecords bs js c us mid start vs out′ end)
-    (e ∙ begin-words bs c a ws r) g
+    → RanRecords terms bs js c ws′ mid start vs out′ end → RanRecords terms bs js c (beginOutcome terms bs ws .words) mid start vs out′ end
+ran-begun terms bs js c a ws ws′ r e mid start vs out′ end g =
+    subst (λ (us : List ℕ). RanRecords terms bs js c us mid start vs out′ end)
+    (e ∙ begin-words terms bs c a ws r) g
 
-module _ (bs js ws : List ℕ) where
+module _ (terms : Terms) (bs js ws : List ℕ) where
   -- one of the inputs is too long
   abbrev pub tooLong : Bool
   tooLong = ltb mostBytes (length bs) || ltb mostBytes (length js)
 
-  long-text : tooLong ≡ true → transcript bs js ≡ refusalLine 1
+  long-text : tooLong ≡ true → transcript terms bs js ≡ refusalLine 1
   unfolding transcript
   long-text e = rw (e, transcript)
 
-  long-words : tooLong ≡ true → wordsLeft bs js ws ≡ ws
+  long-words : tooLong ≡ true → wordsLeft terms bs js ws ≡ ws
   unfolding wordsLeft
   long-words e = rw (e, wordsLeft)
 
@@ -102,35 +103,35 @@ module _ (bs js ws : List ℕ) where
   pub neither : length bs ≤ mostBytes → length js ≤ mostBytes → tooLong ≡ false
   neither h k = rw (le-ltb mostBytes (length bs) h, le-ltb mostBytes (length js) k)
 
-  refused-text : (n : ℕ) → tooLong ≡ false → readPlan bs ≡ turnedBack n → transcript bs js ≡ refusalLine n
+  refused-text : (n : ℕ) → tooLong ≡ false → readPlan bs ≡ turnedBack n → transcript terms bs js ≡ refusalLine n
   unfolding transcript
   refused-text n e f = rw (e, transcript, f)
 
-  refused-words : (n : ℕ) → tooLong ≡ false → readPlan bs ≡ turnedBack n → wordsLeft bs js ws ≡ ws
+  refused-words : (n : ℕ) → tooLong ≡ false → readPlan bs ≡ turnedBack n → wordsLeft terms bs js ws ≡ ws
   unfolding wordsLeft
   refused-words n e f = rw (e, wordsLeft, f)
 
   accepted-own : (c : Counts) → tooLong ≡ false → readPlan bs ≡ accepted c
-      → transcript bs js ≡ planLine c ++ replay bs js (planOf bs c) (suc (length js)) 0 (beginOutcome entryLimit bs ownWords .words) 0
+      → transcript terms bs js ≡ planLine c ++ replay terms bs js (planOf bs c) (suc (length js)) 0 (beginOutcome terms bs (ownWords terms) .words) 0
   unfolding transcript
   accepted-own c e f = rw (e, transcript, f)
 
-  pub accepted-text : (c : Counts) → tooLong ≡ false → readPlan bs ≡ accepted c → wordCount entryLimit (mostOf 1) ≤ length ws
-      → transcript bs js ≡ planLine c ++ replay bs js (planOf bs c) (suc (length js)) 0 (beginOutcome entryLimit bs ws .words) 0
+  pub accepted-text : (c : Counts) → tooLong ≡ false → readPlan bs ≡ accepted c → wordCount terms (mostOf 1) ≤ length ws
+      → transcript terms bs js ≡ planLine c ++ replay terms bs js (planOf bs c) (suc (length js)) 0 (beginOutcome terms bs ws .words) 0
   unfolding accepts
   accepted-text c e f h =
       accepted-own c e f
       ∙ ap (λ (t : List ℕ). planLine c ++ t)
-      (replay-same bs js c f (suc (length js)) 0 0 (beginOutcome entryLimit bs ownWords .words) (beginOutcome entryLimit bs ws .words) earliestDay (begun (planOf bs c))
-      (begin-holding bs c (accepts bs c f) ownWords (roomy bs c f ownWords own-long)) (begin-holding bs c (accepts bs c f) ws (roomy bs c f ws h)))
+      (replay-same terms bs js c f (suc (length js)) 0 0 (beginOutcome terms bs (ownWords terms) .words) (beginOutcome terms bs ws .words) earliestDay (begun (planOf bs c))
+      (begin-holding terms bs c (accepts bs c f) (ownWords terms) (roomy terms bs c f (ownWords terms) (own-long terms))) (begin-holding terms bs c (accepts bs c f) ws (roomy terms bs c f ws h)))
 
   pub accepted-words : (c : Counts) → tooLong ≡ false → readPlan bs ≡ accepted c
-      → wordsLeft bs js ws ≡ wordsFrom bs js (planOf bs c) (suc (length js)) 0 (beginOutcome entryLimit bs ws .words)
+      → wordsLeft terms bs js ws ≡ wordsFrom terms bs js (planOf bs c) (suc (length js)) 0 (beginOutcome terms bs ws .words)
   unfolding wordsLeft
   accepted-words c e f = rw (e, wordsLeft, f)
 
   module _ (out : List ℕ) where
-    pub small : (room : ℕ) → room ≡ textRoom js → length out < room → Ran (runOutcome bs js ws out) (TooSmall room) ws out
+    pub small : (room : ℕ) → room ≡ textRoom js → length out < room → Ran (runOutcome terms bs js ws out) (TooSmall room) ws out
     unfolding runOutcome
     small room e h =
         let t : ltb (length out) (textRoom js) ≡ true = lt-ltb (length out) (textRoom js) (omega arith) in
@@ -145,10 +146,10 @@ module _ (bs js ws : List ℕ) where
       fits : ltb (length out) (textRoom js) ≡ false
       fits = le-ltb (length out) (textRoom js) (omega arith)
 
-      pub short : (q : Bool) → q ≡ not (ltb (length ws) (wordCount entryLimit 32)) → not q ≡ true → Ran (runOutcome bs js ws out) ShortLedger ws out
+      pub short : (q : Bool) → q ≡ not (ltb (length ws) (wordCount terms 32)) → not q ≡ true → Ran (runOutcome terms bs js ws out) ShortLedger ws out
       unfolding runOutcome mostOf
       short q f g =
-          let t : ltb (length ws) (wordCount entryLimit 32) ≡ true = not-false _ (sym f ∙ not-true _ g) in
+          let t : ltb (length ws) (wordCount terms 32) ≡ true = not-false _ (sym f ∙ not-true _ g) in
           record {
             answered = rw (fits, t);
             left = rw (fits, t);
@@ -156,15 +157,15 @@ module _ (bs js ws : List ℕ) where
             within = λ n i. let z : _≡_ {A = ℕ} 0 1 = cc in absurd (omega arith);
           }
 
-      module _ (l : wordCount entryLimit (mostOf 1) ≤ length ws) (out′ : List ℕ) (same : length out′ ≡ length out) (end : ℕ) where
-        ran : (text words ws′ : List ℕ) → transcript bs js ≡ text → wordsLeft bs js ws ≡ words → RanFrom out 0 text words ws′ out′ end
-            → Ran (runOutcome bs js ws out) (Written end) ws′ out′
+      module _ (l : wordCount terms (mostOf 1) ≤ length ws) (out′ : List ℕ) (same : length out′ ≡ length out) (end : ℕ) where
+        ran : (text words ws′ : List ℕ) → transcript terms bs js ≡ text → wordsLeft terms bs js ws ≡ words → RanFrom out 0 text words ws′ out′ end
+            → Ran (runOutcome terms bs js ws out) (Written end) ws′ out′
         unfolding runOutcome
         ran text words ws′ f g r =
-            let t : ltb (length ws) (wordCount entryLimit (mostOf 1)) ≡ false = le-ltb (length ws) (wordCount entryLimit (mostOf 1)) l in
-            let m : length (transcript bs js) ≡ length text = ap (λ (t : List ℕ). length t) f in
+            let t : ltb (length ws) (wordCount terms (mostOf 1)) ≡ false = le-ltb (length ws) (wordCount terms (mostOf 1)) l in
+            let m : length (transcript terms bs js) ≡ length text = ap (λ (t : List ℕ). length t) f in
             let p = r .wrote .place in
-            let n : end ≡ length (transcript bs js) = omega arith in
+            let n : end ≡ length (transcript terms bs js) = omega arith in
             let s = r .short in
             record {
               answered = rw (fits, t) (ap Written n);
@@ -173,21 +174,21 @@ module _ (bs js ws : List ℕ) where
               within = λ k i. let z : end ≡ k = cc in omega arith;
             }
 
-        ran-long : tooLong ≡ true → Lined out 0 (refusalLine 1) out′ end → Ran (runOutcome bs js ws out) (Written end) ws out′
+        ran-long : tooLong ≡ true → Lined out 0 (refusalLine 1) out′ end → Ran (runOutcome terms bs js ws out) (Written end) ws out′
         ran-long t r = ran (refusalLine 1) ws ws (long-text t) (long-words t) (ran-refused out out′ end 1 ws (line-fits js room (length out) e h) r)
 
-        pub ran-long-plan : mostBytes < length bs → Lined out 0 (refusalLine 1) out′ end → Ran (runOutcome bs js ws out) (Written end) ws out′
+        pub ran-long-plan : mostBytes < length bs → Lined out 0 (refusalLine 1) out′ end → Ran (runOutcome terms bs js ws out) (Written end) ws out′
         ran-long-plan b r = ran-long (long-plan b) r
 
-        pub ran-long-journal : mostBytes < length js → Lined out 0 (refusalLine 1) out′ end → Ran (runOutcome bs js ws out) (Written end) ws out′
+        pub ran-long-journal : mostBytes < length js → Lined out 0 (refusalLine 1) out′ end → Ran (runOutcome terms bs js ws out) (Written end) ws out′
         ran-long-journal b r = ran-long (long-journal b) r
 
         pub ran-back : (n : ℕ) → length bs ≤ mostBytes → length js ≤ mostBytes → readPlan bs ≡ turnedBack n → Lined out 0 (refusalLine n) out′ end
-            → Ran (runOutcome bs js ws out) (Written end) ws out′
+            → Ran (runOutcome terms bs js ws out) (Written end) ws out′
         ran-back n b k f r =
             ran (refusalLine n) ws ws (refused-text n (neither b k) f) (refused-words n (neither b k) f) (ran-refused out out′ end n ws (line-fits js room (length out) e h) r)
 
         pub ran-plan : (c : Counts) (ws′ : List ℕ) → length bs ≤ mostBytes → length js ≤ mostBytes → readPlan bs ≡ accepted c
-            → RanPlan bs js c ws out ws′ out′ end
-            → Ran (runOutcome bs js ws out) (Written end) ws′ out′
+            → RanPlan terms bs js c ws out ws′ out′ end
+            → Ran (runOutcome terms bs js ws out) (Written end) ws′ out′
         ran-plan c ws′ h k f r = ran _ _ ws′ (accepted-text c (neither h k) f l) (accepted-words c (neither h k) f) r

@@ -6,6 +6,7 @@ use journal::tally;
 use journal::tally::Tally;
 use lookup::opens;
 use rules::Counts;
+use rules::Terms;
 use signed::words::join;
 ghost use Prim.Native.Nat.{_+_, _<_, _^_};
 ghost use Rattle.rules.specs.Plan.{planOf, firstState};
@@ -23,11 +24,18 @@ pub struct Progress {
 }
 
 // How far a run has come after a record that left this ledger, wrote its line up to the place and did so many firings.
-fn come_to(c: Counts, ledger: &[u16], from: Progress, place: usize, fired: u32) -> Progress
-    requires { ⌜ Room (now ledger) (c .tracks) × (from .tally .fired + fired < 2 ^ 32) ⌝ }
-    ensures { λ r. ⌜ CameTo c (now (ledger .entry)) from place fired r ⌝ }
+fn come_to(
+    terms: Terms,
+    c: Counts,
+    ledger: &[u16],
+    from: Progress,
+    place: usize,
+    fired: u32,
+) -> Progress
+    requires { ⌜ Room terms (now ledger) (c .tracks) × (from .tally .fired + fired < 2 ^ 32) ⌝ }
+    ensures { λ r. ⌜ CameTo terms c (now (ledger .entry)) from place fired r ⌝ }
 {
-    let held = held::held_total(c, ledger);
+    let held = held::held_total(terms, c, ledger);
     let before = from.tally;
     let after = tally::advanced(before, held, fired);
     Progress {
@@ -37,6 +45,7 @@ fn come_to(c: Counts, ledger: &[u16], from: Progress, place: usize, fired: u32) 
 }
 
 fn carry_out_event(
+    terms: Terms,
     plan: &[u8],
     c: Counts,
     ledger: &mut [u16],
@@ -49,11 +58,12 @@ fn carry_out_event(
     head: &[u16; 256],
     next: &[u16; 256],
 ) -> Progress
-    requires { ⌜ Prepared (now plan) c (now ledger) (now output) from × Tables (now plan) c (now firsts) (now head) (now next) ⌝ }
-    ensures { λ r. ⌜ CarriedOut (now (plan .entry)) c (event (record { event = name; day = day; society = society }))
+    requires { ⌜ Prepared terms (now plan) c (now ledger) (now output) from × Tables (now plan) c (now firsts) (now head) (now next) ⌝ }
+    ensures { λ r. ⌜ CarriedOut terms (now (plan .entry)) c (event (record { event = name; day = day; society = society }))
         (now (ledger .entry)) (now (output .entry)) from (now (ledger .exit)) (now (output .exit)) r ⌝ }
 {
     let answer = event_step::event::event_indexed(
+        terms,
         plan,
         c,
         &mut ledger[..],
@@ -65,10 +75,11 @@ fn carry_out_event(
         next,
     );
     let place = lines::event_line(&mut output[..], from.place, name, answer);
-    come_to(c, &ledger[..], from, place, 0)
+    come_to(terms, c, &ledger[..], from, place, 0)
 }
 
 fn carry_out_signal(
+    terms: Terms,
     plan: &[u8],
     c: Counts,
     ledger: &mut [u16],
@@ -76,16 +87,17 @@ fn carry_out_signal(
     from: Progress,
     society: u16,
 ) -> Progress
-    requires { ⌜ Prepared (now plan) c (now ledger) (now output) from ⌝ }
-    ensures { λ r. ⌜ CarriedOut (now (plan .entry)) c (signal (record { society = society }))
+    requires { ⌜ Prepared terms (now plan) c (now ledger) (now output) from ⌝ }
+    ensures { λ r. ⌜ CarriedOut terms (now (plan .entry)) c (signal (record { society = society }))
         (now (ledger .entry)) (now (output .entry)) from (now (ledger .exit)) (now (output .exit)) r ⌝ }
 {
-    let answer = withdrawal::signal::signal(plan, c, &mut ledger[..], society);
+    let answer = withdrawal::signal::signal(terms, plan, c, &mut ledger[..], society);
     let place = lines::signal_line(&mut output[..], from.place, answer);
-    come_to(c, &ledger[..], from, place, 0)
+    come_to(terms, c, &ledger[..], from, place, 0)
 }
 
 fn carry_out_fire(
+    terms: Terms,
     plan: &[u8],
     c: Counts,
     ledger: &mut [u16],
@@ -95,19 +107,29 @@ fn carry_out_fire(
     society: u16,
     firsts: &[u16; 32],
 ) -> Progress
-    requires { ⌜ Prepared (now plan) c (now ledger) (now output) from × Figures 0 (now firsts) (c .tracks) (firstState (planOf (now plan) c)) ⌝ }
-    ensures { λ r. ⌜ CarriedOut (now (plan .entry)) c (fire (record { track = track; society = society }))
+    requires { ⌜ Prepared terms (now plan) c (now ledger) (now output) from × Figures 0 (now firsts) (c .tracks) (firstState (planOf (now plan) c)) ⌝ }
+    ensures { λ r. ⌜ CarriedOut terms (now (plan .entry)) c (fire (record { track = track; society = society }))
         (now (ledger .entry)) (now (output .entry)) from (now (ledger .exit)) (now (output .exit)) r ⌝ }
 {
-    let opens = opens::open_scopes(plan, c, &ledger[..]);
-    let answer = withdrawal::fire::fire(plan, c, &mut ledger[..], track, society, &opens, firsts);
+    let opens = opens::open_scopes(terms, plan, c, &ledger[..]);
+    let answer = withdrawal::fire::fire(
+        terms,
+        plan,
+        c,
+        &mut ledger[..],
+        track,
+        society,
+        &opens,
+        firsts,
+    );
     let place = lines::fire_line(&mut output[..], from.place, track, answer);
     let fired = tally::firings_of(answer);
-    come_to(c, &ledger[..], from, place, fired)
+    come_to(terms, c, &ledger[..], from, place, fired)
 }
 
 // Fires the lowest ready track that the society may fire, or a track that does not exist.
 fn carry_out_lowest(
+    terms: Terms,
     plan: &[u8],
     c: Counts,
     ledger: &mut [u16],
@@ -116,12 +138,13 @@ fn carry_out_lowest(
     society: u16,
     firsts: &[u16; 32],
 ) -> Progress
-    requires { ⌜ Prepared (now plan) c (now ledger) (now output) from × Figures 0 (now firsts) (c .tracks) (firstState (planOf (now plan) c)) ⌝ }
-    ensures { λ r. ⌜ CarriedOut (now (plan .entry)) c (callAt (now (plan .entry)) c (now (ledger .entry)) (fireLowest society))
+    requires { ⌜ Prepared terms (now plan) c (now ledger) (now output) from × Figures 0 (now firsts) (c .tracks) (firstState (planOf (now plan) c)) ⌝ }
+    ensures { λ r. ⌜ CarriedOut terms (now (plan .entry)) c (callAt terms (now (plan .entry)) c (now (ledger .entry)) (fireLowest society))
         (now (ledger .entry)) (now (output .entry)) from (now (ledger .exit)) (now (output .exit)) r ⌝ }
 {
-    let lowest = held::lowest_ready(plan, c, &ledger[..], society);
+    let lowest = held::lowest_ready(terms, plan, c, &ledger[..], society);
     carry_out_fire(
+        terms,
         plan,
         c,
         &mut ledger[..],
@@ -135,6 +158,7 @@ fn carry_out_lowest(
 
 // Does what the record asks for, given the first state of each track and the index of the transitions.
 pub fn carry_out(
+    terms: Terms,
     plan: &[u8],
     c: Counts,
     ledger: &mut [u16],
@@ -145,15 +169,16 @@ pub fn carry_out(
     head: &[u16; 256],
     next: &[u16; 256],
 ) -> Progress
-    requires { ⌜ Prepared (now plan) c (now ledger) (now output) from × (0 < sizeOf (recordTold found))
+    requires { ⌜ Prepared terms (now plan) c (now ledger) (now output) from × (0 < sizeOf (recordTold found))
         × Tables (now plan) c (now firsts) (now head) (now next) ⌝ }
-    ensures { λ r. ⌜ CarriedOut (now (plan .entry)) c (callAt (now (plan .entry)) c (now (ledger .entry)) (recordTold found))
+    ensures { λ r. ⌜ CarriedOut terms (now (plan .entry)) c (callAt terms (now (plan .entry)) c (now (ledger .entry)) (recordTold found))
         (now (ledger .entry)) (now (output .entry)) from (now (ledger .exit)) (now (output .exit)) r ⌝ }
 {
     match found {
         Record::Ended => from,
         Record::Broken => from,
         Record::Event(event, low, high, society) => carry_out_event(
+            terms,
             plan,
             c,
             &mut ledger[..],
@@ -167,9 +192,18 @@ pub fn carry_out(
             next,
         ),
         Record::Signal(society) => {
-            carry_out_signal(plan, c, &mut ledger[..], &mut output[..], from, society)
+            carry_out_signal(
+                terms,
+                plan,
+                c,
+                &mut ledger[..],
+                &mut output[..],
+                from,
+                society,
+            )
         }
         Record::Fire(track, society) => carry_out_fire(
+            terms,
             plan,
             c,
             &mut ledger[..],
@@ -180,6 +214,7 @@ pub fn carry_out(
             firsts,
         ),
         Record::FireLowest(society) => carry_out_lowest(
+            terms,
             plan,
             c,
             &mut ledger[..],

@@ -9,6 +9,7 @@ use ledger::layout;
 use opening::firsts;
 use rules::Counts;
 use rules::PlanAnswer;
+use rules::Terms;
 ghost use mathlib.Core.Path.{_≡_};
 ghost use Prim.Native.Nat.{_+_, _*_, _≤_};
 ghost use lib.ListN.{length};
@@ -21,8 +22,13 @@ pub const MOST_BYTES: usize = 32768;
 
 const MOST_TRACKS: usize = 32;
 
-// The words of a ledger that serves every plan.
-pub const LEDGER_WORDS: usize = layout::LEADING_WORDS + layout::TRACK_WIDTH * MOST_TRACKS;
+// The most entries that a track holds in the main program.
+pub const MAIN_LIMIT: u16 = 32;
+
+const MAIN_WIDTH: usize = layout::HEAD_WORDS + layout::ENTRY_WIDTH * 32;
+
+// The words of a ledger of the main program that serves every plan.
+pub const LEDGER_WORDS: usize = layout::LEADING_WORDS + MAIN_WIDTH * MOST_TRACKS;
 
 // No line is longer than 24 bytes and no record shorter than 4; three lines stand for no record.
 const ROOM_OF_BYTE: usize = 6;
@@ -50,15 +56,23 @@ pub fn text_room(journal: &[u8]) -> usize
 }
 
 // Begins, and writes the lines of an accepted plan. Answers how many bytes were written.
-fn run_plan(plan: &[u8], c: Counts, journal: &[u8], ledger: &mut [u16], output: &mut [u8]) -> usize
-    requires { ⌜ Lent (now plan) c (now ledger) × (length (now journal) ≤ mostBytes) × (6 * length (now journal) + 72 ≤ length (now output)) ⌝ }
-    ensures { λ r. ⌜ RanPlan (now (plan .entry)) (now (journal .entry)) c
+fn run_plan(
+    terms: Terms,
+    plan: &[u8],
+    c: Counts,
+    journal: &[u8],
+    ledger: &mut [u16],
+    output: &mut [u8],
+) -> usize
+    requires { ⌜ Lent terms (now plan) c (now ledger) × (length (now journal) ≤ mostBytes) × (6 * length (now journal) + 72 ≤ length (now output)) ⌝ }
+    ensures { λ r. ⌜ RanPlan terms (now (plan .entry)) (now (journal .entry)) c
         (now (ledger .entry)) (now (output .entry)) (now (ledger .exit)) (now (output .exit)) r ⌝ }
 {
     let start = plan_line(&mut output[..], 0, c);
     let firsts = firsts::first_states(plan, c);
-    opening::begin::begin_all(plan, c, &mut ledger[..], &firsts);
+    opening::begin::begin_all(terms, plan, c, &mut ledger[..], &firsts);
     run_records(
+        terms,
         plan,
         c,
         journal,
@@ -70,15 +84,21 @@ fn run_plan(plan: &[u8], c: Counts, journal: &[u8], ledger: &mut [u16], output: 
 }
 
 // Writes the text of a plan and a journal into the output. Where the output or the ledger is too small, nothing is written.
-pub fn run(plan: &[u8], journal: &[u8], ledger: &mut [u16], output: &mut [u8]) -> RunAnswer
-    ensures { λ r. ⌜ Ran (runOutcome (now (plan .entry)) (now (journal .entry)) (now (ledger .entry)) (now (output .entry))) r
+pub fn run(
+    terms: Terms,
+    plan: &[u8],
+    journal: &[u8],
+    ledger: &mut [u16],
+    output: &mut [u8],
+) -> RunAnswer
+    ensures { λ r. ⌜ Ran (runOutcome terms (now (plan .entry)) (now (journal .entry)) (now (ledger .entry)) (now (output .entry))) r
         (now (ledger .exit)) (now (output .exit)) ⌝ }
 {
     let room = text_room(journal);
     if output.len() < room {
         return RunAnswer::TooSmall(room);
     }
-    if !layout::has_room(&ledger[..], MOST_TRACKS) {
+    if !layout::has_room(terms, &ledger[..], MOST_TRACKS) {
         return RunAnswer::ShortLedger;
     }
     if MOST_BYTES < plan.len() {
@@ -91,7 +111,7 @@ pub fn run(plan: &[u8], journal: &[u8], ledger: &mut [u16], output: &mut [u8]) -
     match answer {
         PlanAnswer::Refused(n) => RunAnswer::Written(refusal_line(&mut output[..], 0, n)),
         PlanAnswer::Accepted(c) => {
-            let n = run_plan(plan, c, journal, &mut ledger[..], &mut output[..]);
+            let n = run_plan(terms, plan, c, journal, &mut ledger[..], &mut output[..]);
             RunAnswer::Written(n)
         }
     }

@@ -9,6 +9,7 @@ use journal::record::record_at;
 use journal::record::size_of;
 use journal::tally::Tally;
 use rules::Counts;
+use rules::Terms;
 ghost use mathlib.Core.Path.{_≡_};
 ghost use Prim.Native.Nat.{_+_, _*_, _≤_};
 ghost use lib.ListN.{length};
@@ -50,6 +51,7 @@ fn close(found: Record, output: &mut [u8], from: Progress) -> usize
 // Writes the lines of the records and the last line from a place of the output on, given the first state of each track. Answers the place after
 // them. The index of the plan is made once, before the records.
 pub fn run_records(
+    terms: Terms,
     plan: &[u8],
     c: Counts,
     journal: &[u8],
@@ -58,16 +60,16 @@ pub fn run_records(
     start: usize,
     firsts: &[u16; 32],
 ) -> usize
-    requires { ⌜ Checked (now plan) c (now ledger) × (length (now journal) ≤ mostBytes)
+    requires { ⌜ Checked terms (now plan) c (now ledger) × (length (now journal) ≤ mostBytes)
         × (start + 6 * length (now journal) + 2 * lineRoom ≤ length (now output))
         × Figures 0 (now firsts) (c .tracks) (firstState (planOf (now plan) c)) ⌝ }
-    ensures { λ r. ⌜ RanRecords (now (plan .entry)) (now (journal .entry)) c
+    ensures { λ r. ⌜ RanRecords terms (now (plan .entry)) (now (journal .entry)) c
         (now (ledger .entry)) (now (output .entry)) start (now (ledger .exit)) (now (output .exit)) r ⌝ }
 {
     let index = transition_index::index(plan, c);
     let head = index.head;
     let chain = index.next;
-    let held = held::held_total(c, &ledger[..]);
+    let held = held::held_total(terms, c, &ledger[..]);
     let tally = Tally {
         held: held,
         fired: 0,
@@ -84,6 +86,7 @@ pub fn run_records(
             return close(found, &mut output[..], so_far);
         }
         let next = carry_out(
+            terms,
             plan,
             c,
             &mut ledger[..],

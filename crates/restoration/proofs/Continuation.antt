@@ -13,6 +13,7 @@ use lib.Dec.{eqb}
 use borrow.Author.Tests.{eqb-true}
 use Rattle.rules.specs.declared.Counts.{Counts}
 use Rattle.rules.specs.Names.{Day}
+use Rattle.rules.specs.declared.Terms.{Terms}
 use Rattle.rules.specs.Fold.{someBelow}
 use Rattle.rules.specs.Plan.{Plan, trackCount, planOf, optional, host, owner, isFinal}
 use Rattle.rules.specs.Acceptance.{accepted, readPlan}
@@ -52,30 +53,30 @@ use Rattle.restoration.proofs.Restoration.{history-holds, restored}
 use Rattle.restoration.proofs.Allowed.{signal-allowed, fire-allowed, fire-done}
 
 -- The ledger after a signal, and after a firing.
-module _ (limit : ℕ) (p : Plan) (ok : Accepted p) (signaller : ℕ) (firer : ℕ → ℕ) (able : MayWithdraw p signaller firer) (d : Day) (l : Ledger) (s : Sound limit p l) where
+module _ (terms : Terms) (p : Plan) (ok : Accepted p) (signaller : ℕ) (firer : ℕ → ℕ) (able : MayWithdraw p signaller firer) (d : Day) (l : Ledger) (s : Sound terms p l) where
   abbrev a : SignalArguments
   a = record { society = signaller }
 
   abbrev at : ℕ → FireArguments
   at t = record { track = t; society = firer t }
 
-  signal-taken : callRefusal limit p d l (signal a) ≡ 0
+  signal-taken : callRefusal terms p d l (signal a) ≡ 0
   signal-taken =
-      signal-allowed limit p d l a (sound-not-over limit p ok l s)
+      signal-allowed terms p d l a (sound-not-over terms p ok l s)
       (permitted-somewhere p signalRight signaller 0 (able .signals 0 (ok .some-track) (root-zero p ok)))
 
   unended : isFinishing p (abandoned p (turned p signaller l)) ≡ false
   unended = signal-unended p ok a l (able .signals)
 
-  signalled : next limit p d l (signal a) ≡ abandoned p (turned p signaller l)
+  signalled : next terms p d l (signal a) ≡ abandoned p (turned p signaller l)
   unfolding after afterSignal
-  signalled = next-accepted limit p d l (signal a) signal-taken ∙ finish-not p (abandoned p (turned p signaller l)) unended
+  signalled = next-accepted terms p d l (signal a) signal-taken ∙ finish-not p (abandoned p (turned p signaller l)) unended
 
-  signalled-sound : Sound limit p (next limit p d l (signal a))
-  signalled-sound = subst (Sound limit p) (sym signalled) (signal-sound limit p ok l s a unended)
+  signalled-sound : Sound terms p (next terms p d l (signal a))
+  signalled-sound = subst (Sound terms p) (sym signalled) (signal-sound terms p ok l s a unended)
 
-  signalled-fewer : heldTotal p (next limit p d l (signal a)) ≤ heldTotal p l
-  signalled-fewer = let i = call-fewer laws01 limit p ok d l (seam.signal a) signal-taken refl in omega arith
+  signalled-fewer : heldTotal p (next terms p d l (signal a)) ≤ heldTotal p l
+  signalled-fewer = let i = call-fewer laws01 terms p ok d l (seam.signal a) signal-taken refl in omega arith
 
   -- the society may turn every track, as it may their roots
   turns-all : (t : ℕ) → t < trackCount p → isPermitted p signalRight signaller t ≡ true
@@ -91,12 +92,12 @@ module _ (limit : ℕ) (p : Plan) (ok : Accepted p) (signaller : ℕ) (firer : �
       ])
 
   -- no track is forward
-  none-forward : (t : ℕ) → isForward (next limit p d l (signal a) t .mode) ≡ false
+  none-forward : (t : ℕ) → isForward (next terms p d l (signal a) t .mode) ≡ false
   none-forward t =
-      refuted (isForward (next limit p d l (signal a) t .mode))
+      refuted (isForward (next terms p d l (signal a) t .mode))
       (λ f.
       let g : isForward (abandoned p (turned p signaller l) t .mode) ≡ true = ap (λ (m : Ledger). isForward (m t .mode)) (sym signalled) ∙ f in
-      let b = signalled-sound .formed .nested .below t (forward-awake (next limit p d l (signal a) t .mode) f) in
+      let b = signalled-sound .formed .nested .below t (forward-awake (next terms p d l (signal a) t .mode) f) in
       clash (turns-all t b) (signal-forward p ok a l t g .0))
 
   module _ (t : ℕ) (may : mayFire p l t ≡ true) where
@@ -111,7 +112,7 @@ module _ (limit : ℕ) (p : Plan) (ok : Accepted p) (signaller : ℕ) (firer : �
               elim (look-option (optional (newest (l t .held) .deviation))) [
                 | inl v ↦ stays u b e (deviates-not p l t v u)
                 | inr v ↦
-                    subst (λ x. isEnded p (abandoned p (fired p l t)) x ≡ false) (sym (eqb-true u t k)) (deviated-unended limit p ok l s t may (v .0) (v .1))
+                    subst (λ x. isEnded p (abandoned p (fired p l t)) x ≡ false) (sym (eqb-true u t k)) (deviated-unended terms p ok l s t may (v .0) (v .1))
               ]
         ])
       where
@@ -123,26 +124,26 @@ module _ (limit : ℕ) (p : Plan) (ok : Accepted p) (signaller : ℕ) (firer : �
 
         stays : (u : ℕ) → u < trackCount p → host p u ≡ none → deviatesTo l t u ≡ none → isEnded p (abandoned p (fired p l t)) u ≡ false
         stays u b e v =
-            let q = fired-still p l t ok n good (may-fire p l t may .3) (fired-awake laws01 limit p ok l s t may) u (s .roots u b e) v in
+            let q = fired-still p l t ok n good (may-fire p l t may .3) (fired-awake laws01 terms p ok l s t may) u (s .roots u b e) v in
             let m : abandoned p (fired p l t) u .mode ≡ l u .mode =
-            ap (λ (c : Configuration). c .mode) (fired-root laws01 limit p ok l s t may u e ∙ q) ∙ removed-mode p l t u in
+            ap (λ (c : Configuration). c .mode) (fired-root laws01 terms p ok l s t may u e ∙ q) ∙ removed-mode p l t u in
             ap (λ x. isForward x && isFinal p (abandoned p (fired p l t) u .state)) m
             ∙ ap (λ x. x && isFinal p (abandoned p (fired p l t) u .state)) (unforward u)
 
-    fire-taken : callRefusal limit p d l (fire (at t)) ≡ 0
-    fire-taken = fire-allowed limit p d l (at t) may (able .fires t (may-fire p l t may .0))
+    fire-taken : callRefusal terms p d l (fire (at t)) ≡ 0
+    fire-taken = fire-allowed terms p d l (at t) may (able .fires t (may-fire p l t may .0))
 
-    fired-so : ((u : ℕ) → isForward (l u .mode) ≡ false) → next limit p d l (fire (at t)) ≡ abandoned p (fired p l t)
+    fired-so : ((u : ℕ) → isForward (l u .mode) ≡ false) → next terms p d l (fire (at t)) ≡ abandoned p (fired p l t)
     unfolding after afterFire
     fired-so still =
-        next-accepted limit p d l (fire (at t)) fire-taken
+        next-accepted terms p d l (fire (at t)) fire-taken
         ∙ finish-not p (abandoned p (fired p l t)) (fired-unended still)
 
-    fired-sound : ((u : ℕ) → isForward (l u .mode) ≡ false) → Sound limit p (next limit p d l (fire (at t)))
-    fired-sound still = subst (Sound limit p) (sym (fired-so still)) (fire-sound limit p ok l s t may (fired-unended still))
+    fired-sound : ((u : ℕ) → isForward (l u .mode) ≡ false) → Sound terms p (next terms p d l (fire (at t)))
+    fired-sound still = subst (Sound terms p) (sym (fired-so still)) (fire-sound terms p ok l s t may (fired-unended still))
 
-    fired-fewer : heldTotal p (next limit p d l (fire (at t))) < heldTotal p l
-    fired-fewer = let i = call-fewer laws01 limit p ok d l (seam.fire (at t)) fire-taken refl in omega arith
+    fired-fewer : heldTotal p (next terms p d l (fire (at t))) < heldTotal p l
+    fired-fewer = let i = call-fewer laws01 terms p ok d l (seam.fire (at t)) fire-taken refl in omega arith
 
   -- a sound ledger without a forward track where no firing is allowed is withdrawn
   withdrawn : ((t : ℕ) → isForward (l t .mode) ≡ false) → ((t : ℕ) → t < trackCount p → mayFire p l t ≡ false) → AllWithdrawn p l
@@ -150,24 +151,24 @@ module _ (limit : ℕ) (p : Plan) (ok : Accepted p) (signaller : ℕ) (firer : �
       let u : isUndoing (l t .mode) ≡ true = awake-undoing (l t .mode) (s .roots t b (root-none p t r)) (f t) in
       record {
         undoing = undoing-is (l t .mode) u;
-        empty = elim (look (isEmpty (l t .held))) [ inl e ↦ empty-nil (l t .held) e | inr e ↦ no-firing (some-firing limit p ok l s t u (inl e)) ];
-        shut = elim (look (hasOpenScope p l t)) [ inr o ↦ o | inl o ↦ no-firing (some-firing limit p ok l s t u (inr o)) ];
+        empty = elim (look (isEmpty (l t .held))) [ inl e ↦ empty-nil (l t .held) e | inr e ↦ no-firing (some-firing terms p ok l s t u (inl e)) ];
+        shut = elim (look (hasOpenScope p l t)) [ inr o ↦ o | inl o ↦ no-firing (some-firing terms p ok l s t u (inr o)) ];
       }
     where
       no-firing : {A : Type 0} → (u : ℕ) × (mayFire p l u ≡ true) → A
       no-firing h = clash (h .1) (n (h .0) (may-fire p l (h .0) (h .1) .0))
 
-module _ (limit : ℕ) (bs : List ℕ) (k : Counts) (read : readPlan bs ≡ accepted k) where
+module _ (terms : Terms) (bs : List ℕ) (k : Counts) (read : readPlan bs ≡ accepted k) where
   abbrev p : Plan
   p = planOf bs k
 
   abbrev ok : Accepted p
   ok = accepts bs k read
 
-  pub words-append : (cs ds : List Call) (ws : List ℕ) → wordsFrom limit bs ws (cs ++ ds) ≡ wordsFrom limit bs (wordsFrom limit bs ws cs) ds
+  pub words-append : (cs ds : List Call) (ws : List ℕ) → wordsFrom terms bs ws (cs ++ ds) ≡ wordsFrom terms bs (wordsFrom terms bs ws cs) ds
   unfolding wordsFrom
   words-append [] ds ws = refl
-  words-append (c ∷ cs) ds ws = words-append cs ds (callOutcome limit bs ws c .words)
+  words-append (c ∷ cs) ds ws = words-append cs ds (callOutcome terms bs ws c .words)
 
   module _ (signaller : ℕ) (firer : ℕ → ℕ) (able : MayWithdraw p signaller firer) where
     abbrev S : Call
@@ -180,42 +181,42 @@ module _ (limit : ℕ) (bs : List ℕ) (k : Counts) (read : readPlan bs ≡ acce
     way ts = withdrawing signaller firer ts
 
     -- a signal withdraws every root, or a firing is allowed after it
-    step : (ws : List ℕ) (d : Day) (l : Ledger) → Holds limit bs k read ws d l → Sound limit p l
-        → AllWithdrawn p (ledgerAt limit (callOutcome limit bs ws S .words) (trackCount p))
+    step : (ws : List ℕ) (d : Day) (l : Ledger) → Holds terms bs k read ws d l → Sound terms p l
+        → AllWithdrawn p (ledgerAt terms (callOutcome terms bs ws S .words) (trackCount p))
         ⊎ ((t : ℕ) × (e : Day) × (m : Ledger)
-        × Holds limit bs k read (callOutcome limit bs (callOutcome limit bs ws S .words) (F t) .words) e m
-        × Sound limit p m × (heldTotal p m < heldTotal p l)
-        × (firingsOf (F t) (callOutcome limit bs (callOutcome limit bs ws S .words) (F t) .answer) ≡ 1))
+        × Holds terms bs k read (callOutcome terms bs (callOutcome terms bs ws S .words) (F t) .words) e m
+        × Sound terms p m × (heldTotal p m < heldTotal p l)
+        × (firingsOf (F t) (callOutcome terms bs (callOutcome terms bs ws S .words) (F t) .answer) ≡ 1))
     unfolding firingsOf
     step ws d l h s =
-        let e = nextDay limit p d l S in
-        let m = next limit p d l S in
-        let ws′ = callOutcome limit bs ws S .words in
-        let g = call-holds limit bs k read ws d l h S in
-        let v = signalled-sound limit p ok signaller firer able d l s in
+        let e = nextDay terms p d l S in
+        let m = next terms p d l S in
+        let ws′ = callOutcome terms bs ws S .words in
+        let g = call-holds terms bs k read ws d l h S in
+        let v = signalled-sound terms p ok signaller firer able d l s in
         elim (look (someBelow (trackCount p) (mayFire p m))) [
           | inr f ↦
               inl
               (subst (AllWithdrawn p) (sym (g .reads))
-              (withdrawn limit p ok signaller firer able e m v (none-forward limit p ok signaller firer able d l s) (some-not (trackCount p) (mayFire p m) f)))
+              (withdrawn terms p ok signaller firer able e m v (none-forward terms p ok signaller firer able d l s) (some-not (trackCount p) (mayFire p m) f)))
           | inl f ↦
               let (t, c, may) = some-find (trackCount p) (mayFire p m) f in
-              let x = signalled-fewer limit p ok signaller firer able d l s in
-              let y = fired-fewer limit p ok signaller firer able e m v t may in
+              let x = signalled-fewer terms p ok signaller firer able d l s in
+              let y = fired-fewer terms p ok signaller firer able e m v t may in
               inr (
                 t,
-                nextDay limit p e m (F t),
-                next limit p e m (F t),
-                call-holds limit bs k read ws′ e m g (F t),
-                fired-sound limit p ok signaller firer able e m v t may (none-forward limit p ok signaller firer able d l s),
+                nextDay terms p e m (F t),
+                next terms p e m (F t),
+                call-holds terms bs k read ws′ e m g (F t),
+                fired-sound terms p ok signaller firer able e m v t may (none-forward terms p ok signaller firer able d l s),
                 omega arith,
-                rw (fire-done limit bs k read ws′ e m g t may (firer t) (able .fires t c)),
+                rw (fire-done terms bs k read ws′ e m g t may (firer t) (able .fires t c)),
               )
         ]
 
     -- the firings that a list does on words
     abbrev done-from : List ℕ → List Call → ℕ
-    done-from ws cs = firingsIn cs (answersFrom limit bs ws cs)
+    done-from ws cs = firingsIn cs (answersFrom terms bs ws cs)
 
     signal-fires-none : (r : Answer) → firingsOf S r ≡ 0
     unfolding firingsOf
@@ -223,15 +224,15 @@ module _ (limit : ℕ) (bs : List ℕ) (k : Counts) (read : readPlan bs ≡ acce
     signal-fires-none (done fs) = refl
 
     -- from sound words, with at most as many firings as entries are held, each of them done
-    onward : (n : ℕ) (ws : List ℕ) (d : Day) (l : Ledger) → Holds limit bs k read ws d l → Sound limit p l → heldTotal p l ≤ n
+    onward : (n : ℕ) (ws : List ℕ) (d : Day) (l : Ledger) → Holds terms bs k read ws d l → Sound terms p l → heldTotal p l ≤ n
         → (ts : List ℕ) × (length ts ≤ n) × (done-from ws (way ts) ≡ length ts)
-        × AllWithdrawn p (ledgerAt limit (wordsFrom limit bs ws (way ts)) (trackCount p))
+        × AllWithdrawn p (ledgerAt terms (wordsFrom terms bs ws (way ts)) (trackCount p))
     unfolding wordsFrom answersFrom firingsIn withdrawing
     onward zero ws d l h s b =
-        let z = signal-fires-none (callOutcome limit bs ws S .answer) in
+        let z = signal-fires-none (callOutcome terms bs ws S .answer) in
         elim (step ws d l h s) [ inl w ↦ ([], omega arith, omega arith, w) | inr r ↦ let f = r .5 in absurd (omega arith) ]
     onward (suc n) ws d l h s b =
-        let z = signal-fires-none (callOutcome limit bs ws S .answer) in
+        let z = signal-fires-none (callOutcome terms bs ws S .answer) in
         elim (step ws d l h s) [
           | inl w ↦ ([], omega arith, omega arith, w)
           | inr r ↦
@@ -243,21 +244,21 @@ module _ (limit : ℕ) (bs : List ℕ) (k : Counts) (read : readPlan bs ≡ acce
 
     -- Every list that does not end over can be continued by signals and at most `limit` firings for each track, all of them done, until every
     -- root is withdrawn,
-    pub withdrawable : (lent : List ℕ) (cs : List Call) → beginOutcome limit bs lent .answer ≡ done [] → isOver p (ledgerAfter limit bs p lent cs) ≡ false
-        → (ts : List ℕ) × (length ts ≤ limit * trackCount p)
-        × (firingsIn (way ts) (answersFrom limit bs (wordsAfter limit bs lent cs) (way ts)) ≡ length ts)
-        × AllWithdrawn p (ledgerAfter limit bs p lent (cs ++ way ts))
+    pub withdrawable : (lent : List ℕ) (cs : List Call) → beginOutcome terms bs lent .answer ≡ done [] → isOver p (ledgerAfter terms bs p lent cs) ≡ false
+        → (ts : List ℕ) × (length ts ≤ terms .limit * trackCount p)
+        × (firingsIn (way ts) (answersFrom terms bs (wordsAfter terms bs lent cs) (way ts)) ≡ length ts)
+        × AllWithdrawn p (ledgerAfter terms bs p lent (cs ++ way ts))
     unfolding ledgerAfter wordsAfter
     withdrawable lent cs h o =
-        let l = ledgerAfter limit bs p lent cs in
-        let g = history-holds limit bs k read lent cs h in
+        let l = ledgerAfter terms bs p lent cs in
+        let g = history-holds terms bs k read lent cs h in
         let (ts, b, d, w) =
-        onward (limit * trackCount p) (wordsAfter limit bs lent cs) _ l g (kept-sound limit p l (g .kept) o) (most-held laws01 limit p ok l (g .kept)) in
-        (ts, b, d, subst (λ ws. AllWithdrawn p (ledgerAt limit ws (trackCount p))) (sym (words-append cs (way ts) (beginOutcome limit bs lent .words))) w)
+        onward (terms .limit * trackCount p) (wordsAfter terms bs lent cs) _ l g (kept-sound terms p l (g .kept) o) (most-held laws01 terms p ok l (g .kept)) in
+        (ts, b, d, subst (λ ws. AllWithdrawn p (ledgerAt terms ws (trackCount p))) (sym (words-append cs (way ts) (beginOutcome terms bs lent .words))) w)
 
     -- and then all books stand as at the begin.
-    pub restorable : (lent : List ℕ) (cs : List Call) → beginOutcome limit bs lent .answer ≡ done [] → isOver p (ledgerAfter limit bs p lent cs) ≡ false
-        → (ts : List ℕ) × (length ts ≤ limit * trackCount p) × ((b : Books p limit) (x : b .State) → booksAfter limit bs p b lent (cs ++ way ts) x ≡ x)
+    pub restorable : (lent : List ℕ) (cs : List Call) → beginOutcome terms bs lent .answer ≡ done [] → isOver p (ledgerAfter terms bs p lent cs) ≡ false
+        → (ts : List ℕ) × (length ts ≤ terms .limit * trackCount p) × ((b : Books p terms) (x : b .State) → booksAfter terms bs p b lent (cs ++ way ts) x ≡ x)
     restorable lent cs h o =
         let (ts, n, d, w) = withdrawable lent cs h o in
-        (ts, n, λ b x. restored limit bs k read b lent (cs ++ way ts) h x w)
+        (ts, n, λ b x. restored terms bs k read b lent (cs ++ way ts) h x w)

@@ -12,7 +12,7 @@ use lib.ListN.{length}
 use lib.Dec.{eqb}
 use Rattle.rules.specs.declared.Counts.{Counts}
 use Rattle.rules.specs.Plan.{Plan, planOf, transition, host, owner, replacement, mover, isAbove}
-use Rattle.rules.specs.Layout.{entryLimit}
+use Rattle.rules.specs.Layout.{mainTerms}
 use Rattle.rules.specs.Call.{Call, event, signal, fire}
 use Rattle.rules.specs.Books.{Apart, Deed, change, retraction, replacing, act}
 use Rattle.rules.specs.ReferenceRun.{ledgerAfter, AllWithdrawn}
@@ -27,7 +27,7 @@ use Rattle.restoration.proofs.Restoration.{freely-restored}
 -- that retractions commute need not be asked: the claim holds without it, and so with it
 pub retractions-free : Claim changesAlone
 retractions-free bs c read k lent cs h w b =
-    freely-restored entryLimit bs c read
+    freely-restored mainTerms bs c read
     (record {
       State = k .State;
       changed = k .changed;
@@ -35,7 +35,7 @@ retractions-free bs c read k lent cs h w b =
       nothing = λ a d b. k .nothing refl b;
       undo = λ a x l b. k .undo x l refl b;
       undo-run = λ s t e a w f b.
-          ap (k .retracted (replacement (planOf bs c) s)) (sym (same-act (k .changed) w b)) ∙ k .undo-run s t e refl w (to-finished (planOf bs c) entryLimit f) b;
+          ap (k .retracted (replacement (planOf bs c) s)) (sym (same-act (k .changed) w b)) ∙ k .undo-run s t e refl w (to-finished (planOf bs c) mainTerms f) b;
       commute = λ a c x y l m n b. k .commute refl x y l m n b;
     })
     lent cs h b w
@@ -89,7 +89,7 @@ module _ (code : ℕ) where
   apart-C t u a d e = absurd (a .two (one-track d ∙ sym (one-track e)))
 
   -- the changes are counted, and nothing is taken off
-  counted : (f : ℕ → Bool) → f (transition (C code) 0 .code) ≡ false → Lenient (C code) entryLimit (undoneWhere f)
+  counted : (f : ℕ → Bool) → f (transition (C code) 0 .code) ≡ false → Lenient (C code) mainTerms (undoneWhere f)
   unfolding computing planC
   counted f z =
       record {
@@ -108,7 +108,7 @@ module _ (code : ℕ) where
       codeless (suc x) l h = absurd (omega arith)
 
 -- the changes are counted, and code 0 takes one off
-uncounted : Lenient (C 0) entryLimit withoutNothing
+uncounted : Lenient (C 0) mainTerms withoutNothing
 unfolding computing planC
 uncounted =
     record {
@@ -123,12 +123,12 @@ uncounted =
     }
 
 -- the list with code 0, with code 5, and its end
-zero-C : AllWithdrawn (C 0) (ledgerAfter entryLimit (planC 0) (C 0) (lentFor 1) calls)
+zero-C : AllWithdrawn (C 0) (ledgerAfter mainTerms (planC 0) (C 0) (lentFor 1) calls)
 unfolding computing planC
 zero-C zero l r = record { undoing = refl; empty = refl; shut = refl }
 zero-C (suc t) l r = absurd (omega arith)
 
-real-C : AllWithdrawn (C 5) (ledgerAfter entryLimit (planC 5) (C 5) (lentFor 1) calls)
+real-C : AllWithdrawn (C 5) (ledgerAfter mainTerms (planC 5) (C 5) (lentFor 1) calls)
 unfolding computing planC
 real-C zero l r = record { undoing = refl; empty = refl; shut = refl }
 real-C (suc t) l r = absurd (omega arith)
@@ -187,7 +187,7 @@ module _ (code : ℕ) where
   two-tracks (replacing s t e) = inl (ap (owner (R code)) (one-host t s e))
 
   -- the changes are counted, code 5 takes one off, and the replacement nothing
-  dropped : (f : ℕ → Bool) → f (replacement (R code) 0) ≡ false → Lenient (R code) entryLimit (replacedWhere f)
+  dropped : (f : ℕ → Bool) → f (replacement (R code) 0) ≡ false → Lenient (R code) mainTerms (replacedWhere f)
   unfolding computing planR
   dropped f z =
       record {
@@ -219,7 +219,7 @@ unfolding computing planR dropped freely freelyBooked freelyCall act
 replacement-zero-needed claim =
     let z : _≡_ {A = ℕ} 1 0 = claim (planR 0) countsR refl (dropped 0 onlyReal refl) (lentFor 2) calls refl withdrawn 0 in omega arith
   where
-    withdrawn : AllWithdrawn (R 0) (ledgerAfter entryLimit (planR 0) (R 0) (lentFor 2) calls)
+    withdrawn : AllWithdrawn (R 0) (ledgerAfter mainTerms (planR 0) (R 0) (lentFor 2) calls)
     withdrawn zero l r = record { undoing = refl; empty = refl; shut = refl }
     withdrawn (suc zero) l r = clash r refl
     withdrawn (suc (suc t)) l r = absurd (omega arith)
@@ -230,7 +230,7 @@ unfolding computing planR dropped freely freelyBooked freelyCall act
 undo-run-asked f e claim =
     let z : _≡_ {A = ℕ} 1 0 = claim (planR 9) countsR refl (dropped 9 f e) (lentFor 2) calls refl withdrawn 0 in omega arith
   where
-    withdrawn : AllWithdrawn (R 9) (ledgerAfter entryLimit (planR 9) (R 9) (lentFor 2) calls)
+    withdrawn : AllWithdrawn (R 9) (ledgerAfter mainTerms (planR 9) (R 9) (lentFor 2) calls)
     withdrawn zero l r = record { undoing = refl; empty = refl; shut = refl }
     withdrawn (suc zero) l r = clash r refl
     withdrawn (suc (suc t)) l r = absurd (omega arith)
@@ -265,7 +265,7 @@ unhosted (suc zero) s e = none-some refl e
 unhosted (suc (suc t)) s e = none-some refl e
 
 -- one pile for both tracks: a change puts its transition on top, and its code, 5 more, takes it off where it lies on top
-piled : Lenient W entryLimit withoutCommuting
+piled : Lenient W mainTerms withoutCommuting
 unfolding computing planW without
 piled =
     record {
@@ -295,7 +295,7 @@ commute-needed claim =
     made : List Call
     made = event (record { event = 1; day = pos 0; society = 1 }) ∷ signal (record { society = 1 }) ∷ fire (record { track = 0; society = 1 }) ∷ fire (record { track = 1; society = 1 }) ∷ []
 
-    withdrawn : AllWithdrawn W (ledgerAfter entryLimit planW W (lentFor 2) made)
+    withdrawn : AllWithdrawn W (ledgerAfter mainTerms planW W (lentFor 2) made)
     withdrawn zero l r = record { undoing = refl; empty = refl; shut = refl }
     withdrawn (suc zero) l r = record { undoing = refl; empty = refl; shut = refl }
     withdrawn (suc (suc t)) l r = absurd (omega arith)

@@ -13,6 +13,7 @@ use lib.Signed.{leZ}
 use borrow.Author.Tests.{eqb-true}
 use Rattle.rules.specs.declared.Counts.{Counts}
 use Rattle.rules.specs.Names.{Day}
+use Rattle.rules.specs.declared.Terms.{Terms}
 use Rattle.rules.specs.Day.{isDay}
 use Rattle.rules.specs.Fold.{firstRefusal}
 use Rattle.rules.specs.Plan.{Plan, planOf, windowCount, window, isWithin, mayTake, takenOn, transitionFor}
@@ -35,70 +36,70 @@ use Rattle.restoration.proofs.Restoration.{history-holds}
 use Rattle.restoration.proofs.Continuation.{words-append}
 
 -- A call by the rules: the day rises or stays, and stays in range.
-module _ (limit : ℕ) (p : Plan) (d : Day) (l : Ledger) where
-  accepted-rises : (c : Call) → callRefusal limit p d l c ≡ 0 → leZ d (dayAfter d c) ≡ true
+module _ (terms : Terms) (p : Plan) (d : Day) (l : Ledger) where
+  accepted-rises : (c : Call) → callRefusal terms p d l c ≡ 0 → leZ d (dayAfter d c) ≡ true
   unfolding dayAfter
-  accepted-rises (event a) z = good-day d (a .day) (event-day limit p d l a z) .1
+  accepted-rises (event a) z = good-day d (a .day) (event-day terms p d l a z) .1
   accepted-rises (signal a) z = day-same d
   accepted-rises (fire a) z = day-same d
 
-  accepted-in-range : isDay d ≡ true → (c : Call) → callRefusal limit p d l c ≡ 0 → isDay (dayAfter d c) ≡ true
+  accepted-in-range : isDay d ≡ true → (c : Call) → callRefusal terms p d l c ≡ 0 → isDay (dayAfter d c) ≡ true
   unfolding dayAfter
-  accepted-in-range h (event a) z = good-day d (a .day) (event-day limit p d l a z) .0
+  accepted-in-range h (event a) z = good-day d (a .day) (event-day terms p d l a z) .0
   accepted-in-range h (signal a) z = h
   accepted-in-range h (fire a) z = h
 
-  pub next-rises : (c : Call) → leZ d (nextDay limit p d l c) ≡ true
-  next-rises c = go (callRefusal limit p d l c) refl
+  pub next-rises : (c : Call) → leZ d (nextDay terms p d l c) ≡ true
+  next-rises c = go (callRefusal terms p d l c) refl
     where
-      go : (r : ℕ) → callRefusal limit p d l c ≡ r → leZ d (nextDay limit p d l c) ≡ true
-      go zero e = rw (day-accepted limit p d l c e) (accepted-rises c e)
-      go (suc r) e = rw (day-refused limit p d l c (λ z. let w : suc r ≡ 0 = sym e ∙ z in omega arith)) (day-same d)
+      go : (r : ℕ) → callRefusal terms p d l c ≡ r → leZ d (nextDay terms p d l c) ≡ true
+      go zero e = rw (day-accepted terms p d l c e) (accepted-rises c e)
+      go (suc r) e = rw (day-refused terms p d l c (λ z. let w : suc r ≡ 0 = sym e ∙ z in omega arith)) (day-same d)
 
-  pub next-in-range : isDay d ≡ true → (c : Call) → isDay (nextDay limit p d l c) ≡ true
-  next-in-range h c = go (callRefusal limit p d l c) refl
+  pub next-in-range : isDay d ≡ true → (c : Call) → isDay (nextDay terms p d l c) ≡ true
+  next-in-range h c = go (callRefusal terms p d l c) refl
     where
-      go : (r : ℕ) → callRefusal limit p d l c ≡ r → isDay (nextDay limit p d l c) ≡ true
-      go zero e = rw (day-accepted limit p d l c e) (accepted-in-range h c e)
-      go (suc r) e = rw (day-refused limit p d l c (λ z. let w : suc r ≡ 0 = sym e ∙ z in omega arith)) h
+      go : (r : ℕ) → callRefusal terms p d l c ≡ r → isDay (nextDay terms p d l c) ≡ true
+      go zero e = rw (day-accepted terms p d l c e) (accepted-in-range h c e)
+      go (suc r) e = rw (day-refused terms p d l c (λ z. let w : suc r ≡ 0 = sym e ∙ z in omega arith)) h
 
 -- what lists of calls reach has a day in range
-pub reached-in-range : (p : Plan) (limit : ℕ) {d : Day} {l : Ledger} → Reached p limit d l → isDay d ≡ true
-reached-in-range p limit start = earliest-is
-reached-in-range p limit (then {d = d} {l = l} r c) = next-in-range limit p d l (reached-in-range p limit r) c
+pub reached-in-range : (p : Plan) (terms : Terms) {d : Day} {l : Ledger} → Reached p terms d l → isDay d ≡ true
+reached-in-range p terms start = earliest-is
+reached-in-range p terms (then {d = d} {l = l} r c) = next-in-range terms p d l (reached-in-range p terms r) c
 
 -- On words.
-module _ (limit : ℕ) (bs : List ℕ) (k : Counts) (read : readPlan bs ≡ accepted k) where
+module _ (terms : Terms) (bs : List ℕ) (k : Counts) (read : readPlan bs ≡ accepted k) where
   abbrev p : Plan
   p = planOf bs k
 
   abbrev ledger : List ℕ → Ledger
-  ledger ws = theLedger limit bs k read ws
+  ledger ws = theLedger terms bs k read ws
 
   -- a call is refused and leaves all words, or accepted on words that pass the checks
   made : (ws : List ℕ) (c : Call)
-      → ((r : ℕ) × (callOutcome limit bs ws c ≡ record { answer = refusal (suc r); words = ws }))
-      ⊎ (Passes limit bs p ws × (callRefusal limit p (lastDay ws) (ledger ws) c ≡ 0) × (callOutcome limit bs ws c .answer ≡ done (figures p (ledger ws) c)))
+      → ((r : ℕ) × (callOutcome terms bs ws c ≡ record { answer = refusal (suc r); words = ws }))
+      ⊎ (Passes terms bs p ws × (callRefusal terms p (lastDay ws) (ledger ws) c ≡ 0) × (callOutcome terms bs ws c .answer ≡ done (figures p (ledger ws) c)))
   unfolding refusedOr
   made ws c = go _ refl
     where
-      go : (r : ℕ) → firstRefusal (ledgerRefusals limit bs p ws ++ callRefusals limit p (lastDay ws) (ledger ws) c) ≡ r
-          → ((r : ℕ) × (callOutcome limit bs ws c ≡ record { answer = refusal (suc r); words = ws }))
-          ⊎ (Passes limit bs p ws × (callRefusal limit p (lastDay ws) (ledger ws) c ≡ 0) × (callOutcome limit bs ws c .answer ≡ done (figures p (ledger ws) c)))
+      go : (r : ℕ) → firstRefusal (ledgerRefusals terms bs p ws ++ callRefusals terms p (lastDay ws) (ledger ws) c) ≡ r
+          → ((r : ℕ) × (callOutcome terms bs ws c ≡ record { answer = refusal (suc r); words = ws }))
+          ⊎ (Passes terms bs p ws × (callRefusal terms p (lastDay ws) (ledger ws) c ≡ 0) × (callOutcome terms bs ws c .answer ≡ done (figures p (ledger ws) c)))
       go zero e =
-          let h = first-passes limit bs p ws (callRefusals limit p (lastDay ws) (ledger ws) c) e in
-          inr (h, sym (refusals limit bs k read ws c h) ∙ e, ap (λ o. o .answer) (outcome limit bs k read ws c 0 e))
-      go (suc r) e = inl (r, outcome limit bs k read ws c (suc r) e)
+          let h = first-passes terms bs p ws (callRefusals terms p (lastDay ws) (ledger ws) c) e in
+          inr (h, sym (refusals terms bs k read ws c h) ∙ e, ap (λ o. o .answer) (outcome terms bs k read ws c 0 e))
+      go (suc r) e = inl (r, outcome terms bs k read ws c (suc r) e)
 
-  day-after-call : (ws : List ℕ) (c : Call) → Passes limit bs p ws → callRefusal limit p (lastDay ws) (ledger ws) c ≡ 0
-      → lastDay (callOutcome limit bs ws c .words) ≡ dayAfter (lastDay ws) c
+  day-after-call : (ws : List ℕ) (c : Call) → Passes terms bs p ws → callRefusal terms p (lastDay ws) (ledger ws) c ≡ 0
+      → lastDay (callOutcome terms bs ws c .words) ≡ dayAfter (lastDay ws) c
   day-after-call ws c h z =
-      call-holds limit bs k read ws (lastDay ws) (ledger ws) (passes-holds limit bs k read ws h) c .day
-      ∙ day-accepted limit p (lastDay ws) (ledger ws) c z
+      call-holds terms bs k read ws (lastDay ws) (ledger ws) (passes-holds terms bs k read ws h) c .day
+      ∙ day-accepted terms p (lastDay ws) (ledger ws) c z
 
   -- an accepted event leaves its own day,
-  pub event-leaves : (ws : List ℕ) (a : EventArguments) (fs : List ℕ) → callOutcome limit bs ws (event a) .answer ≡ done fs
-      → lastDay (callOutcome limit bs ws (event a) .words) ≡ a .day
+  pub event-leaves : (ws : List ℕ) (a : EventArguments) (fs : List ℕ) → callOutcome terms bs ws (event a) .answer ≡ done fs
+      → lastDay (callOutcome terms bs ws (event a) .words) ≡ a .day
   unfolding dayAfter
   event-leaves ws a fs h =
       elim (made ws (event a)) [
@@ -107,20 +108,20 @@ module _ (limit : ℕ) (bs : List ℕ) (k : Counts) (read : readPlan bs ≡ acce
       ]
 
   -- a signal and a firing, refused or not, the day that was there,
-  unmoved : (ws : List ℕ) (c : Call) → dayAfter (lastDay ws) c ≡ lastDay ws → lastDay (callOutcome limit bs ws c .words) ≡ lastDay ws
+  unmoved : (ws : List ℕ) (c : Call) → dayAfter (lastDay ws) c ≡ lastDay ws → lastDay (callOutcome terms bs ws c .words) ≡ lastDay ws
   unmoved ws c e =
       elim (made ws c) [ inl r ↦ ap (λ o. lastDay (o .words)) (r .1) | inr g ↦ day-after-call ws c (g .0) (g .1) ∙ e ]
 
-  pub signal-leaves : (ws : List ℕ) (a : SignalArguments) → lastDay (callOutcome limit bs ws (signal a) .words) ≡ lastDay ws
+  pub signal-leaves : (ws : List ℕ) (a : SignalArguments) → lastDay (callOutcome terms bs ws (signal a) .words) ≡ lastDay ws
   unfolding dayAfter
   signal-leaves ws a = unmoved ws (signal a) refl
 
-  pub fire-leaves : (ws : List ℕ) (a : FireArguments) → lastDay (callOutcome limit bs ws (fire a) .words) ≡ lastDay ws
+  pub fire-leaves : (ws : List ℕ) (a : FireArguments) → lastDay (callOutcome terms bs ws (fire a) .words) ≡ lastDay ws
   unfolding dayAfter
   fire-leaves ws a = unmoved ws (fire a) refl
 
   -- and a refused call all words
-  pub refused-leaves : (ws : List ℕ) (c : Call) (r : ℕ) → callOutcome limit bs ws c .answer ≡ refusal r → callOutcome limit bs ws c .words ≡ ws
+  pub refused-leaves : (ws : List ℕ) (c : Call) (r : ℕ) → callOutcome terms bs ws c .answer ≡ refusal r → callOutcome terms bs ws c .words ≡ ws
   refused-leaves ws c r h =
       elim (made ws c) [
         | inl q ↦ ap (λ o. o .words) (q .1)
@@ -128,28 +129,28 @@ module _ (limit : ℕ) (bs : List ℕ) (k : Counts) (read : readPlan bs ≡ acce
       ]
 
   -- No call lowers the day, whatever words it gets,
-  pub call-rises : (ws : List ℕ) (c : Call) → leZ (lastDay ws) (lastDay (callOutcome limit bs ws c .words)) ≡ true
+  pub call-rises : (ws : List ℕ) (c : Call) → leZ (lastDay ws) (lastDay (callOutcome terms bs ws c .words)) ≡ true
   call-rises ws c =
       elim (made ws c) [
         | inl r ↦ rw (r .1) (day-same (lastDay ws))
-        | inr g ↦ rw (day-after-call ws c (g .0) (g .1)) (accepted-rises limit p (lastDay ws) (ledger ws) c (g .1))
+        | inr g ↦ rw (day-after-call ws c (g .0) (g .1)) (accepted-rises terms p (lastDay ws) (ledger ws) c (g .1))
       ]
 
-  pub list-rises : (cs : List Call) (ws : List ℕ) → leZ (lastDay ws) (lastDay (wordsFrom limit bs ws cs)) ≡ true
+  pub list-rises : (cs : List Call) (ws : List ℕ) → leZ (lastDay ws) (lastDay (wordsFrom terms bs ws cs)) ≡ true
   unfolding wordsFrom
   list-rises [] ws = day-same (lastDay ws)
-  list-rises (c ∷ cs) ws = day-after (lastDay ws) _ _ (call-rises ws c) (list-rises cs (callOutcome limit bs ws c .words))
+  list-rises (c ∷ cs) ws = day-after (lastDay ws) _ _ (call-rises ws c) (list-rises cs (callOutcome terms bs ws c .words))
 
   -- so along a list the last accepted day never falls,
-  pub never-falls : (lent : List ℕ) (cs ds : List Call) → leZ (lastDay (wordsAfter limit bs lent cs)) (lastDay (wordsAfter limit bs lent (cs ++ ds))) ≡ true
+  pub never-falls : (lent : List ℕ) (cs ds : List Call) → leZ (lastDay (wordsAfter terms bs lent cs)) (lastDay (wordsAfter terms bs lent (cs ++ ds))) ≡ true
   unfolding wordsAfter
   never-falls lent cs ds =
-      rw (words-append limit bs k read cs ds (beginOutcome limit bs lent .words))
-      (list-rises ds (wordsFrom limit bs (beginOutcome limit bs lent .words) cs))
+      rw (words-append terms bs k read cs ds (beginOutcome terms bs lent .words))
+      (list-rises ds (wordsFrom terms bs (beginOutcome terms bs lent .words) cs))
 
   -- and from an accepted begin on it is in range
-  pub always-in-range : (lent : List ℕ) (cs : List Call) → beginOutcome limit bs lent .answer ≡ done [] → isDay (lastDay (wordsAfter limit bs lent cs)) ≡ true
-  always-in-range lent cs h = holds-day limit bs k read _ _ _ (history-holds limit bs k read lent cs h)
+  pub always-in-range : (lent : List ℕ) (cs : List Call) → beginOutcome terms bs lent .answer ≡ done [] → isDay (lastDay (wordsAfter terms bs lent cs)) ≡ true
+  always-in-range lent cs h = holds-day terms bs k read _ _ _ (history-holds terms bs k read lent cs h)
 
 -- Windows: a transition that is taken is taken on a day of every window that names it,
 module _ (p : Plan) (l : Ledger) (a : EventArguments) (t : ℕ) where

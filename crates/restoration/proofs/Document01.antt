@@ -10,6 +10,7 @@ use lib.ListN.{length}
 use lib.Dec.{eqb, leb}
 use borrow.Author.Tests.{ne-eqb, not-false, leb-false}
 use Rattle.rules.specs.Names.{Day}
+use Rattle.rules.specs.declared.Terms.{Terms}
 use Rattle.rules.specs.Day.{earliestDay}
 use Rattle.rules.specs.Fold.{firstRefusal}
 use Rattle.rules.specs.Plan.{Plan, trackCount, noState, replacement, transitionFor, mayTake}
@@ -79,9 +80,9 @@ document01 =
       looksForFinish = λ c. true;
       Head = Day;
       firstHead = λ p. earliestDay;
-      nextHead = λ limit p d l c. nextDay limit p d l (asRules c);
-      refusal = λ limit p d l c. callRefusal limit p d l (asRules c);
-      next = λ limit p d l c. next limit p d l (asRules c);
+      nextHead = λ terms p d l c. nextDay terms p d l (asRules c);
+      refusal = λ terms p d l c. callRefusal terms p d l (asRules c);
+      next = λ terms p d l c. next terms p d l (asRules c);
     }
 
 -- Moves.
@@ -145,24 +146,24 @@ module _ (p : Plan) (l : Ledger) where
   ends m k q = elim (finish-cases p m) [ inl f ↦ inl (q ∙ f .0, λ h. f .1) | inr o ↦ inr (λ t. ap (λ (x : Ledger). x t) q ∙ o t) ]
 
 -- Refusals; the day is the last accepted one.
-module _ (limit : ℕ) (p : Plan) (d : Day) (l : Ledger) where
-  pub next-accepted : (c : call.Call) → callRefusal limit p d l c ≡ 0 → next limit p d l c ≡ after p l c
+module _ (terms : Terms) (p : Plan) (d : Day) (l : Ledger) where
+  pub next-accepted : (c : call.Call) → callRefusal terms p d l c ≡ 0 → next terms p d l c ≡ after p l c
   unfolding next
   next-accepted c h = rw h
 
-  pub next-refused : (c : call.Call) → (callRefusal limit p d l c ≡ 0 → ⊥) → next limit p d l c ≡ l
+  pub next-refused : (c : call.Call) → (callRefusal terms p d l c ≡ 0 → ⊥) → next terms p d l c ≡ l
   unfolding next
-  next-refused c h = rw (ne-eqb (callRefusal limit p d l c) 0 h)
+  next-refused c h = rw (ne-eqb (callRefusal terms p d l c) 0 h)
 
-  pub day-accepted : (c : call.Call) → callRefusal limit p d l c ≡ 0 → nextDay limit p d l c ≡ dayAfter d c
+  pub day-accepted : (c : call.Call) → callRefusal terms p d l c ≡ 0 → nextDay terms p d l c ≡ dayAfter d c
   unfolding nextDay
   day-accepted c h = rw h
 
-  pub day-refused : (c : call.Call) → (callRefusal limit p d l c ≡ 0 → ⊥) → nextDay limit p d l c ≡ d
+  pub day-refused : (c : call.Call) → (callRefusal terms p d l c ≡ 0 → ⊥) → nextDay terms p d l c ≡ d
   unfolding nextDay
-  day-refused c h = rw (ne-eqb (callRefusal limit p d l c) 0 h)
+  day-refused c h = rw (ne-eqb (callRefusal terms p d l c) 0 h)
 
-  settled : (c : Calls) → callRefusal limit p d l (asRules c) ≡ 0 → Settled document01 p true (work document01 p l c) (next limit p d l (asRules c))
+  settled : (c : Calls) → callRefusal terms p d l (asRules c) ≡ 0 → Settled document01 p true (work document01 p l c) (next terms p d l (asRules c))
   unfolding after afterEvent afterSignal afterFire
   settled (event a) z = ends p l (closed p (moved p l a)) _ (next-accepted (call.event a) z)
   settled (signal a) z =
@@ -171,49 +172,49 @@ module _ (limit : ℕ) (p : Plan) (d : Day) (l : Ledger) where
   settled (fire a) z = ends p l (abandoned p (fired p l (a .track))) _ (next-accepted (call.fire a) z)
 
   -- 21 leaves room for an entry
-  has-spare : (a : EventArguments) → isFull p limit l a ≡ false → Spare document01 limit p l a
+  has-spare : (a : EventArguments) → isFull p terms l a ≡ false → Spare document01 terms p l a
   unfolding isFull
   has-spare a r t b h =
       let f : ℕ → Bool = λ t. (hasCode p (move p l a t) || isReplaced p (moved p l a) t) in
-      let q = some-not (trackCount p) (λ t. f t && leb limit (length (l t .held))) r t b in
-      let y : leb limit (length (l t .held)) ≡ false = rw h at q in
-      leb-false limit (length (l t .held)) y
+      let q = some-not (trackCount p) (λ t. f t && leb (terms .limit) (length (l t .held))) r t b in
+      let y : leb (terms .limit) (length (l t .held)) ≡ false = rw h at q in
+      leb-false (terms .limit) (length (l t .held)) y
 
   pub record EventPassed (a : EventArguments) : Type 0 where
     pub day : badDay d (a .day) ≡ false
     pub going : isOver p l ≡ false
     pub somewhere : holdsSomewhere p moveRight (a .society) ≡ true
-    pub room : isFull p limit l a ≡ false
+    pub room : isFull p terms l a ≡ false
 
-  pub event-passed : (a : EventArguments) → callRefusal limit p d l (call.event a) ≡ 0 → EventPassed a
+  pub event-passed : (a : EventArguments) → callRefusal terms p d l (call.event a) ≡ 0 → EventPassed a
   unfolding callRefusal callRefusals firstRefusal
   event-passed a h =
       let (x, y) = passed (eqb (a .event) 0) 18 _ h in
       let (b, w) = passed (badDay d (a .day)) 25 _ y in
       let (o, z) = passed (isOver p l) 19 _ w in
       let (r, v) = passed (not (holdsSomewhere p moveRight (a .society))) 27 _ z in
-      record { day = b; going = o; somewhere = not-false _ r; room = passed (isFull p limit l a) 20 _ v .0 }
+      record { day = b; going = o; somewhere = not-false _ r; room = passed (isFull p terms l a) 20 _ v .0 }
 
-  pub event-accepted : (a : EventArguments) → callRefusal limit p d l (call.event a) ≡ 0
-      → (isOver p l ≡ false) × (isFull p limit l a ≡ false)
+  pub event-accepted : (a : EventArguments) → callRefusal terms p d l (call.event a) ≡ 0
+      → (isOver p l ≡ false) × (isFull p terms l a ≡ false)
   event-accepted a h = let q = event-passed a h in (q .going, q .room)
 
   -- 26 refused no accepted event
-  pub event-day : (a : EventArguments) → callRefusal limit p d l (call.event a) ≡ 0 → badDay d (a .day) ≡ false
+  pub event-day : (a : EventArguments) → callRefusal terms p d l (call.event a) ≡ 0 → badDay d (a .day) ≡ false
   event-day a h = event-passed a h .day
 
-  signal-passed : (a : SignalArguments) → callRefusal limit p d l (call.signal a) ≡ 0
+  signal-passed : (a : SignalArguments) → callRefusal terms p d l (call.signal a) ≡ 0
       → (isOver p l ≡ false) × (holdsSomewhere p signalRight (a .society) ≡ true)
   unfolding callRefusal callRefusals firstRefusal
   signal-passed a h =
       let (o, z) = passed (isOver p l) 19 _ h in
       (o, not-false _ (passed (not (holdsSomewhere p signalRight (a .society))) 27 _ z .0))
 
-  pub signal-accepted : (a : SignalArguments) → callRefusal limit p d l (call.signal a) ≡ 0 → isOver p l ≡ false
+  pub signal-accepted : (a : SignalArguments) → callRefusal terms p d l (call.signal a) ≡ 0 → isOver p l ≡ false
   signal-accepted a h = signal-passed a h .0
 
   -- 28 refused no accepted signal
-  pub signal-somewhere : (a : SignalArguments) → callRefusal limit p d l (call.signal a) ≡ 0 → holdsSomewhere p signalRight (a .society) ≡ true
+  pub signal-somewhere : (a : SignalArguments) → callRefusal terms p d l (call.signal a) ≡ 0 → holdsSomewhere p signalRight (a .society) ≡ true
   signal-somewhere a h = signal-passed a h .1
 
   pub record FirePassed (a : FireArguments) : Type 0 where
@@ -221,14 +222,14 @@ module _ (limit : ℕ) (p : Plan) (d : Day) (l : Ledger) where
     pub permitted : lacksFireRight p a ≡ false
     pub may : mayFire p l (a .track) ≡ true
 
-  pub fire-passed : (a : FireArguments) → callRefusal limit p d l (call.fire a) ≡ 0 → FirePassed a
+  pub fire-passed : (a : FireArguments) → callRefusal terms p d l (call.fire a) ≡ 0 → FirePassed a
   unfolding callRefusal callRefusals firstRefusal
   fire-passed a h =
       let (o, w) = passed (isOver p l) 19 _ h in
       let (r, z) = passed (lacksFireRight p a) 27 _ w in
       record { going = o; permitted = r; may = not-false (mayFire p l (a .track)) (passed (not (mayFire p l (a .track))) 21 _ z .0) }
 
-  pub fire-accepted : (a : FireArguments) → callRefusal limit p d l (call.fire a) ≡ 0 → (isOver p l ≡ false) × (mayFire p l (a .track) ≡ true)
+  pub fire-accepted : (a : FireArguments) → callRefusal terms p d l (call.fire a) ≡ 0 → (isOver p l ≡ false) × (mayFire p l (a .track) ≡ true)
   fire-accepted a h = let q = fire-passed a h in (q .going, q .may)
 
 pub laws01 : Laws document01
@@ -245,12 +246,12 @@ laws01 =
       turned-up = λ p ok a t h e. permitted-up p ok signalRight (a .society) t h e;
       goes-on = goes-on;
       settled = settled;
-      refused = λ limit p d l c n. (next-refused limit p d l (asRules c) n, day-refused limit p d l (asRules c) n);
-      event-accepted = λ limit p d l a z. let (o, r) = event-accepted limit p d l a z in (o, has-spare limit p d l a r);
+      refused = λ terms p d l c n. (next-refused terms p d l (asRules c) n, day-refused terms p d l (asRules c) n);
+      event-accepted = λ terms p d l a z. let (o, r) = event-accepted terms p d l a z in (o, has-spare terms p d l a r);
       signal-accepted = signal-accepted;
       fire-accepted = fire-accepted;
     }
 
 -- Finish is looked for after every call.
 pub unfinished01 : Unfinished document01
-unfinished01 limit p ok h l s c z n = clash refl n
+unfinished01 terms p ok h l s c z n = clash refl n

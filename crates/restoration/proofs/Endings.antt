@@ -10,6 +10,7 @@ use Prim.Native.Nat.{ℕ, _<_}
 use lib.Dec.{eqb}
 use borrow.Author.Tests.{eqb-true}
 use Rattle.rules.specs.declared.Mode.the-variants.{Forward}
+use Rattle.rules.specs.declared.Terms.{Terms}
 use Rattle.rules.specs.Fold.{someBelow}
 use Rattle.rules.specs.Plan.{Plan, trackCount, noState, optional, host, owner, isRoot, isFinal}
 use Rattle.rules.specs.Rights.{signalRight, isPermitted}
@@ -79,7 +80,7 @@ module _ (p : Plan) (ok : Accepted p) (m : Ledger) (n : Nested p m) (f : isFinis
             ]
       ]
 
-module _ (limit : ℕ) (p : Plan) (ok : Accepted p) (l : Ledger) (s : Sound limit p l) where
+module _ (terms : Terms) (p : Plan) (ok : Accepted p) (l : Ledger) (s : Sound terms p l) where
   -- an event that finishes closes no scope: its host would be awake, forward and in a hosting state, which is not final
   pub event-ends : (e : EventArguments) → isFinishing p (closed p (moved p l e)) ≡ true → (z : ℕ) → isClosing p (moved p l e) z ≡ false
   event-ends e f z =
@@ -182,7 +183,7 @@ module _ (limit : ℕ) (p : Plan) (ok : Accepted p) (l : Ledger) (s : Sound limi
               (λ w.
               clash (and-both (isRoot p t) _ (root-of p t e) (and-both (isPermitted p signalRight (a .society) t) (isForward (l t .mode)) y w))
               (some-not (trackCount p) test x t b))))
-              ∙ steady limit p ok l s in
+              ∙ steady terms p ok l s in
               clash (ap (isFinishing p) (sym same) ∙ f) (s .finish)
         ]
 
@@ -198,7 +199,7 @@ module _ (limit : ℕ) (p : Plan) (ok : Accepted p) (l : Ledger) (s : Sound limi
     deviated d q =
         let (e, o, f) = deviates p t d (l t .held) (s .formed .good t) q in
         let k =
-        fired-root laws01 limit p ok l s t may t e ∙ ap (λ m. m t) (fired-is p l t)
+        fired-root laws01 terms p ok l s t may t e ∙ ap (λ m. m t) (fired-is p l t)
         ∙ enter-to p ok (deviatesTo l t) (removed l t) t d (deviates-here p l t ∙ q) in
         record { root = e; mode = ap (λ (c : Configuration). c .mode) k; state = ap (λ (c : Configuration). c .state) k; not-final = f }
 

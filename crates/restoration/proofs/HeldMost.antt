@@ -12,6 +12,7 @@ use lib.Dec.{eqb, ltb}
 use borrow.Author.Tests.{ltb-true}
 use Rattle.rules.specs.declared.Counts.{Counts}
 use Rattle.rules.specs.Names.{Day}
+use Rattle.rules.specs.declared.Terms.{Terms}
 use Rattle.rules.specs.Day.{earliestDay}
 use Rattle.rules.specs.Plan.{Plan, trackCount, planOf, firstState}
 use Rattle.rules.specs.Acceptance.{accepted, readPlan}
@@ -36,59 +37,59 @@ pub record Along (p : Plan) (l : Ledger) (t : ℕ) : Type 0 where
   pub leads : isPath p (firstState p t) path ≡ true
   pub enough : length (l t .held) ≤ entriesAlong p (firstState p t) path
 
-ways-along : (limit : ℕ) (p : Plan) (l : Ledger) → Kept limit p l → Ways p l → (t : ℕ) → Along p l t
+ways-along : (terms : Terms) (p : Plan) (l : Ledger) → Kept terms p l → Ways p l → (t : ℕ) → Along p l t
 unfolding isPath
-ways-along limit p l k w t =
+ways-along terms p l k w t =
     elim (look (isAwake (l t .mode))) [
       | inl a ↦ let y = w t a in record { path = y .path; leads = y .leads; enough = omega (arith, y .room) }
-      | inr a ↦ record { path = []; leads = refl; enough = rw (asleep-nothing limit p l k t a) (omega arith) }
+      | inr a ↦ record { path = []; leads = refl; enough = rw (asleep-nothing terms p l k t a) (omega arith) }
     ]
 
-module _ (limit : ℕ) (bs : List ℕ) (k : Counts) (read : readPlan bs ≡ accepted k) (quiet : hasDeviation (planOf bs k) ≡ false) where
+module _ (terms : Terms) (bs : List ℕ) (k : Counts) (read : readPlan bs ≡ accepted k) (quiet : hasDeviation (planOf bs k) ≡ false) where
   abbrev p : Plan
   p = planOf bs k
 
-  list-along : (cs : List Call) (ws : List ℕ) (d : Day) (l : Ledger) → Holds limit bs k read ws d l → Ways p l
-      → (t : ℕ) → Along p (ledgerAt limit (wordsFrom limit bs ws cs) (trackCount p)) t
+  list-along : (cs : List Call) (ws : List ℕ) (d : Day) (l : Ledger) → Holds terms bs k read ws d l → Ways p l
+      → (t : ℕ) → Along p (ledgerAt terms (wordsFrom terms bs ws cs) (trackCount p)) t
   unfolding wordsFrom
-  list-along [] ws d l h w = rw (h .reads) (ways-along limit p l (h .kept) w)
+  list-along [] ws d l h w = rw (h .reads) (ways-along terms p l (h .kept) w)
   list-along (c ∷ cs) ws d l h w =
-      list-along cs (callOutcome limit bs ws c .words) (nextDay limit p d l c) (next limit p d l c) (call-holds limit bs k read ws d l h c)
-      (ways-next limit p (accepts bs k read) quiet d l (h .kept) w c)
+      list-along cs (callOutcome terms bs ws c .words) (nextDay terms p d l c) (next terms p d l c) (call-holds terms bs k read ws d l h c)
+      (ways-next terms p (accepts bs k read) quiet d l (h .kept) w c)
 
   -- no history makes a track hold more than some path from its first state has entries
-  pub held-along : (lent : List ℕ) → beginOutcome limit bs lent .answer ≡ done [] → (cs : List Call)
-      → (t : ℕ) → Along p (ledgerAt limit (wordsAfter limit bs lent cs) (trackCount p)) t
+  pub held-along : (lent : List ℕ) → beginOutcome terms bs lent .answer ≡ done [] → (cs : List Call)
+      → (t : ℕ) → Along p (ledgerAt terms (wordsAfter terms bs lent cs) (trackCount p)) t
   unfolding wordsAfter
   held-along lent b cs =
-      list-along cs (beginOutcome limit bs lent .words) earliestDay (begun p) (begin-holds limit bs k read lent b)
-      (ways-begun limit p (accepts bs k read) quiet)
+      list-along cs (beginOutcome terms bs lent .words) earliestDay (begun p) (begin-holds terms bs k read lent b)
+      (ways-begun terms p (accepts bs k read) quiet)
 
 -- a track that does not exist holds nothing
-beyond-nothing : (limit : ℕ) (ws : List ℕ) (n t : ℕ) → ltb t n ≡ false → ledgerAt limit ws n t .held ≡ []
+beyond-nothing : (terms : Terms) (ws : List ℕ) (n t : ℕ) → ltb t n ≡ false → ledgerAt terms ws n t .held ≡ []
 unfolding ledgerAt
-beyond-nothing limit ws n t b = rw b sleeping-held
+beyond-nothing terms ws n t b = rw b sleeping-held
 
-pub held-most : (limit : ℕ) (bs : List ℕ) (k : Counts) → readBounded bs ≡ accepted k
-    → (lent : List ℕ) → beginOutcome limit bs lent .answer ≡ done [] → (cs : List Call) → HoldsNoMore limit (planOf bs k) (wordsAfter limit bs lent cs)
+pub held-most : (terms : Terms) (bs : List ℕ) (k : Counts) → readBounded bs ≡ accepted k
+    → (lent : List ℕ) → beginOutcome terms bs lent .answer ≡ done [] → (cs : List Call) → HoldsNoMore terms (planOf bs k) (wordsAfter terms bs lent cs)
 unfolding HoldsNoMore
-held-most limit bs k h lent b cs t =
+held-most terms bs k h lent b cs t =
     let (read, quiet, acyclic) = bounded-read bs k h in
     let p = planOf bs k in
-    let y = held-along limit bs k read quiet lent b cs t in
+    let y = held-along terms bs k read quiet lent b cs t in
     elim (look (ltb t (trackCount p))) [
       | inl i ↦ omega (arith, y .enough, no-more p (accepts bs k read) acyclic t (ltb-true t (trackCount p) i) (y .path) (y .leads))
-      | inr i ↦ rw (beyond-nothing limit (wordsAfter limit bs lent cs) (trackCount p) t i) (omega arith)
+      | inr i ↦ rw (beyond-nothing terms (wordsAfter terms bs lent cs) (trackCount p) t i) (omega arith)
     ]
 
 -- so the part that entries hands back has two words for each of them at most
-pub part-most : (limit : ℕ) (bs : List ℕ) (k : Counts) → readPlan bs ≡ accepted k → (ws : List ℕ) → HoldsNoMore limit (planOf bs k) ws
-    → (t : ℕ) → length (entriesPart limit bs ws t) ≤ 2 * largest (planOf bs k) t
+pub part-most : (terms : Terms) (bs : List ℕ) (k : Counts) → readPlan bs ≡ accepted k → (ws : List ℕ) → HoldsNoMore terms (planOf bs k) ws
+    → (t : ℕ) → length (entriesPart terms bs ws t) ≤ 2 * largest (planOf bs k) t
 unfolding entriesPart heldPart entryWidth HoldsNoMore
-part-most limit bs k read ws h t =
+part-most terms bs k read ws h t =
     rw (read, entriesPart)
-    (elim (look (eqb (ledgerRefusal limit bs p ws) 0 && ltb t (trackCount p))) [
-      | inl i ↦ rw i (omega (arith, h t, length-take (2 * length (ledgerAt limit ws (trackCount p) t .held)) (drop (entriesPlace limit t) ws)))
+    (elim (look (eqb (ledgerRefusal terms bs p ws) 0 && ltb t (trackCount p))) [
+      | inl i ↦ rw i (omega (arith, h t, length-take (2 * length (ledgerAt terms ws (trackCount p) t .held)) (drop (entriesPlace terms t) ws)))
       | inr i ↦ rw i (omega arith)
     ])
   where

@@ -11,6 +11,7 @@ use lib.Dec.{eqb, ltb}
 use borrow.Author.Tests.{eqb-true, eqb-false, eq-eqb, ne-eqb, lt-ltb, not-true}
 use Rattle.rules.specs.declared.Counts.{Counts}
 use Rattle.rules.specs.Names.{Day, Right}
+use Rattle.rules.specs.declared.Terms.{Terms}
 use Rattle.rules.specs.Plan.{Plan, planOf, trackCount, state, hostWord, host, owner, isHostedBy, rootOf}
 use Rattle.rules.specs.Rights.{moveRight, signalRight, fireRight, holds, isPermitted}
 use Rattle.rules.specs.Acceptance.{accepted, readPlan}
@@ -59,11 +60,11 @@ module _ (p : Plan) (l : Ledger) (a : EventArguments) where
   unpermitted-stays = move-barred p l a
 
 -- an accepted firing is permitted
-pub fire-permitted : (limit : ℕ) (p : Plan) (d : Day) (l : Ledger) (a : FireArguments) → callRefusal limit p d l (fire a) ≡ 0
+pub fire-permitted : (terms : Terms) (p : Plan) (d : Day) (l : Ledger) (a : FireArguments) → callRefusal terms p d l (fire a) ≡ 0
     → isPermitted p fireRight (a .society) (a .track) ≡ true
 unfolding lacksFireRight
-fire-permitted limit p d l a z =
-    let q = fire-passed limit p d l a z in
+fire-permitted terms p d l a z =
+    let q = fire-passed terms p d l a z in
     elim (look (isPermitted p fireRight (a .society) (a .track))) [
       | inl y ↦ y
       | inr n ↦
@@ -72,7 +73,7 @@ fire-permitted limit p d l a z =
           clash y (q .permitted)
     ]
 
-module _ (limit : ℕ) (p : Plan) (ok : Accepted p) (l : Ledger) (s : Sound limit p l) where
+module _ (terms : Terms) (p : Plan) (ok : Accepted p) (l : Ledger) (s : Sound terms p l) where
   abbrev n : Nested p l
   n = s .formed .nested
 
@@ -105,48 +106,48 @@ module _ (limit : ℕ) (p : Plan) (ok : Accepted p) (l : Ledger) (s : Sound limi
       (s .abandoning) t (ap not (eq-eqb (rootOf p t) (rootOf p t) refl)) u (ap not (ne-eqb (rootOf p u) (rootOf p t) f))
 
   -- an accepted call leaves every track that its society has no right over
-  pub call-leaves : (d : Day) (c : Call) → callRefusal limit p d l c ≡ 0 → (t : ℕ) → isPermitted p (rightOf c) (societyOf c) t ≡ false → work p l c t ≡ l t
+  pub call-leaves : (d : Day) (c : Call) → callRefusal terms p d l c ≡ 0 → (t : ℕ) → isPermitted p (rightOf c) (societyOf c) t ≡ false → work p l c t ≡ l t
   unfolding societyOf
   call-leaves d (event a) z t n = event-leaves a t n
   call-leaves d (signal a) z t n = signal-leaves a t n
   call-leaves d (fire a) z t n =
       fire-leaves (a .track) t
-      (λ e. clash (fire-permitted limit p d l a z) (unfold isPermitted in ap (holds p fireRight (a .society)) (sym e) ∙ n))
+      (λ e. clash (fire-permitted terms p d l a z) (unfold isPermitted in ap (holds p fireRight (a .society)) (sym e) ∙ n))
 
   -- up to finish
-  pub next-leaves : (d : Day) (c : Call) → callRefusal limit p d l c ≡ 0 → (t : ℕ) → isPermitted p (rightOf c) (societyOf c) t ≡ false
-      → (next limit p d l c t ≡ l t) ⊎ Over (next limit p d l c)
+  pub next-leaves : (d : Day) (c : Call) → callRefusal terms p d l c ≡ 0 → (t : ℕ) → isPermitted p (rightOf c) (societyOf c) t ≡ false
+      → (next terms p d l c t ≡ l t) ⊎ Over (next terms p d l c)
   next-leaves d c z t n =
-      elim (next-cases limit p ok d l c z) [ inl q ↦ inl (ap (λ (m : Ledger). m t) q ∙ call-leaves d c z t n) | inr o ↦ inr o ]
+      elim (next-cases terms p ok d l c z) [ inl q ↦ inl (ap (λ (m : Ledger). m t) q ∙ call-leaves d c z t n) | inr o ↦ inr o ]
 
 -- So it is along every list of calls from an accepted begin, whether the next call is refused or not
-module _ (limit : ℕ) (bs : List ℕ) (k : Counts) (read : readPlan bs ≡ accepted k) where
+module _ (terms : Terms) (bs : List ℕ) (k : Counts) (read : readPlan bs ≡ accepted k) where
   abbrev p : Plan
   p = planOf bs k
 
   -- a call on words that hold a ledger
-  words-leave : (ws : List ℕ) (d : Day) (l : Ledger) → Holds limit bs k read ws d l → (c : Call) (t : ℕ) → isPermitted p (rightOf c) (societyOf c) t ≡ false
-      → (next limit p d l c t ≡ l t) ⊎ Over (next limit p d l c)
+  words-leave : (ws : List ℕ) (d : Day) (l : Ledger) → Holds terms bs k read ws d l → (c : Call) (t : ℕ) → isPermitted p (rightOf c) (societyOf c) t ≡ false
+      → (next terms p d l c t ≡ l t) ⊎ Over (next terms p d l c)
   words-leave ws d l h c t n =
-      elim (look (eqb (callRefusal limit p d l c) 0)) [
-        | inr z ↦ inl (ap (λ (m : Ledger). m t) (next-refused limit p d l c (eqb-false _ 0 z)))
+      elim (look (eqb (callRefusal terms p d l c) 0)) [
+        | inr z ↦ inl (ap (λ (m : Ledger). m t) (next-refused terms p d l c (eqb-false _ 0 z)))
         | inl z ↦
-            let y = eqb-true (callRefusal limit p d l c) 0 z in
-            let o = refuted (isOver p l) (λ v. over-refused limit p d l v c y) in
-            next-leaves limit p (accepts bs k read) l (kept-sound limit p l (h .kept) o) d c y t n
+            let y = eqb-true (callRefusal terms p d l c) 0 z in
+            let o = refuted (isOver p l) (λ v. over-refused terms p d l v c y) in
+            next-leaves terms p (accepts bs k read) l (kept-sound terms p l (h .kept) o) d c y t n
       ]
 
-  pub list-leaves : (lent : List ℕ) (cs : List Call) → beginOutcome limit bs lent .answer ≡ done []
+  pub list-leaves : (lent : List ℕ) (cs : List Call) → beginOutcome terms bs lent .answer ≡ done []
       → (c : Call) (t : ℕ) → isPermitted p (rightOf c) (societyOf c) t ≡ false
-      → (ledgerAfter limit bs p lent (cs ++ (c ∷ [])) t ≡ ledgerAfter limit bs p lent cs t) ⊎ Over (ledgerAfter limit bs p lent (cs ++ (c ∷ [])))
+      → (ledgerAfter terms bs p lent (cs ++ (c ∷ [])) t ≡ ledgerAfter terms bs p lent cs t) ⊎ Over (ledgerAfter terms bs p lent (cs ++ (c ∷ [])))
   unfolding ledgerAfter wordsAfter wordsFrom
   list-leaves lent cs b c t n =
-      let ws = wordsAfter limit bs lent cs in
-      let l = ledgerAfter limit bs p lent cs in
-      let h = history-holds limit bs k read lent cs b in
-      let q : ledgerAfter limit bs p lent (cs ++ (c ∷ [])) ≡ next limit p (lastDay ws) l c =
-      ap (λ (v : List ℕ). ledgerAt limit v (trackCount p)) (words-append limit bs k read cs (c ∷ []) (beginOutcome limit bs lent .words))
-      ∙ call-holds limit bs k read ws (lastDay ws) l h c .reads in
+      let ws = wordsAfter terms bs lent cs in
+      let l = ledgerAfter terms bs p lent cs in
+      let h = history-holds terms bs k read lent cs b in
+      let q : ledgerAfter terms bs p lent (cs ++ (c ∷ [])) ≡ next terms p (lastDay ws) l c =
+      ap (λ (v : List ℕ). ledgerAt terms v (trackCount p)) (words-append terms bs k read cs (c ∷ []) (beginOutcome terms bs lent .words))
+      ∙ call-holds terms bs k read ws (lastDay ws) l h c .reads in
       elim (words-leave ws (lastDay ws) l h c t n) [
         | inl e ↦ inl (ap (λ (m : Ledger). m t) q ∙ e)
         | inr o ↦ inr (λ u. ap (λ (m : Ledger). m u) q ∙ o u)

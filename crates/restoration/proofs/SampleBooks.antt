@@ -14,6 +14,7 @@ use Rattle.restoration.specs.SampleAccount.{P, raised, lowered}
 use Rattle.restoration.specs.SamplePiles as pile
 use Rattle.restoration.specs.SamplePiles.{without, withoutAll, piled, unpiled}
 use Rattle.restoration.proofs.SampleTracks.{five, Trackwise, trackwise}
+use Rattle.rules.specs.declared.Terms.{Terms}
 
 -- A table with one line for each track that has a value at the track of each transition's code alone.
 module _ {A : Type 0} (d : A) where
@@ -60,8 +61,8 @@ accounts =
       undo-other = λ t n m a. rw (only-hosted {A = ℕ} 0 7 7 t n m) (omega arith);
     }
 
-abbrev pub accountsP : (limit : ℕ) → Books P limit
-accountsP limit = trackwise raised lowered accounts limit
+abbrev pub accountsP : (terms : Terms) → Books P terms
+accountsP terms = trackwise raised lowered accounts terms
 
 -- Piles.
 piles-kept : (t x : ℕ) → x < transitionCount P → (mover P x ≡ t → ⊥) → getD (pile.takes (transition P x .code)) t [] ≡ []
@@ -85,16 +86,16 @@ piles =
       undo-other = λ t n m a. rw (only-hosted {A = List ℕ} [] (2 ∷ []) (4 ∷ 3 ∷ []) t n m);
     }
 
-abbrev pub pilesP : (limit : ℕ) → Books P limit
-pilesP limit = trackwise piled unpiled piles limit
+abbrev pub pilesP : (terms : Terms) → Books P terms
+pilesP terms = trackwise piled unpiled piles terms
 
 -- They tell in which order the right track's two moves are undone: newest first gives the state back, oldest first never does.
-module _ (limit : ℕ) (b : ℕ → List ℕ) where
-  open Books (pilesP limit) using (changed, retracted)
+module _ (terms : Terms) (b : ℕ → List ℕ) where
+  open Books (pilesP terms) using (changed, retracted)
 
   pub newest-first : retracted 52 (retracted 54 (changed 4 (changed 3 b))) ≡ b
   unfolding computing
-  newest-first = ap (retracted 52) (pilesP limit .undo 4 (omega arith) (changed 3 b)) ∙ pilesP limit .undo 3 (omega arith) b
+  newest-first = ap (retracted 52) (pilesP terms .undo 4 (omega arith) (changed 3 b)) ∙ pilesP terms .undo 3 (omega arith) b
 
   pub not-oldest-first : retracted 54 (retracted 52 (changed 4 (changed 3 b))) ≡ b → ⊥
   unfolding computing piled unpiled without withoutAll

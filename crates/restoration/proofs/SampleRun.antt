@@ -7,7 +7,7 @@ use Prim.Native.Nat.{ℕ, zero, suc, _<_}
 use native.Mathlib.Omega.{arith}
 use lib.IntN.{pos}
 use Rattle.rules.specs.Rights.{signalRight, fireRight, isPermitted}
-use Rattle.rules.specs.Layout.{entryLimit}
+use Rattle.rules.specs.Layout.{mainTerms}
 use Rattle.rules.specs.Call.{Call, event, signal, fire, done, beginOutcome}
 use Rattle.rules.specs.Books.{act, Books}
 use Rattle.rules.specs.ReferenceRun.{bookedCall, booked, booksFrom, booksAfter, ledgerAfter, AllWithdrawn}
@@ -38,21 +38,21 @@ abbrev and-back : List Call
 and-back = e 10 ∷ e 11 ∷ e 12 ∷ e 14 ∷ signal (record { society = 1 }) ∷ f 0 ∷ f 0 ∷ []
 
 -- the events change the books
-module _ (k : Books P entryLimit) where
+module _ (k : Books P mainTerms) where
   abbrev midway : k .State → k .State
-  midway b = booksAfter entryLimit planP P k lent forth b
+  midway b = booksAfter mainTerms planP P k lent forth b
 
-pub raised-midway : (midway (accountsP entryLimit) (λ t. 3) 0 ≡ 4) × (midway (accountsP entryLimit) (λ t. 3) 1 ≡ 10) × (midway (accountsP entryLimit) (λ t. 3) 2 ≡ 10)
+pub raised-midway : (midway (accountsP mainTerms) (λ t. 3) 0 ≡ 4) × (midway (accountsP mainTerms) (λ t. 3) 1 ≡ 10) × (midway (accountsP mainTerms) (λ t. 3) 2 ≡ 10)
 unfolding computing booksAfter booksFrom booked bookedCall act raised
 raised-midway = (refl, refl, refl)
 
-pub piled-midway : (midway (pilesP entryLimit) (λ t. 9 ∷ []) 0 ≡ 0 ∷ 9 ∷ []) × (midway (pilesP entryLimit) (λ t. 9 ∷ []) 1 ≡ 2 ∷ 9 ∷ [])
-    × (midway (pilesP entryLimit) (λ t. 9 ∷ []) 2 ≡ 4 ∷ 3 ∷ 9 ∷ [])
+pub piled-midway : (midway (pilesP mainTerms) (λ t. 9 ∷ []) 0 ≡ 0 ∷ 9 ∷ []) × (midway (pilesP mainTerms) (λ t. 9 ∷ []) 1 ≡ 2 ∷ 9 ∷ [])
+    × (midway (pilesP mainTerms) (λ t. 9 ∷ []) 2 ≡ 4 ∷ 3 ∷ 9 ∷ [])
 unfolding computing booksAfter booksFrom booked bookedCall act piled
 piled-midway = (refl, refl, refl)
 
 -- the root is withdrawn in the end
-withdrawn : AllWithdrawn P (ledgerAfter entryLimit planP P lent and-back)
+withdrawn : AllWithdrawn P (ledgerAfter mainTerms planP P lent and-back)
 unfolding computing
 withdrawn zero l r = record { undoing = refl; empty = refl; shut = refl }
 withdrawn (suc zero) l r = clash r refl
@@ -76,14 +76,14 @@ society-one = record { signals = λ t b e. signals t b; fires = fires }
     fires (suc (suc zero)) b = refl
     fires (suc (suc (suc t))) b = absurd (omega arith)
 
-begins : beginOutcome entryLimit planP lent .answer ≡ done []
+begins : beginOutcome mainTerms planP lent .answer ≡ done []
 unfolding computing
 begins = refl
 
 -- and so the books stand as at the begin, whichever they are and whatever they were
-pub given-back : (k : Books P entryLimit) (b : k .State) → booksAfter entryLimit planP P k lent and-back b ≡ b
-given-back k b = restored entryLimit planP countsP accepts-P k lent and-back begins b withdrawn
+pub given-back : (k : Books P mainTerms) (b : k .State) → booksAfter mainTerms planP P k lent and-back b ≡ b
+given-back k b = restored mainTerms planP countsP accepts-P k lent and-back begins b withdrawn
 
 -- the piles among them, whose hosted tracks' part was put on by a finished run and taken off by replacement 90
-pub piles-given-back : (b : ℕ → List ℕ) → booksAfter entryLimit planP P (pilesP entryLimit) lent and-back b ≡ b
-piles-given-back = given-back (pilesP entryLimit)
+pub piles-given-back : (b : ℕ → List ℕ) → booksAfter mainTerms planP P (pilesP mainTerms) lent and-back b ≡ b
+piles-given-back = given-back (pilesP mainTerms)

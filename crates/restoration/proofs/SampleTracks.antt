@@ -22,6 +22,7 @@ use Rattle.restoration.specs.SampleAccount.{countsP, P}
 use Rattle.theory.proofs.Composition.{Word}
 use Rattle.theory.proofs.Nesting.{state-of}
 use Rattle.restoration.proofs.Theorems01.{finished-effect, finished-still}
+use Rattle.rules.specs.declared.Terms.{Terms}
 
 pub accepts-P : readPlan planP ≡ accepted countsP
 unfolding computing
@@ -79,13 +80,13 @@ module _ {B : Type 0} (v : ℕ → B → B) where
   abbrev Only : ℕ → Type 0
   Only t = (x : ℕ) → x < transitionCount P → (mover P x ≡ t → ⊥) → (b : B) → v x b ≡ b
 
-  module _ (limit : ℕ) (w : Word) (f : Finished P limit 1 w) where
+  module _ (terms : Terms) (w : Word) (f : Finished P terms 1 w) where
     pub left-run : Only 1 → (b : B) → act v w b ≡ v 2 b
     unfolding computing
     left-run h b =
         let φ : ℕ → B → B = λ q b. cond (eqb q 4) (v 2 b) b in
         let (q, o, z, g) =
-        finished-effect limit P ok-P 1 1 refl v φ
+        finished-effect terms P ok-P 1 1 refl v φ
         (record {
           start = λ b. refl;
           along =
@@ -102,7 +103,7 @@ module _ {B : Type 0} (v : ℕ → B → B) where
     right-run h b =
         let φ : ℕ → B → B = λ q b. cond (eqb q 7) (v 4 (v 3 b)) (cond (eqb q 6) (v 3 b) b) in
         let (q, o, z, g) =
-        finished-effect limit P ok-P 1 2 refl v φ
+        finished-effect terms P ok-P 1 2 refl v φ
         (record {
           start = λ b. refl;
           along =
@@ -117,7 +118,7 @@ module _ {B : Type 0} (v : ℕ → B → B) where
     pub other-run : (t : ℕ) → (t ≡ 1 → ⊥) → (t ≡ 2 → ⊥) → Only t → (b : B) → act v w b ≡ b
     unfolding computing
     other-run t n m h =
-        finished-still limit P ok-P 1 v
+        finished-still terms P ok-P 1 v
         (λ a x l i.
         h x l
         (λ e.
@@ -135,13 +136,13 @@ pub record Interleaved (w : Word) : Type 0 where
   pub right : movesIn 2 w ≡ 3 ∷ 4 ∷ []
   pub no-other : (t : ℕ) → (t ≡ 1 → ⊥) → (t ≡ 2 → ⊥) → movesIn t w ≡ []
 
-pub interleaved : (limit : ℕ) (w : Word) → Finished P limit 1 w → Interleaved w
+pub interleaved : (terms : Terms) (w : Word) → Finished P terms 1 w → Interleaved w
 unfolding computing
-interleaved limit w f =
+interleaved terms w f =
     record {
-      left = left-run (own 1) limit w f (only 1) [];
-      right = right-run (own 2) limit w f (only 2) [];
-      no-other = λ t n m. other-run (own t) limit w f t n m (only t) [];
+      left = left-run (own 1) terms w f (only 1) [];
+      right = right-run (own 2) terms w f (only 2) [];
+      no-other = λ t n m. other-run (own t) terms w f t n m (only t) [];
     }
   where
     own : ℕ → ℕ → Word → Word
@@ -210,10 +211,10 @@ module _ {A : Type 0} (changed retracted : ℕ → ℕ → A → A) where
               c .kept t x l n (changed t x (b t)) ∙ c .still t x l n (b t)
         ])
 
-    pub undo-run-P : (limit s t : ℕ) → host P t ≡ some s → (w : List ℕ) → Finished P limit s w → (b : ℕ → A) → back (replacement P s) (act by w b) ≡ b
-    undo-run-P limit s t e w f b =
+    pub undo-run-P : (terms : Terms) (s t : ℕ) → host P t ≡ some s → (w : List ℕ) → Finished P terms s w → (b : ℕ → A) → back (replacement P s) (act by w b) ≡ b
+    undo-run-P terms s t e w f b =
         let q = hosts-P t s e in
-        let g = subst (λ s. Finished P limit s w) q f in
+        let g = subst (λ s. Finished P terms s w) q f in
         rw q
         (fun-ext
         (λ v.
@@ -221,14 +222,14 @@ module _ {A : Type 0} (changed retracted : ℕ → ℕ → A → A) where
         ∙ (elim (look (eqb v 1)) [
           | inl y ↦
               rw (eqb-true v 1 y)
-              (ap (retracted 1 (replacement P 1)) (left-run (changed 1) limit w g (c .still 1) (b 1)) ∙ c .undo-left (b 1))
+              (ap (retracted 1 (replacement P 1)) (left-run (changed 1) terms w g (c .still 1) (b 1)) ∙ c .undo-left (b 1))
           | inr y ↦
               elim (look (eqb v 2)) [
                 | inl z ↦
                     rw (eqb-true v 2 z)
-                    (ap (retracted 2 (replacement P 1)) (right-run (changed 2) limit w g (c .still 2) (b 2)) ∙ c .undo-right (b 2))
+                    (ap (retracted 2 (replacement P 1)) (right-run (changed 2) terms w g (c .still 2) (b 2)) ∙ c .undo-right (b 2))
                 | inr z ↦
-                    ap (retracted v (replacement P 1)) (other-run (changed v) limit w g v (eqb-false v 1 y) (eqb-false v 2 z) (c .still v) (b v))
+                    ap (retracted v (replacement P 1)) (other-run (changed v) terms w g v (eqb-false v 1 y) (eqb-false v 2 z) (c .still v) (b v))
                     ∙ c .undo-other v (eqb-false v 1 y) (eqb-false v 2 z) (b v)
               ]
         ])))
@@ -261,15 +262,15 @@ module _ {A : Type 0} (changed retracted : ℕ → ℕ → A → A) where
         ∙ sym (y .parts (f b) v ∙ ap (y .part v) (x .parts b v)))
 
     -- the books
-    abbrev pub trackwise : (limit : ℕ) → Books P limit
-    trackwise limit =
+    abbrev pub trackwise : (terms : Terms) → Books P terms
+    trackwise terms =
         record {
           State = ℕ → A;
           changed = by;
           retracted = back;
           nothing = λ b. fun-ext (λ t. c .nothing t (b t));
           undo = undo-P;
-          undo-run = undo-run-P limit;
+          undo-run = undo-run-P terms;
           commute =
               λ t u a d e b.
               let (n, m) = apart-hosted t u (deed-track d) (deed-track e) a in

@@ -11,6 +11,7 @@ use lib.Dec.{ltb}
 use borrow.Author.Tests.{ltb-true, ltb-false, not-true}
 use Rattle.rules.specs.declared.Mode.the-variants.{Undoing}
 use Rattle.rules.specs.Names.{Day}
+use Rattle.rules.specs.declared.Terms.{Terms}
 use Rattle.rules.specs.Day.{isDay}
 use Rattle.rules.specs.Plan.{Plan, trackCount}
 use Rattle.rules.specs.Layout.{wordCount}
@@ -34,8 +35,8 @@ use Rattle.theory.proofs.SoundKept.{Kept, over-is}
 use Rattle.theory.proofs.Histories.{kept-progress}
 use Rattle.restoration.proofs.Document01.{document01, asTheory, there-and-back, laws01, unfinished01}
 
-module _ (limit : ℕ) (p : Plan) (ok : Accepted p) (l : Ledger) where
-  pub sound-of : Storable limit (trackCount p) l → isLive p l ≡ true → Sound document01 limit p l
+module _ (terms : Terms) (p : Plan) (ok : Accepted p) (l : Ledger) where
+  pub sound-of : Storable terms (trackCount p) l → isLive p l ≡ true → Sound document01 terms p l
   sound-of s h =
       record {
         formed = record { nested = nest; few = s .fits; good = good };
@@ -73,10 +74,10 @@ module _ (limit : ℕ) (p : Plan) (ok : Accepted p) (l : Ledger) where
                 let c = ltb-true t (trackCount p) b in
                 record { codes = v .codes t c; deviations = sym (may-deviate p l t (l t .held)) ∙ v .deviations t c }
             | inr b ↦
-                sleeping-good limit p t (l t) (ap (λ (c : Configuration). c .held) (s .beyond t (ltb-false t (trackCount p) b)) ∙ sleeping-held)
+                sleeping-good terms p t (l t) (ap (λ (c : Configuration). c .held) (s .beyond t (ltb-false t (trackCount p) b)) ∙ sleeping-held)
           ]
 
-  pub sound-live : Sound document01 limit p l → isLive p l ≡ true
+  pub sound-live : Sound document01 terms p l → isLive p l ≡ true
   sound-live s =
       let f = s .formed in
       live-of p ok l
@@ -92,7 +93,7 @@ module _ (limit : ℕ) (p : Plan) (ok : Accepted p) (l : Ledger) where
         abandoning = s .abandoning;
       })
 
-  pub formed-storable : Formed limit p l → Storable limit (trackCount p) l
+  pub formed-storable : Formed terms p l → Storable terms (trackCount p) l
   formed-storable f =
       record {
         fits = f .few;
@@ -103,60 +104,60 @@ module _ (limit : ℕ) (p : Plan) (ok : Accepted p) (l : Ledger) where
         blank = f .nested .blank;
       }
 
-module _ (limit : ℕ) (p : Plan) (ok : Accepted p) where
-  over-storable : (l : Ledger) → Over l → Storable limit (trackCount p) l
+module _ (terms : Terms) (p : Plan) (ok : Accepted p) where
+  over-storable : (l : Ledger) → Over l → Storable terms (trackCount p) l
   over-storable l o =
       record {
-        fits = λ t. sleeping-few limit p (l t) (ap (λ (c : Configuration). c .held) (o t) ∙ sleeping-held);
+        fits = λ t. sleeping-few terms p (l t) (ap (λ (c : Configuration). c .held) (o t) ∙ sleeping-held);
         beyond = λ t b. o t;
         blank = λ t a. o t;
       }
 
-  pub kept-storable : (l : Ledger) → Kept document01 limit p l → Storable limit (trackCount p) l
+  pub kept-storable : (l : Ledger) → Kept document01 terms p l → Storable terms (trackCount p) l
   kept-storable l (inl o) = over-storable l o
-  kept-storable l (inr s) = formed-storable limit p ok l (s .formed)
+  kept-storable l (inr s) = formed-storable terms p ok l (s .formed)
 
-  pub kept-is : (l : Ledger) → Kept document01 limit p l → (isOver p l || isLive p l) ≡ true
+  pub kept-is : (l : Ledger) → Kept document01 terms p l → (isOver p l || isLive p l) ≡ true
   kept-is l (inl o) = rw (over-is p l o)
-  kept-is l (inr s) = or-right (isOver p l) (isLive p l) (sound-live limit p ok l s)
+  kept-is l (inr s) = or-right (isOver p l) (isLive p l) (sound-live terms p ok l s)
 
   -- any call, refused or not
-  pub kept-next : (d : Day) (l : Ledger) → Kept document01 limit p l → (c : Call) → Kept document01 limit p (next limit p d l c)
+  pub kept-next : (d : Day) (l : Ledger) → Kept document01 terms p l → (c : Call) → Kept document01 terms p (next terms p d l c)
   kept-next d l k c =
-      subst (λ e. Kept document01 limit p (next limit p d l e)) (there-and-back c) (theory.kept-next laws01 unfinished01 limit p ok d l k (asTheory c))
+      subst (λ e. Kept document01 terms p (next terms p d l e)) (there-and-back c) (theory.kept-next laws01 unfinished01 terms p ok d l k (asTheory c))
 
   -- The same on words; writing tracks leaves the day.
-  pub words-sound : (l : Ledger) (ws : List ℕ) → wordCount limit (trackCount p) ≤ length ws → isDay (lastDay ws) ≡ true → Kept document01 limit p l
-      → isSound limit p (written limit (trackCount p) l ws) ≡ true
+  pub words-sound : (l : Ledger) (ws : List ℕ) → wordCount terms (trackCount p) ≤ length ws → isDay (lastDay ws) ≡ true → Kept document01 terms p l
+      → isSound terms p (written terms (trackCount p) l ws) ≡ true
   unfolding isSound
   words-sound l ws b d k =
       let st = kept-storable l k in
-      let vs = written limit (trackCount p) l ws in
-      let q = read-written limit (trackCount p) l ws (st .fits) b (st .beyond) in
-      and-both (isDay (lastDay vs) && areTidy limit vs (trackCount p))
-      (isOver p (ledgerAt limit vs (trackCount p)) || isLive p (ledgerAt limit vs (trackCount p)))
-      (and-both (isDay (lastDay vs)) (areTidy limit vs (trackCount p)) (ap isDay (day-written ws ws limit (trackCount p) l (st .fits) b) ∙ d)
-      (tidy-written limit (trackCount p) l ws st b))
+      let vs = written terms (trackCount p) l ws in
+      let q = read-written terms (trackCount p) l ws (st .fits) b (st .beyond) in
+      and-both (isDay (lastDay vs) && areTidy terms vs (trackCount p))
+      (isOver p (ledgerAt terms vs (trackCount p)) || isLive p (ledgerAt terms vs (trackCount p)))
+      (and-both (isDay (lastDay vs)) (areTidy terms vs (trackCount p)) (ap isDay (day-written ws ws terms (trackCount p) l (st .fits) b) ∙ d)
+      (tidy-written terms (trackCount p) l ws st b))
       (rw q (kept-is l k))
 
   -- and what sound words hold: a day in range,
-  pub words-day : (ws : List ℕ) → isSound limit p ws ≡ true → isDay (lastDay ws) ≡ true
+  pub words-day : (ws : List ℕ) → isSound terms p ws ≡ true → isDay (lastDay ws) ≡ true
   unfolding isSound
   words-day ws s =
-      let l = ledgerAt limit ws (trackCount p) in
-      let (b, v) = and-holds (isDay (lastDay ws) && areTidy limit ws (trackCount p)) (isOver p l || isLive p l) s in
-      and-holds (isDay (lastDay ws)) (areTidy limit ws (trackCount p)) b .0
+      let l = ledgerAt terms ws (trackCount p) in
+      let (b, v) = and-holds (isDay (lastDay ws) && areTidy terms ws (trackCount p)) (isOver p l || isLive p l) s in
+      and-holds (isDay (lastDay ws)) (areTidy terms ws (trackCount p)) b .0
 
   -- and a sound ledger, or one that is over
-  pub words-kept : (ws : List ℕ) → isSound limit p ws ≡ true → Kept document01 limit p (ledgerAt limit ws (trackCount p))
+  pub words-kept : (ws : List ℕ) → isSound terms p ws ≡ true → Kept document01 terms p (ledgerAt terms ws (trackCount p))
   unfolding isSound isOver
   words-kept ws s =
-      let l = ledgerAt limit ws (trackCount p) in
-      let (b, v) = and-holds (isDay (lastDay ws) && areTidy limit ws (trackCount p)) (isOver p l || isLive p l) s in
-      let tidy = and-holds (isDay (lastDay ws)) (areTidy limit ws (trackCount p)) b .1 in
-      let st = storable-read limit (trackCount p) ws tidy in
+      let l = ledgerAt terms ws (trackCount p) in
+      let (b, v) = and-holds (isDay (lastDay ws) && areTidy terms ws (trackCount p)) (isOver p l || isLive p l) s in
+      let tidy = and-holds (isDay (lastDay ws)) (areTidy terms ws (trackCount p)) b .1 in
+      let st = storable-read terms (trackCount p) ws tidy in
       elim (or-holds (isOver p l) (isLive p l) v) [
-        | inr h ↦ inr (sound-of limit p ok l st h)
+        | inr h ↦ inr (sound-of terms p ok l st h)
         | inl o ↦
             inl
             (λ t.
@@ -169,7 +170,7 @@ module _ (limit : ℕ) (p : Plan) (ok : Accepted p) where
       ]
 
   -- Progress, on sound words.
-  pub progress-words : (ws : List ℕ) → isSound limit p ws ≡ true
-      → (t : ℕ) → ledgerAt limit ws (trackCount p) t .mode ≡ Undoing → isEmpty (ledgerAt limit ws (trackCount p) t .held) ≡ false
-      → (u : ℕ) × (mayFire p (ledgerAt limit ws (trackCount p)) u ≡ true)
-  progress-words ws s = kept-progress laws01 unfinished01 limit p ok (ledgerAt limit ws (trackCount p)) (words-kept ws s)
+  pub progress-words : (ws : List ℕ) → isSound terms p ws ≡ true
+      → (t : ℕ) → ledgerAt terms ws (trackCount p) t .mode ≡ Undoing → isEmpty (ledgerAt terms ws (trackCount p) t .held) ≡ false
+      → (u : ℕ) × (mayFire p (ledgerAt terms ws (trackCount p)) u ≡ true)
+  progress-words ws s = kept-progress laws01 unfinished01 terms p ok (ledgerAt terms ws (trackCount p)) (words-kept ws s)

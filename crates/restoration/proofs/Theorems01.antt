@@ -8,6 +8,7 @@ use mathlib.Core.Option.{Option, none, some}
 use Prim.Native.Nat.{ℕ, _<_}
 use lib.IntN.{pos}
 use Rattle.rules.specs.Names.{Day}
+use Rattle.rules.specs.declared.Terms.{Terms}
 use Rattle.rules.specs.Plan.{Plan, trackCount, transitionCount, transition, host, mover, isStateOf, isFinal, isInside}
 use Rattle.rules.specs.Rights.{signalRight, isPermitted}
 use Rattle.rules.specs.Ledger.{Configuration, Ledger, isAwake, isForward, isUndoing, isEmpty}
@@ -52,16 +53,16 @@ pub use Rattle.theory.proofs.SoundKept.{over-is}
 pub use Rattle.restoration.proofs.Document01.{move-takes, move-for, move-day, move-permitted, next-accepted, next-refused, day-accepted, day-refused, event-accepted, event-day, signal-accepted, fire-accepted}
 
 -- sound, and sound or over
-abbrev pub Sound : ℕ → Plan → Ledger → Type 0
+abbrev pub Sound : Terms → Plan → Ledger → Type 0
 Sound = theory.Sound document01
 
-abbrev pub Kept : ℕ → Plan → Ledger → Type 0
+abbrev pub Kept : Terms → Plan → Ledger → Type 0
 Kept = kept.Kept document01
 
 -- what sleeps holds nothing
-pub asleep-nothing : (limit : ℕ) (p : Plan) (l : Ledger) → Kept limit p l → (t : ℕ) → isAwake (l t .mode) ≡ false → l t .held ≡ []
-asleep-nothing limit p l (inl o) t a = ap (λ c. c .held) (o t) ∙ sleeping-held
-asleep-nothing limit p l (inr s) t a = ap (λ c. c .held) (s .formed .nested .blank t a) ∙ sleeping-held
+pub asleep-nothing : (terms : Terms) (p : Plan) (l : Ledger) → Kept terms p l → (t : ℕ) → isAwake (l t .mode) ≡ false → l t .held ≡ []
+asleep-nothing terms p l (inl o) t a = ap (λ c. c .held) (o t) ∙ sleeping-held
+asleep-nothing terms p l (inr s) t a = ap (λ c. c .held) (s .formed .nested .blank t a) ∙ sleeping-held
 
 -- Changes one after the other.
 pub act-append : {B : Type 0} (f : ℕ → B → B) (w v : List ℕ) (b : B) → act f (w ++ v) b ≡ act f v (act f w b)
@@ -194,20 +195,20 @@ module _ (p : Plan) (ok : Accepted p) (l : Ledger) (n : Nested p l) where
   turned-nested a = subst (Nested p) (sym (same-turned p ok a l)) (leaving.turned-nested laws01 p ok l n a)
 
 -- Calls: who may be fired, what is over, what an accepted call does.
-pub may-fire : (limit : ℕ) (p : Plan) (l : Ledger) (t : ℕ) → mayFire p l t ≡ true
+pub may-fire : (terms : Terms) (p : Plan) (l : Ledger) (t : ℕ) → mayFire p l t ≡ true
     → (t < trackCount p) × (isUndoing (l t .mode) ≡ true) × (isEmpty (l t .held) ≡ false) × (hasOpenScope p l t ≡ false)
-may-fire limit p l t h = fireable.may-fire p l t h
+may-fire terms p l t h = fireable.may-fire p l t h
 
-pub over-refused : (limit : ℕ) (p : Plan) (d : Day) (l : Ledger) → isOver p l ≡ true → (c : Call) → callRefusal limit p d l c ≡ 0 → ⊥
-over-refused limit p d l o c =
-    subst (λ e. callRefusal limit p d l e ≡ 0 → ⊥) (there-and-back c) (settling.over-refused laws01 limit p d l o (asTheory c))
+pub over-refused : (terms : Terms) (p : Plan) (d : Day) (l : Ledger) → isOver p l ≡ true → (c : Call) → callRefusal terms p d l c ≡ 0 → ⊥
+over-refused terms p d l o c =
+    subst (λ e. callRefusal terms p d l e ≡ 0 → ⊥) (there-and-back c) (settling.over-refused laws01 terms p d l o (asTheory c))
 
-module _ (limit : ℕ) (p : Plan) (ok : Accepted p) (l : Ledger) (f : Formed limit p l) (a : EventArguments) where
+module _ (terms : Terms) (p : Plan) (ok : Accepted p) (l : Ledger) (f : Formed terms p l) (a : EventArguments) where
   pub event-roots : RootsAwake p l → RootsAwake p (closed p (moved p l a))
-  event-roots = sound-event.event-roots laws01 limit p ok l f a
+  event-roots = sound-event.event-roots laws01 terms p ok l f a
 
   pub event-abandoning : ((s : ℕ) → isAbandoning p l s ≡ false) → (s : ℕ) → isAbandoning p (closed p (moved p l a)) s ≡ false
-  event-abandoning = sound-event.event-abandoning laws01 limit p ok l f a
+  event-abandoning = sound-event.event-abandoning laws01 terms p ok l f a
 
 -- what a call does, finish apart
 abbrev pub work : Plan → Ledger → Call → Ledger
@@ -222,69 +223,69 @@ pub record Worked (p : Plan) (l : Ledger) : Type 0 where
   pub closing : (s : ℕ) → isClosing p l s ≡ false
   pub abandoning : (s : ℕ) → isAbandoning p l s ≡ false
 
-module _ (limit : ℕ) (p : Plan) (ok : Accepted p) (l : Ledger) (s : Sound limit p l) where
+module _ (terms : Terms) (p : Plan) (ok : Accepted p) (l : Ledger) (s : Sound terms p l) where
   -- nothing is left to abandon
   pub steady : abandoned p l ≡ l
   steady = abandoned-steady p ok l (λ z t u e g a. s .formed .nested .whole u t z g e ∙ a) (s .abandoning)
 
   pub signal-sound : (a : SignalArguments) → isFinishing p (abandoned p (turned p (a .society) l)) ≡ false
-      → Sound limit p (abandoned p (turned p (a .society) l))
+      → Sound terms p (abandoned p (turned p (a .society) l))
   signal-sound a =
-      subst (λ m. isFinishing p (abandoned p m) ≡ false → Sound limit p (abandoned p m)) (sym (same-turned p ok a l))
-      (sound-retraction.signal-sound laws01 limit p ok l s a)
+      subst (λ m. isFinishing p (abandoned p m) ≡ false → Sound terms p (abandoned p m)) (sym (same-turned p ok a l))
+      (sound-retraction.signal-sound laws01 terms p ok l s a)
 
-  pub fired-formed : (t : ℕ) → mayFire p l t ≡ true → Formed limit p (fired p l t)
-  fired-formed = sound-retraction.fired-formed laws01 limit p ok l s
+  pub fired-formed : (t : ℕ) → mayFire p l t ≡ true → Formed terms p (fired p l t)
+  fired-formed = sound-retraction.fired-formed laws01 terms p ok l s
 
-  pub fire-sound : (t : ℕ) → mayFire p l t ≡ true → isFinishing p (abandoned p (fired p l t)) ≡ false → Sound limit p (abandoned p (fired p l t))
-  fire-sound = sound-retraction.fire-sound laws01 limit p ok l s
+  pub fire-sound : (t : ℕ) → mayFire p l t ≡ true → isFinishing p (abandoned p (fired p l t)) ≡ false → Sound terms p (abandoned p (fired p l t))
+  fire-sound = sound-retraction.fire-sound laws01 terms p ok l s
 
   -- what an accepted call leaves has nothing left to settle but finish
-  pub worked : (d : Day) (c : Call) → callRefusal limit p d l c ≡ 0 → Worked p (work p l c)
+  pub worked : (d : Day) (c : Call) → callRefusal terms p d l c ≡ 0 → Worked p (work p l c)
   worked d (event a) h =
       let m = moved p l a in
       record {
         nested = closed-nested p ok m (moved-nested p l a ok (s .formed .nested));
-        roots = event-roots limit p ok l (s .formed) a (s .roots);
+        roots = event-roots terms p ok l (s .formed) a (s .roots);
         closing = closed-done p m;
-        abandoning = event-abandoning limit p ok l (s .formed) a (s .abandoning);
+        abandoning = event-abandoning terms p ok l (s .formed) a (s .abandoning);
       }
   worked d (signal a) h =
       subst (λ m. Worked p (abandoned p m)) (sym (same-turned p ok a l))
       (record {
-        nested = abandoned-formed limit p ok _ (sound-retraction.signal-formed laws01 limit p ok l s a) .nested;
-        roots = sound-retraction.signal-roots laws01 limit p ok l s a;
-        closing = sound-retraction.signal-closing laws01 limit p ok l s a;
+        nested = abandoned-formed terms p ok _ (sound-retraction.signal-formed laws01 terms p ok l s a) .nested;
+        roots = sound-retraction.signal-roots laws01 terms p ok l s a;
+        closing = sound-retraction.signal-closing laws01 terms p ok l s a;
         abandoning = abandoned-done p ok _;
       })
   worked d (fire a) h =
       let t = a .track in
-      let may = fire-accepted limit p d l a h .1 in
+      let may = fire-accepted terms p d l a h .1 in
       let X = fired p l t in
       record {
-        nested = abandoned-formed limit p ok X (fired-formed t may) .nested;
+        nested = abandoned-formed terms p ok X (fired-formed t may) .nested;
         roots = λ u b e.
-            ap (λ (c : Configuration). isAwake (c .mode)) (sound-retraction.fired-root laws01 limit p ok l s t may u e)
-            ∙ sound-retraction.fired-roots laws01 limit p ok l s t may u (s .roots u b e);
-        closing = sound-retraction.fire-closing laws01 limit p ok l s t may;
+            ap (λ (c : Configuration). isAwake (c .mode)) (sound-retraction.fired-root laws01 terms p ok l s t may u e)
+            ∙ sound-retraction.fired-roots laws01 terms p ok l s t may u (s .roots u b e);
+        closing = sound-retraction.fire-closing laws01 terms p ok l s t may;
         abandoning = abandoned-done p ok X;
       }
 
 -- an accepted call leaves its work, or all asleep
-pub next-cases : (limit : ℕ) (p : Plan) (ok : Accepted p) (d : Day) (l : Ledger) (c : Call) → callRefusal limit p d l c ≡ 0
-    → (next limit p d l c ≡ work p l c) ⊎ Over (next limit p d l c)
-next-cases limit p ok d l (event a) h = settling.next-cases laws01 limit p d l (seam.event a) h
-next-cases limit p ok d l (signal a) h =
-    subst (λ m. (next limit p d l (signal a) ≡ abandoned p m) ⊎ Over (next limit p d l (signal a))) (sym (same-turned p ok a l))
-    (settling.next-cases laws01 limit p d l (seam.signal a) h)
-next-cases limit p ok d l (fire a) h = settling.next-cases laws01 limit p d l (seam.fire a) h
+pub next-cases : (terms : Terms) (p : Plan) (ok : Accepted p) (d : Day) (l : Ledger) (c : Call) → callRefusal terms p d l c ≡ 0
+    → (next terms p d l c ≡ work p l c) ⊎ Over (next terms p d l c)
+next-cases terms p ok d l (event a) h = settling.next-cases laws01 terms p d l (seam.event a) h
+next-cases terms p ok d l (signal a) h =
+    subst (λ m. (next terms p d l (signal a) ≡ abandoned p m) ⊎ Over (next terms p d l (signal a))) (sym (same-turned p ok a l))
+    (settling.next-cases laws01 terms p d l (seam.signal a) h)
+next-cases terms p ok d l (fire a) h = settling.next-cases laws01 terms p d l (seam.fire a) h
 
 -- Runs: what lists of calls reach is sound or over, and a run stands on what one reaches.
-module _ (limit : ℕ) (p : Plan) (ok : Accepted p) where
-  pub reached-kept : {d : Day} {l : Ledger} → Reached p limit d l → Kept limit p l
-  reached-kept r = histories.reached-kept laws01 unfinished01 limit p ok (from-reached p limit r)
+module _ (terms : Terms) (p : Plan) (ok : Accepted p) where
+  pub reached-kept : {d : Day} {l : Ledger} → Reached p terms d l → Kept terms p l
+  reached-kept r = histories.reached-kept laws01 unfinished01 terms p ok (from-reached p terms r)
 
-  pub running-reached : {s : ℕ} {d : Day} {l : Ledger} {w : List ℕ} → Running p limit s d l w → Reached p limit d l
+  pub running-reached : {s : ℕ} {d : Day} {l : Ledger} {w : List ℕ} → Running p terms s d l w → Reached p terms d l
   running-reached (by-begin o) = start
   running-reached (by-call r c f o) = then r c
   running-reached (over-event r a z o) = then (running-reached r) (event a)
@@ -292,14 +293,14 @@ module _ (limit : ℕ) (p : Plan) (ok : Accepted p) where
   running-reached (over-fire r a z o) = then (running-reached r) (fire a)
 
 -- What the moves of one track in a finished run do, and that the run does nothing where none inside the scope does.
-module _ (limit : ℕ) (p : Plan) (ok : Accepted p) (s : ℕ) {B : Type 0} (v : ℕ → B → B) where
+module _ (terms : Terms) (p : Plan) (ok : Accepted p) (s : ℕ) {B : Type 0} (v : ℕ → B → B) where
   pub finished-still : ((a : EventArguments) (x : ℕ) → x < transitionCount p → isInside p s (mover p x) ≡ true → (b : B) → v x b ≡ b)
-      → {w : List ℕ} → Finished p limit s w → (b : B) → act v w b ≡ b
-  finished-still h {w} f b = same-act v w b ∙ effects.finished-still laws01 unfinished01 limit p ok s v h (from-finished p limit f .1) b
+      → {w : List ℕ} → Finished p terms s w → (b : B) → act v w b ≡ b
+  finished-still h {w} f b = same-act v w b ∙ effects.finished-still laws01 unfinished01 terms p ok s v h (from-finished p terms f .1) b
 
-module _ (limit : ℕ) (p : Plan) (ok : Accepted p) (s t : ℕ) (e : host p t ≡ some s) {B : Type 0} (v φ : ℕ → B → B) where
-  pub finished-effect : Effect document01 p t v φ → {w : List ℕ} → Finished p limit s w
+module _ (terms : Terms) (p : Plan) (ok : Accepted p) (s t : ℕ) (e : host p t ≡ some s) {B : Type 0} (v φ : ℕ → B → B) where
+  pub finished-effect : Effect document01 p t v φ → {w : List ℕ} → Finished p terms s w
       → (q : ℕ) × (isStateOf p t q ≡ true) × (isFinal p q ≡ true) × ((b : B) → act v w b ≡ φ q b)
   finished-effect c {w} f =
-      let (q, o, z, g) = effects.finished-effect laws01 unfinished01 limit p ok s t e v φ c (from-finished p limit f .1) in
+      let (q, o, z, g) = effects.finished-effect laws01 unfinished01 terms p ok s t e v φ c (from-finished p terms f .1) in
       (q, o, z, λ b. same-act v w b ∙ g b)

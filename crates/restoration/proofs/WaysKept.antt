@@ -11,6 +11,7 @@ use lib.ListN.{length}
 use lib.Dec.{eqb, ltb}
 use borrow.Author.Tests.{eqb-true, eqb-false, eq-eqb, lt-ltb, not-false}
 use Rattle.rules.specs.Names.{Day}
+use Rattle.rules.specs.declared.Terms.{Terms}
 use Rattle.rules.specs.Plan.{Plan, trackCount, transitionCount, noState, transition, replacement, host, owner, isIn, isHosting}
 use Rattle.rules.specs.Ledger.{Configuration, Ledger, isAwake}
 use Rattle.rules.specs.Scope.{isOpen, isOver}
@@ -202,26 +203,26 @@ module _ (p : Plan) (l : Ledger) where
             (way-shut p t (isOpen p l (l t .state)) (isOpen p C (l t .state)) (l t) (none-opened (l t .state)) (w t a))
       ]
 
-module _ (limit : ℕ) (p : Plan) (ok : Accepted p) (quiet : hasDeviation p ≡ false) where
+module _ (terms : Terms) (p : Plan) (ok : Accepted p) (quiet : hasDeviation p ≡ false) where
   -- a begin starts every way
   pub ways-begun : Ways p (begun p)
   ways-begun t a =
-      subst (Way p t (isOpen p (begun p) (begun p t .state))) (sym (begun-fresh limit p ok t a)) (way-fresh p t (isOpen p (begun p) (begun p t .state)))
+      subst (Way p t (isOpen p (begun p) (begun p t .state))) (sym (begun-fresh terms p ok t a)) (way-fresh p t (isOpen p (begun p) (begun p t .state)))
 
-  ways-worked : (d : Day) (l : Ledger) → Sound limit p l → Ways p l → (c : Call) → callRefusal limit p d l c ≡ 0 → Ways p (work p l c)
+  ways-worked : (d : Day) (l : Ledger) → Sound terms p l → Ways p l → (c : Call) → callRefusal terms p d l c ≡ 0 → Ways p (work p l c)
   ways-worked d l s w (event a) z = ways-closed p (moved p l a) (ways-moved p ok quiet l (s .formed .nested) a w)
   ways-worked d l s w (signal a) z = ways-signalled p ok l a w
-  ways-worked d l s w (fire a) z = ways-fired p ok l (a .track) (fire-accepted limit p d l a z .1) w
+  ways-worked d l s w (fire a) z = ways-fired p ok l (a .track) (fire-accepted terms p d l a z .1) w
 
   -- and any call, refused or not, keeps them
-  pub ways-next : (d : Day) (l : Ledger) → Kept limit p l → Ways p l → (c : Call) → Ways p (next limit p d l c)
+  pub ways-next : (d : Day) (l : Ledger) → Kept terms p l → Ways p l → (c : Call) → Ways p (next terms p d l c)
   ways-next d l k w c =
-      elim (look (eqb (callRefusal limit p d l c) 0)) [
-        | inr z ↦ subst (Ways p) (sym (next-refused limit p d l c (eqb-false (callRefusal limit p d l c) 0 z))) w
+      elim (look (eqb (callRefusal terms p d l c) 0)) [
+        | inr z ↦ subst (Ways p) (sym (next-refused terms p d l c (eqb-false (callRefusal terms p d l c) 0 z))) w
         | inl z ↦
-            let y = eqb-true (callRefusal limit p d l c) 0 z in
-            let s = kept-sound limit p l k (refuted (isOver p l) (λ o. over-refused limit p d l o c y)) in
-            elim (next-cases limit p ok d l c y) [
+            let y = eqb-true (callRefusal terms p d l c) 0 z in
+            let s = kept-sound terms p l k (refuted (isOver p l) (λ o. over-refused terms p d l o c y)) in
+            elim (next-cases terms p ok d l c y) [
               | inl q ↦ subst (Ways p) (sym q) (ways-worked d l s w c y)
               | inr o ↦ λ t a. clash a (ap (λ (x : Configuration). isAwake (x .mode)) (o t) ∙ sleeping-asleep)
             ]

@@ -41,6 +41,7 @@ use Rattle.restoration.proofs.Document01.{laws01, unfinished01}
 use Rattle.restoration.proofs.Theorems01.{Sound, Kept, sleeping-asleep, sleeping-held, asleep-nothing, by-none, to-none, recorded, goes, moved-is, turned-held, turned-same, signal-forward, steady, signal-sound, fire-sound}
 use Rattle.restoration.proofs.SoundLive.{kept-storable}
 use Rattle.restoration.proofs.Plain.{plain-none, plain-removed, fired-plain}
+use Rattle.rules.specs.declared.Terms.{Terms}
 
 -- without a forward track nothing finishes
 pub unended : (p : Plan) (l : Ledger) → ((t : ℕ) → isForward (l t .mode) ≡ false) → isFinishing p l ≡ false
@@ -55,17 +56,17 @@ none-held p l z t =
     let (b, u, e, f) = may-fire p l t m in
     omega (arith, z, sum-at (trackCount p) (λ t. length (l t .held)) t b, older-less (l t .held) e))
 
-module _ (limit : ℕ) (p : Plan) (ok : Accepted p) where
+module _ (terms : Terms) (p : Plan) (ok : Accepted p) where
   pub record Withdrawing (l : Ledger) : Type 0 where
-    pub kept : Kept limit p l
+    pub kept : Kept terms p l
     pub backward : (t : ℕ) → isForward (l t .mode) ≡ false
     pub plain : (t : ℕ) → isPlain (l t .held) ≡ true
 
   -- by the two tests, and back: a number that is no track's sleeps
-  beyond : (l : Ledger) → Kept limit p l → (t : ℕ) → ltb t (trackCount p) ≡ false → l t ≡ sleeping
-  beyond l k t b = kept-storable limit p ok l k .beyond t (ltb-false t (trackCount p) b)
+  beyond : (l : Ledger) → Kept terms p l → (t : ℕ) → ltb t (trackCount p) ≡ false → l t ≡ sleeping
+  beyond l k t b = kept-storable terms p ok l k .beyond t (ltb-false t (trackCount p) b)
 
-  all-backward : (l : Ledger) → Kept limit p l → noneForward p l ≡ true → (t : ℕ) → isForward (l t .mode) ≡ false
+  all-backward : (l : Ledger) → Kept terms p l → noneForward p l ≡ true → (t : ℕ) → isForward (l t .mode) ≡ false
   unfolding noneForward
   all-backward l k f t =
       elim (look (ltb t (trackCount p))) [
@@ -75,7 +76,7 @@ module _ (limit : ℕ) (p : Plan) (ok : Accepted p) where
             (λ w. clash (forward-awake (l t .mode) w) (ap (λ (c : Configuration). isAwake (c .mode)) (beyond l k t b) ∙ sleeping-asleep))
       ]
 
-  all-plain : (l : Ledger) → Kept limit p l → holdsNoDeviation p l ≡ true → (t : ℕ) → isPlain (l t .held) ≡ true
+  all-plain : (l : Ledger) → Kept terms p l → holdsNoDeviation p l ≡ true → (t : ℕ) → isPlain (l t .held) ≡ true
   unfolding holdsNoDeviation
   all-plain l k d t =
       elim (look (ltb t (trackCount p))) [
@@ -83,7 +84,7 @@ module _ (limit : ℕ) (p : Plan) (ok : Accepted p) where
         | inr b ↦ rw (beyond l k t b, sleeping-held) plain-none
       ]
 
-  pub withdrawing : (l : Ledger) → Kept limit p l → noneForward p l ≡ true → holdsNoDeviation p l ≡ true → Withdrawing l
+  pub withdrawing : (l : Ledger) → Kept terms p l → noneForward p l ≡ true → holdsNoDeviation p l ≡ true → Withdrawing l
   withdrawing l k f d = record { kept = k; backward = all-backward l k f; plain = all-plain l k d }
 
   pub withdrawing-is : (l : Ledger) → Withdrawing l → (noneForward p l ≡ true) × (holdsNoDeviation p l ≡ true)
@@ -99,9 +100,9 @@ module _ (limit : ℕ) (p : Plan) (ok : Accepted p) where
     unfolding isEmpty
     goes-on t e =
         elim (look (isAwake (l t .mode))) [
-          | inr a ↦ clash (ap isEmpty (asleep-nothing limit p l (w .kept) t a)) e
+          | inr a ↦ clash (ap isEmpty (asleep-nothing terms p l (w .kept) t a)) e
           | inl a ↦
-              kept-progress laws01 unfinished01 limit p ok l (w .kept) t
+              kept-progress laws01 unfinished01 terms p ok l (w .kept) t
               (undoing-is (l t .mode) (awake-undoing (l t .mode) a (w .backward t))) e
         ]
 
@@ -116,7 +117,7 @@ module _ (limit : ℕ) (p : Plan) (ok : Accepted p) where
         ])
 
     -- no event and no signal changes a track
-    module _ (s : Sound limit p l) where
+    module _ (s : Sound terms p l) where
       pub event-still : (a : EventArguments) → afterEvent p l a ≡ l
       unfolding afterEvent
       event-still a =
@@ -130,12 +131,12 @@ module _ (limit : ℕ) (p : Plan) (ok : Accepted p) where
       unfolding afterSignal
       signal-still society =
           ap (λ m. finished p (abandoned p m)) (turned-same p ok (record { society = society }) l (λ t y. w .backward t))
-          ∙ ap (finished p) (steady limit p ok l s) ∙ finish-not p l (s .finish)
+          ∙ ap (finished p) (steady terms p ok l s) ∙ finish-not p l (s .finish)
 
     -- a firing removes an entry
     module _ (t : ℕ) (may : mayFire p l t ≡ true) where
-      s : Sound limit p l
-      s = kept-sound limit p l (w .kept) (fireable-not-over p l t may)
+      s : Sound terms p l
+      s = kept-sound terms p l (w .kept) (fireable-not-over p l t may)
 
       taken-off : fired p l t ≡ removed l t
       taken-off = fired-plain p l t ok (w .plain t)
@@ -155,7 +156,7 @@ module _ (limit : ℕ) (p : Plan) (ok : Accepted p) where
       fired-withdrawing =
           subst Withdrawing (sym fires-so)
           (record {
-            kept = inr (subst (λ m. isFinishing p (abandoned p m) ≡ false → Sound limit p (abandoned p m)) taken-off (fire-sound limit p ok l s t may) (unended p (abandoned p (removed l t)) unforward));
+            kept = inr (subst (λ m. isFinishing p (abandoned p m) ≡ false → Sound terms p (abandoned p m)) taken-off (fire-sound terms p ok l s t may) (unended p (abandoned p (removed l t)) unforward));
             backward = unforward;
             plain = λ u. rw (abandoned-held p ok (removed l t) u) (plain-removed p l t u (w .plain u));
           })
@@ -166,7 +167,7 @@ module _ (limit : ℕ) (p : Plan) (ok : Accepted p) where
           ap (λ m. suc (heldTotal p m)) fires-so ∙ ap suc (abandoned-total p ok (removed l t)) ∙ removed-one p ok l t b e
 
   -- A signal that turns every forward track leaves such a ledger, with every entry
-  module _ (l : Ledger) (s : Sound limit p l) (a : SignalArguments) (all : turnsEvery p (a .society) l ≡ true) where
+  module _ (l : Ledger) (s : Sound terms p l) (a : SignalArguments) (all : turnsEvery p (a .society) l ≡ true) where
     abbrev S : Ledger
     S = abandoned p (turned p (a .society) l)
 
@@ -187,8 +188,8 @@ module _ (limit : ℕ) (p : Plan) (ok : Accepted p) where
     unfolding afterSignal
     signals-so = finish-not p S (unended p S turned-back)
 
-    pub signalled-sound : Sound limit p (afterSignal p l (a .society))
-    signalled-sound = subst (Sound limit p) (sym signals-so) (signal-sound limit p ok l s a (unended p S turned-back))
+    pub signalled-sound : Sound terms p (afterSignal p l (a .society))
+    signalled-sound = subst (Sound terms p) (sym signals-so) (signal-sound terms p ok l s a (unended p S turned-back))
 
     pub signalled-withdrawing : holdsNoDeviation p l ≡ true → Withdrawing (afterSignal p l (a .society))
     signalled-withdrawing d =
@@ -239,7 +240,7 @@ module _ (limit : ℕ) (p : Plan) (ok : Accepted p) where
       ]
 
   -- The claim, of every ledger that is sound or over, has no forward track and holds no deviation
-  pub fires-exactly : (l : Ledger) → Kept limit p l → noneForward p l ≡ true → holdsNoDeviation p l ≡ true → FiresExactly p l
+  pub fires-exactly : (l : Ledger) → Kept terms p l → noneForward p l ≡ true → holdsNoDeviation p l ≡ true → FiresExactly p l
   fires-exactly l k f d =
       let due : (ts : List ℕ) → isOrder p l ts ≡ true → Withdrawing (afterOrder p l ts) × (length ts + heldTotal p (afterOrder p l ts) ≡ heldTotal p l) =
       λ ts o. order-due ts l (withdrawing l k f d) o in

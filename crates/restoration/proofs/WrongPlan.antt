@@ -10,6 +10,7 @@ use lib.ListN.{length, getD}
 use lib.Dec.{eqb}
 use borrow.Author.Tests.{eqb-true, not-false, le-ltb}
 use Rattle.rules.specs.declared.Counts.{Counts}
+use Rattle.rules.specs.declared.Terms.{Terms}
 use Rattle.rules.specs.Plan.{trackCount, planOf}
 use Rattle.rules.specs.Acceptance.{accepted, readPlan}
 use Rattle.rules.specs.Layout.{lengthPlace, sumPlace, wordCount}
@@ -44,35 +45,35 @@ other-differs bs bs′ ws e d =
           absurd (d (sym a ∙ a′) (sym b ∙ b′))
     ]
 
-module _ (limit : ℕ) (bs : List ℕ) (k : Counts) (read : readPlan bs ≡ accepted k) (lent : List ℕ) (begun : beginOutcome limit bs lent .answer ≡ done [])
+module _ (terms : Terms) (bs : List ℕ) (k : Counts) (read : readPlan bs ≡ accepted k) (lent : List ℕ) (begun : beginOutcome terms bs lent .answer ≡ done [])
     (cs : List Call) where
   abbrev ws : List ℕ
-  ws = wordsAfter limit bs lent cs
+  ws = wordsAfter terms bs lent cs
 
   -- "Begin writes them", and they stay
   pub leads : (getD ws lengthPlace 0 ≡ length bs) × (getD ws sumPlace 0 ≡ planSum bs)
-  leads = own-leads bs ws (history-holds limit bs k read lent cs begun .own)
+  leads = own-leads bs ws (history-holds terms bs k read lent cs begun .own)
 
   -- "every other call tests them": under another accepted plan with no more tracks
   module _ (bs′ : List ℕ) (k′ : Counts) (read′ : readPlan bs′ ≡ accepted k′) (few : trackCount (planOf bs′ k′) ≤ trackCount (planOf bs k))
       (differ : Differ bs bs′) where
-    refused : ledgerRefusal limit bs′ (planOf bs′ k′) ws ≡ 24
+    refused : ledgerRefusal terms bs′ (planOf bs′ k′) ws ≡ 24
     unfolding tooShort
     refused =
-        let h = history-holds limit bs k read lent cs begun in
-        let long : wordCount limit (trackCount (planOf bs′ k′)) ≤ length ws =
-        omega (arith, h .long, fewer-words limit (trackCount (planOf bs′ k′)) (trackCount (planOf bs k)) few) in
-        other-refused limit bs′ (planOf bs′ k′) ws (le-ltb (length ws) (wordCount limit (trackCount (planOf bs′ k′))) long)
+        let h = history-holds terms bs k read lent cs begun in
+        let long : wordCount terms (trackCount (planOf bs′ k′)) ≤ length ws =
+        omega (arith, h .long, fewer-words terms (trackCount (planOf bs′ k′)) (trackCount (planOf bs k)) few) in
+        other-refused terms bs′ (planOf bs′ k′) ws (le-ltb (length ws) (wordCount terms (trackCount (planOf bs′ k′))) long)
         (other-differs bs bs′ ws (h .own) differ)
 
-    pub call-wrong : (c : Call) → callOutcome limit bs′ ws c ≡ record { answer = refusal 24; words = ws }
+    pub call-wrong : (c : Call) → callOutcome terms bs′ ws c ≡ record { answer = refusal 24; words = ws }
     unfolding refusedOr
-    call-wrong c = outcome limit bs′ k′ read′ ws c 24 (refused-first limit bs′ (planOf bs′ k′) ws 23 refused _)
+    call-wrong c = outcome terms bs′ k′ read′ ws c 24 (refused-first terms bs′ (planOf bs′ k′) ws 23 refused _)
 
-    pub ready-wrong : readyOutcome limit bs′ ws ≡ record { answer = refusal 24; words = ws }
+    pub ready-wrong : readyOutcome terms bs′ ws ≡ record { answer = refusal 24; words = ws }
     unfolding readyOutcome underPlan refusedOr
     ready-wrong = rw (read′, underPlan, refused)
 
-    pub entries-wrong : (t : ℕ) → entriesPart limit bs′ ws t ≡ []
+    pub entries-wrong : (t : ℕ) → entriesPart terms bs′ ws t ≡ []
     unfolding entriesPart
     entries-wrong t = rw (read′, entriesPart, refused)

@@ -6,9 +6,10 @@ use mathlib.Core.Option.{some}
 use Prim.Native.Nat.{ℕ, _<_}
 use lib.Dec.{eqb}
 use Rattle.rules.specs.declared.Counts.{Counts}
+use Rattle.rules.specs.declared.Terms.{Terms}
 use Rattle.rules.specs.Plan.{Plan, planOf, trackCount, transitionCount, transition, host, replacement, mover}
 use Rattle.rules.specs.Acceptance.{accepted, readPlan}
-use Rattle.rules.specs.Layout.{entryLimit}
+use Rattle.rules.specs.Layout.{mainTerms}
 use Rattle.rules.specs.Ledger.{Ledger, ledgerAt}
 use Rattle.rules.specs.Fire.{newest}
 use Rattle.rules.specs.Call.{Answer, refusal, done, Call, event, signal, fire, beginOutcome, callOutcome}
@@ -26,13 +27,13 @@ pub record Asked : Type 0 where
   pub ofRetractions : Bool
 
 -- The conditions of property 3, as far as they are asked.
-pub record Lenient (p : Plan) (limit : ℕ) (asked : Asked) : Type 1 where
+pub record Lenient (p : Plan) (terms : Terms) (asked : Asked) : Type 1 where
   pub State : Type 0
   pub changed : ℕ → State → State
   pub retracted : ℕ → State → State
   pub nothing : asked .ofNothing ≡ true → (b : State) → retracted 0 b ≡ b
   pub undo : (x : ℕ) → x < transitionCount p → asked .ofCode (transition p x .code) ≡ true → (b : State) → retracted (transition p x .code) (changed x b) ≡ b
-  pub undo-run : (s t : ℕ) → host p t ≡ some s → asked .ofReplacement (replacement p s) ≡ true → (w : List ℕ) → Finished p limit s w
+  pub undo-run : (s t : ℕ) → host p t ≡ some s → asked .ofReplacement (replacement p s) ≡ true → (w : List ℕ) → Finished p terms s w
       → (b : State) → retracted (replacement p s) (act changed w b) ≡ b
   pub commute : asked .ofChanges ≡ true → (x y : ℕ) → x < transitionCount p → y < transitionCount p → Apart p (mover p x) (mover p y)
       → (b : State) → changed x (changed y b) ≡ changed y (changed x b)
@@ -40,7 +41,7 @@ pub record Lenient (p : Plan) (limit : ℕ) (asked : Asked) : Type 1 where
       → (b : State) → does p changed retracted d (does p changed retracted e b) ≡ does p changed retracted e (does p changed retracted d b)
 
 -- The reference run's books, with no condition on the changes.
-module _ (limit : ℕ) (bs : List ℕ) (p : Plan) {S : Type 0} (changed retracted : ℕ → S → S) where
+module _ (terms : Terms) (bs : List ℕ) (p : Plan) {S : Type 0} (changed retracted : ℕ → S → S) where
   unfoldable pub freelyCall : Ledger → Call → S → S
   freelyCall l (event a) b = act changed (movesOf p (λ t. true) l a) b
   freelyCall l (signal a) b = b
@@ -53,18 +54,18 @@ module _ (limit : ℕ) (bs : List ℕ) (p : Plan) {S : Type 0} (changed retracte
   unfoldable pub freely : List ℕ → List Call → S → S
   freely ws [] b = b
   freely ws (c ∷ cs) b =
-      freely (callOutcome limit bs ws c .words) cs
-      (freelyBooked (ledgerAt limit ws (trackCount p)) c (callOutcome limit bs ws c .answer) b)
+      freely (callOutcome terms bs ws c .words) cs
+      (freelyBooked (ledgerAt terms ws (trackCount p)) c (callOutcome terms bs ws c .answer) b)
 
 -- the claim, with so much asked
 abbrev pub Claim : Asked → Type 1
 Claim asked =
     (bs : List ℕ) (c : Counts) → readPlan bs ≡ accepted c
-    → (k : Lenient (planOf bs c) entryLimit asked) (lent : List ℕ) (cs : List Call)
-    → beginOutcome entryLimit bs lent .answer ≡ done []
-    → AllWithdrawn (planOf bs c) (ledgerAfter entryLimit bs (planOf bs c) lent cs)
+    → (k : Lenient (planOf bs c) mainTerms asked) (lent : List ℕ) (cs : List Call)
+    → beginOutcome mainTerms bs lent .answer ≡ done []
+    → AllWithdrawn (planOf bs c) (ledgerAfter mainTerms bs (planOf bs c) lent cs)
     → (b : k .State)
-    → freely entryLimit bs (planOf bs c) (k .changed) (k .retracted) (beginOutcome entryLimit bs lent .words) cs b ≡ b
+    → freely mainTerms bs (planOf bs c) (k .changed) (k .retracted) (beginOutcome mainTerms bs lent .words) cs b ≡ b
 
 -- all conditions, and all but one
 abbrev pub every : ℕ → Bool

@@ -9,6 +9,7 @@ use lib.IntN.{ℤ}
 use lib.ListN.{length, getD, set, take, drop, length-drop}
 use lib.Seq.{getD-take, drop-drop}
 use borrow.Author.Tests.{eq-eqb}
+use Rattle.rules.specs.declared.Terms.{Terms}
 use Rattle.rules.specs.Signed.{signedOf, bitsOf, joined, lowWord, highWord}
 use Rattle.rules.specs.Day.{earliestDay}
 use Rattle.rules.specs.Layout.{leadingWords, lengthPlace, sumPlace, lowDayPlace, highDayPlace, trackPlace, wordCount}
@@ -45,12 +46,12 @@ module _ (bs ws : List ℕ) where
   day-alike vs e =
       rw (alike-at vs e lowDayPlace (unfold leadingWords in omega arith), alike-at vs e highDayPlace (unfold leadingWords in omega arith))
 
-  module _ (limit n : ℕ) (l : Ledger) (f : Fits limit l) (h : wordCount limit n ≤ length ws) where
-    pub other-written : otherPlan bs (written limit n l ws) ≡ otherPlan bs ws
-    other-written = other-alike (written limit n l ws) (leading-written limit n l ws f h)
+  module _ (terms : Terms) (n : ℕ) (l : Ledger) (f : Fits terms l) (h : wordCount terms n ≤ length ws) where
+    pub other-written : otherPlan bs (written terms n l ws) ≡ otherPlan bs ws
+    other-written = other-alike (written terms n l ws) (leading-written terms n l ws f h)
 
-    pub day-written : lastDay (written limit n l ws) ≡ lastDay ws
-    day-written = day-alike (written limit n l ws) (leading-written limit n l ws f h)
+    pub day-written : lastDay (written terms n l ws) ≡ lastDay ws
+    day-written = day-alike (written terms n l ws) (leading-written terms n l ws f h)
 
 -- a ledger with the leading words begins with four
 by-four : (P : List ℕ → Type 0) → ((a b c d : ℕ) (r : List ℕ) → P (a ∷ b ∷ c ∷ d ∷ r)) → (ws : List ℕ) → leadingWords ≤ length ws → P ws
@@ -86,26 +87,26 @@ module _ (day : ℤ) where
   dated-steps = by-four (λ ws. set (set ws lowDayPlace (lowWord day)) highDayPlace (highWord day) ≡ dated day ws) (λ a b c d r. refl)
 
   -- a day and the tracks are written in either order
-  module _ (limit n : ℕ) (l : Ledger) (ws : List ℕ) (h : wordCount limit n ≤ length ws) where
+  module _ (terms : Terms) (n : ℕ) (l : Ledger) (ws : List ℕ) (h : wordCount terms n ≤ length ws) where
     room : leadingWords ≤ length ws
     unfolding wordCount
-    room = let a = place-after limit n in omega arith
+    room = let a = place-after terms n in omega arith
 
-    beyond-dated : drop (wordCount limit n) (dated day ws) ≡ drop (wordCount limit n) ws
+    beyond-dated : drop (wordCount terms n) (dated day ws) ≡ drop (wordCount terms n) ws
     unfolding wordCount
     beyond-dated =
-        let e : leadingWords + (trackPlace limit n - leadingWords) ≡ trackPlace limit n = omega (arith, place-after limit n) in
-        let f : (vs : List ℕ) → drop (trackPlace limit n) vs ≡ drop (trackPlace limit n - leadingWords) (drop leadingWords vs) =
-        λ vs. sym (drop-drop (trackPlace limit n - leadingWords) leadingWords vs ∙ ap (λ (k : ℕ). drop k vs) e) in
-        f (dated day ws) ∙ ap (drop (trackPlace limit n - leadingWords)) (dated-behind ws room) ∙ sym (f ws)
+        let e : leadingWords + (trackPlace terms n - leadingWords) ≡ trackPlace terms n = omega (arith, place-after terms n) in
+        let f : (vs : List ℕ) → drop (trackPlace terms n) vs ≡ drop (trackPlace terms n - leadingWords) (drop leadingWords vs) =
+        λ vs. sym (drop-drop (trackPlace terms n - leadingWords) leadingWords vs ∙ ap (λ (k : ℕ). drop k vs) e) in
+        f (dated day ws) ∙ ap (drop (trackPlace terms n - leadingWords)) (dated-behind ws room) ∙ sym (f ws)
 
     dated-front : (vs rest : List ℕ) → leadingWords ≤ length vs → dated day (take leadingWords vs ++ rest) ≡ take leadingWords (dated day vs) ++ rest
     unfolding dated leadingWords
     dated-front vs rest =
         by-four (λ vs. dated day (take leadingWords vs ++ rest) ≡ take leadingWords (dated day vs) ++ rest) (λ a b c d r. refl) vs
 
-    pub dated-written : dated day (written limit n l ws) ≡ written limit n l (dated day ws)
+    pub dated-written : dated day (written terms n l ws) ≡ written terms n l (dated day ws)
     unfolding written
     dated-written =
         dated-front ws _ room
-        ∙ ap (λ (v : List ℕ). take leadingWords (dated day ws) ++ (ledgerWords limit n l ++ v)) (sym beyond-dated)
+        ∙ ap (λ (v : List ℕ). take leadingWords (dated day ws) ++ (ledgerWords terms n l ++ v)) (sym beyond-dated)

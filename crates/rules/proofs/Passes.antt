@@ -7,6 +7,7 @@ use Prim.Native.Nat.{ℕ, _+_, _<_, _≤_}
 use native.Mathlib.Omega.{arith}
 use lib.Dec.{eqb, ltb}
 use borrow.Author.Tests.{eqb-true, eqb-false, lt-ltb, le-ltb, ltb-true, ltb-false}
+use Rattle.rules.specs.declared.Terms.{Terms}
 use Rattle.rules.specs.Ledger.{Ledger, written}
 use Rattle.rules.proofs.Tests.{look}
 use Rattle.rules.proofs.Stored.{Fits, written-same}
@@ -47,5 +48,5 @@ module _ (new old : Ledger) where
       ])
 
   -- all tracks passed
-  pub up-all : (limit n : ℕ) (ws : List ℕ) → written limit n (upTo n) ws ≡ written limit n new ws
-  up-all limit n ws = written-same limit n (upTo n) new ws (λ t h. up-new n t h)
+  pub up-all : (terms : Terms) (n : ℕ) (ws : List ℕ) → written terms n (upTo n) ws ≡ written terms n new ws
+  up-all terms n ws = written-same terms n (upTo n) new ws (λ t h. up-new n t h)

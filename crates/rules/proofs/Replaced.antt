@@ -11,6 +11,7 @@ use lib.ListN.{length, take, drop, replicate, set, length-set}
 use lib.Seq.{set-append-left, take-at, drop-at, length-take-le}
 use lib.Dec.{eqb}
 use borrow.Author.Tests.{eqb-true, eqb-false, eq-eqb, ne-eqb}
+use Rattle.rules.specs.declared.Terms.{Terms}
 use Rattle.rules.specs.Layout.{leadingWords, headWords, entryWidth, trackWidth, trackPlace, entriesPlace, wordCount}
 use Rattle.rules.specs.Ledger.{Entry, Configuration, Ledger, sleeping, configurationWords, ledgerWords, written}
 use Rattle.rules.proofs.Tests.{look}
@@ -40,11 +41,11 @@ updated-same l k =
     ])
 
 -- `limit` is the most entries that a track holds
-module _ (limit : ℕ) where
+module _ (terms : Terms) where
   -- One track replaced. What lies before its words, and after them, is the same.
   split : (n : ℕ) (l : Ledger) (k : ℕ) → k < n
       → (post : List ℕ)
-      × ((x : Configuration) → ledgerWords limit n (updated l k x) ≡ ledgerWords limit k l ++ (configurationWords limit x ++ post))
+      × ((x : Configuration) → ledgerWords terms n (updated l k x) ≡ ledgerWords terms k l ++ (configurationWords terms x ++ post))
   unfolding ledgerWords
   split zero l k h = absurd (not-suc-le-zero h)
   split (suc n) l k h =
@@ -53,22 +54,22 @@ module _ (limit : ℕ) where
             let q = eqb-true k n e in (
               [],
               λ x.
-                  let a : ledgerWords limit n (updated l k x) ≡ ledgerWords limit n l =
-                  words-same limit n (updated l k x) l (λ t b. updated-other l k t x (λ (i : t ≡ k). omega arith)) in
+                  let a : ledgerWords terms n (updated l k x) ≡ ledgerWords terms n l =
+                  words-same terms n (updated l k x) l (λ t b. updated-other l k t x (λ (i : t ≡ k). omega arith)) in
                   let b : updated l k x n ≡ x = ap (updated l k x) (sym q) ∙ updated-here l k x in
                   rw (a, b, append-nil, q),
             )
         | inr e ↦
             let g : k ≡ n → ⊥ = eqb-false k n e in
             let (post, r) = split n l k (omega arith) in (
-              post ++ configurationWords limit (l n),
+              post ++ configurationWords terms (l n),
               λ x.
                   let b : updated l k x n ≡ l n = updated-other l k n x (λ (i : n ≡ k). g (sym i)) in
                   rw (r x, b, append-assoc, append-assoc),
             )
       ]
 
-  pub updated-fits : (l : Ledger) (k : ℕ) (x : Configuration) → Fits limit l → length (x .held) ≤ limit → Fits limit (updated l k x)
+  pub updated-fits : (l : Ledger) (k : ℕ) (x : Configuration) → Fits terms l → length (x .held) ≤ terms .limit → Fits terms (updated l k x)
   updated-fits l k x f h t =
       elim (look (eqb t k)) [
         | inl e ↦ let q = eqb-true t k e in rw (q, updated-here l k x) h
@@ -77,108 +78,108 @@ module _ (limit : ℕ) where
 
   -- the words with one track's part replaced, as a part that was lent gives them back
   unfoldable pub inTrack : List ℕ → ℕ → List ℕ → List ℕ
-  inTrack ws k ys = take (trackPlace limit k) ws ++ (ys ++ drop (trackWidth limit) (drop (trackPlace limit k) ws))
+  inTrack ws k ys = take (trackPlace terms k) ws ++ (ys ++ drop (trackWidth terms) (drop (trackPlace terms k) ws))
 
   -- they are those of the ledger with that track replaced
-  pub put-track : (n : ℕ) (l : Ledger) (ws : List ℕ) (k : ℕ) (x : Configuration) → Fits limit l → k < n → wordCount limit n ≤ length ws
-      → inTrack (written limit n l ws) k (configurationWords limit x) ≡ written limit n (updated l k x) ws
+  pub put-track : (n : ℕ) (l : Ledger) (ws : List ℕ) (k : ℕ) (x : Configuration) → Fits terms l → k < n → wordCount terms n ≤ length ws
+      → inTrack (written terms n l ws) k (configurationWords terms x) ≡ written terms n (updated l k x) ws
   unfolding inTrack
   put-track n l ws k x f h room =
       let (post, r) = split n l k h in
-      let pre : List ℕ = take leadingWords ws ++ ledgerWords limit k l in
-      let rest : List ℕ = drop (wordCount limit n) ws in
-      let old : List ℕ = configurationWords limit (l k) in
-      let parts : (y : Configuration) → written limit n (updated l k y) ws ≡ pre ++ (configurationWords limit y ++ (post ++ rest)) =
+      let pre : List ℕ = take leadingWords ws ++ ledgerWords terms k l in
+      let rest : List ℕ = drop (wordCount terms n) ws in
+      let old : List ℕ = configurationWords terms (l k) in
+      let parts : (y : Configuration) → written terms n (updated l k y) ws ≡ pre ++ (configurationWords terms y ++ (post ++ rest)) =
       λ y.
-      written-up-to limit n (updated l k y) ws
+      written-up-to terms n (updated l k y) ws
       ∙ ap (λ (v : List ℕ). (take leadingWords ws ++ v) ++ rest) (r y)
-      ∙ ap (λ (v : List ℕ). v ++ rest) (sym (append-assoc (take leadingWords ws) (ledgerWords limit k l) (configurationWords limit y ++ post)))
-      ∙ append-assoc pre (configurationWords limit y ++ post) rest ∙ ap (λ (v : List ℕ). pre ++ v) (append-assoc (configurationWords limit y) post rest) in
-      let e : written limit n l ws ≡ pre ++ (old ++ (post ++ rest)) = ap (λ (m : Ledger). written limit n m ws) (sym (updated-same l k)) ∙ parts (l k) in
-      let a : length pre ≡ trackPlace limit k = length-up-to limit (take leadingWords ws) k l (length-leading limit n ws room) f in
-      let b : length old ≡ trackWidth limit = length-configurationWords limit (l k) (f k) in
+      ∙ ap (λ (v : List ℕ). v ++ rest) (sym (append-assoc (take leadingWords ws) (ledgerWords terms k l) (configurationWords terms y ++ post)))
+      ∙ append-assoc pre (configurationWords terms y ++ post) rest ∙ ap (λ (v : List ℕ). pre ++ v) (append-assoc (configurationWords terms y) post rest) in
+      let e : written terms n l ws ≡ pre ++ (old ++ (post ++ rest)) = ap (λ (m : Ledger). written terms n m ws) (sym (updated-same l k)) ∙ parts (l k) in
+      let a : length pre ≡ trackPlace terms k = length-up-to terms (take leadingWords ws) k l (length-leading terms n ws room) f in
+      let b : length old ≡ trackWidth terms = length-configurationWords terms (l k) (f k) in
       rw (e, take-at pre (old ++ (post ++ rest)) _ a, drop-at pre (old ++ (post ++ rest)) _ a, drop-at old (post ++ rest) _ b) (sym (parts x))
 
   -- a track's part is what was written of it
-  pub own-part : (n : ℕ) (l : Ledger) (ws : List ℕ) (k : ℕ) → Fits limit l → k < n → wordCount limit n ≤ length ws
-      → written limit n l ws ≡ inTrack (written limit n l ws) k (configurationWords limit (l k))
-  own-part n l ws k f h room = sym (put-track n l ws k (l k) f h room ∙ ap (λ (m : Ledger). written limit n m ws) (updated-same l k))
+  pub own-part : (n : ℕ) (l : Ledger) (ws : List ℕ) (k : ℕ) → Fits terms l → k < n → wordCount terms n ≤ length ws
+      → written terms n l ws ≡ inTrack (written terms n l ws) k (configurationWords terms (l k))
+  own-part n l ws k f h room = sym (put-track n l ws k (l k) f h room ∙ ap (λ (m : Ledger). written terms n m ws) (updated-same l k))
 
   -- single words of a track are set in its part
-  pub set-part : (ws : List ℕ) (k : ℕ) (ys : List ℕ) (j v : ℕ) → trackPlace limit k ≤ length ws → j < length ys
-      → set (inTrack ws k ys) (trackPlace limit k + j) v ≡ inTrack ws k (set ys j v)
+  pub set-part : (ws : List ℕ) (k : ℕ) (ys : List ℕ) (j v : ℕ) → trackPlace terms k ≤ length ws → j < length ys
+      → set (inTrack ws k ys) (trackPlace terms k + j) v ≡ inTrack ws k (set ys j v)
   unfolding inTrack
   set-part ws k ys j v h b =
-      let a : length (take (trackPlace limit k) ws) ≡ trackPlace limit k = length-take-le (trackPlace limit k) ws h in
-      set-beyond (take (trackPlace limit k) ws) _ (trackPlace limit k) j v a
-      ∙ ap (λ (u : List ℕ). take (trackPlace limit k) ws ++ u) (set-append-left ys _ j v b)
+      let a : length (take (trackPlace terms k) ws) ≡ trackPlace terms k = length-take-le (trackPlace terms k) ws h in
+      set-beyond (take (trackPlace terms k) ws) _ (trackPlace terms k) j v a
+      ∙ ap (λ (u : List ℕ). take (trackPlace terms k) ws ++ u) (set-append-left ys _ j v b)
 
   -- One word or a pair of words set in a track whose words are written.
-  module _ (n : ℕ) (l : Ledger) (ws : List ℕ) (k : ℕ) (f : Fits limit l) (h : k < n) (room : wordCount limit n ≤ length ws) where
-    before : trackPlace limit k ≤ length (written limit n l ws)
+  module _ (n : ℕ) (l : Ledger) (ws : List ℕ) (k : ℕ) (f : Fits terms l) (h : k < n) (room : wordCount terms n ≤ length ws) where
+    before : trackPlace terms k ≤ length (written terms n l ws)
     before =
-        let a : trackPlace limit k + trackWidth limit ≤ wordCount limit n = unfold wordCount in place-below limit n k h in
-        omega (arith, length-written limit n l ws f room)
+        let a : trackPlace terms k + trackWidth terms ≤ wordCount terms n = unfold wordCount in place-below terms n k h in
+        omega (arith, length-written terms n l ws f room)
 
     -- so many words in, whatever they are: a law of the track's own words is one of the ledger
-    pub set-track : (x : Configuration) (j v : ℕ) → j < trackWidth limit → set (configurationWords limit (l k)) j v ≡ configurationWords limit x
-        → set (written limit n l ws) (trackPlace limit k + j) v ≡ written limit n (updated l k x) ws
+    pub set-track : (x : Configuration) (j v : ℕ) → j < trackWidth terms → set (configurationWords terms (l k)) j v ≡ configurationWords terms x
+        → set (written terms n l ws) (trackPlace terms k + j) v ≡ written terms n (updated l k x) ws
     set-track x j v b e =
-        ap (λ (u : List ℕ). set u (trackPlace limit k + j) v) (own-part n l ws k f h room)
-        ∙ set-part (written limit n l ws) k (configurationWords limit (l k)) j v before (let w = length-configurationWords limit (l k) (f k) in omega arith)
-        ∙ ap (inTrack (written limit n l ws) k) e ∙ put-track n l ws k x f h room
+        ap (λ (u : List ℕ). set u (trackPlace terms k + j) v) (own-part n l ws k f h room)
+        ∙ set-part (written terms n l ws) k (configurationWords terms (l k)) j v before (let w = length-configurationWords terms (l k) (f k) in omega arith)
+        ∙ ap (inTrack (written terms n l ws) k) e ∙ put-track n l ws k x f h room
 
     -- an entry's two words and the count: three words set in the track's own words
-    pub set-three : (x : Configuration) (i a j b m c : ℕ) → i < trackWidth limit → j < trackWidth limit → m < trackWidth limit
-        → set (set (set (configurationWords limit (l k)) i a) j b) m c ≡ configurationWords limit x
-        → set (set (set (written limit n l ws) (trackPlace limit k + i) a) (trackPlace limit k + j) b) (trackPlace limit k + m) c
-        ≡ written limit n (updated l k x) ws
+    pub set-three : (x : Configuration) (i a j b m c : ℕ) → i < trackWidth terms → j < trackWidth terms → m < trackWidth terms
+        → set (set (set (configurationWords terms (l k)) i a) j b) m c ≡ configurationWords terms x
+        → set (set (set (written terms n l ws) (trackPlace terms k + i) a) (trackPlace terms k + j) b) (trackPlace terms k + m) c
+        ≡ written terms n (updated l k x) ws
     set-three x i a j b m c hi hj hm e =
-        let y₀ : List ℕ = configurationWords limit (l k) in
-        let w : length y₀ ≡ trackWidth limit = length-configurationWords limit (l k) (f k) in
+        let y₀ : List ℕ = configurationWords terms (l k) in
+        let w : length y₀ ≡ trackWidth terms = length-configurationWords terms (l k) (f k) in
         let y₁ : List ℕ = set y₀ i a in
         let y₂ : List ℕ = set y₁ j b in
-        let w₁ : length y₁ ≡ trackWidth limit = length-set y₀ i a ∙ w in
-        let w₂ : length y₂ ≡ trackWidth limit = length-set y₁ j b ∙ w₁ in
-        let W : List ℕ = written limit n l ws in
-        ap (λ (u : List ℕ). set (set (set u (trackPlace limit k + i) a) (trackPlace limit k + j) b) (trackPlace limit k + m) c) (own-part n l ws k f h room)
-        ∙ ap (λ (u : List ℕ). set (set u (trackPlace limit k + j) b) (trackPlace limit k + m) c) (set-part W k y₀ i a before (omega arith))
-        ∙ ap (λ (u : List ℕ). set u (trackPlace limit k + m) c) (set-part W k y₁ j b before (omega arith))
+        let w₁ : length y₁ ≡ trackWidth terms = length-set y₀ i a ∙ w in
+        let w₂ : length y₂ ≡ trackWidth terms = length-set y₁ j b ∙ w₁ in
+        let W : List ℕ = written terms n l ws in
+        ap (λ (u : List ℕ). set (set (set u (trackPlace terms k + i) a) (trackPlace terms k + j) b) (trackPlace terms k + m) c) (own-part n l ws k f h room)
+        ∙ ap (λ (u : List ℕ). set (set u (trackPlace terms k + j) b) (trackPlace terms k + m) c) (set-part W k y₀ i a before (omega arith))
+        ∙ ap (λ (u : List ℕ). set u (trackPlace terms k + m) c) (set-part W k y₁ j b before (omega arith))
         ∙ set-part W k y₂ m c before (omega arith)
         ∙ ap (inTrack W k) e ∙ put-track n l ws k x f h room
 
     -- one more entry: its two words behind those held, and the count
-    pub install-entry : (e : Entry) → length (l k .held) < limit
+    pub install-entry : (e : Entry) → length (l k .held) < terms .limit
         → set
-        (set (set (written limit n l ws) (entriesPlace limit k + entryWidth * length (l k .held)) (e .code))
-        (entriesPlace limit k + entryWidth * length (l k .held) + 1) (e .deviation))
-        (trackPlace limit k + 2) (suc (length (l k .held)))
-        ≡ written limit n (updated l k (record { mode = l k .mode; state = l k .state; held = e ∷ l k .held })) ws
+        (set (set (written terms n l ws) (entriesPlace terms k + entryWidth * length (l k .held)) (e .code))
+        (entriesPlace terms k + entryWidth * length (l k .held) + 1) (e .deviation))
+        (trackPlace terms k + 2) (suc (length (l k .held)))
+        ≡ written terms n (updated l k (record { mode = l k .mode; state = l k .state; held = e ∷ l k .held })) ws
     unfolding entriesPlace headWords entryWidth trackWidth
     install-entry e b =
         let o : ℕ = length (l k .held) in
         let x : Configuration = record { mode = l k .mode; state = l k .state; held = e ∷ l k .held } in
-        let i : trackPlace limit k + 3 + 2 * o ≡ trackPlace limit k + (3 + 2 * o) = omega arith in
-        let j : trackPlace limit k + 3 + 2 * o + 1 ≡ trackPlace limit k + (3 + 2 * o + 1) = omega arith in
+        let i : trackPlace terms k + 3 + 2 * o ≡ trackPlace terms k + (3 + 2 * o) = omega arith in
+        let j : trackPlace terms k + 3 + 2 * o + 1 ≡ trackPlace terms k + (3 + 2 * o + 1) = omega arith in
         rw (j, i)
         (set-three x (3 + 2 * o) (e .code) (3 + 2 * o + 1) (e .deviation) 2 (suc o) (omega arith) (omega arith) (omega arith)
-        (install-words limit (l k) e b))
+        (install-words terms (l k) e b))
 
     -- the newest entry removed: its two words zero, and the count
     pub remove-entry : (e : Entry) (es : List Entry) → l k .held ≡ e ∷ es
-        → set (set (set (written limit n l ws) (entriesPlace limit k + entryWidth * length es) 0) (entriesPlace limit k + entryWidth * length es + 1) 0)
-        (trackPlace limit k + 2) (length es)
-        ≡ written limit n (updated l k (record { mode = l k .mode; state = l k .state; held = es })) ws
+        → set (set (set (written terms n l ws) (entriesPlace terms k + entryWidth * length es) 0) (entriesPlace terms k + entryWidth * length es + 1) 0)
+        (trackPlace terms k + 2) (length es)
+        ≡ written terms n (updated l k (record { mode = l k .mode; state = l k .state; held = es })) ws
     unfolding entriesPlace headWords entryWidth trackWidth
     remove-entry e es q =
         let o : ℕ = length es in
-        let b : suc (length es) ≤ limit = omega (arith, ap length q, f k) in
+        let b : suc (length es) ≤ terms .limit = omega (arith, ap length q, f k) in
         let x : Configuration = record { mode = l k .mode; state = l k .state; held = es } in
-        let i : trackPlace limit k + 3 + 2 * o ≡ trackPlace limit k + (3 + 2 * o) = omega arith in
-        let j : trackPlace limit k + 3 + 2 * o + 1 ≡ trackPlace limit k + (3 + 2 * o + 1) = omega arith in
+        let i : trackPlace terms k + 3 + 2 * o ≡ trackPlace terms k + (3 + 2 * o) = omega arith in
+        let j : trackPlace terms k + 3 + 2 * o + 1 ≡ trackPlace terms k + (3 + 2 * o + 1) = omega arith in
         rw (j, i)
-        (set-three x (3 + 2 * o) 0 (3 + 2 * o + 1) 0 2 o (omega arith) (omega arith) (omega arith) (remove-words limit (l k) e es q b))
+        (set-three x (3 + 2 * o) 0 (3 + 2 * o + 1) 0 2 o (omega arith) (omega arith) (omega arith) (remove-words terms (l k) e es q b))
 
     -- asleep: all zeros
-    pub sleep-track : inTrack (written limit n l ws) k (replicate (trackWidth limit) 0) ≡ written limit n (updated l k sleeping) ws
-    sleep-track = ap (inTrack (written limit n l ws) k) (sym (words-sleeping limit)) ∙ put-track n l ws k sleeping f h room
+    pub sleep-track : inTrack (written terms n l ws) k (replicate (trackWidth terms) 0) ≡ written terms n (updated l k sleeping) ws
+    sleep-track = ap (inTrack (written terms n l ws) k) (sym (words-sleeping terms)) ∙ put-track n l ws k sleeping f h room

@@ -9,6 +9,7 @@ use lib.Dec.{eqb}
 use borrow.Author.Tests.{eqb-true, eq-eqb, not-true}
 use Rattle.rules.specs.declared.Mode.{Mode}
 use Rattle.rules.specs.declared.Mode.the-variants.{Asleep, Forward, Undoing}
+use Rattle.rules.specs.declared.Terms.{Terms}
 use Rattle.rules.specs.Fold.{someBelow}
 use Rattle.rules.specs.Plan.{Plan, trackCount, stateCount, host, owner, isRoot, isStateOf, everyIn}
 use Rattle.rules.specs.Day.{isDay}
@@ -128,19 +129,19 @@ module _ (p : Plan) (ok : Accepted p) (l : Ledger) where
           (subst (λ m. sameMode m (l t .mode) ≡ true) (sym y) (mode-same (l t .mode)))))
 
 -- A sound ledger's words: a day in range, tidy, and over or live.
-pub record SoundWords (limit : ℕ) (p : Plan) (ws : List ℕ) : Type 0 where
+pub record SoundWords (terms : Terms) (p : Plan) (ws : List ℕ) : Type 0 where
   pub day : isDay (lastDay ws) ≡ true
-  pub tidy : areTidy limit ws (trackCount p) ≡ true
-  pub rest : (isOver p (ledgerAt limit ws (trackCount p)) || isLive p (ledgerAt limit ws (trackCount p))) ≡ true
+  pub tidy : areTidy terms ws (trackCount p) ≡ true
+  pub rest : (isOver p (ledgerAt terms ws (trackCount p)) || isLive p (ledgerAt terms ws (trackCount p))) ≡ true
 
-module _ (limit : ℕ) (p : Plan) (ws : List ℕ) where
-  pub sound-words : isSound limit p ws ≡ true → SoundWords limit p ws
+module _ (terms : Terms) (p : Plan) (ws : List ℕ) where
+  pub sound-words : isSound terms p ws ≡ true → SoundWords terms p ws
   unfolding isSound
   sound-words h =
-      let (q, r) = and-holds (isDay (lastDay ws) && areTidy limit ws (trackCount p)) _ h in
-      let (d, t) = and-holds (isDay (lastDay ws)) (areTidy limit ws (trackCount p)) q in
+      let (q, r) = and-holds (isDay (lastDay ws) && areTidy terms ws (trackCount p)) _ h in
+      let (d, t) = and-holds (isDay (lastDay ws)) (areTidy terms ws (trackCount p)) q in
       record { day = d; tidy = t; rest = r }
 
-  pub words-sound : SoundWords limit p ws → isSound limit p ws ≡ true
+  pub words-sound : SoundWords terms p ws → isSound terms p ws ≡ true
   unfolding isSound
   words-sound s = rw (s .day, s .tidy) (s .rest)

@@ -13,6 +13,7 @@ use lib.Dec.{eqb, ltb}
 use borrow.Author.Tests.{eqb-true, eqb-false, eq-eqb, ltb-true, ltb-false, le-leb, leb-true}
 use Rattle.rules.specs.declared.Mode.{Mode}
 use Rattle.rules.specs.declared.Mode.the-variants.{Asleep, Forward, Undoing}
+use Rattle.rules.specs.declared.Terms.{Terms}
 use Rattle.rules.specs.Layout.{leadingWords, headWords, entryWidth, trackWidth, trackPlace, wordCount}
 use Rattle.rules.specs.Ledger.{Entry, Configuration, isAwake, sleeping, modeWord, heldWords, modeOf, entryAt, heldAt, configurationAt, configurationWords}
 use Rattle.rules.specs.Soundness.{goodMode, goodCount, unusedZero, asleepZero, isTidy}
@@ -130,91 +131,91 @@ zero-word (suc n) zero = refl
 zero-word (suc n) (suc i) = zero-word n i
 
 -- `limit` is the most entries that a track holds
-module _ (limit : ℕ) where
-  pub place-first : trackPlace limit 0 ≡ leadingWords
+module _ (terms : Terms) where
+  pub place-first : trackPlace terms 0 ≡ leadingWords
   unfolding trackPlace
   place-first = rw mul-zero (omega arith)
 
-  pub place-more : (t : ℕ) → trackPlace limit (suc t) ≡ trackPlace limit t + trackWidth limit
+  pub place-more : (t : ℕ) → trackPlace terms (suc t) ≡ trackPlace terms t + trackWidth terms
   unfolding trackPlace
   place-more t = rw mul-suc (omega arith)
 
   -- no track's words start among the leading ones
-  pub place-after : (t : ℕ) → leadingWords ≤ trackPlace limit t
+  pub place-after : (t : ℕ) → leadingWords ≤ trackPlace terms t
   unfolding trackPlace
   place-after t = omega arith
 
   -- a track's words end where those of so many tracks do, or before
-  pub place-below : (n t : ℕ) → t < n → trackPlace limit t + trackWidth limit ≤ trackPlace limit n
+  pub place-below : (n t : ℕ) → t < n → trackPlace terms t + trackWidth terms ≤ trackPlace terms n
   place-below zero t h = absurd (not-suc-le-zero h)
   place-below (suc n) t h =
       let m = place-more n in
       elim (look (eqb t n)) [
-        | inl e ↦ let i = eqb-true t n e in let q : trackPlace limit t ≡ trackPlace limit n = ap (trackPlace limit) i in omega arith
+        | inl e ↦ let i = eqb-true t n e in let q : trackPlace terms t ≡ trackPlace terms n = ap (trackPlace terms) i in omega arith
         | inr e ↦ let f : t ≡ n → ⊥ = eqb-false t n e in let r = place-below n t (omega arith) in omega arith
       ]
 
   -- fewer tracks need no more words
-  pub fewer-words : (n m : ℕ) → n ≤ m → wordCount limit n ≤ wordCount limit m
+  pub fewer-words : (n m : ℕ) → n ≤ m → wordCount terms n ≤ wordCount terms m
   unfolding wordCount
   fewer-words n m h =
       elim (look (eqb n m)) [
-        | inl e ↦ let q : trackPlace limit n ≡ trackPlace limit m = ap (trackPlace limit) (eqb-true n m e) in omega arith
+        | inl e ↦ let q : trackPlace terms n ≡ trackPlace terms m = ap (trackPlace terms) (eqb-true n m e) in omega arith
         | inr e ↦ let f : n ≡ m → ⊥ = eqb-false n m e in omega (arith, place-below m n (omega arith))
       ]
 
-  pub length-configurationWords : (c : Configuration) → length (c .held) ≤ limit → length (configurationWords limit c) ≡ trackWidth limit
+  pub length-configurationWords : (c : Configuration) → length (c .held) ≤ terms .limit → length (configurationWords terms c) ≡ trackWidth terms
   unfolding configurationWords trackWidth headWords entryWidth
   length-configurationWords c h =
-      let a = length-append (heldWords (c .held)) (replicate (2 * (limit - length (c .held))) 0) in
+      let a = length-append (heldWords (c .held)) (replicate (2 * (terms .limit - length (c .held))) 0) in
       let b : length (heldWords (c .held)) ≡ 2 * length (c .held) = length-heldWords (c .held) in
-      let d = length-replicate {A = ℕ} (2 * (limit - length (c .held))) 0 in
+      let d = length-replicate {A = ℕ} (2 * (terms .limit - length (c .held))) 0 in
       omega arith
 
   -- "An asleep track is all zeros."
-  pub sleeping-word : (j : ℕ) → getD (configurationWords limit sleeping) j 0 ≡ 0
+  pub sleeping-word : (j : ℕ) → getD (configurationWords terms sleeping) j 0 ≡ 0
   unfolding configurationWords sleeping heldWords modeWord
   sleeping-word zero = refl
   sleeping-word (suc zero) = refl
   sleeping-word (suc (suc zero)) = refl
-  sleeping-word (suc (suc (suc j))) = zero-word (entryWidth * (limit - 0)) j
+  sleeping-word (suc (suc (suc j))) = zero-word (entryWidth * (terms .limit - 0)) j
 
-  pub words-sleeping : configurationWords limit sleeping ≡ replicate (trackWidth limit) 0
+  pub words-sleeping : configurationWords terms sleeping ≡ replicate (trackWidth terms) 0
   unfolding configurationWords sleeping heldWords modeWord trackWidth headWords entryWidth
   words-sleeping =
-      let i : 3 + 2 * limit ≡ suc (suc (suc (2 * (limit - 0)))) = omega arith in
+      let i : 3 + 2 * terms .limit ≡ suc (suc (suc (2 * (terms .limit - 0)))) = omega arith in
       rw i
 
   -- one more entry, and one less, in a track's own words
-  pub install-words : (c : Configuration) (e : Entry) → length (c .held) < limit
+  pub install-words : (c : Configuration) (e : Entry) → length (c .held) < terms .limit
       → set
-      (set (set (configurationWords limit c) (3 + entryWidth * length (c .held)) (e .code)) (3 + entryWidth * length (c .held) + 1)
+      (set (set (configurationWords terms c) (3 + entryWidth * length (c .held)) (e .code)) (3 + entryWidth * length (c .held) + 1)
       (e .deviation))
       2 (suc (length (c .held)))
-      ≡ configurationWords limit (record { mode = c .mode; state = c .state; held = e ∷ c .held })
+      ≡ configurationWords terms (record { mode = c .mode; state = c .state; held = e ∷ c .held })
   unfolding configurationWords heldWords entryWidth
   install-words c e h =
       let o : ℕ = length (c .held) in
       let hs : List ℕ = heldWords (c .held) in
       let m : length hs ≡ 2 * o = length-heldWords (c .held) in
-      let z : List ℕ = replicate (2 * (limit - suc o)) 0 in
-      let i : 2 * (limit - o) ≡ suc (suc (2 * (limit - suc o))) = omega arith in
+      let z : List ℕ = replicate (2 * (terms .limit - suc o)) 0 in
+      let i : 2 * (terms .limit - o) ≡ suc (suc (2 * (terms .limit - suc o))) = omega arith in
       let a : 3 + 2 * o ≡ suc (suc (suc (2 * o))) = omega arith in
       let b : 3 + 2 * o + 1 ≡ suc (suc (suc (2 * o + 1))) = omega arith in
       rw (b, a, i)
       (ap (λ (u : List ℕ). modeWord (c .mode) ∷ c .state ∷ suc o ∷ u)
       (set-two hs z (2 * o) 0 0 (e .code) (e .deviation) m ∙ sym (append-assoc hs (e .code ∷ e .deviation ∷ []) z)))
 
-  pub remove-words : (c : Configuration) (e : Entry) (es : List Entry) → c .held ≡ e ∷ es → suc (length es) ≤ limit
-      → set (set (set (configurationWords limit c) (3 + entryWidth * length es) 0) (3 + entryWidth * length es + 1) 0) 2 (length es)
-      ≡ configurationWords limit (record { mode = c .mode; state = c .state; held = es })
+  pub remove-words : (c : Configuration) (e : Entry) (es : List Entry) → c .held ≡ e ∷ es → suc (length es) ≤ terms .limit
+      → set (set (set (configurationWords terms c) (3 + entryWidth * length es) 0) (3 + entryWidth * length es + 1) 0) 2 (length es)
+      ≡ configurationWords terms (record { mode = c .mode; state = c .state; held = es })
   unfolding configurationWords heldWords entryWidth
   remove-words c e es q h =
       let o : ℕ = length es in
       let hs : List ℕ = heldWords es in
       let m : length hs ≡ 2 * o = length-heldWords es in
-      let z : List ℕ = replicate (2 * (limit - suc o)) 0 in
-      let i : 2 * (limit - o) ≡ suc (suc (2 * (limit - suc o))) = omega arith in
+      let z : List ℕ = replicate (2 * (terms .limit - suc o)) 0 in
+      let i : 2 * (terms .limit - o) ≡ suc (suc (2 * (terms .limit - suc o))) = omega arith in
       let a : 3 + 2 * o ≡ suc (suc (suc (2 * o))) = omega arith in
       let b : 3 + 2 * o + 1 ≡ suc (suc (suc (2 * o + 1))) = omega arith in
       rw (q, b, a, i, append-assoc hs (e .code ∷ e .deviation ∷ []) z)
@@ -222,10 +223,10 @@ module _ (limit : ℕ) where
 
   -- the words at a place are those of the configuration
   abbrev pub Stands : List ℕ → ℕ → Configuration → Type 0
-  Stands ws at c = (j : ℕ) → j < trackWidth limit → getD ws (at + j) 0 ≡ getD (configurationWords limit c) j 0
+  Stands ws at c = (j : ℕ) → j < trackWidth terms → getD ws (at + j) 0 ≡ getD (configurationWords terms c) j 0
 
   -- such words read as it
-  pub read-stands : (ws : List ℕ) (at : ℕ) (c : Configuration) → length (c .held) ≤ limit → Stands ws at c → configurationAt ws at ≡ c
+  pub read-stands : (ws : List ℕ) (at : ℕ) (c : Configuration) → length (c .held) ≤ terms .limit → Stands ws at c → configurationAt ws at ≡ c
   unfolding configurationAt configurationWords trackWidth headWords entryWidth
   read-stands ws at c h s =
       let m : getD ws at 0 ≡ modeWord (c .mode) = ap (λ (i : ℕ). getD ws i 0) (omega arith) ∙ s 0 (omega arith) in
@@ -241,28 +242,28 @@ module _ (limit : ℕ) where
       λ x. record { mode = (ap modeOf m ∙ mode-read (c .mode)) x; state = t x; held = q x }
 
   -- such words are tidy
-  unused-stands : (ws : List ℕ) (at : ℕ) (c : Configuration) → Stands ws at c → unusedZero limit ws at ≡ true
+  unused-stands : (ws : List ℕ) (at : ℕ) (c : Configuration) → Stands ws at c → unusedZero terms ws at ≡ true
   unfolding unusedZero configurationWords trackWidth headWords entryWidth
   unused-stands ws at c s =
       let n : getD ws (at + 2) 0 ≡ length (c .held) = s 2 (omega arith) in
       let b : length (heldWords (c .held)) ≡ 2 * length (c .held) = length-heldWords (c .held) in
-      every-of (2 * limit) _
+      every-of (2 * terms .limit) _
       (λ j l.
       elim (look (ltb j (2 * getD ws (at + 2) 0))) [
         | inl e ↦ rw e
         | inr e ↦
             let m : 2 * getD ws (at + 2) 0 ≤ j = ltb-false j (2 * getD ws (at + 2) 0) e in
-            let zs : List ℕ = replicate (2 * (limit - length (c .held))) 0 in
+            let zs : List ℕ = replicate (2 * (terms .limit - length (c .held))) 0 in
             let i : j ≡ length (heldWords (c .held)) + (j - length (heldWords (c .held))) = omega arith in
             let w : getD ws (at + 3 + j) 0 ≡ 0 =
             ap (λ (i : ℕ). getD ws i 0) (omega arith) ∙ s (suc (suc (suc j))) (omega arith)
             ∙ ap (λ (i : ℕ). getD (heldWords (c .held) ++ zs) i 0) i
             ∙ getD-append-add (heldWords (c .held)) zs (j - length (heldWords (c .held))) 0
-            ∙ zero-word (2 * (limit - length (c .held))) (j - length (heldWords (c .held))) in
+            ∙ zero-word (2 * (terms .limit - length (c .held))) (j - length (heldWords (c .held))) in
             or-right (ltb j (2 * getD ws (at + 2) 0)) _ (eq-eqb _ _ w)
       ])
 
-  asleep-stands : (ws : List ℕ) (at : ℕ) (c : Configuration) → (isAwake (c .mode) ≡ false → c ≡ sleeping) → Stands ws at c → asleepZero limit ws at ≡ true
+  asleep-stands : (ws : List ℕ) (at : ℕ) (c : Configuration) → (isAwake (c .mode) ≡ false → c ≡ sleeping) → Stands ws at c → asleepZero terms ws at ≡ true
   unfolding asleepZero
   asleep-stands ws at c blank s =
       implied (eqb (getD ws at 0) 0) _
@@ -271,8 +272,8 @@ module _ (limit : ℕ) where
       unfold configurationWords trackWidth headWords in ap (λ (i : ℕ). getD ws i 0) (omega arith) ∙ s 0 (omega arith) in
       let z : c .mode ≡ Asleep = mode-zero (c .mode) (sym m ∙ eqb-true _ _ e) in
       let b : c ≡ sleeping = blank (ap isAwake z ∙ unfold isAwake in refl) in
-      every-of (trackWidth limit) _
-      (λ j l. eq-eqb _ _ (s j l ∙ ap (λ (x : Configuration). getD (configurationWords limit x) j 0) b ∙ sleeping-word j)))
+      every-of (trackWidth terms) _
+      (λ j l. eq-eqb _ _ (s j l ∙ ap (λ (x : Configuration). getD (configurationWords terms x) j 0) b ∙ sleeping-word j)))
 
   mode-stands : (ws : List ℕ) (at : ℕ) (c : Configuration) → Stands ws at c → goodMode ws at ≡ true
   unfolding goodMode configurationWords trackWidth headWords
@@ -280,42 +281,42 @@ module _ (limit : ℕ) where
       let m : getD ws at 0 ≡ modeWord (c .mode) = ap (λ (i : ℕ). getD ws i 0) (omega arith) ∙ s 0 (omega arith) in
       let o = mode-most (c .mode) in le-leb (getD ws at 0) 2 (omega arith)
 
-  count-stands : (ws : List ℕ) (at : ℕ) (c : Configuration) → length (c .held) ≤ limit → Stands ws at c → goodCount limit ws at ≡ true
+  count-stands : (ws : List ℕ) (at : ℕ) (c : Configuration) → length (c .held) ≤ terms .limit → Stands ws at c → goodCount terms ws at ≡ true
   unfolding goodCount configurationWords trackWidth headWords
   count-stands ws at c fits s =
-      let n : getD ws (at + 2) 0 ≡ length (c .held) = s 2 (omega arith) in le-leb (getD ws (at + 2) 0) limit (omega arith)
+      let n : getD ws (at + 2) 0 ≡ length (c .held) = s 2 (omega arith) in le-leb (getD ws (at + 2) 0) (terms .limit) (omega arith)
 
-  pub tidy-stands : (ws : List ℕ) (at : ℕ) (c : Configuration) → length (c .held) ≤ limit → (isAwake (c .mode) ≡ false → c ≡ sleeping)
-      → Stands ws at c → isTidy limit ws at ≡ true
+  pub tidy-stands : (ws : List ℕ) (at : ℕ) (c : Configuration) → length (c .held) ≤ terms .limit → (isAwake (c .mode) ≡ false → c ≡ sleeping)
+      → Stands ws at c → isTidy terms ws at ≡ true
   unfolding isTidy
   tidy-stands ws at c fits blank s =
       rw (mode-stands ws at c s, count-stands ws at c fits s, unused-stands ws at c s) (asleep-stands ws at c blank s)
 
   -- What tidy words tell.
-  module _ (ws : List ℕ) (at : ℕ) (h : isTidy limit ws at ≡ true) where
-    tidy-parts : (goodMode ws at ≡ true) × (goodCount limit ws at ≡ true) × (unusedZero limit ws at ≡ true) × (asleepZero limit ws at ≡ true)
+  module _ (ws : List ℕ) (at : ℕ) (h : isTidy terms ws at ≡ true) where
+    tidy-parts : (goodMode ws at ≡ true) × (goodCount terms ws at ≡ true) × (unusedZero terms ws at ≡ true) × (asleepZero terms ws at ≡ true)
     unfolding isTidy
     tidy-parts =
-        let (a, d) = and-holds (goodMode ws at && goodCount limit ws at && unusedZero limit ws at) (asleepZero limit ws at) h in
-        let (a, c) = and-holds (goodMode ws at && goodCount limit ws at) (unusedZero limit ws at) a in
-        let (a, b) = and-holds (goodMode ws at) (goodCount limit ws at) a in
+        let (a, d) = and-holds (goodMode ws at && goodCount terms ws at && unusedZero terms ws at) (asleepZero terms ws at) h in
+        let (a, c) = and-holds (goodMode ws at && goodCount terms ws at) (unusedZero terms ws at) a in
+        let (a, b) = and-holds (goodMode ws at) (goodCount terms ws at) a in
         (a, b, c, d)
 
     pub tidy-mode : getD ws at 0 ≤ 2
     unfolding goodMode
     tidy-mode = leb-true _ _ (tidy-parts .0)
 
-    pub tidy-count : getD ws (at + 2) 0 ≤ limit
+    pub tidy-count : getD ws (at + 2) 0 ≤ terms .limit
     unfolding goodCount
     tidy-count = leb-true _ _ (tidy-parts .1)
 
     -- what is read of them fits
-    pub tidy-fits : length (configurationAt ws at .held) ≤ limit
+    pub tidy-fits : length (configurationAt ws at .held) ≤ terms .limit
     unfolding configurationAt
     tidy-fits = omega (arith, length-heldAt ws (at + headWords) (getD ws (at + 2) 0), tidy-count)
 
     -- unused pairs are zero
-    pub tidy-unused : (j : ℕ) → j < entryWidth * limit → entryWidth * getD ws (at + 2) 0 ≤ j → getD ws (at + headWords + j) 0 ≡ 0
+    pub tidy-unused : (j : ℕ) → j < entryWidth * terms .limit → entryWidth * getD ws (at + 2) 0 ≤ j → getD ws (at + headWords + j) 0 ≡ 0
     unfolding unusedZero
     tidy-unused j l m =
         eqb-true _ _
@@ -333,7 +334,7 @@ module _ (limit : ℕ) where
     tidy-read (suc (suc (suc j))) l =
         let k : ℕ = getD ws (at + 2) 0 in
         let es : List Entry = heldAt ws (at + 3) k in
-        let zs : List ℕ = replicate (2 * (limit - length es)) 0 in
+        let zs : List ℕ = replicate (2 * (terms .limit - length es)) 0 in
         let n : length (heldWords es) ≡ 2 * k = length-heldWords es ∙ ap (λ (m : ℕ). 2 * m) (length-heldAt ws (at + 3) k) in
         let i : at + suc (suc (suc j)) ≡ at + 3 + j = omega arith in
         ap (λ (i : ℕ). getD ws i 0) i
@@ -346,7 +347,7 @@ module _ (limit : ℕ) where
               let i : j ≡ length (heldWords es) + (j - length (heldWords es)) = omega (arith, n) in
               tidy-unused j (omega arith) m
               ∙ sym (ap (λ (i : ℕ). getD (heldWords es ++ zs) i 0) i ∙ getD-append-add (heldWords es) zs _ 0
-              ∙ zero-word (2 * (limit - length es)) (j - length (heldWords es)))
+              ∙ zero-word (2 * (terms .limit - length es)) (j - length (heldWords es)))
         ]
 
     -- asleep it is all zeros
@@ -354,7 +355,7 @@ module _ (limit : ℕ) where
     unfolding configurationAt asleepZero sleeping
     tidy-blank a =
         let z : getD ws at 0 ≡ 0 = asleep-zero (getD ws at 0) a in
-        let f : (j : ℕ) → j < trackWidth limit → getD ws (at + j) 0 ≡ 0 =
+        let f : (j : ℕ) → j < trackWidth terms → getD ws (at + j) 0 ≡ 0 =
         λ j l. eqb-true _ _ (every-at _ _ (implies (eqb (getD ws at 0) 0) _ (tidy-parts .3) (eq-eqb _ _ z)) j l) in
         let s : getD ws (at + 1) 0 ≡ 0 = f 1 (unfold trackWidth headWords in omega arith) in
         let n : getD ws (at + 2) 0 ≡ 0 = f 2 (unfold trackWidth headWords in omega arith) in

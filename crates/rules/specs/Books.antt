@@ -6,6 +6,7 @@ use mathlib.Core.List.{List, [], _∷_}
 use mathlib.Core.Option.{some}
 use Prim.Native.Nat.{ℕ, _<_}
 use Rattle.rules.specs.Names.{TrackNumber, TransitionNumber, Code}
+use Rattle.rules.specs.declared.Terms.{Terms}
 use Rattle.rules.specs.Plan.{Plan, transitionCount, transition, host, owner, replacement, mover, isAbove}
 use Rattle.rules.specs.FinishedRun.{Finished}
 
@@ -32,7 +33,7 @@ module _ (p : Plan) where
   does changed retracted (retraction x l) = retracted (transition p x .code)
   does changed retracted (replacing s t h) = retracted (replacement p s)
 
-  pub record Books (limit : ℕ) : Type 1 where
+  pub record Books (terms : Terms) : Type 1 where
     pub State : Type 0
     -- the change of a transition, and that of a retraction code
     pub changed : TransitionNumber → State → State
@@ -42,7 +43,7 @@ module _ (p : Plan) where
     -- "let each transition's code undo its change from every state of the books"
     pub undo : (x : TransitionNumber) → x < transitionCount p → (b : State) → retracted (transition p x .code) (changed x b) ≡ b
     -- "each hosting state's replacement undo every finished run of its hosted tracks"
-    pub undo-run : (s t : ℕ) → host p t ≡ some s → (w : List ℕ) → Finished p limit s w
+    pub undo-run : (s t : ℕ) → host p t ≡ some s → (w : List ℕ) → Finished p terms s w
         → (b : State) → retracted (replacement p s) (act changed w b) ≡ b
     -- "changes and retractions of two tracks commute where neither hosts the other, at any remove"
     pub commute : (t u : TrackNumber) → Apart t u → (d : Deed t) (e : Deed u)

@@ -7,6 +7,7 @@ use lib.ListN.{length, take, drop}
 use lib.Dec.{ltb, eqb}
 use lib.Signed.{ltZ}
 use Rattle.rules.specs.Names.{Bytes, Words, Place, Refusal, TrackNumber, Society, Day}
+use Rattle.rules.specs.declared.Terms.{Terms}
 use Rattle.rules.specs.Fold.{countBelow, firstRefusal}
 use Rattle.rules.specs.Day.{isDay}
 use Rattle.rules.specs.Plan.{Plan, trackCount, planOf}
@@ -87,14 +88,14 @@ unfoldable pub lacksFireRight : Plan → FireArguments → Bool
 lacksFireRight p a = ltb (a .track) (trackCount p) && not (isPermitted p fireRight (a .society) (a .track))
 
 -- `limit` is the most entries that a track holds
-module _ (limit : ℕ) where
+module _ (terms : Terms) where
   -- 17 "The ledger has too few words."
   unfoldable pub tooShort : Plan → Words → Bool
-  tooShort p ws = ltb (length ws) (wordCount limit (trackCount p))
+  tooShort p ws = ltb (length ws) (wordCount terms (trackCount p))
 
   -- 17, 24 "between 17 and 18", and 18 "The ledger is not sound."
   unfoldable pub ledgerRefusals : Bytes → Plan → Words → List (Refusal × Bool)
-  ledgerRefusals bs p ws = (17, tooShort p ws) ∷ (24, otherPlan bs ws) ∷ (18, not (isSound limit p ws)) ∷ []
+  ledgerRefusals bs p ws = (17, tooShort p ws) ∷ (24, otherPlan bs ws) ∷ (18, not (isSound terms p ws)) ∷ []
 
   -- the first of them that applies, 0 where none does
   unfoldable pub ledgerRefusal : Bytes → Plan → Words → Refusal
@@ -106,7 +107,7 @@ module _ (limit : ℕ) where
   unfoldable pub callRefusals : Plan → Day → Ledger → Call → List (Refusal × Bool)
   callRefusals p day l (event a) =
       (19, eqb (a .event) 0) ∷ (26, badDay day (a .day)) ∷ (20, isOver p l)
-      ∷ (28, not (holdsSomewhere p moveRight (a .society))) ∷ (21, isFull p limit l a) ∷ []
+      ∷ (28, not (holdsSomewhere p moveRight (a .society))) ∷ (21, isFull p terms l a) ∷ []
   callRefusals p day l (signal a) = (20, isOver p l) ∷ (28, not (holdsSomewhere p signalRight (a .society))) ∷ []
   callRefusals p day l (fire a) = (20, isOver p l) ∷ (28, lacksFireRight p a) ∷ (22, not (mayFire p l (a .track))) ∷ []
 
@@ -126,9 +127,9 @@ module _ (limit : ℕ) where
   callOutcome bs ws c =
       underPlan bs ws
       (λ p.
-      let l : Ledger = ledgerAt limit ws (trackCount p) in
+      let l : Ledger = ledgerAt terms ws (trackCount p) in
       refusedOr ws
-      (record { answer = done (figures p l c); words = written limit (trackCount p) (after p l c) (datedBy c ws) })
+      (record { answer = done (figures p l c); words = written terms (trackCount p) (after p l c) (datedBy c ws) })
       (firstRefusal (ledgerRefusals bs p ws ++ callRefusals p (lastDay ws) l c)))
 
   unfoldable pub eventOutcome : Bytes → Words → EventArguments → Outcome
@@ -146,7 +147,7 @@ module _ (limit : ℕ) where
       underPlan bs ws
       (λ p.
       refusedOr ws
-      (record { answer = done []; words = written limit (trackCount p) (begun p) (stamped bs ws) })
+      (record { answer = done []; words = written terms (trackCount p) (begun p) (stamped bs ws) })
       (firstRefusal ((17, tooShort p ws) ∷ [])))
 
   -- Ready changes no word.
@@ -155,13 +156,13 @@ module _ (limit : ℕ) where
       underPlan bs ws
       (λ p.
       refusedOr ws
-      (record { answer = done (ready p (ledgerAt limit ws (trackCount p)) ∷ []); words = ws })
+      (record { answer = done (ready p (ledgerAt terms ws (trackCount p)) ∷ []); words = ws })
       (ledgerRefusal bs p ws))
 
   -- "the part of the caller's ledger that holds one track's pairs, those held and no unused ones"
   unfoldable pub heldPart : Plan → Words → TrackNumber → Words
   heldPart p ws t =
-      take (entryWidth * length (ledgerAt limit ws (trackCount p) t .held)) (drop (entriesPlace limit t) ws)
+      take (entryWidth * length (ledgerAt terms ws (trackCount p) t .held)) (drop (entriesPlace terms t) ws)
 
   -- "the empty part if the plan or ledger is refused, the track does not exist, or it holds nothing"
   unfoldable pub entriesPart : Bytes → Words → TrackNumber → Words
@@ -176,10 +177,10 @@ module _ (limit : ℕ) where
 -- What Entries' contract promises: the words of the part handed back; where it lies, as a block of memory and an offset in bytes, a word
 -- having two; and every lent word afterwards. "the part of the caller's ledger" starts at the track's first entry; only an empty part may
 -- lie anywhere.
-pub record HandsBack (limit : ℕ) (bs : Bytes) (ws : Words) (t : TrackNumber) (ledger part : ℕ × Place) (held words : Words) : Type 0 where
-  pub held-as : held ≡ entriesPart limit bs ws t
+pub record HandsBack (terms : Terms) (bs : Bytes) (ws : Words) (t : TrackNumber) (ledger part : ℕ × Place) (held words : Words) : Type 0 where
+  pub held-as : held ≡ entriesPart terms bs ws t
   pub block : (held ≡ [] → ⊥) → part .0 ≡ ledger .0
-  pub place : (held ≡ [] → ⊥) → part .1 ≡ ledger .1 + entriesPlace limit t * 2
+  pub place : (held ≡ [] → ⊥) → part .1 ≡ ledger .1 + entriesPlace terms t * 2
   pub left : words ≡ ws
 
 -- What a call's contract promises of its answer, as the paper tells it, and of every lent word afterwards.

@@ -5,6 +5,7 @@ use mathlib.Core.Option.{Option, none, some}
 use Prim.Native.Nat.{ℕ}
 use lib.ListN.{length}
 use lib.Dec.{leb, eqb}
+use Rattle.rules.specs.declared.Terms.{Terms}
 use Rattle.rules.specs.Names.{TrackNumber, StateNumber, TransitionNumber, EventNumber, Code, Day, Society}
 use Rattle.rules.specs.Fold.{someBelow, countBelow}
 use Rattle.rules.specs.Plan.{Plan, trackCount, stateCount, noState, transition, replacement, host, everyIn, transitionFor, takenOn}
@@ -91,10 +92,10 @@ module _ (p : Plan) where
   isReplaced m t = closesScope m t && not (eqb (replacement p (m t .state)) 0)
 
   -- 21 "A track that the event gives an entry, even one dropped in the same call, holds 32."
-  unfoldable pub isFull : ℕ → Ledger → EventArguments → Bool
-  isFull limit l a =
+  unfoldable pub isFull : Terms → Ledger → EventArguments → Bool
+  isFull terms l a =
       someBelow (trackCount p)
-      (λ t. (hasCode (move l a t) || isReplaced (moved l a) t) && leb limit (length (l t .held)))
+      (λ t. (hasCode (move l a t) || isReplaced (moved l a) t) && leb (terms .limit) (length (l t .held)))
 
   -- an event, its settlings done
   unfoldable pub afterEvent : Ledger → EventArguments → Ledger

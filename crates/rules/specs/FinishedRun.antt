@@ -6,6 +6,7 @@ use mathlib.Core.List.{List, [], _∷_, _++_}
 use mathlib.Core.Option.{Option, none, some}
 use Prim.Native.Nat.{ℕ, zero, suc}
 use Rattle.rules.specs.Names.{TrackNumber, StateNumber, TransitionNumber, Day}
+use Rattle.rules.specs.declared.Terms.{Terms}
 use Rattle.rules.specs.Day.{earliestDay}
 use Rattle.rules.specs.Plan.{Plan, trackCount, isInside}
 use Rattle.rules.specs.Rights.{signalRight, isPermitted}
@@ -29,31 +30,31 @@ module _ (p : Plan) where
   unfoldable pub movesOf : (TrackNumber → Bool) → Ledger → EventArguments → List TransitionNumber
   movesOf f l a = movesBelow (trackCount p) f l a
 
-  module _ (limit : ℕ) where
+  module _ (terms : Terms) where
     -- the ledgers that lists of calls reach from a begin, each with the last accepted day
     pub data Reached : Day → Ledger → Type 0 where
       start : Reached earliestDay (begun p)
-      then : {d : Day} {l : Ledger} → Reached d l → (c : Call) → Reached (nextDay limit p d l c) (next limit p d l c)
+      then : {d : Day} {l : Ledger} → Reached d l → (c : Call) → Reached (nextDay terms p d l c) (next terms p d l c)
 
     -- "from its opening": the scope of s is open on a ledger, and these are the moves inside it since it opened: at a begin or by a call,
     -- an event, a firing with a deviation. "no signal turning any of them meanwhile": one that turns none of them ends no run
     pub data Running (s : StateNumber) : Day → Ledger → List TransitionNumber → Type 0 where
       by-begin : isOpen p (begun p) s ≡ true → Running s earliestDay (begun p) []
-      by-call : {d : Day} {l : Ledger} → Reached d l → (c : Call) → isOpen p l s ≡ false → isOpen p (next limit p d l c) s ≡ true
-          → Running s (nextDay limit p d l c) (next limit p d l c) []
-      over-event : {d : Day} {l : Ledger} {w : List ℕ} → Running s d l w → (a : EventArguments) → callRefusal limit p d l (event a) ≡ 0
-          → isOpen p (next limit p d l (event a)) s ≡ true
-          → Running s (nextDay limit p d l (event a)) (next limit p d l (event a)) (w ++ movesOf (isInside p s) l a)
-      over-signal : {d : Day} {l : Ledger} {w : List ℕ} → Running s d l w → (a : SignalArguments) → callRefusal limit p d l (signal a) ≡ 0
+      by-call : {d : Day} {l : Ledger} → Reached d l → (c : Call) → isOpen p l s ≡ false → isOpen p (next terms p d l c) s ≡ true
+          → Running s (nextDay terms p d l c) (next terms p d l c) []
+      over-event : {d : Day} {l : Ledger} {w : List ℕ} → Running s d l w → (a : EventArguments) → callRefusal terms p d l (event a) ≡ 0
+          → isOpen p (next terms p d l (event a)) s ≡ true
+          → Running s (nextDay terms p d l (event a)) (next terms p d l (event a)) (w ++ movesOf (isInside p s) l a)
+      over-signal : {d : Day} {l : Ledger} {w : List ℕ} → Running s d l w → (a : SignalArguments) → callRefusal terms p d l (signal a) ≡ 0
           → ((t : ℕ) → isInside p s t ≡ true → isPermitted p signalRight (a .society) t ≡ true → isForward (l t .mode) ≡ false)
-          → isOpen p (next limit p d l (signal a)) s ≡ true
-          → Running s (nextDay limit p d l (signal a)) (next limit p d l (signal a)) w
-      over-fire : {d : Day} {l : Ledger} {w : List ℕ} → Running s d l w → (a : FireArguments) → callRefusal limit p d l (fire a) ≡ 0
-          → isOpen p (next limit p d l (fire a)) s ≡ true
-          → Running s (nextDay limit p d l (fire a)) (next limit p d l (fire a)) w
+          → isOpen p (next terms p d l (signal a)) s ≡ true
+          → Running s (nextDay terms p d l (signal a)) (next terms p d l (signal a)) w
+      over-fire : {d : Day} {l : Ledger} {w : List ℕ} → Running s d l w → (a : FireArguments) → callRefusal terms p d l (fire a) ≡ 0
+          → isOpen p (next terms p d l (fire a)) s ≡ true
+          → Running s (nextDay terms p d l (fire a)) (next terms p d l (fire a)) w
 
     -- "to its closing": the event that closes the scope moves inside it too
     pub data Finished (s : StateNumber) : List TransitionNumber → Type 0 where
-      closed : {d : Day} {l : Ledger} {w : List ℕ} → Running s d l w → (a : EventArguments) → callRefusal limit p d l (event a) ≡ 0
+      closed : {d : Day} {l : Ledger} {w : List ℕ} → Running s d l w → (a : EventArguments) → callRefusal terms p d l (event a) ≡ 0
           → isClosing p (moved p l a) s ≡ true
           → Finished s (w ++ movesOf (isInside p s) l a)

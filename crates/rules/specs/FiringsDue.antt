@@ -7,6 +7,7 @@ use Prim.Native.Nat.{ℕ, _+_}
 use lib.ListN.{length}
 use lib.Dec.{eqb}
 use Rattle.rules.specs.Names.{Bytes, Words, TrackNumber, Society}
+use Rattle.rules.specs.declared.Terms.{Terms}
 use Rattle.rules.specs.Fold.{everyBelow}
 use Rattle.rules.specs.Plan.{Plan, trackCount, noState}
 use Rattle.rules.specs.Rights.{signalRight, isPermitted}
@@ -65,22 +66,22 @@ firingCalls firer [] = []
 firingCalls firer (t ∷ ts) = fire (record { track = t; society = firer t }) ∷ firingCalls firer ts
 
 -- "entries held"
-unfoldable pub heldBy : ℕ → Plan → Words → ℕ
-heldBy limit p ws = heldTotal p (ledgerAt limit ws (trackCount p))
+unfoldable pub heldBy : Terms → Plan → Words → ℕ
+heldBy terms p ws = heldTotal p (ledgerAt terms ws (trackCount p))
 
 -- "ready is 0"
-abbrev pub NoneReady : ℕ → Bytes → Words → Type 0
-NoneReady limit bs ws = readyOutcome limit bs ws .answer ≡ done (0 ∷ [])
+abbrev pub NoneReady : Terms → Bytes → Words → Type 0
+NoneReady terms bs ws = readyOutcome terms bs ws .answer ≡ done (0 ∷ [])
 
 -- The claim about a list of calls on the words ws, answered rs, that left the words end
-pub record Counted (limit : ℕ) (bs : Bytes) (p : Plan) (ws : Words) (cs : List Call) (rs : List Answer) (end : Words) : Type 0 where
+pub record Counted (terms : Terms) (bs : Bytes) (p : Plan) (ws : Words) (cs : List Call) (rs : List Answer) (end : Words) : Type 0 where
   -- "any allowed firing order that goes on until ready is 0 has exactly as many firings as there were entries held"
-  pub exactly : isFiringOrder cs rs ≡ true → NoneReady limit bs end → length cs ≡ heldBy limit p ws
+  pub exactly : isFiringOrder cs rs ≡ true → NoneReady terms bs end → length cs ≡ heldBy terms p ws
   -- "the number of retractions still due", at any point: other calls between the firings, refused ones too, change nothing here
-  pub still-due : firingsIn cs rs + heldBy limit p end ≡ heldBy limit p ws
+  pub still-due : firingsIn cs rs + heldBy terms p end ≡ heldBy terms p ws
   -- ready, where it is not refused, is 0 exactly where none is due
-  pub none-due : NoneReady limit bs end → heldBy limit p end ≡ 0
-  pub none-ready : (figures : List ℕ) → readyOutcome limit bs end .answer ≡ done figures → heldBy limit p end ≡ 0 → NoneReady limit bs end
+  pub none-due : NoneReady terms bs end → heldBy terms p end ≡ 0
+  pub none-ready : (figures : List ℕ) → readyOutcome terms bs end .answer ≡ done figures → heldBy terms p end ≡ 0 → NoneReady terms bs end
   -- and what is asked of the ledger holds of the one that is left: so it can be counted from there again
-  pub unforward : noneForward p (ledgerAt limit end (trackCount p)) ≡ true
-  pub plain : holdsNoDeviation p (ledgerAt limit end (trackCount p)) ≡ true
+  pub unforward : noneForward p (ledgerAt terms end (trackCount p)) ≡ true
+  pub plain : holdsNoDeviation p (ledgerAt terms end (trackCount p)) ≡ true

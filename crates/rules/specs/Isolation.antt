@@ -6,6 +6,7 @@ use Prim.Native.Nat.{ℕ, _/_, _%_, _^_}
 use lib.ListN.{getD}
 use lib.Dec.{eqb}
 use Rattle.rules.specs.Names.{Bytes, Words, TrackNumber, Society}
+use Rattle.rules.specs.declared.Terms.{Terms}
 use Rattle.rules.specs.Plan.{Plan, trackCount, rootOf}
 use Rattle.rules.specs.Rights.{moveRight, signalRight, fireRight, holds}
 use Rattle.rules.specs.Ledger.{ledgerAt}
@@ -52,9 +53,9 @@ unfoldable pub readyBit : Answer → TrackNumber → Bool
 readyBit (refusal n) t = false
 readyBit (done figures) t = eqb (getD figures 0 0 / 2 ^ t % 2) 1
 
-module _ (limit : ℕ) (bs : Bytes) (p : Plan) where
+module _ (terms : Terms) (bs : Bytes) (p : Plan) where
   unfoldable pub isOverNow : Words → Bool
-  isOverNow ws = isOver p (ledgerAt limit ws (trackCount p))
+  isOverNow ws = isOver p (ledgerAt terms ws (trackCount p))
 
   -- "as long as neither ledger is over and neither refuses a call for its day", of one of them, from its words ws on: no call is refused so,
   -- and before each call of the society the ledger is not over
@@ -62,14 +63,14 @@ module _ (limit : ℕ) (bs : Bytes) (p : Plan) where
   lasts own ws [] = true
   lasts own ws (c ∷ cs) =
       not (eqb (societyOf c) own && isOverNow ws)
-      && not (isForDay (callOutcome limit bs ws c .answer))
-      && lasts own (callOutcome limit bs ws c .words) cs
+      && not (isForDay (callOutcome terms bs ws c .answer))
+      && lasts own (callOutcome terms bs ws c .words) cs
 
   -- The claim about two lists of calls, answered rs and ss, that left the words end and end′: "the same answers to its events, signals and
   -- fires, and the same ready bits and entries under its roots". Beginnings of lists are lists: so it is of every point of them
   pub record Isolated (own : Society) (cs : List Call) (rs : List Answer) (end : Words) (ds : List Call) (ss : List Answer) (end′ : Words) : Type 0 where
     pub answers : ownAnswers own cs rs ≡ ownAnswers own ds ss
     pub ready : isOverNow end ≡ false → isOverNow end′ ≡ false → (t : TrackNumber) → isUnder p own t ≡ true
-        → readyBit (readyOutcome limit bs end .answer) t ≡ readyBit (readyOutcome limit bs end′ .answer) t
+        → readyBit (readyOutcome terms bs end .answer) t ≡ readyBit (readyOutcome terms bs end′ .answer) t
     pub entries : isOverNow end ≡ false → isOverNow end′ ≡ false → (t : TrackNumber) → isUnder p own t ≡ true
-        → entriesPart limit bs end t ≡ entriesPart limit bs end′ t
+        → entriesPart terms bs end t ≡ entriesPart terms bs end′ t

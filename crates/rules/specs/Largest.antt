@@ -5,6 +5,7 @@ use mathlib.Core.List.{List, [], _∷_, _++_}
 use Prim.Native.Nat.{ℕ, zero, suc, _+_, _-_, _≤_, _<_}
 use lib.ListN.{length, replicate}
 use lib.Dec.{ltb, eqb}
+use Rattle.rules.specs.declared.Terms.{Terms}
 use Rattle.rules.specs.Names.{Bytes, Words, TrackNumber, StateNumber, TransitionNumber}
 use Rattle.rules.specs.declared.Counts.{Counts}
 use Rattle.rules.specs.Fold.{someBelow, greatestBelow, tabulate}
@@ -141,5 +142,5 @@ pub record Shows (bs : Bytes) (path : TrackNumber → List TransitionNumber) (to
   pub fits : length (joined mostTracks path) ≤ mostTransitions
 
 -- "No history, whatever its days and rights, makes the track hold more", of the ledger that words hold
-unfoldable pub HoldsNoMore : ℕ → Plan → Words → Type 0
-HoldsNoMore limit p ws = (t : TrackNumber) → length (ledgerAt limit ws (trackCount p) t .held) ≤ largest p t
+unfoldable pub HoldsNoMore : Terms → Plan → Words → Type 0
+HoldsNoMore terms p ws = (t : TrackNumber) → length (ledgerAt terms ws (trackCount p) t .held) ≤ largest p t

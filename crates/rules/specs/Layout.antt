@@ -1,10 +1,14 @@
 -- Where the ledger's words stand: the only place for these numbers. Assumes nothing.
 use Prim.Native.Nat.{ℕ, _+_, _*_}
 use Rattle.rules.specs.Names.{Place, TrackNumber}
+use Rattle.rules.specs.declared.Terms.{Terms}
 
--- "count of entries held (0 to 32)": the most that a track holds. Everything else takes the limit as a parameter
-unfoldable pub entryLimit : ℕ
-entryLimit = 32
+-- "The reading rooms' machine allows 8 entries for each track, the main program still 32." Everything else takes the terms as a parameter
+unfoldable pub mainTerms : Terms
+mainTerms = record { limit = 32 }
+
+unfoldable pub readingRoomTerms : Terms
+readingRoomTerms = record { limit = 8 }
 
 -- "Each ledger gains two leading words", and "the ledger's next two leading words hold the last accepted" day: they stand before the
 -- first track's; where each of them stands
@@ -40,10 +44,10 @@ entryWidth = 2
 abbrev pub deviationPlace : Place → Place
 deviationPlace at = at + 1
 
-module _ (limit : ℕ) where
+module _ (terms : Terms) where
   -- "67 for each track"
   unfoldable pub trackWidth : ℕ
-  trackWidth = headWords + entryWidth * limit
+  trackWidth = headWords + entryWidth * terms .limit
 
   -- where a track's words start, and where its entries do
   unfoldable pub trackPlace : TrackNumber → Place

@@ -7,6 +7,7 @@ use lib.Dec.{ltb}
 use Rattle.rules.specs.Names.{Words, Place, TrackNumber, StateNumber, Code}
 use Rattle.rules.specs.declared.Mode.{Mode}
 use Rattle.rules.specs.declared.Mode.the-variants.{Asleep, Forward, Undoing}
+use Rattle.rules.specs.declared.Terms.{Terms}
 use Rattle.rules.specs.Layout.{leadingWords, headWords, statePlace, countPlace, entryWidth, deviationPlace, trackPlace, wordCount}
 
 -- an entry: a retraction (the report's compensation) that is installed, and the state to deviate to, 65535 for none
@@ -81,12 +82,12 @@ configurationAt ws at =
     }
 
 -- `limit` is the most entries that a track holds
-module _ (limit : ℕ) where
+module _ (terms : Terms) where
   -- "unused pairs zero"
   unfoldable pub configurationWords : Configuration → Words
   configurationWords c =
       modeWord (c .mode) ∷ c .state ∷ length (c .held)
-      ∷ (heldWords (c .held) ++ replicate (entryWidth * (limit - length (c .held))) 0)
+      ∷ (heldWords (c .held) ++ replicate (entryWidth * (terms .limit - length (c .held))) 0)
 
   -- "67 for each track, in track order"
   unfoldable pub ledgerWords : ℕ → Ledger → Words
@@ -95,8 +96,8 @@ module _ (limit : ℕ) where
 
   -- the words of so many tracks in place of a lent ledger's; the leading words stay, and "words beyond are never touched"
   unfoldable pub written : ℕ → Ledger → Words → Words
-  written tracks l ws = take leadingWords ws ++ (ledgerWords tracks l ++ drop (wordCount limit tracks) ws)
+  written tracks l ws = take leadingWords ws ++ (ledgerWords tracks l ++ drop (wordCount terms tracks) ws)
 
   -- the ledger that words hold, of so many tracks
   unfoldable pub ledgerAt : Words → ℕ → Ledger
-  ledgerAt ws tracks t = cond (ltb t tracks) (configurationAt ws (trackPlace limit t)) sleeping
+  ledgerAt ws tracks t = cond (ltb t tracks) (configurationAt ws (trackPlace terms t)) sleeping

@@ -6,6 +6,7 @@ use mathlib.Core.List.{List, [], _∷_}
 use Prim.Native.Nat.{ℕ, _<_}
 use Rattle.rules.specs.Names.{Bytes, Words, TrackNumber}
 use Rattle.rules.specs.declared.Mode.the-variants.{Undoing}
+use Rattle.rules.specs.declared.Terms.{Terms}
 use Rattle.rules.specs.Plan.{Plan, trackCount, isRoot}
 use Rattle.rules.specs.Ledger.{Ledger, ledgerAt}
 use Rattle.rules.specs.Scope.{hasOpenScope}
@@ -14,24 +15,24 @@ use Rattle.rules.specs.Call.{Answer, refusal, done, Call, event, signal,
 use Rattle.rules.specs.FinishedRun.{movesOf}
 use Rattle.rules.specs.Books.{Books, act}
 
-module _ (limit : ℕ) (bs : Bytes) where
+module _ (terms : Terms) (bs : Bytes) where
   -- her words after the begin, and after a list of calls
   unfoldable pub wordsFrom : Words → List Call → Words
   wordsFrom ws [] = ws
-  wordsFrom ws (c ∷ cs) = wordsFrom (callOutcome limit bs ws c .words) cs
+  wordsFrom ws (c ∷ cs) = wordsFrom (callOutcome terms bs ws c .words) cs
 
   unfoldable pub wordsAfter : Words → List Call → Words
-  wordsAfter lent cs = wordsFrom (beginOutcome limit bs lent .words) cs
+  wordsAfter lent cs = wordsFrom (beginOutcome terms bs lent .words) cs
 
   -- what document 01 answers to each call for her ledger as it stood before that call
   unfoldable pub answersFrom : Words → List Call → List Answer
   answersFrom ws [] = []
-  answersFrom ws (c ∷ cs) = callOutcome limit bs ws c .answer ∷ answersFrom (callOutcome limit bs ws c .words) cs
+  answersFrom ws (c ∷ cs) = callOutcome terms bs ws c .answer ∷ answersFrom (callOutcome terms bs ws c .words) cs
 
   unfoldable pub answersAfter : Words → List Call → List Answer
-  answersAfter lent cs = answersFrom (beginOutcome limit bs lent .words) cs
+  answersAfter lent cs = answersFrom (beginOutcome terms bs lent .words) cs
 
-  module _ (p : Plan) (k : Books p limit) where
+  module _ (p : Plan) (k : Books p terms) where
     -- "Event: she chooses the moves on her ledger; their transitions change the books, in track order"; "Signal: only her ledger
     -- alters"; "Fire: the code of the entry removed changes the books"
     unfoldable pub bookedCall : Ledger → Call → k .State → k .State
@@ -47,15 +48,15 @@ module _ (limit : ℕ) (bs : Bytes) where
     unfoldable pub booksFrom : Words → List Call → k .State → k .State
     booksFrom ws [] b = b
     booksFrom ws (c ∷ cs) b =
-        booksFrom (callOutcome limit bs ws c .words) cs
-        (booked (ledgerAt limit ws (trackCount p)) c (callOutcome limit bs ws c .answer) b)
+        booksFrom (callOutcome terms bs ws c .words) cs
+        (booked (ledgerAt terms ws (trackCount p)) c (callOutcome terms bs ws c .answer) b)
 
     unfoldable pub booksAfter : Words → List Call → k .State → k .State
-    booksAfter lent cs b = booksFrom (beginOutcome limit bs lent .words) cs b
+    booksAfter lent cs b = booksFrom (beginOutcome terms bs lent .words) cs b
 
   -- her ledger after a list of calls
   unfoldable pub ledgerAfter : Plan → Words → List Call → Ledger
-  ledgerAfter p lent cs = ledgerAt limit (wordsAfter lent cs) (trackCount p)
+  ledgerAfter p lent cs = ledgerAt terms (wordsAfter lent cs) (trackCount p)
 
 -- "if every root is undoing, holds nothing and has no open scope"
 pub record Withdrawn (p : Plan) (l : Ledger) (t : TrackNumber) : Type 0 where

@@ -8,6 +8,7 @@ use lib.Dec.{leb, ltb, eqb}
 use Rattle.rules.specs.Names.{Words, Place, TrackNumber, StateNumber}
 use Rattle.rules.specs.declared.Mode.{Mode}
 use Rattle.rules.specs.declared.Mode.the-variants.{Asleep, Forward, Undoing}
+use Rattle.rules.specs.declared.Terms.{Terms}
 use Rattle.rules.specs.Fold.{someBelow, everyBelow}
 use Rattle.rules.specs.Day.{isDay}
 use Rattle.rules.specs.Layout.{headWords, countPlace, entryWidth, trackWidth, trackPlace}
@@ -24,26 +25,26 @@ use Rattle.rules.specs.Signal.{isAbandoning}
 unfoldable pub goodMode : Words → Place → Bool
 goodMode ws at = leb (getD ws at 0) 2
 
-module _ (limit : ℕ) (ws : Words) (at : Place) where
+module _ (terms : Terms) (ws : Words) (at : Place) where
   -- "count of entries held (0 to 32)"
   unfoldable pub goodCount : Bool
-  goodCount = leb (getD ws (countPlace at) 0) limit
+  goodCount = leb (getD ws (countPlace at) 0) (terms .limit)
 
   -- "unused pairs zero"
   unfoldable pub unusedZero : Bool
   unusedZero =
-      everyBelow (entryWidth * limit)
+      everyBelow (entryWidth * terms .limit)
       (λ j. ltb j (entryWidth * getD ws (countPlace at) 0) || eqb (getD ws (at + headWords + j) 0) 0)
 
   -- "An asleep track is all zeros."
   unfoldable pub asleepZero : Bool
-  asleepZero = not (eqb (getD ws at 0) 0) || everyBelow (trackWidth limit) (λ j. eqb (getD ws (at + j) 0) 0)
+  asleepZero = not (eqb (getD ws at 0) 0) || everyBelow (trackWidth terms) (λ j. eqb (getD ws (at + j) 0) 0)
 
   unfoldable pub isTidy : Bool
   isTidy = goodMode ws at && goodCount && unusedZero && asleepZero
 
-unfoldable pub areTidy : ℕ → Words → ℕ → Bool
-areTidy limit ws tracks = everyBelow tracks (λ t. isTidy limit ws (trackPlace limit t))
+unfoldable pub areTidy : Terms → Words → ℕ → Bool
+areTidy terms ws tracks = everyBelow tracks (λ t. isTidy terms ws (trackPlace terms t))
 
 unfoldable pub everyHeld : (Entry → Bool) → List Entry → Bool
 everyHeld f [] = true
@@ -109,8 +110,8 @@ module _ (p : Plan) (l : Ledger) where
       && closingDone && finishDone && abandoningDone
 
 -- "A ledger is sound if its words are as just described and it is all asleep ("over"), or: ..", and "soundness asks a day in range"
-unfoldable pub isSound : ℕ → Plan → Words → Bool
-isSound limit p ws =
+unfoldable pub isSound : Terms → Plan → Words → Bool
+isSound terms p ws =
     isDay (lastDay ws)
-    && areTidy limit ws (trackCount p)
-    && (isOver p (ledgerAt limit ws (trackCount p)) || isLive p (ledgerAt limit ws (trackCount p)))
+    && areTidy terms ws (trackCount p)
+    && (isOver p (ledgerAt terms ws (trackCount p)) || isLive p (ledgerAt terms ws (trackCount p)))

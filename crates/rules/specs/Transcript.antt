@@ -6,11 +6,12 @@ use lib.ListN.{length, getD, replicate}
 use lib.Dec.{ltb, eqb}
 use Rattle.rules.specs.Names.{Bytes, Words, Place, Refusal, StateNumber}
 use Rattle.rules.specs.declared.Counts.{Counts}
+use Rattle.rules.specs.declared.Terms.{Terms}
 use Rattle.rules.specs.Fold.{sumBelow}
 use Rattle.rules.specs.Record.{trackKind, sizeAt, mostOf}
 use Rattle.rules.specs.Plan.{Plan, trackCount, noState, planOf}
 use Rattle.rules.specs.Acceptance.{turnedBack, accepted, readPlan}
-use Rattle.rules.specs.Layout.{entryLimit, wordCount}
+use Rattle.rules.specs.Layout.{wordCount}
 use Rattle.rules.specs.Ledger.{Ledger, ledgerAt}
 use Rattle.rules.specs.Call.{Answer, refusal, done, Outcome, Call, event, signal, fire, beginOutcome, callOutcome}
 use Rattle.rules.specs.Text.{ascii, decimal, line}
@@ -60,17 +61,17 @@ firingsIn (c ∷ cs) (r ∷ rs) = firingsOf c r + firingsIn cs rs
 unfoldable pub heldTotal : Plan → Ledger → ℕ
 heldTotal p l = sumBelow (trackCount p) (λ t. length (l t .held))
 
-unfoldable pub ledgerOf : Plan → Words → Ledger
-ledgerOf p ws = ledgerAt entryLimit ws (trackCount p)
+unfoldable pub ledgerOf : Terms → Plan → Words → Ledger
+ledgerOf terms p ws = ledgerAt terms ws (trackCount p)
 
-unfoldable pub lastLine : Plan → Words → ℕ → Bytes
-lastLine p ws fired = tallyLine (heldTotal p (ledgerOf p ws)) fired
+unfoldable pub lastLine : Terms → Plan → Words → ℕ → Bytes
+lastLine terms p ws fired = tallyLine (heldTotal p (ledgerOf terms p ws)) fired
 
-module _ (bs js : Bytes) (p : Plan) where
+module _ (terms : Terms) (bs js : Bytes) (p : Plan) where
   -- the line of a call, and what `rest` prints from the words and the firings after it
   unfoldable pub callText : (Words → ℕ → Bytes) → Words → ℕ → Call → Bytes
   callText rest ws fired c =
-      let o : Outcome = callOutcome entryLimit bs ws c in
+      let o : Outcome = callOutcome terms bs ws c in
       callLine c (o .answer) ++ rest (o .words) (fired + firingsOf c (o .answer))
 
   -- The lines of the records from a place on, with the ledger's words and the firings done so far. A record has 4 bytes or more, so as
@@ -80,9 +81,9 @@ module _ (bs js : Bytes) (p : Plan) where
   replay zero at ws fired = []
   replay (suc n) at ws fired =
       elim (itemAt js at) [
-        | ended ↦ lastLine p ws fired
-        | broken ↦ refusalLine 23 ++ lastLine p ws fired
-        | fireLowest society ↦ callText (replay n (at + sizeAt js at)) ws fired (fireLowestCall p (ledgerOf p ws) society)
+        | ended ↦ lastLine terms p ws fired
+        | broken ↦ refusalLine 23 ++ lastLine terms p ws fired
+        | fireLowest society ↦ callText (replay n (at + sizeAt js at)) ws fired (fireLowestCall p (ledgerOf terms p ws) society)
         | called c ↦ callText (replay n (at + sizeAt js at)) ws fired c
       ]
 
@@ -91,18 +92,18 @@ abbrev pub mostBytes : ℕ
 mostBytes = 32768
 
 -- the program's own ledger, before it begins
-unfoldable pub ownWords : Words
-ownWords = replicate (wordCount entryLimit (mostOf trackKind)) 0
+unfoldable pub ownWords : Terms → Words
+ownWords terms = replicate (wordCount terms (mostOf trackKind)) 0
 
 -- "It begins, then prints `PLAN` ..; a line for each record ..; last `H` .." "A refusal 1 to 16 prints its `R` line alone", and 25
 -- and 27 are "printed alone" too.
-unfoldable pub transcript : Bytes → Bytes → Bytes
-transcript bs js =
+unfoldable pub transcript : Terms → Bytes → Bytes → Bytes
+transcript terms bs js =
     elim (ltb mostBytes (length bs) || ltb mostBytes (length js)) [
       | true ↦ refusalLine 1
       | false ↦
           elim (readPlan bs) [
             | turnedBack r ↦ refusalLine r
-            | accepted c ↦ planLine c ++ replay bs js (planOf bs c) (suc (length js)) 0 (beginOutcome entryLimit bs ownWords .words) 0
+            | accepted c ↦ planLine c ++ replay terms bs js (planOf bs c) (suc (length js)) 0 (beginOutcome terms bs (ownWords terms) .words) 0
           ]
     ]

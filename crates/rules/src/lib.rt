@@ -15,6 +15,11 @@ pub struct Track {
     pub count: u16,
 }
 
+// What the caller keeps to from begin on: the most entries that a track holds.
+pub struct Terms {
+    pub limit: u16,
+}
+
 // How many tracks, states, transitions, windows and rights records a plan has.
 pub struct Counts {
     pub tracks: usize,

@@ -10,8 +10,9 @@ use borrow.Author.Tests.{not-true, not-false}
 use Rattle.rules.specs.declared.Counts.{Counts}
 use Rattle.rules.specs.declared.Mode.{Mode}
 use Rattle.rules.specs.declared.Track.{Track}
+use Rattle.rules.specs.declared.Terms.{Terms}
 use Rattle.rules.specs.Fold.{everyBelow}
-use Rattle.rules.specs.Layout.{entryLimit, headWords, entryWidth, trackPlace, entriesPlace}
+use Rattle.rules.specs.Layout.{headWords, entryWidth, trackPlace, entriesPlace}
 use Rattle.rules.specs.Plan.{Plan, state, noState, hostWord, host, owner, isRoot, isStateOf}
 use Rattle.rules.specs.Ledger.{Entry, Configuration, Ledger, isAwake, sleeping, entryAt, heldAt, configurationAt, ledgerAt}
 use Rattle.rules.specs.Soundness.{everyHeld, sameMode, goodDeviation, isHostedWell}
@@ -33,13 +34,13 @@ held-below f ws at (suc n) =
     ap (λ (b : Bool). b && f (entryAt ws (at + entryWidth * n))) (held-below f ws at n)
     ∙ and-comm (everyHeld f (heldAt ws at n)) (f (entryAt ws (at + entryWidth * n)))
 
-pub held-asked : (c : Counts) (ws : List ℕ) (t k : ℕ) (f : Entry → Bool) → t < c .tracks → k ≡ length (ledgerOf c ws t .held)
-    → everyBelow k (λ j. f (entryAt ws (entryPlace t j))) ≡ everyHeld f (ledgerOf c ws t .held)
+pub held-asked : (terms : Terms) (c : Counts) (ws : List ℕ) (t k : ℕ) (f : Entry → Bool) → t < c .tracks → k ≡ length (ledgerOf terms c ws t .held)
+    → everyBelow k (λ j. f (entryAt ws (entryPlace terms t j))) ≡ everyHeld f (ledgerOf terms c ws t .held)
 unfolding entryPlace entriesPlace ledgerOf configurationAt
-held-asked c ws t k f h e =
-    let at = trackPlace entryLimit t in
+held-asked terms c ws t k f h e =
+    let at = trackPlace terms t in
     let n = getD ws (at + 2) 0 in
-    let q : ledgerAt entryLimit ws (c .tracks) t ≡ configurationAt ws at = read-at entryLimit (c .tracks) ws t h in
+    let q : ledgerAt terms ws (c .tracks) t ≡ configurationAt ws at = read-at terms (c .tracks) ws t h in
     let i : k ≡ n = e ∙ ap (λ (x : Configuration). length (x .held)) q ∙ length-heldAt ws (at + headWords) n in
     held-below f ws (at + headWords) k ∙ ap (λ (i : ℕ). everyHeld f (heldAt ws (at + headWords) i)) i ∙ sym (ap (λ (x : Configuration). everyHeld f (x .held)) q)
 

@@ -8,8 +8,8 @@ use lib.Dec.{eqb}
 use lib.IntN.{ℤ}
 use borrow.Author.Tests.{not-true, not-false}
 use Rattle.rules.specs.declared.Counts.{Counts}
+use Rattle.rules.specs.declared.Terms.{Terms}
 use Rattle.rules.specs.Fold.{someBelow, everyBelow}
-use Rattle.rules.specs.Layout.{entryLimit}
 use Rattle.rules.specs.Day.{isDay}
 use Rattle.rules.specs.Leading.{lastDay}
 use Rattle.rules.specs.Plan.{Plan, planOf, trackCount, stateCount, isRoot, isStateOf}
@@ -97,35 +97,35 @@ live-asked bs c l e g h =
     (live-parts (planOf bs c) l)
 
 -- the day, the words, then over, then the clauses
-module _ (bs : List ℕ) (c : Counts) (ws : List ℕ) where
+module _ (terms : Terms) (bs : List ℕ) (c : Counts) (ws : List ℕ) where
   abbrev said : ℕ → Bool
-  said n = isDay (lastDay ws) && areTidy entryLimit ws n && (everyBelow n (λ t. not (isAwake (ledgerAt entryLimit ws n t .mode))) || isLive (planOf bs c) (ledgerAt entryLimit ws n))
+  said n = isDay (lastDay ws) && areTidy terms ws n && (everyBelow n (λ t. not (isAwake (ledgerAt terms ws n t .mode))) || isLive (planOf bs c) (ledgerAt terms ws n))
 
   -- the definition, by the counts
-  counted : said (c .tracks) ≡ isSound entryLimit (planOf bs c) ws
+  counted : said (c .tracks) ≡ isSound terms (planOf bs c) ws
   unfolding isSound isOver
   counted = ap said (sym (track-count bs c))
 
-  pub over-asked : {r : Bool} → r ≡ everyBelow (c .tracks) (λ t. not (isAwake (ledgerOf c ws t .mode))) → r ≡ true → isOver (planOf bs c) (ledgerOf c ws) ≡ true
+  pub over-asked : {r : Bool} → r ≡ everyBelow (c .tracks) (λ t. not (isAwake (ledgerOf terms c ws t .mode))) → r ≡ true → isOver (planOf bs c) (ledgerOf terms c ws) ≡ true
   unfolding isOver
-  over-asked f k = ap (λ n. everyBelow n (λ t. not (isAwake (ledgerOf c ws t .mode)))) (track-count bs c) ∙ sym f ∙ k
+  over-asked f k = ap (λ n. everyBelow n (λ t. not (isAwake (ledgerOf terms c ws t .mode)))) (track-count bs c) ∙ sym f ∙ k
 
   module _ {z : ℤ} {d : Bool} (day : z ≡ lastDay ws) (dayed : d ≡ isDay z) where
     day-is : isDay (lastDay ws) ≡ d
     day-is = ap isDay (sym day) ∙ sym dayed
 
-    pub no-day : not d ≡ true → false ≡ isSound entryLimit (planOf bs c) ws
+    pub no-day : not d ≡ true → false ≡ isSound terms (planOf bs c) ws
     no-day h = rw (day-is ∙ not-true d h) at counted
 
-    module _ (on : not d ≡ false) {q : Bool} (e : q ≡ areTidy entryLimit ws (c .tracks)) where
-      pub untidy : not q ≡ true → false ≡ isSound entryLimit (planOf bs c) ws
+    module _ (on : not d ≡ false) {q : Bool} (e : q ≡ areTidy terms ws (c .tracks)) where
+      pub untidy : not q ≡ true → false ≡ isSound terms (planOf bs c) ws
       untidy h = rw (day-is ∙ not-false d on, sym e ∙ not-true q h) at counted
 
-      module _ (h : not q ≡ false) {r : Bool} (f : r ≡ everyBelow (c .tracks) (λ t. not (isAwake (ledgerOf c ws t .mode)))) where
-        pub sound-over : r ≡ true → true ≡ isSound entryLimit (planOf bs c) ws
+      module _ (h : not q ≡ false) {r : Bool} (f : r ≡ everyBelow (c .tracks) (λ t. not (isAwake (ledgerOf terms c ws t .mode)))) where
+        pub sound-over : r ≡ true → true ≡ isSound terms (planOf bs c) ws
         unfolding ledgerOf
         sound-over k = rw (day-is ∙ not-false d on, sym e ∙ not-false q h, sym f ∙ k) at counted
 
-        pub sound-live : {x : Bool} → r ≡ false → x ≡ isLive (planOf bs c) (ledgerOf c ws) → x ≡ isSound entryLimit (planOf bs c) ws
+        pub sound-live : {x : Bool} → r ≡ false → x ≡ isLive (planOf bs c) (ledgerOf terms c ws) → x ≡ isSound terms (planOf bs c) ws
         unfolding ledgerOf
         sound-live k g = g ∙ (rw (day-is ∙ not-false d on, sym e ∙ not-false q h, sym f ∙ k) at counted)

@@ -8,6 +8,7 @@ use lib.Dec.{eqb}
 use lib.ListN.{length, getD}
 use Rattle.rules.specs.Names.{Bytes, Words}
 use Rattle.rules.specs.declared.Counts.{Counts}
+use Rattle.rules.specs.declared.Terms.{Terms}
 use Rattle.rules.specs.Fold.{someBelow}
 use Rattle.rules.specs.Plan.{Plan, planOf, isRoot, isStateOf, isFinal, isIn}
 use Rattle.rules.specs.Ledger.{Entry, Ledger, isAwake, isForward}
@@ -47,6 +48,6 @@ module _ (p : Plan) (l : Ledger) where
     pub busy-marks : Scoped p (λ t. not (isBare p l t)) n busy
 
 -- of a ledger found sound that is not over, the tracks that have an open scope are marked
-abbrev pub OpensFound : Bytes → Counts → Words → Bool → List Bool → Type 0
-OpensFound bs c ws r ms =
-    r ≡ true → isOver (planOf bs c) (ledgerOf c ws) ≡ false → Figures false ms (c .tracks) (hasOpenScope (planOf bs c) (ledgerOf c ws))
+abbrev pub OpensFound : (terms : Terms) → Bytes → Counts → Words → Bool → List Bool → Type 0
+OpensFound terms bs c ws r ms =
+    r ≡ true → isOver (planOf bs c) (ledgerOf terms c ws) ≡ false → Figures false ms (c .tracks) (hasOpenScope (planOf bs c) (ledgerOf terms c ws))

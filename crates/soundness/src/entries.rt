@@ -4,11 +4,11 @@ use ledger::track as words;
 use plan::fields;
 use plan::fields::NO_STATE;
 use rules::Counts;
+use rules::Terms;
 ghost use mathlib.Core.Path.{_≡_};
 ghost use mathlib.Core.Bool.{true};
 ghost use Prim.Native.Nat.{_<_};
 ghost use lib.ListN.{length};
-ghost use Rattle.rules.specs.Layout.{entryLimit};
 ghost use Rattle.rules.specs.Plan.{planOf};
 ghost use Rattle.rules.specs.Soundness.{areTidy, everyHeld, goodDeviation};
 ghost use Rattle.ledger.specs.Ladder.{Accepts, Lent, ledgerOf};
@@ -30,17 +30,24 @@ fn good_deviation(plan: &[u8], c: Counts, t: usize, deviation: u16) -> bool
 }
 
 // Whether the entries that a track holds, so many of them, are good.
-pub fn good_entries(plan: &[u8], c: Counts, ledger: &[u16], t: usize, count: u16) -> bool
-    requires { ⌜ Lent (now plan) c (now ledger) × (t < c .tracks) × (areTidy entryLimit (now ledger) (c .tracks) ≡ true)
-        × (count ≡ length (ledgerOf c (now ledger) t .held)) ⌝ }
-    ensures { λ r. ⌜ r ≡ everyHeld (goodEntry (planOf (now (plan .entry)) c) t) (ledgerOf c (now (ledger .entry)) t .held) ⌝ }
+pub fn good_entries(
+    terms: Terms,
+    plan: &[u8],
+    c: Counts,
+    ledger: &[u16],
+    t: usize,
+    count: u16,
+) -> bool
+    requires { ⌜ Lent terms (now plan) c (now ledger) × (t < c .tracks) × (areTidy terms (now ledger) (c .tracks) ≡ true)
+        × (count ≡ length (ledgerOf terms c (now ledger) t .held)) ⌝ }
+    ensures { λ r. ⌜ r ≡ everyHeld (goodEntry (planOf (now (plan .entry)) c) t) (ledgerOf terms c (now (ledger .entry)) t .held) ⌝ }
 {
     let mut all = true;
     let held = count as usize;
     let mut k: usize = 0;
     while k < held {
-        let real = words::entry_code(ledger, t, k) != 0;
-        let good = good_deviation(plan, c, t, words::entry_deviation(ledger, t, k));
+        let real = words::entry_code(terms, ledger, t, k) != 0;
+        let good = good_deviation(plan, c, t, words::entry_deviation(terms, ledger, t, k));
         all = all & (real & good);
         k += 1;
     }

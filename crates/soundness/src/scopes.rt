@@ -5,6 +5,7 @@ use lookup::reading;
 use plan::fields;
 use plan::fields::NO_STATE;
 use rules::Counts;
+use rules::Terms;
 ghost use mathlib.Core.Path.{_≡_};
 ghost use mathlib.Core.Bool.{false};
 ghost use Rattle.rules.specs.Fold.{everyBelow};
@@ -23,10 +24,16 @@ pub struct ScopeMarks {
 }
 
 // The marks of every scope.
-fn mark_scopes(plan: &[u8], c: Counts, ledger: &[u16], opens: &[bool; 32]) -> ScopeMarks
-    requires { ⌜ Lent (now plan) c (now ledger)
-        × Figures false (now opens) (c .tracks) (hasOpenScope (planOf (now plan) c) (ledgerOf c (now ledger))) ⌝ }
-    ensures { λ r. ⌜ Marked (planOf (now (plan .entry)) c) (ledgerOf c (now (ledger .entry))) (c .tracks) (r .awake) (r .asleep) (r .unfinished) (r .busy) ⌝ }
+fn mark_scopes(
+    terms: Terms,
+    plan: &[u8],
+    c: Counts,
+    ledger: &[u16],
+    opens: &[bool; 32],
+) -> ScopeMarks
+    requires { ⌜ Lent terms (now plan) c (now ledger)
+        × Figures false (now opens) (c .tracks) (hasOpenScope (planOf (now plan) c) (ledgerOf terms c (now ledger))) ⌝ }
+    ensures { λ r. ⌜ Marked (planOf (now (plan .entry)) c) (ledgerOf terms c (now (ledger .entry))) (c .tracks) (r .awake) (r .asleep) (r .unfinished) (r .busy) ⌝ }
 {
     let mut awake = [false; 128];
     let mut asleep = [false; 128];
@@ -38,7 +45,7 @@ fn mark_scopes(plan: &[u8], c: Counts, ledger: &[u16], opens: &[bool; 32]) -> Sc
         let h = fields::host_word(plan, c, t);
         if h != NO_STATE {
             let s = h as usize;
-            let k = reading::track(c, ledger, t);
+            let k = reading::track(terms, c, ledger, t);
             let m = k.mode;
             let is_awake = words::is_awake(m);
             let ended = done::is_ended(plan, c, k);
@@ -59,12 +66,12 @@ fn mark_scopes(plan: &[u8], c: Counts, ledger: &[u16], opens: &[bool; 32]) -> Sc
 }
 
 // Whether every scope is as the clauses on scopes have it, given which tracks have an open one. A scope that is not open is.
-pub fn are_sound(plan: &[u8], c: Counts, ledger: &[u16], opens: &[bool; 32]) -> bool
-    requires { ⌜ Lent (now plan) c (now ledger)
-        × Figures false (now opens) (c .tracks) (hasOpenScope (planOf (now plan) c) (ledgerOf c (now ledger))) ⌝ }
-    ensures { λ r. ⌜ r ≡ everyBelow (c .states) (soundScope (planOf (now (plan .entry)) c) (ledgerOf c (now (ledger .entry)))) ⌝ }
+pub fn are_sound(terms: Terms, plan: &[u8], c: Counts, ledger: &[u16], opens: &[bool; 32]) -> bool
+    requires { ⌜ Lent terms (now plan) c (now ledger)
+        × Figures false (now opens) (c .tracks) (hasOpenScope (planOf (now plan) c) (ledgerOf terms c (now ledger))) ⌝ }
+    ensures { λ r. ⌜ r ≡ everyBelow (c .states) (soundScope (planOf (now (plan .entry)) c) (ledgerOf terms c (now (ledger .entry)))) ⌝ }
 {
-    let marks = mark_scopes(plan, c, ledger, opens);
+    let marks = mark_scopes(terms, plan, c, ledger, opens);
     let mut all = true;
     let mut s: usize = 0;
     while s < c.states {

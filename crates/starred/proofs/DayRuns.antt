@@ -9,7 +9,7 @@ use Rattle.rules.specs.Names.{Day}
 use Rattle.rules.specs.declared.Counts.{Counts}
 use Rattle.rules.specs.Plan.{planOf}
 use Rattle.rules.specs.Acceptance.{accepted, turnedBack, readPlan}
-use Rattle.rules.specs.Layout.{entryLimit}
+use Rattle.rules.specs.Layout.{mainTerms}
 use Rattle.rules.specs.Leading.{lastDay, dated}
 use Rattle.rules.specs.Call.{Answer, refusal, done, Call, event, signal, fire, beginOutcome, readyOutcome, callOutcome}
 use Rattle.rules.specs.Text.{ascii}
@@ -40,10 +40,10 @@ abbrev f : Call
 f = fire (record { track = 0; society = 1 })
 
 abbrev answers : List Call → List Answer
-answers cs = answersAfter entryLimit planD (lentFor 1) cs
+answers cs = answersAfter mainTerms planD (lentFor 1) cs
 
 abbrev words : List Call → List ℕ
-words cs = wordsAfter entryLimit planD (lentFor 1) cs
+words cs = wordsAfter mainTerms planD (lentFor 1) cs
 
 -- the day's words, low word first
 abbrev dayWords : List Call → List ℕ
@@ -113,13 +113,13 @@ before-over = refl
 
 -- "soundness asks a day in range", of an over ledger too
 abbrev signalled : Day → List Call → Answer
-signalled day cs = callOutcome entryLimit planD (dated day (words cs)) s .answer
+signalled day cs = callOutcome mainTerms planD (dated day (words cs)) s .answer
 
 pub day-in-range : (signalled (minus 109574) [] ≡ refusal 18)
     × (signalled (minus 109573) [] ≡ done (1 ∷ []))
     × (signalled (pos 182620) [] ≡ done (1 ∷ []))
     × (signalled (pos 182621) [] ≡ refusal 18)
-    × (readyOutcome entryLimit planD (dated (pos 182621) (words [])) .answer ≡ refusal 18)
+    × (readyOutcome mainTerms planD (dated (pos 182621) (words [])) .answer ≡ refusal 18)
 unfolding computing
 day-in-range = (refl, refl, refl, refl, refl)
 
@@ -149,7 +149,7 @@ refused-leaves = (refl, refl, refl, refl, refl, refl)
 
 -- 25 "a window names no transition, repeats one, ends before it begins or leaves the day range"
 abbrev begins : List ℕ → Answer
-begins windows = beginOutcome entryLimit (withWindows windows) (lentFor 1) .answer
+begins windows = beginOutcome mainTerms (withWindows windows) (lentFor 1) .answer
 
 pub names-none : begins (windowOf 2 four five) ≡ refusal 25
 unfolding computing
@@ -183,18 +183,18 @@ unfolding computing
 out-of-place = (refl, refl)
 
 -- "Journals use kind 20, length 10: event, then day", and the society last
-pub journal-days : transcript planD
+pub journal-days : transcript mainTerms planD
     (bytesOf (12 ∷ 20 ∷ 1 ∷ 65533 ∷ 65535 ∷ 1 ∷ 12 ∷ 20 ∷ 1 ∷ 65534 ∷ 65535 ∷ 1 ∷ 12 ∷ 20 ∷ 2 ∷ 65533 ∷ 65535 ∷ 1 ∷ 6 ∷ 17 ∷ 1 ∷ 6 ∷ 19 ∷ 1 ∷ []))
     ≡ ascii "PLAN 1 3 2\nE 1 0 0\nE 1 1 0\nR 26\nS 1\nF 0 50 -\nH 0 1\n"
 unfolding computing
 journal-days = refl
 
 -- "kind 16 is withdrawn"
-pub kind-withdrawn : transcript planD (bytesOf (6 ∷ 16 ∷ 1 ∷ [])) ≡ ascii "PLAN 1 3 2\nR 23\nH 0 0\n"
+pub kind-withdrawn : transcript mainTerms planD (bytesOf (6 ∷ 16 ∷ 1 ∷ [])) ≡ ascii "PLAN 1 3 2\nR 23\nH 0 0\n"
 unfolding computing
 kind-withdrawn = refl
 
 -- 25 is "printed alone as 16 is"
-pub printed-alone : transcript (withWindows (windowOf 2 four five)) (bytesOf (6 ∷ 17 ∷ 1 ∷ [])) ≡ ascii "R 25\n"
+pub printed-alone : transcript mainTerms (withWindows (windowOf 2 four five)) (bytesOf (6 ∷ 17 ∷ 1 ∷ [])) ≡ ascii "R 25\n"
 unfolding computing
 printed-alone = refl

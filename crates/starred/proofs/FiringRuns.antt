@@ -9,7 +9,7 @@ use lib.IntN.{pos}
 use Rattle.rules.specs.declared.Counts.{Counts}
 use Rattle.rules.specs.Plan.{Plan, trackCount, planOf}
 use Rattle.rules.specs.Acceptance.{accepted, readPlan}
-use Rattle.rules.specs.Layout.{entryLimit}
+use Rattle.rules.specs.Layout.{mainTerms}
 use Rattle.rules.specs.Ledger.{Ledger, ledgerAt}
 use Rattle.rules.specs.Fire.{ready}
 use Rattle.rules.specs.Call.{Call, event, signal, fire}
@@ -39,31 +39,31 @@ undoingWith state code = trackWords 2 state 1 (code ∷ 65535 ∷ []) 62
 -- Under a plan, on these words: what is asked of the ledger, and the entries held.
 module _ (bs : List ℕ) (p : Plan) (ws : List ℕ) where
   abbrev ledger : Ledger
-  ledger = ledgerAt entryLimit ws (trackCount p)
+  ledger = ledgerAt mainTerms ws (trackCount p)
 
   -- that no track is forward, that no entry carries a deviation, and how many are held
   abbrev Holding : Bool → Bool → ℕ → Type 0
-  Holding backward plain n = (noneForward p ledger ≡ backward) × (holdsNoDeviation p ledger ≡ plain) × (heldBy entryLimit p ws ≡ n)
+  Holding backward plain n = (noneForward p ledger ≡ backward) × (holdsNoDeviation p ledger ≡ plain) × (heldBy mainTerms p ws ≡ n)
 
   -- the tracks fired in this order, each by this society: each firing is accepted, and ready is 0 after them
   abbrev Fired : ℕ → List ℕ → Type 0
   Fired society ts =
-      (isFiringOrder (firingCalls (λ t. society) ts) (answersFrom entryLimit bs ws (firingCalls (λ t. society) ts)) ≡ true)
-      × NoneReady entryLimit bs (wordsFrom entryLimit bs ws (firingCalls (λ t. society) ts))
+      (isFiringOrder (firingCalls (λ t. society) ts) (answersFrom mainTerms bs ws (firingCalls (λ t. society) ts)) ≡ true)
+      × NoneReady mainTerms bs (wordsFrom mainTerms bs ws (firingCalls (λ t. society) ts))
 
 -- Plan P, after the events of the sample, and its signal.
 abbrev P : Plan
 P = planOf planP (record { tracks = 3; states = 8; transitions = 5; windows = 0; grants = 1 })
 
 abbrev eventsP : List ℕ
-eventsP = wordsAfter entryLimit planP (lentFor 3) (e 1 10 ∷ e 1 11 ∷ e 1 12 ∷ [])
+eventsP = wordsAfter mainTerms planP (lentFor 3) (e 1 10 ∷ e 1 11 ∷ e 1 12 ∷ [])
 
 abbrev turnedP : List ℕ
 turnedP = 182 ∷ 633 ∷ 0 ∷ 0 ∷ undoingWith 1 50 ++ undoingWith 4 51 ++ undoingWith 6 52 ++ 7 ∷ 7 ∷ []
 
 -- the signal turns every forward track and drops no entry
-pub turned-P : (turnsEvery P 1 (ledger planP P eventsP) ≡ true) × (heldBy entryLimit P eventsP ≡ 3)
-    × (wordsFrom entryLimit planP eventsP (s 1 ∷ []) ≡ turnedP) × Holding planP P turnedP true true 3
+pub turned-P : (turnsEvery P 1 (ledger planP P eventsP) ≡ true) × (heldBy mainTerms P eventsP ≡ 3)
+    × (wordsFrom mainTerms planP eventsP (s 1 ∷ []) ≡ turnedP) × Holding planP P turnedP true true 3
 unfolding computing
 turned-P = (refl, refl, refl, (refl, refl, refl))
 
@@ -102,7 +102,7 @@ branches = undoingWith 4 60 ++ undoingWith 7 70 ++ undoingWith 8 90 ++ 7 ∷ 7 �
 abbrev turnedB : List ℕ
 turnedB = 266 ∷ 887 ∷ 0 ∷ 0 ∷ trackWords 2 2 2 (50 ∷ 65535 ∷ 51 ∷ 65535 ∷ []) 60 ++ branches
 
-pub turned-B : (wordsAfter entryLimit planB (lentFor 4) (events ++ s 3 ∷ []) ≡ turnedB) × Holding planB B turnedB true true 5
+pub turned-B : (wordsAfter mainTerms planB (lentFor 4) (events ++ s 3 ∷ []) ≡ turnedB) × Holding planB B turnedB true true 5
 unfolding computing
 turned-B = (refl, (refl, refl, refl))
 
@@ -115,7 +115,7 @@ fired-B = ((refl, refl), (refl, refl), (refl, refl))
 
 -- between firings an event moves nobody, a signal turns nobody, and some firings are refused: from there on as many are left as are held
 abbrev betweenB : List ℕ
-betweenB = wordsFrom entryLimit planB turnedB (f 3 2 ∷ e 3 6 ∷ s 1 ∷ f 3 1 ∷ f 1 3 ∷ [])
+betweenB = wordsFrom mainTerms planB turnedB (f 3 2 ∷ e 3 6 ∷ s 1 ∷ f 3 1 ∷ f 1 3 ∷ [])
 
 pub between-B : Holding planB B betweenB true true 4 × Fired planB B betweenB 3 (0 ∷ 3 ∷ 1 ∷ 0 ∷ [])
 unfolding computing
@@ -125,7 +125,7 @@ between-B = ((refl, refl, refl), (refl, refl))
 abbrev partialB : List ℕ
 partialB = 266 ∷ 887 ∷ 0 ∷ 0 ∷ forwardWith 1 50 ++ branches
 
-pub forward-left : (wordsAfter entryLimit planB (lentFor 4) (e 3 1 ∷ e 3 5 ∷ e 3 6 ∷ s 2 ∷ []) ≡ partialB)
+pub forward-left : (wordsAfter mainTerms planB (lentFor 4) (e 3 1 ∷ e 3 5 ∷ e 3 6 ∷ s 2 ∷ []) ≡ partialB)
     × Holding planB B partialB false true 4 × Fired planB B partialB 3 (2 ∷ 3 ∷ 1 ∷ [])
 unfolding computing
 forward-left = (refl, (refl, refl, refl), (refl, refl))
@@ -134,7 +134,7 @@ forward-left = (refl, (refl, refl, refl), (refl, refl))
 abbrev endedB : List ℕ
 endedB = 266 ∷ 887 ∷ 0 ∷ 0 ∷ trackWords 1 2 2 (50 ∷ 65535 ∷ 51 ∷ 65535 ∷ []) 60 ++ branches
 
-pub ended-left : (wordsAfter entryLimit planB (lentFor 4) (events ++ s 2 ∷ []) ≡ endedB)
+pub ended-left : (wordsAfter mainTerms planB (lentFor 4) (events ++ s 2 ∷ []) ≡ endedB)
     × Holding planB B endedB false true 5 × Fired planB B endedB 3 (2 ∷ 3 ∷ 1 ∷ [])
 unfolding computing
 ended-left = (refl, (refl, refl, refl), (refl, refl))
@@ -143,7 +143,7 @@ ended-left = (refl, (refl, refl, refl), (refl, refl))
 abbrev turnedD : List ℕ
 turnedD = 266 ∷ 888 ∷ 0 ∷ 0 ∷ trackWords 2 2 2 (50 ∷ 65535 ∷ 51 ∷ 0 ∷ []) 60 ++ branches
 
-pub deviation-held : (wordsAfter entryLimit deviatingB (lentFor 4) (events ++ s 3 ∷ []) ≡ turnedD)
+pub deviation-held : (wordsAfter mainTerms deviatingB (lentFor 4) (events ++ s 3 ∷ []) ≡ turnedD)
     × Holding deviatingB D turnedD true false 5 × Fired deviatingB D turnedD 3 (0 ∷ 2 ∷ 3 ∷ 1 ∷ [])
 unfolding computing
 deviation-held = (refl, (refl, refl, refl), (refl, refl))

@@ -5,7 +5,7 @@ use mathlib.Core.List.{List, [], _∷_, _++_}
 use Prim.Native.Nat.{ℕ}
 use lib.IntN.{pos}
 use lib.ListN.{take, replicate}
-use Rattle.rules.specs.Layout.{entryLimit}
+use Rattle.rules.specs.Layout.{mainTerms}
 use Rattle.rules.specs.Call.{Answer, refusal, done, Call, event, signal, fire, readyOutcome, callOutcome}
 use Rattle.rules.specs.ReferenceRun.{wordsAfter, answersAfter}
 use Rattle.starred.specs.SamplePlan.{twoRoots, lentFor}
@@ -21,10 +21,10 @@ abbrev s : Call
 s = signal (record { society = 1 })
 
 abbrev answers : List Call → List Answer
-answers cs = answersAfter entryLimit twoRoots (lentFor 3) cs
+answers cs = answersAfter mainTerms twoRoots (lentFor 3) cs
 
 abbrev words : List Call → List ℕ
-words cs = wordsAfter entryLimit twoRoots (lentFor 3) cs
+words cs = wordsAfter mainTerms twoRoots (lentFor 3) cs
 
 -- the second root's entry is still held when the first one ends: the firing that takes it finishes, and answers as ever. What the ended root holds
 -- is dropped unfired, and the next call is 20
@@ -53,7 +53,7 @@ ends-by-abandoning = refl
 -- "at least one being the former": where every root is withdrawn the ledger is not over
 pub all-withdrawn : (answers (e 5 ∷ s ∷ f 1 ∷ s ∷ [])
     ≡ done (1 ∷ 0 ∷ []) ∷ done (3 ∷ []) ∷ done (51 ∷ 65535 ∷ []) ∷ done (0 ∷ []) ∷ [])
-    × (readyOutcome entryLimit twoRoots (words (e 5 ∷ s ∷ f 1 ∷ [])) .answer ≡ done (0 ∷ []))
+    × (readyOutcome mainTerms twoRoots (words (e 5 ∷ s ∷ f 1 ∷ [])) .answer ≡ done (0 ∷ []))
 unfolding computing
 all-withdrawn = (refl, refl)
 
@@ -62,7 +62,7 @@ abbrev mixed : ℕ → List ℕ → List ℕ
 mixed count pair =
     take 4 (words []) ++ (1 ∷ 2 ∷ 1 ∷ 42 ∷ 65535 ∷ replicate 62 0) ++ (2 ∷ 4 ∷ count ∷ pair) ++ replicate 62 0 ++ replicate 67 0
 
-pub finish-left : (callOutcome entryLimit twoRoots (mixed 0 (0 ∷ 0 ∷ [])) s .answer ≡ refusal 18)
-    × (callOutcome entryLimit twoRoots (mixed 1 (51 ∷ 65535 ∷ [])) s .answer ≡ done (1 ∷ []))
+pub finish-left : (callOutcome mainTerms twoRoots (mixed 0 (0 ∷ 0 ∷ [])) s .answer ≡ refusal 18)
+    × (callOutcome mainTerms twoRoots (mixed 1 (51 ∷ 65535 ∷ [])) s .answer ≡ done (1 ∷ []))
 unfolding computing
 finish-left = (refl, refl)

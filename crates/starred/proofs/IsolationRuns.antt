@@ -11,7 +11,7 @@ use borrow.Author.Tests.{ne-eqb}
 use Rattle.rules.specs.declared.Counts.{Counts}
 use Rattle.rules.specs.Plan.{Plan, planOf}
 use Rattle.rules.specs.Acceptance.{accepted, readPlan}
-use Rattle.rules.specs.Layout.{entryLimit}
+use Rattle.rules.specs.Layout.{mainTerms}
 use Rattle.rules.specs.Call.{Answer, refusal, done, Call, event, signal, fire, readyOutcome, entriesPart}
 use Rattle.rules.specs.ReferenceRun.{wordsAfter, answersAfter}
 use Rattle.rules.specs.Isolation.{holdsAny, Alone, ownCalls, ownAnswers, isOverNow, lasts}
@@ -49,16 +49,16 @@ f society t = fire (record { track = t; society = society })
 
 -- under a plan, after begin: the answers to a list of calls, those to society 1's, and that the list lasts for it
 abbrev answers : List ℕ → List Call → List Answer
-answers bs cs = answersAfter entryLimit bs (lentFor 3) cs
+answers bs cs = answersAfter mainTerms bs (lentFor 3) cs
 
 abbrev words : List ℕ → List Call → List ℕ
-words bs cs = wordsAfter entryLimit bs (lentFor 3) cs
+words bs cs = wordsAfter mainTerms bs (lentFor 3) cs
 
 abbrev answered : List ℕ → List Call → List Answer
 answered bs cs = ownAnswers 1 cs (answers bs cs)
 
 abbrev Lasts : List ℕ → List Call → Type 0
-Lasts bs cs = lasts entryLimit bs (planOf bs counts) 1 (words bs []) cs ≡ true
+Lasts bs cs = lasts mainTerms bs (planOf bs counts) 1 (words bs []) cs ≡ true
 
 -- society 1 is alone over the first root, which is its only one
 pub alone : Alone own 1
@@ -89,14 +89,14 @@ unfolding computing
 same-answers = (refl, refl)
 
 -- the ledgers differ, in what the other root holds
-pub ledgers-differ : (entriesPart entryLimit planOwn (words planOwn one) 1 ≡ [])
-    × (entriesPart entryLimit planOwn (words planOwn another) 1 ≡ 51 ∷ 65535 ∷ 90 ∷ 65535 ∷ [])
+pub ledgers-differ : (entriesPart mainTerms planOwn (words planOwn one) 1 ≡ [])
+    × (entriesPart mainTerms planOwn (words planOwn another) 1 ≡ 51 ∷ 65535 ∷ 90 ∷ 65535 ∷ [])
 unfolding computing
 ledgers-differ = (refl, refl)
 
 -- Before the last firing the ready bits of the first root are the same too, and those of the other root are not.
-pub ready-differs : (readyOutcome entryLimit planOwn (words planOwn (e 2 1 ∷ e 1 1 ∷ s 2 ∷ s 1 ∷ [])) .answer ≡ done (3 ∷ []))
-    × (readyOutcome entryLimit planOwn (words planOwn (e 2 1 ∷ e 1 1 ∷ s 1 ∷ [])) .answer ≡ done (1 ∷ []))
+pub ready-differs : (readyOutcome mainTerms planOwn (words planOwn (e 2 1 ∷ e 1 1 ∷ s 2 ∷ s 1 ∷ [])) .answer ≡ done (3 ∷ []))
+    × (readyOutcome mainTerms planOwn (words planOwn (e 2 1 ∷ e 1 1 ∷ s 1 ∷ [])) .answer ≡ done (1 ∷ []))
 unfolding computing
 ready-differs = (refl, refl)
 
@@ -118,7 +118,7 @@ notOver = e 1 1 ∷ e 1 2 ∷ e 2 1 ∷ s 1 ∷ []
 pub over-between : (ownCalls 1 over ≡ ownCalls 1 notOver)
     × (answers planOwn over ≡ done (1 ∷ 0 ∷ []) ∷ done (1 ∷ 0 ∷ []) ∷ done (1 ∷ 0 ∷ []) ∷ done (1 ∷ 1 ∷ []) ∷ done (1 ∷ 0 ∷ []) ∷ refusal 20 ∷ [])
     × (answers planOwn notOver ≡ done (1 ∷ 0 ∷ []) ∷ done (1 ∷ 0 ∷ []) ∷ done (1 ∷ 0 ∷ []) ∷ done (1 ∷ []) ∷ [])
-    × (isOverNow entryLimit planOwn own (words planOwn (e 1 1 ∷ e 1 2 ∷ e 2 1 ∷ e 2 3 ∷ e 2 2 ∷ [])) ≡ true) × Lasts planOwn notOver
+    × (isOverNow mainTerms planOwn own (words planOwn (e 1 1 ∷ e 1 2 ∷ e 2 1 ∷ e 2 3 ∷ e 2 2 ∷ [])) ≡ true) × Lasts planOwn notOver
 unfolding computing
 over-between = (refl, refl, refl, refl, refl)
 
@@ -131,8 +131,8 @@ early = on 2 2 1 ∷ on 3 1 1 ∷ []
 
 pub refused-for-day : (ownCalls 1 late ≡ ownCalls 1 early)
     × (answered planOwn late ≡ refusal 26 ∷ []) × (answered planOwn early ≡ done (1 ∷ 0 ∷ []) ∷ [])
-    × (isOverNow entryLimit planOwn own (words planOwn []) ≡ false)
-    × (isOverNow entryLimit planOwn own (words planOwn (on 5 2 1 ∷ [])) ≡ false) × (isOverNow entryLimit planOwn own (words planOwn late) ≡ false)
+    × (isOverNow mainTerms planOwn own (words planOwn []) ≡ false)
+    × (isOverNow mainTerms planOwn own (words planOwn (on 5 2 1 ∷ [])) ≡ false) × (isOverNow mainTerms planOwn own (words planOwn late) ≡ false)
     × Lasts planOwn early
 unfolding computing
 refused-for-day = (refl, refl, refl, refl, refl, refl, refl)

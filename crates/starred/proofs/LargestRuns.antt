@@ -8,7 +8,7 @@ use lib.ListN.{length}
 use Rattle.rules.specs.declared.Counts.{Counts}
 use Rattle.rules.specs.Plan.{Plan, planOf}
 use Rattle.rules.specs.Acceptance.{accepted}
-use Rattle.rules.specs.Layout.{entryLimit}
+use Rattle.rules.specs.Layout.{mainTerms}
 use Rattle.rules.specs.Call.{Call, event}
 use Rattle.rules.specs.ReferenceRun.{ledgerAfter}
 use Rattle.rules.specs.Largest.{ofTransition, ofState, leaves, mostWithin, largest, hasDeviation, goesOn, hasCycle, isUnbounded, readBounded}
@@ -26,7 +26,7 @@ e n = event (record { event = n; day = pos 0; society = 1 })
 
 -- how many entries a track holds after a list of calls
 abbrev held : List Call → ℕ → ℕ
-held cs t = length (ledgerAfter entryLimit planP p (lentFor 3) cs t .held)
+held cs t = length (ledgerAfter mainTerms planP p (lentFor 3) cs t .held)
 
 -- P has no deviation and no cycle
 pub bounded-P : readBounded planP ≡ accepted countsP

@@ -5,7 +5,7 @@ use mathlib.Core.List.{List, [], _∷_}
 use Prim.Native.Nat.{ℕ}
 use lib.IntN.{pos}
 use lib.ListN.{length, take, replicate}
-use Rattle.rules.specs.Layout.{entryLimit}
+use Rattle.rules.specs.Layout.{mainTerms}
 use Rattle.rules.specs.Leading.{planSum}
 use Rattle.rules.specs.Call.{Answer, refusal, done, Call, event, signal, fire, beginOutcome, readyOutcome, callOutcome, entriesPart}
 use Rattle.rules.specs.ReferenceRun.{wordsAfter}
@@ -20,7 +20,7 @@ s = signal (record { society = 1 })
 
 -- P's words after begin and a list of events: one is underway, one is over
 abbrev words : List Call → List ℕ
-words cs = wordsAfter entryLimit planP (lentFor 3) cs
+words cs = wordsAfter mainTerms planP (lentFor 3) cs
 
 abbrev underway : List ℕ
 underway = words (e 10 ∷ [])
@@ -30,7 +30,7 @@ over = words (e 10 ∷ e 11 ∷ e 12 ∷ e 14 ∷ e 13 ∷ [])
 
 -- what a call answers to such words under a plan
 abbrev answer : List ℕ → List ℕ → Call → Answer
-answer bs ws c = callOutcome entryLimit bs ws c .answer
+answer bs ws c = callOutcome mainTerms bs ws c .answer
 
 -- "the plan's length in bytes, and the sum modulo 65,536 of its bytes taken as little-endian 16-bit numbers"
 pub leads-P : (length planP ≡ 182) × (planSum planP ≡ 633)
@@ -50,13 +50,13 @@ calls-leave = (refl, refl)
 pub other-calls : (answer neighbourP underway (e 11) ≡ refusal 24)
     × (answer neighbourP underway s ≡ refusal 24)
     × (answer neighbourP underway (fire (record { track = 0; society = 1 })) ≡ refusal 24)
-    × (readyOutcome entryLimit neighbourP underway .answer ≡ refusal 24)
-    × (entriesPart entryLimit neighbourP underway 0 ≡ [])
-    × (entriesPart entryLimit planP underway 0 ≡ 50 ∷ 65535 ∷ [])
+    × (readyOutcome mainTerms neighbourP underway .answer ≡ refusal 24)
+    × (entriesPart mainTerms neighbourP underway 0 ≡ [])
+    × (entriesPart mainTerms planP underway 0 ≡ 50 ∷ 65535 ∷ [])
 unfolding computing
 other-calls = (refl, refl, refl, refl, refl, refl)
 
-pub other-begins : beginOutcome entryLimit neighbourP underway .answer ≡ done []
+pub other-begins : beginOutcome mainTerms neighbourP underway .answer ≡ done []
 unfolding computing
 other-begins = refl
 

@@ -10,7 +10,7 @@ use Rattle.rules.specs.declared.Counts.{Counts}
 use Rattle.rules.specs.declared.Mode.the-variants.{Asleep, Forward, Undoing}
 use Rattle.rules.specs.Plan.{planOf}
 use Rattle.rules.specs.Acceptance.{accepted, turnedBack, readPlan}
-use Rattle.rules.specs.Layout.{entryLimit}
+use Rattle.rules.specs.Layout.{mainTerms}
 use Rattle.rules.specs.Ledger.{Ledger}
 use Rattle.rules.specs.Scope.{isOver}
 use Rattle.rules.specs.Call.{Answer, refusal, done, Call, event, signal, fire, beginOutcome, readyOutcome, callOutcome}
@@ -36,13 +36,13 @@ abbrev f : ℕ → ℕ → Call
 f society t = fire (record { track = t; society = society })
 
 abbrev answers : List Call → List Answer
-answers cs = answersAfter entryLimit planR (lentFor 3) cs
+answers cs = answersAfter mainTerms planR (lentFor 3) cs
 
 abbrev words : List Call → List ℕ
-words cs = wordsAfter entryLimit planR (lentFor 3) cs
+words cs = wordsAfter mainTerms planR (lentFor 3) cs
 
 abbrev ledger : List Call → Ledger
-ledger cs = ledgerAfter entryLimit planR (planOf planR countsR) (lentFor 3) cs
+ledger cs = ledgerAfter mainTerms planR (planOf planR countsR) (lentFor 3) cs
 
 -- the plan as it is read
 pub reads-R : (readPlan planR ≡ accepted countsR)
@@ -152,7 +152,7 @@ unfolding computing
 filled = refl
 
 abbrev answerFull : Call → Answer
-answerFull c = callOutcome entryLimit planR full c .answer
+answerFull c = callOutcome mainTerms planR full c .answer
 
 pub before-21 : (answerFull (e 1 7) ≡ refusal 21) × (answerFull (e 3 1) ≡ refusal 21) × (answerFull (e 6 1) ≡ refusal 28)
     × (answerFull (e 4 1) ≡ refusal 28) × (answerFull (e 2 1) ≡ done (1 ∷ 0 ∷ []))
@@ -163,20 +163,20 @@ before-21 = (refl, refl, refl, refl, refl)
 abbrev planNobody : List ℕ
 planNobody = withRights (rightsOf 1 0 3 ++ rightsOf 2 1 4)
 
-pub ready-aside : (readyOutcome entryLimit planNobody (wordsAfter entryLimit planNobody (lentFor 3) (e 1 1 ∷ s 1 ∷ [])) .answer ≡ done (1 ∷ []))
-    × (answersAfter entryLimit planNobody (lentFor 3) (e 1 1 ∷ s 1 ∷ f 1 0 ∷ f 2 0 ∷ [])
+pub ready-aside : (readyOutcome mainTerms planNobody (wordsAfter mainTerms planNobody (lentFor 3) (e 1 1 ∷ s 1 ∷ [])) .answer ≡ done (1 ∷ []))
+    × (answersAfter mainTerms planNobody (lentFor 3) (e 1 1 ∷ s 1 ∷ f 1 0 ∷ f 2 0 ∷ [])
     ≡ done (1 ∷ 0 ∷ []) ∷ done (1 ∷ []) ∷ refusal 28 ∷ refusal 28 ∷ [])
 unfolding computing
 ready-aside = (refl, refl)
 
 -- Without a record nobody has a right, and the plan is accepted
-pub no-record : answersAfter entryLimit (withRights []) (lentFor 3) (e 1 1 ∷ s 1 ∷ f 1 0 ∷ f 1 3 ∷ [])
+pub no-record : answersAfter mainTerms (withRights []) (lentFor 3) (e 1 1 ∷ s 1 ∷ f 1 0 ∷ f 1 3 ∷ [])
     ≡ refusal 28 ∷ refusal 28 ∷ refusal 28 ∷ refusal 22 ∷ []
 unfolding computing
 no-record = refl
 
 -- "kind 19 picks among tracks it may fire, 22 if none": society 2 passes over the first root, which is ready, and society 4 may fire nothing
-pub lowest-own : transcript planR
+pub lowest-own : transcript mainTerms planR
     (bytesOf
     (12 ∷ 20 ∷ 1 ∷ 0 ∷ 0 ∷ 3 ∷ 6 ∷ 17 ∷ 1 ∷ 6 ∷ 17 ∷ 2
     ∷ 6 ∷ 19 ∷ 4 ∷ 6 ∷ 19 ∷ 2 ∷ 6 ∷ 19 ∷ 2 ∷ 8 ∷ 18 ∷ 0 ∷ 2 ∷ 6 ∷ 19 ∷ 5
@@ -187,7 +187,7 @@ lowest-own = refl
 
 -- "in journals it is a last 16-bit field, each length growing by 2": the former lengths are 23
 abbrev once : List ℕ → List ℕ
-once js = transcript planR (bytesOf js)
+once js = transcript mainTerms planR (bytesOf js)
 
 pub former-lengths : (once (10 ∷ 20 ∷ 1 ∷ 0 ∷ 0 ∷ []) ≡ ascii "PLAN 3 8 6\nR 23\nH 0 0\n")
     × (once (4 ∷ 17 ∷ []) ≡ ascii "PLAN 3 8 6\nR 23\nH 0 0\n")
@@ -200,14 +200,14 @@ former-lengths = (refl, refl, refl, refl)
 abbrev planEnds : List ℕ
 planEnds = withRights (rightsOf 0 0 7 ++ rightsOf 65535 1 7)
 
-pub any-society : answersAfter entryLimit planEnds (lentFor 3) (e 0 1 ∷ e 65535 1 ∷ e 1 1 ∷ s 65535 ∷ f 0 1 ∷ f 65535 1 ∷ s 0 ∷ f 0 0 ∷ [])
+pub any-society : answersAfter mainTerms planEnds (lentFor 3) (e 0 1 ∷ e 65535 1 ∷ e 1 1 ∷ s 65535 ∷ f 0 1 ∷ f 65535 1 ∷ s 0 ∷ f 0 0 ∷ [])
     ≡ done (1 ∷ 0 ∷ []) ∷ done (1 ∷ 0 ∷ []) ∷ refusal 28 ∷ done (2 ∷ []) ∷ refusal 28 ∷ done (51 ∷ 65535 ∷ []) ∷ done (1 ∷ []) ∷ done (41 ∷ 65535 ∷ []) ∷ []
 unfolding computing
 any-society = refl
 
 -- 27 "a rights record names no root, a sum outside 1 to 7, a repeated pair, or is the 65th"
 abbrev begins : List ℕ → Answer
-begins rights = beginOutcome entryLimit (withRights rights) (lentFor 3) .answer
+begins rights = beginOutcome mainTerms (withRights rights) (lentFor 3) .answer
 
 pub names-no-root : (begins (rightsOf 1 3 7) ≡ refusal 27) × (begins (rightsOf 1 65535 7) ≡ refusal 27) × (begins (rightsOf 1 2 7) ≡ refusal 27)
 unfolding computing
@@ -243,7 +243,7 @@ pub window-first : (begins (windowOf 9 four five ++ rightsOf 1 3 7) ≡ refusal 
 unfolding computing
 window-first = (refl, refl, refl)
 
-pub printed-alone : transcript (withRights (rightsOf 1 2 7)) (bytesOf (6 ∷ 17 ∷ 1 ∷ [])) ≡ ascii "R 27\n"
+pub printed-alone : transcript mainTerms (withRights (rightsOf 1 2 7)) (bytesOf (6 ∷ 17 ∷ 1 ∷ [])) ≡ ascii "R 27\n"
 unfolding computing
 printed-alone = refl
 

@@ -8,7 +8,7 @@ use lib.IntN.{pos}
 use Rattle.rules.specs.declared.Counts.{Counts}
 use Rattle.rules.specs.Plan.{planOf}
 use Rattle.rules.specs.Acceptance.{accepted, readPlan}
-use Rattle.rules.specs.Layout.{entryLimit}
+use Rattle.rules.specs.Layout.{mainTerms}
 use Rattle.rules.specs.Ledger.{Ledger}
 use Rattle.rules.specs.Scope.{isOpen, isOver}
 use Rattle.rules.specs.Text.{ascii}
@@ -35,29 +35,29 @@ s = signal (record { society = 1 })
 
 -- on plan P: the answers to a list of calls after begin, and the ledger, its words and what is ready after the list
 abbrev answers : List Call → List Answer
-answers cs = answersAfter entryLimit planP lent cs
+answers cs = answersAfter mainTerms planP lent cs
 
 abbrev words : List Call → List ℕ
-words cs = wordsAfter entryLimit planP lent cs
+words cs = wordsAfter mainTerms planP lent cs
 
 abbrev ledger : List Call → Ledger
-ledger cs = ledgerAfter entryLimit planP (planOf planP countsP) lent cs
+ledger cs = ledgerAfter mainTerms planP (planOf planP countsP) lent cs
 
 abbrev readyAfter : List Call → Answer
-readyAfter cs = readyOutcome entryLimit planP (words cs) .answer
+readyAfter cs = readyOutcome mainTerms planP (words cs) .answer
 
 -- "No bytes: 2."
-pub no-bytes : beginOutcome entryLimit [] lent .answer ≡ refusal 2
+pub no-bytes : beginOutcome mainTerms [] lent .answer ≡ refusal 2
 unfolding computing
 no-bytes = refl
 
 -- "End record only: 8."
-pub end-only : beginOutcome entryLimit (bytesOf (4 ∷ 4 ∷ [])) lent .answer ≡ refusal 8
+pub end-only : beginOutcome mainTerms (bytesOf (4 ∷ 4 ∷ [])) lent .answer ≡ refusal 8
 unfolding computing
 end-only = refl
 
 -- "Bytes after end: 7."
-pub bytes-after-end : beginOutcome entryLimit (bytesOf (4 ∷ 4 ∷ []) ++ (0 ∷ [])) lent .answer ≡ refusal 7
+pub bytes-after-end : beginOutcome mainTerms (bytesOf (4 ∷ 4 ∷ []) ++ (0 ∷ [])) lent .answer ≡ refusal 7
 unfolding computing
 bytes-after-end = refl
 
@@ -106,7 +106,7 @@ thirteen-after-ten = (refl, refl)
 -- "P, 10, 11, 12, 14: last closes 1; track 0 holds 50, 90."
 pub last-closes : (answers (e 10 ∷ e 11 ∷ e 12 ∷ e 14 ∷ [])
     ≡ done (1 ∷ 0 ∷ []) ∷ done (1 ∷ 0 ∷ []) ∷ done (1 ∷ 0 ∷ []) ∷ done (1 ∷ 1 ∷ []) ∷ [])
-    × (entriesPart entryLimit planP (words (e 10 ∷ e 11 ∷ e 12 ∷ e 14 ∷ [])) 0 ≡ 50 ∷ 65535 ∷ 90 ∷ 65535 ∷ [])
+    × (entriesPart mainTerms planP (words (e 10 ∷ e 11 ∷ e 12 ∷ e 14 ∷ [])) 0 ≡ 50 ∷ 65535 ∷ 90 ∷ 65535 ∷ [])
 unfolding computing
 last-closes = (refl, refl)
 
@@ -145,7 +145,7 @@ unfolding computing
 host-waits = refl
 
 -- "Whole output", of the sample journal
-pub whole-output : transcript planP journalP
+pub whole-output : transcript mainTerms planP journalP
     ≡ ascii "PLAN 3 8 5\nE 10 1 0\nE 11 1 0\nE 12 1 0\nS 3\nF 1 51 -\nF 2 52 -\nF 0 50 -\nR 22\nH 0 3\n"
 unfolding computing
 whole-output = refl

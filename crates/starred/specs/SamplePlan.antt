@@ -2,7 +2,7 @@
 use mathlib.Core.List.{List, [], _∷_}
 use Prim.Native.Nat.{ℕ, _+_, _/_, _%_}
 use lib.ListN.{replicate}
-use Rattle.rules.specs.Layout.{entryLimit, wordCount}
+use Rattle.rules.specs.Layout.{mainTerms, wordCount}
 
 -- the bytes of 16-bit little-endian numbers
 unfoldable pub bytesOf : List ℕ → List ℕ
@@ -84,4 +84,4 @@ journalP =
 
 -- a lent ledger with two words more than so many tracks need, whatever it held
 unfoldable pub lentFor : ℕ → List ℕ
-lentFor tracks = replicate (wordCount entryLimit tracks + 2) 7
+lentFor tracks = replicate (wordCount mainTerms tracks + 2) 7

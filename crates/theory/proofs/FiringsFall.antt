@@ -31,6 +31,7 @@ use Rattle.theory.proofs.Laws.{Laws}
 use Rattle.theory.proofs.Settling.{next-cases}
 use Rattle.theory.proofs.Turning.{turned-held}
 use Rattle.theory.proofs.SoundKept.{Kept}
+use Rattle.rules.specs.declared.Terms.{Terms}
 
 -- Sums over the tracks.
 sum-mono : (n : ℕ) (f g : ℕ → ℕ) → ((t : ℕ) → f t ≤ g t) → sumBelow n f ≤ sumBelow n g
@@ -80,7 +81,7 @@ module _ (p : Plan) (ok : Accepted p) (l : Ledger) where
       go (wakens k w q) = rw (q, fresh-held p u) (omega arith)
       go (stays k w q) = rw q (omega arith)
 
-module _ {σ : Seams} (ω : Laws σ) (limit : ℕ) (p : Plan) (ok : Accepted p) where
+module _ {σ : Seams} (ω : Laws σ) (terms : Terms) (p : Plan) (ok : Accepted p) where
   open Seams σ using (Head, nextHead, refusal, next)
 
   signal-leaves : (l : Ledger) (a : σ .Signal) → heldTotal p (abandoned p (turned σ p l a)) ≡ heldTotal p l
@@ -97,50 +98,50 @@ module _ {σ : Seams} (ω : Laws σ) (limit : ℕ) (p : Plan) (ok : Accepted p) 
       omega (arith, abandoned-total p ok (fired p l t), x, removed-one p ok l t b e)
 
   -- settling adds nothing
-  settled-fewer : (h : Head) (l : Ledger) (c : Call σ) → refusal limit p h l c ≡ 0 → heldTotal p (next limit p h l c) ≤ heldTotal p (work σ p l c)
+  settled-fewer : (h : Head) (l : Ledger) (c : Call σ) → refusal terms p h l c ≡ 0 → heldTotal p (next terms p h l c) ≤ heldTotal p (work σ p l c)
   unfolding heldTotal
   settled-fewer h l c z =
-      elim (next-cases ω limit p h l c z) [
+      elim (next-cases ω terms p h l c z) [
         | inl q ↦ rw q (omega arith)
         | inr o ↦
-            sum-mono (trackCount p) (λ t. length (next limit p h l c t .held)) (λ t. length (work σ p l c t .held))
+            sum-mono (trackCount p) (λ t. length (next terms p h l c t .held)) (λ t. length (work σ p l c t .held))
             (λ t. rw (o t, sleeping-held) (omega arith))
       ]
 
   -- an accepted call that is no event: what it fires, and what is held afterwards, was held before
-  pub call-fewer : (h : Head) (l : Ledger) (c : Call σ) → refusal limit p h l c ≡ 0 → isEvent c ≡ false
-      → firingsOf c + heldTotal p (next limit p h l c) ≤ heldTotal p l
+  pub call-fewer : (h : Head) (l : Ledger) (c : Call σ) → refusal terms p h l c ≡ 0 → isEvent c ≡ false
+      → firingsOf c + heldTotal p (next terms p h l c) ≤ heldTotal p l
   call-fewer h l (event a) z n = clash refl n
   call-fewer h l (signal a) z n = omega (arith, signal-leaves l a, settled-fewer h l (signal a) z)
   call-fewer h l (fire a) z n =
-      let x = fire-fewer l (σ .track a) (ω .fire-accepted limit p h l a z .1) in
+      let x = fire-fewer l (σ .track a) (ω .fire-accepted terms p h l a z .1) in
       let y = settled-fewer h l (fire a) z in omega arith
 
   -- in any list without an accepted event no more firings are accepted than entries were held
-  pub firings-held : (cs : List (Call σ)) (h : Head) (l : Ledger) → isEventless σ p limit h l cs ≡ true → firingsFrom σ p limit h l cs ≤ heldTotal p l
+  pub firings-held : (cs : List (Call σ)) (h : Head) (l : Ledger) → isEventless σ p terms h l cs ≡ true → firingsFrom σ p terms h l cs ≤ heldTotal p l
   unfolding firingsFrom isEventless
   firings-held [] h l n = omega arith
   firings-held (c ∷ cs) h l n =
       let (x, y) =
-      and-holds (not (eqb (refusal limit p h l c) 0 && isEvent c)) (isEventless σ p limit (nextHead limit p h l c) (next limit p h l c) cs) n in
-      let i = firings-held cs (nextHead limit p h l c) (next limit p h l c) y in
-      elim (look (eqb (refusal limit p h l c) 0)) [
+      and-holds (not (eqb (refusal terms p h l c) 0 && isEvent c)) (isEventless σ p terms (nextHead terms p h l c) (next terms p h l c) cs) n in
+      let i = firings-held cs (nextHead terms p h l c) (next terms p h l c) y in
+      elim (look (eqb (refusal terms p h l c) 0)) [
         | inl z ↦
             let e : not (isEvent c) ≡ true = rw z at x in
-            let j = call-fewer h l c (eqb-true (refusal limit p h l c) 0 z) (not-true (isEvent c) e) in
+            let j = call-fewer h l c (eqb-true (refusal terms p h l c) 0 z) (not-true (isEvent c) e) in
             rw z (omega arith)
         | inr z ↦
-            let q : heldTotal p (next limit p h l c) ≡ heldTotal p l =
-            ap (heldTotal p) (ω .refused limit p h l c (eqb-false (refusal limit p h l c) 0 z) .0) in
+            let q : heldTotal p (next terms p h l c) ≡ heldTotal p l =
+            ap (heldTotal p) (ω .refused terms p h l c (eqb-false (refusal terms p h l c) 0 z) .0) in
             rw z (omega arith)
       ]
 
   -- and a sound ledger holds at most `limit` for each track
-  pub most-held : (l : Ledger) → Kept σ limit p l → heldTotal p l ≤ limit * trackCount p
+  pub most-held : (l : Ledger) → Kept σ terms p l → heldTotal p l ≤ terms .limit * trackCount p
   unfolding heldTotal
-  most-held l (inl o) = sum-most (trackCount p) limit (λ t. length (l t .held)) (λ t. rw (o t, sleeping-held) (omega arith))
-  most-held l (inr s) = sum-most (trackCount p) limit (λ t. length (l t .held)) (s .formed .few)
+  most-held l (inl o) = sum-most (trackCount p) (terms .limit) (λ t. length (l t .held)) (λ t. rw (o t, sleeping-held) (omega arith))
+  most-held l (inr s) = sum-most (trackCount p) (terms .limit) (λ t. length (l t .held)) (s .formed .few)
 
-  pub firings-bounded : (cs : List (Call σ)) (h : Head) (l : Ledger) → Kept σ limit p l → isEventless σ p limit h l cs ≡ true
-      → firingsFrom σ p limit h l cs ≤ limit * trackCount p
+  pub firings-bounded : (cs : List (Call σ)) (h : Head) (l : Ledger) → Kept σ terms p l → isEventless σ p terms h l cs ≡ true
+      → firingsFrom σ p terms h l cs ≤ terms .limit * trackCount p
   firings-bounded cs h l k n = let i = firings-held cs h l n in let j = most-held l k in omega arith

@@ -24,8 +24,9 @@ use Rattle.theory.proofs.Turning.{unturned}
 use Rattle.theory.proofs.MovingNested.{moved-nested, moved-busy}
 use Rattle.theory.proofs.ClosingNested.{closing-open, closed-awake, closed-alike}
 use Rattle.theory.proofs.SoundRetraction.{fired-awake}
+use Rattle.rules.specs.declared.Terms.{Terms}
 
-module _ {σ : Seams} (ω : Laws σ) (limit : ℕ) (p : Plan) (ok : Accepted p) (l : Ledger) (s : Sound σ limit p l) (z : ℕ) (o : isOpen p l z ≡ true) where
+module _ {σ : Seams} (ω : Laws σ) (terms : Terms) (p : Plan) (ok : Accepted p) (l : Ledger) (s : Sound σ terms p l) (z : ℕ) (o : isOpen p l z ≡ true) where
   open Seams σ using (Event, Signal, moved, closed)
 
   abbrev n : Nested p l
@@ -56,5 +57,5 @@ module _ {σ : Seams} (ω : Laws σ) (limit : ℕ) (p : Plan) (ok : Accepted p) 
   fire-forward t may f =
       let q = awake-kept p ok (fired p l t) (owner p z) (forward-awake (abandoned p (fired p l t) (owner p z) .mode) f) .1 in
       let (i, j, e) = open-host p ok l n z o in
-      let y = fired-busy p l t ok n (s .formed .good t) (may-fire p l t may .3) (fired-awake ω limit p ok l s t may) (owner p z) i j in
+      let y = fired-busy p l t ok n (s .formed .good t) (may-fire p l t may .3) (fired-awake ω terms p ok l s t may) (owner p z) i j in
       ap isForward (sym (ap (λ (c : Configuration). c .mode) (q ∙ y) ∙ removed-mode p l t (owner p z))) ∙ f

@@ -15,6 +15,7 @@ use Rattle.rules.proofs.Tests.{look}
 use Rattle.theory.specs.Seams.{Seams, install, installed, installedBy}
 use Rattle.theory.proofs.Entries.{mayDeviate, Good, good-more}
 use Rattle.theory.proofs.Laws.{Laws}
+use Rattle.rules.specs.declared.Terms.{Terms}
 
 module _ (make : ℕ → ℕ → Entry) where
   pub install-none : (c d : ℕ) (es : List Entry) → eqb c 0 ≡ true → install make c d es ≡ es
@@ -61,9 +62,9 @@ module _ (make : ℕ → ℕ → Entry) where
   install-length c d es =
       elim (look (eqb c 0)) [ inl h ↦ rw (install-none c d es h) (omega arith) | inr h ↦ rw (install-one c d es h) (omega arith) ]
 
-  pub install-fits : (limit c d : ℕ) (es : List Entry) → length es ≤ limit → (eqb c 0 ≡ false → length es < limit)
-      → length (install make c d es) ≤ limit
-  install-fits limit c d es f r =
+  pub install-fits : (terms : Terms) (c d : ℕ) (es : List Entry) → length es ≤ terms .limit → (eqb c 0 ≡ false → length es < terms .limit)
+      → length (install make c d es) ≤ terms .limit
+  install-fits terms c d es f r =
       elim (look (eqb c 0)) [
         | inl h ↦ rw (install-none c d es h) f
         | inr h ↦ let a = install-length c d es in let b = r h in omega arith

@@ -22,8 +22,9 @@ use Rattle.theory.proofs.Composition.{when, join, All, none, all-append
 use Rattle.theory.proofs.Nesting.{Sleeps, Nested, free-below, shut-inside, open-host}
 use Rattle.theory.proofs.EnteringNested.{Enterable, Fate, enters, wakens, stays, fate, fresh-held, woken-asleep, kept-busy}
 use Rattle.theory.proofs.SoundParts.{sleeping-held}
+use Rattle.rules.specs.declared.Terms.{Terms}
 
-module _ {σ : Seams} (limit : ℕ) (p : Plan) (ok : Accepted p) (k : Books σ p limit) where
+module _ {σ : Seams} (terms : Terms) (p : Plan) (ok : Accepted p) (k : Books σ p terms) where
   open Seams σ using (Event, Change, change, Retraction, retraction)
 
   -- done right after the word, the retraction gives the state back

@@ -42,29 +42,30 @@ use Rattle.theory.proofs.Invariant.{Undoes, Held, Blocks, quiet}
 use Rattle.theory.proofs.InvariantMoving.{grown, fresher, moves-last, moved-blocks}
 use Rattle.theory.proofs.InvariantClosing.{settled, closed-blocks, closed-whole}
 use Rattle.theory.proofs.InvariantRetraction.{turned-blocks, abandoned-blocks, shorter, fired-books, fired-blocks}
+use Rattle.rules.specs.declared.Terms.{Terms}
 
-module _ {σ : Seams} (ω : Laws σ) (υ : Unfinished σ) (limit : ℕ) (p : Plan) (ok : Accepted p) (k : Books σ p limit) where
+module _ {σ : Seams} (ω : Laws σ) (υ : Unfinished σ) (terms : Terms) (p : Plan) (ok : Accepted p) (k : Books σ p terms) where
   open Seams σ using (Event, Signal, Firing, Head, Change, track, moved, closed, movesOf, retraction, isTurned, firstHead, nextHead, refusal, next)
 
   -- the words, the runs, and the books' states at the begin and now
   pub record Booked (h : Head) (l : Ledger) (first now : k .State) : Type 0 where
     pub W : ℕ → List Change
     pub R : ℕ → List Change
-    pub blocks : Blocks limit p ok k l W R
-    pub running : (s : ℕ) → isOpen p l s ≡ true → isForward (l (owner p s) .mode) ≡ true → Running σ p limit s h l (R s)
+    pub blocks : Blocks terms p ok k l W R
+    pub running : (s : ℕ) → isOpen p l s ≡ true → isForward (l (owner p s) .mode) ≡ true → Running σ p terms s h l (R s)
     pub books : now ≡ act (k .changed) (join (trackCount p) W) first
 
   -- over, or sound and booked
   abbrev pub Invariant : Head → Ledger → k .State → k .State → Type 0
-  Invariant h l first now = Over l ⊎ (Sound σ limit p l × Booked h l first now)
+  Invariant h l first now = Over l ⊎ (Sound σ terms p l × Booked h l first now)
 
   -- what the call did to the books: on the next ledger, which is sound or over
-  carry : (h : Head) (l : Ledger) → Sound σ limit p l → (c : Call σ) (first now : k .State)
-      → Booked (nextHead limit p h l c) (next limit p h l c) first now → Invariant (nextHead limit p h l c) (next limit p h l c) first now
+  carry : (h : Head) (l : Ledger) → Sound σ terms p l → (c : Call σ) (first now : k .State)
+      → Booked (nextHead terms p h l c) (next terms p h l c) first now → Invariant (nextHead terms p h l c) (next terms p h l c) first now
   carry h l s c first now b =
-      elim (kept-next ω υ limit p ok h l (inr s) c) [ inl o ↦ inl o | inr s′ ↦ inr (s′, b) ]
+      elim (kept-next ω υ terms p ok h l (inr s) c) [ inl o ↦ inl o | inr s′ ↦ inr (s′, b) ]
 
-  module _ (h : Head) (l : Ledger) (first now : k .State) (reach : Reached σ p limit h l) (s : Sound σ limit p l) (v : Booked h l first now) where
+  module _ (h : Head) (l : Ledger) (first now : k .State) (reach : Reached σ p terms h l) (s : Sound σ terms p l) (v : Booked h l first now) where
     abbrev n : Nested p l
     n = s .formed .nested
 
@@ -74,65 +75,65 @@ module _ {σ : Seams} (ω : Laws σ) (υ : Unfinished σ) (limit : ℕ) (p : Pla
     abbrev R : ℕ → List Change
     R = v .R
 
-    module _ (a : Event) (acc : refusal limit p h l (event a) ≡ 0) where
+    module _ (a : Event) (acc : refusal terms p h l (event a) ≡ 0) where
       abbrev m : Ledger
       m = moved p l a
 
       abbrev x : Ledger
-      x = next limit p h l (event a)
+      x = next terms p h l (event a)
 
       m-nested : Nested p m
       m-nested = moved-nested ω p l a ok n
 
       -- words and runs after the moves
       abbrev W₁ : ℕ → List Change
-      W₁ = grown ω limit p ok k l n W R (v .blocks) a
+      W₁ = grown ω terms p ok k l n W R (v .blocks) a
 
       abbrev R₁ : ℕ → List Change
-      R₁ = fresher ω limit p ok k l n W R (v .blocks) a
+      R₁ = fresher ω terms p ok k l n W R (v .blocks) a
 
-      after-moves : Blocks limit p ok k m W₁ R₁
-      after-moves = moved-blocks ω limit p ok k l n W R (v .blocks) a
+      after-moves : Blocks terms p ok k m W₁ R₁
+      after-moves = moved-blocks ω terms p ok k l n W R (v .blocks) a
 
       -- the run of a scope that closes is finished, so its replacement undoes it
-      closing-undone : (z : ℕ) → isClosing p m z ≡ true → Undoes limit p ok k (replacementOf σ p a z) (R₁ z)
+      closing-undone : (z : ℕ) → isClosing p m z ≡ true → Undoes terms p ok k (replacementOf σ p a z) (R₁ z)
       closing-undone z c =
-          let o = was-open ω limit p ok l (s .formed) a z c in
+          let o = was-open ω terms p ok l (s .formed) a z c in
           let (u, b, i, w) = open-find p m z (closing-open p m z c) in
-          let f = closing-forward ω limit p ok l s z o a c in
+          let f = closing-forward ω terms p ok l s z o a c in
           rw o (k .undo-run z u i a (R z ++ movesOf p (isInside p z) l a) (run.closed (v .running z o f) a acc c))
 
       -- words after the closings
       abbrev W₂ : ℕ → List Change
-      W₂ = settled ω limit p ok k m m-nested W₁ R₁ after-moves a closing-undone
+      W₂ = settled ω terms p ok k m m-nested W₁ R₁ after-moves a closing-undone
 
-      after-closings : Blocks limit p ok k (closed p m a) W₂ R₁
-      after-closings = closed-blocks ω limit p ok k m m-nested W₁ R₁ after-moves a closing-undone
+      after-closings : Blocks terms p ok k (closed p m a) W₂ R₁
+      after-closings = closed-blocks ω terms p ok k m m-nested W₁ R₁ after-moves a closing-undone
 
-      event-booked : x ≡ closed p m a → Booked (nextHead limit p h l (event a)) x first (act (k .changed) (movesOf p (λ t. true) l a) now)
+      event-booked : x ≡ closed p m a → Booked (nextHead terms p h l (event a)) x first (act (k .changed) (movesOf p (λ t. true) l a) now)
       event-booked q =
           record {
             W = W₂;
             R = R₁;
-            blocks = subst (λ y. Blocks limit p ok k y W₂ R₁) (sym q) after-closings;
+            blocks = subst (λ y. Blocks terms p ok k y W₂ R₁) (sym q) after-closings;
             running =
                 λ z o f.
                 let f′ = subst (λ y. isForward (y (owner p z) .mode) ≡ true) q f in
                 elim (look (isOpen p l z)) [
-                  | inl w ↦ rw w (over-event (v .running z w (event-forward ω limit p ok l s z w a f′)) a acc o)
+                  | inl w ↦ rw w (over-event (v .running z w (event-forward ω terms p ok l s z w a f′)) a acc o)
                   | inr w ↦ rw w (by-call reach (event a) w o)
                 ];
             books =
                 ap (act (k .changed) (movesOf p (λ t. true) l a)) (v .books)
-                ∙ sym (moves-last ω limit p ok k l n W R (v .blocks) a (λ t. true) first)
-                ∙ sym (closed-whole ω limit p ok k m m-nested W₁ R₁ after-moves a closing-undone first);
+                ∙ sym (moves-last ω terms p ok k l n W R (v .blocks) a (λ t. true) first)
+                ∙ sym (closed-whole ω terms p ok k m m-nested W₁ R₁ after-moves a closing-undone first);
           }
 
-      pub event-keeps : Invariant (nextHead limit p h l (event a)) x first (act (k .changed) (movesOf p (λ t. true) l a) now)
+      pub event-keeps : Invariant (nextHead terms p h l (event a)) x first (act (k .changed) (movesOf p (λ t. true) l a) now)
       event-keeps =
-          elim (next-cases ω limit p h l (event a) acc) [ inr o ↦ inl o | inl q ↦ carry h l s (event a) first _ (event-booked q) ]
+          elim (next-cases ω terms p h l (event a) acc) [ inr o ↦ inl o | inl q ↦ carry h l s (event a) first _ (event-booked q) ]
 
-    module _ (a : Signal) (acc : refusal limit p h l (signal a) ≡ 0) where
+    module _ (a : Signal) (acc : refusal terms p h l (signal a) ≡ 0) where
       -- a scope that is open after a signal was open before
       signal-open : (z : ℕ) → isOpen p (abandoned p (turned σ p l a)) z ≡ true → isOpen p l z ≡ true
       signal-open z o =
@@ -140,14 +141,14 @@ module _ {σ : Seams} (ω : Laws σ) (υ : Unfinished σ) (limit : ℕ) (p : Pla
           let (c, r) = awake-kept p ok (turned σ p l a) u w in
           open-at p l z u b i (sym (turned-awake ω p l a u) ∙ ap (λ (y : Configuration). isAwake (y .mode)) (sym r) ∙ w)
 
-      signal-booked : next limit p h l (signal a) ≡ abandoned p (turned σ p l a) → Booked (nextHead limit p h l (signal a)) (next limit p h l (signal a)) first now
+      signal-booked : next terms p h l (signal a) ≡ abandoned p (turned σ p l a) → Booked (nextHead terms p h l (signal a)) (next terms p h l (signal a)) first now
       signal-booked q =
           record {
             W = W;
             R = R;
             blocks =
-                subst (λ y. Blocks limit p ok k y W R) (sym q)
-                (abandoned-blocks ω limit p ok k (turned σ p l a) (turned-nested ω p ok l n a) W R (turned-blocks ω limit p ok k l n W R (v .blocks) a));
+                subst (λ y. Blocks terms p ok k y W R) (sym q)
+                (abandoned-blocks ω terms p ok k (turned σ p l a) (turned-nested ω p ok l n a) W R (turned-blocks ω terms p ok k l n W R (v .blocks) a));
             running =
                 λ z o f.
                 let f′ = subst (λ y. isForward (y (owner p z) .mode) ≡ true) q f in
@@ -157,54 +158,54 @@ module _ {σ : Seams} (ω : Laws σ) (υ : Unfinished σ) (limit : ℕ) (p : Pla
             books = v .books;
           }
 
-      pub signal-keeps : Invariant (nextHead limit p h l (signal a)) (next limit p h l (signal a)) first now
+      pub signal-keeps : Invariant (nextHead terms p h l (signal a)) (next terms p h l (signal a)) first now
       signal-keeps =
-          elim (next-cases ω limit p h l (signal a) acc) [ inr o ↦ inl o | inl q ↦ carry h l s (signal a) first now (signal-booked q) ]
+          elim (next-cases ω terms p h l (signal a) acc) [ inr o ↦ inl o | inl q ↦ carry h l s (signal a) first now (signal-booked q) ]
 
-    module _ (a : Firing) (acc : refusal limit p h l (fire a) ≡ 0) where
+    module _ (a : Firing) (acc : refusal terms p h l (fire a) ≡ 0) where
       abbrev t : ℕ
       t = track a
 
       may : mayFire p l t ≡ true
-      may = ω .fire-accepted limit p h l a acc .1
+      may = ω .fire-accepted terms p h l a acc .1
 
       -- words and runs without the newest block
       abbrev W₃ : ℕ → List Change
-      W₃ = shorter ω limit p ok k l s W R (v .blocks) t may
+      W₃ = shorter ω terms p ok k l s W R (v .blocks) t may
 
       abbrev R₃ : ℕ → List Change
       R₃ z = when (isOpen p l z) (R z)
 
-      fire-booked : next limit p h l (fire a) ≡ abandoned p (fired p l t)
-          → Booked (nextHead limit p h l (fire a)) (next limit p h l (fire a)) first (k .retracted (retraction (newest (l t .held))) now)
+      fire-booked : next terms p h l (fire a) ≡ abandoned p (fired p l t)
+          → Booked (nextHead terms p h l (fire a)) (next terms p h l (fire a)) first (k .retracted (retraction (newest (l t .held))) now)
       fire-booked q =
           record {
             W = W₃;
             R = R₃;
             blocks =
-                subst (λ y. Blocks limit p ok k y W₃ R₃) (sym q)
-                (abandoned-blocks ω limit p ok k (fired p l t) (fired-formed ω limit p ok l s t may .nested) W₃ R₃
-                (fired-blocks ω limit p ok k l s W R (v .blocks) t may));
+                subst (λ y. Blocks terms p ok k y W₃ R₃) (sym q)
+                (abandoned-blocks ω terms p ok k (fired p l t) (fired-formed ω terms p ok l s t may .nested) W₃ R₃
+                (fired-blocks ω terms p ok k l s W R (v .blocks) t may));
             running =
                 λ z o f.
                 let f′ = subst (λ y. isForward (y (owner p z) .mode) ≡ true) q f in
                 elim (look (isOpen p l z)) [
                   | inr w ↦ rw w (by-call reach (fire a) w o)
-                  | inl w ↦ rw w (over-fire (v .running z w (fire-forward ω limit p ok l s z w t may f′)) a acc o)
+                  | inl w ↦ rw w (over-fire (v .running z w (fire-forward ω terms p ok l s z w t may f′)) a acc o)
                 ];
             books =
-                ap (k .retracted (retraction (newest (l t .held)))) (v .books) ∙ fired-books ω limit p ok k l s W R (v .blocks) t may first;
+                ap (k .retracted (retraction (newest (l t .held)))) (v .books) ∙ fired-books ω terms p ok k l s W R (v .blocks) t may first;
           }
 
-      pub fire-keeps : Invariant (nextHead limit p h l (fire a)) (next limit p h l (fire a)) first (k .retracted (retraction (newest (l t .held))) now)
+      pub fire-keeps : Invariant (nextHead terms p h l (fire a)) (next terms p h l (fire a)) first (k .retracted (retraction (newest (l t .held))) now)
       fire-keeps =
-          elim (next-cases ω limit p h l (fire a) acc) [ inr o ↦ inl o | inl q ↦ carry h l s (fire a) first _ (fire-booked q) ]
+          elim (next-cases ω terms p h l (fire a) acc) [ inr o ↦ inl o | inl q ↦ carry h l s (fire a) first _ (fire-booked q) ]
 
   -- every accepted call keeps the invariant
-  pub accepted-keeps : (h : Head) (l : Ledger) (first now : k .State) → Reached σ p limit h l → Invariant h l first now → (c : Call σ)
-      → refusal limit p h l c ≡ 0 → Invariant (nextHead limit p h l c) (next limit p h l c) first (bookedCall σ p limit k l c now)
+  pub accepted-keeps : (h : Head) (l : Ledger) (first now : k .State) → Reached σ p terms h l → Invariant h l first now → (c : Call σ)
+      → refusal terms p h l c ≡ 0 → Invariant (nextHead terms p h l c) (next terms p h l c) first (bookedCall σ p terms k l c now)
   unfolding bookedCall
-  accepted-keeps h l first now r (inl o) c z = absurd (over-refused ω limit p h l (over-is p l o) c z)
+  accepted-keeps h l first now r (inl o) c z = absurd (over-refused ω terms p h l (over-is p l o) c z)
   accepted-keeps h l first now r (inr i) (event a) z = event-keeps h l first now r (i .0) (i .1) a z
   accepted-keeps h l first now r (inr i) (signal a) z = signal-keeps h l first now r (i .0) (i .1) a z
   accepted-keeps h l first now r (inr i) (fire a) z = fire-keeps h l first now r (i .0) (i .1) a z
@@ -214,7 +215,7 @@ module _ {σ : Seams} (ω : Laws σ) (υ : Unfinished σ) (limit : ℕ) (p : Pla
   unfolding act
   begun-keeps b =
       inr (
-        begun-sound ω limit p ok,
+        begun-sound ω terms p ok,
         record {
           W = λ t. [];
           R = λ z. [];
@@ -227,13 +228,13 @@ module _ {σ : Seams} (ω : Laws σ) (υ : Unfinished σ) (limit : ℕ) (p : Pla
       nil : (S : ℕ → Bool) → join {C = Change} (trackCount p) (λ t. when (S t) []) ≡ []
       nil S = join-nil (trackCount p) (λ t. when (S t) []) (λ t i. when-nil (S t))
 
-      held : (t : ℕ) → Held limit p ok k t (begun p t .held) []
+      held : (t : ℕ) → Held terms p ok k t (begun p t .held) []
       held t =
           elim (look (isAwake (begun p t .mode))) [
-            | inl a ↦ subst (λ es. Held limit p ok k t es []) (sym (ap (λ (c : Configuration). c .held) (begun-fresh limit p ok t a) ∙ fresh-held p t)) refl
+            | inl a ↦ subst (λ es. Held terms p ok k t es []) (sym (ap (λ (c : Configuration). c .held) (begun-fresh terms p ok t a) ∙ fresh-held p t)) refl
             | inr a ↦
-                subst (λ es. Held limit p ok k t es [])
-                (sym (ap (λ (c : Configuration). c .held) (begun-sound ω limit p ok .formed .nested .blank t a) ∙ sleeping-held)) refl
+                subst (λ es. Held terms p ok k t es [])
+                (sym (ap (λ (c : Configuration). c .held) (begun-sound ω terms p ok .formed .nested .blank t a) ∙ sleeping-held)) refl
           ]
 
   -- where every root is withdrawn, nothing hosted is awake and no track has a word
@@ -253,8 +254,8 @@ module _ {σ : Seams} (ω : Laws σ) (υ : Unfinished σ) (limit : ℕ) (p : Pla
       (join-nil (trackCount p) (v .W)
       (λ t b.
       elim (look-option (host p t)) [
-        | inl e ↦ subst (λ es. Held limit p ok k t es (v .W t)) (w t b (root-of p t e) .empty) (v .blocks .held t)
+        | inl e ↦ subst (λ es. Held terms p ok k t es (v .W t)) (w t b (root-of p t e) .empty) (v .blocks .held t)
         | inr e ↦
-            quiet limit p ok k l n (v .W) (v .R) (v .blocks) t
+            quiet terms p ok k l n (v .W) (v .R) (v .blocks) t
             (hosted-asleep p ok l n (λ r c f. w r c (root-of p r f) .shut) t (e .0) (e .1))
       ]))

@@ -28,6 +28,7 @@ use Rattle.theory.proofs.Installing.{installed-held}
 use Rattle.theory.proofs.ClosingNested.{closing-open, closed-in, closes-known, closed-alike, closed-awake, closed-free, closed-was-awake, closed-closes, closing-open-track, closing-direct, closed-host-stays}
 use Rattle.theory.proofs.Invariant.{Undoes, Below, Held, inner, Blocks, quiet, word-below, swap-below, swap-free}
 use Rattle.theory.proofs.InvariantMoving.{keep, keep-all, keep-same, held-install}
+use Rattle.rules.specs.declared.Terms.{Terms}
 
 -- the track that hosts a track; a root counts as its own
 unfoldable pub hostOrSelf : Plan → ℕ → ℕ
@@ -37,16 +38,16 @@ host-or-self : (p : Plan) (t h : ℕ) → host p t ≡ some h → hostOrSelf p t
 unfolding hostOrSelf
 host-or-self p t h e = rw (e, hostOrSelf)
 
-module _ {σ : Seams} (ω : Laws σ) (limit : ℕ) (p : Plan) (ok : Accepted p) (k : Books σ p limit) (l : Ledger) (n : Nested p l)
-    (W R : ℕ → List (σ .Change)) (g : Blocks limit p ok k l W R) (v : σ .Event)
-    (und : (s : ℕ) → isClosing p l s ≡ true → Undoes limit p ok k (replacementOf σ p v s) (R s)) where
+module _ {σ : Seams} (ω : Laws σ) (terms : Terms) (p : Plan) (ok : Accepted p) (k : Books σ p terms) (l : Ledger) (n : Nested p l)
+    (W R : ℕ → List (σ .Change)) (g : Blocks terms p ok k l W R) (v : σ .Event)
+    (und : (s : ℕ) → isClosing p l s ≡ true → Undoes terms p ok k (replacementOf σ p v s) (R s)) where
   open Seams σ using (Change, entry, closed)
 
   abbrev N : ℕ
   N = trackCount p
 
   abbrev B : ℕ → Change → Type 0
-  B = Below limit p ok k
+  B = Below terms p ok k
 
   -- what stays of a track's word, what goes, and the block that its closing scope leaves it
   abbrev rest : ℕ → List Change
@@ -66,7 +67,7 @@ module _ {σ : Seams} (ω : Laws σ) (limit : ℕ) (p : Plan) (ok : Accepted p) 
 
   -- a closing scope's run, on its host's track
   closing-run : (t : ℕ) → closesScope p l t ≡ true
-      → (owner p (l t .state) ≡ t) × All (B t) (R (l t .state)) × Same (k .changed) (R (l t .state)) (inner limit p ok k W (l t .state))
+      → (owner p (l t .state) ≡ t) × All (B t) (R (l t .state)) × Same (k .changed) (R (l t .state)) (inner terms p ok k W (l t .state))
   closing-run t d =
       let (a, c) = closes-known p l t d in
       let s = l t .state in
@@ -82,22 +83,22 @@ module _ {σ : Seams} (ω : Laws σ) (limit : ℕ) (p : Plan) (ok : Accepted p) 
       all-when (closesScope p l t)
       (λ d. keep-all (replacement p (l t .state)) (closing-run t d .1))
 
-  left-same : (t : ℕ) → closesScope p l t ≡ true → Same (k .changed) (left t) (inner limit p ok k W (l t .state))
+  left-same : (t : ℕ) → closesScope p l t ≡ true → Same (k .changed) (left t) (inner terms p ok k W (l t .state))
   left-same t d =
       rw d
       (λ b.
-      keep-same limit p ok k v (replacement p (l t .state)) noState (R (l t .state)) (und (l t .state) (closes-known p l t d .1)) b
+      keep-same terms p ok k v (replacement p (l t .state)) noState (R (l t .state)) (und (l t .state) (closes-known p l t d .1)) b
       ∙ closing-run t d .2 b)
 
   -- below a track whose scope closes, only what closes with it has a word
   below-nil : (t u : ℕ) → closesScope p l t ≡ true → isAbove p t u ≡ true → isClosed p l u ≡ false → W u ≡ []
   below-nil t u d i c =
-      quiet limit p ok k l n W R g u
+      quiet terms p ok k l n W R g u
       (refuted (isAwake (l u .mode)) (λ a. clash (closing-direct p ok l n t d u i a) c))
 
   -- the words of closing tracks commute with all higher words
   swap-gone : (t u : ℕ) → t < u → isClosed p l t ≡ true → Swap (k .changed) (W t) (W u)
-  swap-gone t u b c = swap-free limit p ok k l n W R g t u (W t) (closed-free p ok l n t c) b (word-below limit p ok k l n W R g t)
+  swap-gone t u b c = swap-free terms p ok k l n W R g t u (W t) (closed-free p ok l n t c) b (word-below terms p ok k l n W R g t)
 
   gone-rest : (t u : ℕ) → t < u → u < N → Swap (k .changed) (gone t) (rest u)
   gone-rest t u b j = swap-when (k .changed) (isClosed p l t) (not (isClosed p l u)) (W t) (W u) (λ c d. swap-gone t u b c)
@@ -113,7 +114,7 @@ module _ {σ : Seams} (ω : Laws σ) (limit : ℕ) (p : Plan) (ok : Accepted p) 
                   elim (look (isAbove p t u)) [
                     | inl i ↦ rw (below-nil t u d i c, when-nil (not (isClosed p l u))) (swap-nil (k .changed) (left t))
                     | inr i ↦
-                        rw c (swap-below limit p ok k t u (left t) (W u) b i (left-below t) (word-below limit p ok k l n W R g u))
+                        rw c (swap-below terms p ok k t u (left t) (W u) b i (left-below t) (word-below terms p ok k l n W R g u))
                   ]
             ]
       ]
@@ -135,7 +136,7 @@ module _ {σ : Seams} (ω : Laws σ) (limit : ℕ) (p : Plan) (ok : Accepted p) 
         (λ x y. swap-when (k .changed) (isClosed p l t) (isClosed p l u) (W t) (W u) (λ c d. swap-gone t u b c))
 
     -- the group of a track that passes, whose scope closes: the words inside that scope
-    inner-group : (t : ℕ) → closesScope p l t ≡ true → S t ≡ true → inner limit p ok k W (l t .state) ≡ group t
+    inner-group : (t : ℕ) → closesScope p l t ≡ true → S t ≡ true → inner terms p ok k W (l t .state) ≡ group t
     inner-group t d f =
         let s = l t .state in
         let own = closing-run t d .0 in
@@ -230,28 +231,28 @@ module _ {σ : Seams} (ω : Laws σ) (limit : ℕ) (p : Plan) (ok : Accepted p) 
   not-closing : (t : ℕ) → isClosed p l t ≡ true → closesScope p l t ≡ false
   not-closing t c = refuted (closesScope p l t) (λ d. clash c (closing-open-track p ok l n t d))
 
-  closed-held : (t : ℕ) → Held limit p ok k t (closed p l v t .held) (settled t)
+  closed-held : (t : ℕ) → Held terms p ok k t (closed p l v t .held) (settled t)
   closed-held t =
       elim (look (isClosed p l t)) [
         | inl c ↦
-            subst (λ es. Held limit p ok k t es (settled t)) (sym (ap (λ (x : Configuration). x .held) (ω .closed-asleep p l v t c) ∙ sleeping-held))
+            subst (λ es. Held terms p ok k t es (settled t)) (sym (ap (λ (x : Configuration). x .held) (ω .closed-asleep p l v t c) ∙ sleeping-held))
             (rw (c, not-closing t c))
         | inr c ↦
             elim (look (closesScope p l t)) [
               | inr d ↦
-                  subst (λ (x : Configuration). Held limit p ok k t (x .held) (settled t)) (sym (ω .closed-kept p l v t c d))
+                  subst (λ (x : Configuration). Held terms p ok k t (x .held) (settled t)) (sym (ω .closed-kept p l v t c d))
                   (rw (c, d, append-nil (W t)) (g .held t))
               | inl d ↦
                   let s = l t .state in
-                  subst (λ es. Held limit p ok k t es (settled t))
+                  subst (λ es. Held terms p ok k t es (settled t))
                   (sym (ap (λ (x : Configuration). x .held) (ω .closed-replaced p l v t c d) ∙ installed-held (entry v) (replacement p s) noState (l t)))
                   (rw (c, d)
-                  (held-install limit p ok k v t (replacement p s) noState (l t .held) (W t) (R s) (g .held t) (closing-run t d .1)
+                  (held-install terms p ok k v t (replacement p s) noState (l t .held) (W t) (R s) (g .held t) (closing-run t d .1)
                   (und s (closes-known p l t d .1))))
             ]
       ]
 
-  pub closed-blocks : Blocks limit p ok k (closed p l v) settled R
+  pub closed-blocks : Blocks terms p ok k (closed p l v) settled R
   closed-blocks =
       record {
         held = closed-held;

@@ -25,6 +25,7 @@ use Rattle.theory.proofs.Laws.{Laws}
 use Rattle.theory.proofs.Installing.{install-none, install-one, by-none, by-some}
 use Rattle.theory.proofs.MovingNested.{moved-is, recorded-mode, recorded-awake, mover-is, recorded-nested, goes-free}
 use Rattle.theory.proofs.Invariant.{Undoes, Below, below, Held, Blocks, swap-free, enter-blocks}
+use Rattle.rules.specs.declared.Terms.{Terms}
 
 -- a word that a code other than 0 undoes
 abbrev pub keep : {C : Type 0} → ℕ → List C → List C
@@ -33,11 +34,11 @@ keep c w = when (not (eqb c 0)) w
 pub keep-all : {C : Type 0} {P : C → Type 0} (c : ℕ) {w : List C} → All P w → All P (keep c w)
 keep-all c a = all-when (not (eqb c 0)) (λ h. a)
 
-module _ {σ : Seams} (limit : ℕ) (p : Plan) (ok : Accepted p) (k : Books σ p limit) (e : σ .Event) where
+module _ {σ : Seams} (terms : Terms) (p : Plan) (ok : Accepted p) (k : Books σ p terms) (e : σ .Event) where
   open Seams σ using (entry, Change, retraction)
 
   -- what a code 0 undoes changes nothing, and may be left out
-  pub keep-same : (c d : ℕ) (w : List Change) → Undoes limit p ok k (retraction (entry e c d)) w → Same (k .changed) (keep c w) w
+  pub keep-same : (c d : ℕ) (w : List Change) → Undoes terms p ok k (retraction (entry e c d)) w → Same (k .changed) (keep c w) w
   unfolding act
   keep-same c d w u b =
       elim (look (eqb c 0)) [
@@ -48,20 +49,20 @@ module _ {σ : Seams} (limit : ℕ) (p : Plan) (ok : Accepted p) (k : Books σ p
       ]
 
   -- an entry more, and its block
-  pub held-install : (t c d : ℕ) (es : List Entry) (w v : List Change) → Held limit p ok k t es w → All (Below limit p ok k t) v
-      → Undoes limit p ok k (retraction (entry e c d)) v → Held limit p ok k t (install (entry e) c d es) (w ++ keep c v)
+  pub held-install : (t c d : ℕ) (es : List Entry) (w v : List Change) → Held terms p ok k t es w → All (Below terms p ok k t) v
+      → Undoes terms p ok k (retraction (entry e c d)) v → Held terms p ok k t (install (entry e) c d es) (w ++ keep c v)
   held-install t c d es w v h a u =
       elim (look (eqb c 0)) [
         | inl i ↦ rw (i, append-nil w, install-none (entry e) c d es i) h
         | inr i ↦ rw (i, install-one (entry e) c d es i) (w, v, h, a, u, refl)
       ]
 
-module _ {σ : Seams} (ω : Laws σ) (limit : ℕ) (p : Plan) (ok : Accepted p) (k : Books σ p limit) (l : Ledger) (n : Nested p l)
-    (W R : ℕ → List (σ .Change)) (g : Blocks limit p ok k l W R) (e : σ .Event) where
+module _ {σ : Seams} (ω : Laws σ) (terms : Terms) (p : Plan) (ok : Accepted p) (k : Books σ p terms) (l : Ledger) (n : Nested p l)
+    (W R : ℕ → List (σ .Change)) (g : Blocks terms p ok k l W R) (e : σ .Event) where
   open Seams σ using (move, moved, entry, Change, change, movesOf, retraction)
 
   abbrev B : ℕ → Change → Type 0
-  B = Below limit p ok k
+  B = Below terms p ok k
 
   abbrev n′ : ℕ
   n′ = trackCount p
@@ -74,7 +75,7 @@ module _ {σ : Seams} (ω : Laws σ) (limit : ℕ) (p : Plan) (ok : Accepted p) 
   abbrev pub block : ℕ → List Change
   block t = blockOf (move p l e t)
 
-  undo-one : (x : ℕ) → x < transitionCount p → Undoes limit p ok k (retraction (entry e (transition p x .code) (transition p x .deviation))) (change e x ∷ [])
+  undo-one : (x : ℕ) → x < transitionCount p → Undoes terms p ok k (retraction (entry e (transition p x .code) (transition p x .deviation))) (change e x ∷ [])
   unfolding act
   undo-one x b = k .undo e x b
 
@@ -95,7 +96,7 @@ module _ {σ : Seams} (ω : Laws σ) (limit : ℕ) (p : Plan) (ok : Accepted p) 
         | inl h ↦ rw h (λ b. refl)
         | inr h ↦
             rw (h .1)
-            (keep-same limit p ok k e (transition p (h .0) .code) (transition p (h .0) .deviation) (change e (h .0) ∷ []) (undo-one (h .0) (ω .move-takes p l e t (h .0) (h .1) .real)))
+            (keep-same terms p ok k e (transition p (h .0) .code) (transition p (h .0) .deviation) (change e (h .0) ∷ []) (undo-one (h .0) (ω .move-takes p l e t (h .0) (h .1) .real)))
       ]
 
   -- the tracks' words with the movers' blocks, against the moves done after all words
@@ -107,7 +108,7 @@ module _ {σ : Seams} (ω : Laws σ) (limit : ℕ) (p : Plan) (ok : Accepted p) 
       (λ t u i j.
       elim (look-option (move p l e t)) [
         | inl h ↦ rw h (nil-swap (k .changed) (W u))
-        | inr h ↦ swap-free limit p ok k l n W R g t u (block t) (ω .move-takes p l e t (h .0) (h .1) .free) i (block-below t)
+        | inr h ↦ swap-free terms p ok k l n W R g t u (block t) (ω .move-takes p l e t (h .0) (h .1) .free) i (block-below t)
       ]) b
       ∙ same-join (k .changed) n′ (λ t. when (S t) (block t)) (λ t. when (S t) (changeOf σ e (move p l e t)))
       (λ t i. same-when (k .changed) (S t) (block t) (changeOf σ e (move p l e t)) (block-same t)) b′
@@ -137,7 +138,7 @@ module _ {σ : Seams} (ω : Laws σ) (limit : ℕ) (p : Plan) (ok : Accepted p) 
   abbrev pub ran : ℕ → List Change
   ran s = R s ++ movesOf p (isInside p s) l e
 
-  recorded-blocks : Blocks limit p ok k (recorded σ p l e) grown ran
+  recorded-blocks : Blocks terms p ok k (recorded σ p l e) grown ran
   recorded-blocks =
       record {
         held =
@@ -147,7 +148,7 @@ module _ {σ : Seams} (ω : Laws σ) (limit : ℕ) (p : Plan) (ok : Accepted p) 
               | inr h ↦
                   let x = h .0 in
                   rw (by-some (entry e) p (move p l e t) (l t) x (h .1), h .1)
-                  (held-install limit p ok k e t (transition p x .code) (transition p x .deviation) (l t .held) (W t) (change e x ∷ []) (g .held t)
+                  (held-install terms p ok k e t (transition p x .code) (transition p x .deviation) (l t .held) (W t) (change e x ∷ []) (g .held t)
                   (all.one (own-letter t x (h .1)) all.none) (undo-one x (ω .move-takes p l e t x (h .1) .real)))
             ];
         runs =
@@ -167,9 +168,9 @@ module _ {σ : Seams} (ω : Laws σ) (limit : ℕ) (p : Plan) (ok : Accepted p) 
   abbrev pub fresher : ℕ → List Change
   fresher s = when (isOpen p l s) (ran s)
 
-  pub moved-blocks : Blocks limit p ok k (moved p l e) grown fresher
+  pub moved-blocks : Blocks terms p ok k (moved p l e) grown fresher
   moved-blocks =
-      subst (λ m. Blocks limit p ok k m grown fresher) (sym (moved-is ω p l e))
-      (subst (λ r. Blocks limit p ok k (enter p (goes σ p l e) (recorded σ p l e)) grown r)
+      subst (λ m. Blocks terms p ok k m grown fresher) (sym (moved-is ω p l e))
+      (subst (λ r. Blocks terms p ok k (enter p (goes σ p l e) (recorded σ p l e)) grown r)
       (fun-ext (λ s. ap (λ b. when b (ran s)) (open-same p (recorded σ p l e) l (recorded-awake ω p l e) s)))
-      (enter-blocks limit p ok k (recorded σ p l e) (recorded-nested ω p l e ok n) grown ran recorded-blocks (goes σ p l e) (goes-free ω p l e ok n)))
+      (enter-blocks terms p ok k (recorded σ p l e) (recorded-nested ω p l e ok n) grown ran recorded-blocks (goes σ p l e) (goes-free ω p l e ok n)))

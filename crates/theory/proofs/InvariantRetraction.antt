@@ -32,10 +32,11 @@ use Rattle.theory.proofs.Turning.{turned-awake, turned-held, scope-unto
 use Rattle.theory.proofs.SignalNested.{left-awake, left-host-stays}
 use Rattle.theory.proofs.SoundRetraction.{fired-awake}
 use Rattle.theory.proofs.Invariant.{Undoes, Below, Held, inner, Blocks, swap-free, enter-blocks}
+use Rattle.rules.specs.declared.Terms.{Terms}
 
-module _ {σ : Seams} (ω : Laws σ) (limit : ℕ) (p : Plan) (ok : Accepted p) (k : Books σ p limit) (l : Ledger) (n : Nested p l)
-    (W R : ℕ → List (σ .Change)) (g : Blocks limit p ok k l W R) where
-  pub turned-blocks : (a : σ .Signal) → Blocks limit p ok k (turned σ p l a) W R
+module _ {σ : Seams} (ω : Laws σ) (terms : Terms) (p : Plan) (ok : Accepted p) (k : Books σ p terms) (l : Ledger) (n : Nested p l)
+    (W R : ℕ → List (σ .Change)) (g : Blocks terms p ok k l W R) where
+  pub turned-blocks : (a : σ .Signal) → Blocks terms p ok k (turned σ p l a) W R
   turned-blocks a =
       record {
         held = λ t. rw (turned-held ω p l a t) (g .held t);
@@ -49,19 +50,19 @@ module _ {σ : Seams} (ω : Laws σ) (limit : ℕ) (p : Plan) (ok : Accepted p) 
         | inl e ↦ clash c (abandoned-root p ok l t e)
         | inr e ↦
             let s = spent-parts p ok l t (ok .hosted t (e .0) (e .1)) (abandoned-spent p ok l t c) in
-            subst (λ es. Held limit p ok k t es (W t)) (empty-nil (l t .held) (s .empty)) (g .held t)
+            subst (λ es. Held terms p ok k t es (W t)) (empty-nil (l t .held) (s .empty)) (g .held t)
       ]
 
-  pub abandoned-blocks : Blocks limit p ok k (abandoned p l) W R
+  pub abandoned-blocks : Blocks terms p ok k (abandoned p l) W R
   abandoned-blocks =
       record {
         held =
             λ t.
             elim (look (isAbandoned p l t)) [
               | inl c ↦
-                  subst (λ es. Held limit p ok k t es (W t)) (sym (ap (λ (x : Configuration). x .held) (left-asleep p ok l t c) ∙ sleeping-held))
+                  subst (λ es. Held terms p ok k t es (W t)) (sym (ap (λ (x : Configuration). x .held) (left-asleep p ok l t c) ∙ sleeping-held))
                   (abandoned-nil t c)
-              | inr c ↦ subst (λ (x : Configuration). Held limit p ok k t (x .held) (W t)) (sym (left-kept p ok l t c)) (g .held t)
+              | inr c ↦ subst (λ (x : Configuration). Held terms p ok k t (x .held) (W t)) (sym (left-kept p ok l t c)) (g .held t)
             ];
         runs =
             λ s o f.
@@ -71,8 +72,8 @@ module _ {σ : Seams} (ω : Laws σ) (limit : ℕ) (p : Plan) (ok : Accepted p) 
             g .runs s (open-at p l s u b e w) (ap (λ (x : Configuration). isForward (x .mode)) (sym q) ∙ f);
       }
 
-module _ {σ : Seams} (ω : Laws σ) (limit : ℕ) (p : Plan) (ok : Accepted p) (k : Books σ p limit) (l : Ledger) (s : Sound σ limit p l)
-    (W R : ℕ → List (σ .Change)) (g : Blocks limit p ok k l W R) (t : ℕ) (may : mayFire p l t ≡ true) where
+module _ {σ : Seams} (ω : Laws σ) (terms : Terms) (p : Plan) (ok : Accepted p) (k : Books σ p terms) (l : Ledger) (s : Sound σ terms p l)
+    (W R : ℕ → List (σ .Change)) (g : Blocks terms p ok k l W R) (t : ℕ) (may : mayFire p l t ≡ true) where
   open Seams σ using (Change, retraction)
 
   abbrev N : ℕ
@@ -85,22 +86,22 @@ module _ {σ : Seams} (ω : Laws σ) (limit : ℕ) (p : Plan) (ok : Accepted p) 
   free = may-fire p l t may .3
 
   awake : Awake l t
-  awake = fired-awake ω limit p ok l s t may
+  awake = fired-awake ω terms p ok l s t may
 
   -- the word without the newest block, and that block
   pub record Split : Type 0 where
     pub old : List Change
     pub new : List Change
-    pub held : Held limit p ok k t (older (l t .held)) old
-    pub below : All (Below limit p ok k t) new
-    pub undone : Undoes limit p ok k (retraction (newest (l t .held))) new
+    pub held : Held terms p ok k t (older (l t .held)) old
+    pub below : All (Below terms p ok k t) new
+    pub undone : Undoes terms p ok k (retraction (newest (l t .held))) new
     pub whole : W t ≡ old ++ new
 
   pub split : Split
   unfolding isEmpty older newest
   split = go (l t .held) refl (may-fire p l t may .2) (g .held t)
     where
-      go : (es : List Entry) → l t .held ≡ es → isEmpty es ≡ false → Held limit p ok k t es (W t) → Split
+      go : (es : List Entry) → l t .held ≡ es → isEmpty es ≡ false → Held terms p ok k t es (W t) → Split
       go [] q e h = clash refl e
       go (x ∷ es) q e h =
           let (old, new, i, a, u, w) = h in
@@ -132,7 +133,7 @@ module _ {σ : Seams} (ω : Laws σ) (limit : ℕ) (p : Plan) (ok : Accepted p) 
         | inr e ↦ rw e (nil-swap (k .changed) (shorter v))
         | inl e ↦
             let q = eqb-true u t e in
-            rw (e, ne-eqb v t (λ f. omega arith)) (swap-free limit p ok k l n W R g t v (split .new) free (omega arith) (split .below))
+            rw (e, ne-eqb v t (λ f. omega arith)) (swap-free terms p ok k l n W R g t v (split .new) free (omega arith) (split .below))
       ]
 
   -- the retraction takes the newest block off the whole word
@@ -149,7 +150,7 @@ module _ {σ : Seams} (ω : Laws σ) (limit : ℕ) (p : Plan) (ok : Accepted p) 
           join-single N t last (n .below t awake) (λ u c d. rw (ne-eqb u t d))
           ∙ (rw (eq-eqb t t refl))
 
-  removed-blocks : Blocks limit p ok k (removed l t) shorter R
+  removed-blocks : Blocks terms p ok k (removed l t) shorter R
   removed-blocks =
       record {
         held =
@@ -157,7 +158,7 @@ module _ {σ : Seams} (ω : Laws σ) (limit : ℕ) (p : Plan) (ok : Accepted p) 
             elim (look (eqb u t)) [
               | inl e ↦
                   let q = eqb-true u t e in
-                  rw (removed-here p l t u e, e) (subst (λ x. Held limit p ok k x (older (l x .held)) (split .old)) (sym q) (split .held))
+                  rw (removed-here p l t u e, e) (subst (λ x. Held terms p ok k x (older (l x .held)) (split .old)) (sym q) (split .held))
               | inr e ↦ rw (removed-other p l t u e, e) (g .held u)
             ];
         runs =
@@ -169,7 +170,7 @@ module _ {σ : Seams} (ω : Laws σ) (limit : ℕ) (p : Plan) (ok : Accepted p) 
       }
     where
       -- the fired track is undoing, so it is inside no forward scope
-      inner-same : (z : ℕ) → isForward (l (owner p z) .mode) ≡ true → inner limit p ok k W z ≡ inner limit p ok k shorter z
+      inner-same : (z : ℕ) → isForward (l (owner p z) .mode) ≡ true → inner terms p ok k W z ≡ inner terms p ok k shorter z
       inner-same z f =
           join-same N (λ u. when (isInside p z u) (W u)) (λ u. when (isInside p z u) (shorter u))
           (λ u c.
@@ -184,10 +185,10 @@ module _ {σ : Seams} (ω : Laws σ) (limit : ℕ) (p : Plan) (ok : Accepted p) 
                 ]
           ])
 
-  pub fired-blocks : Blocks limit p ok k (fired p l t) shorter (λ z. when (isOpen p l z) (R z))
+  pub fired-blocks : Blocks terms p ok k (fired p l t) shorter (λ z. when (isOpen p l z) (R z))
   fired-blocks =
-      subst (λ m. Blocks limit p ok k m shorter (λ z. when (isOpen p l z) (R z))) (sym (fired-is p l t))
-      (subst (λ r. Blocks limit p ok k (enter p (deviatesTo l t) (removed l t)) shorter r)
+      subst (λ m. Blocks terms p ok k m shorter (λ z. when (isOpen p l z) (R z))) (sym (fired-is p l t))
+      (subst (λ r. Blocks terms p ok k (enter p (deviatesTo l t) (removed l t)) shorter r)
       (fun-ext (λ z. ap (λ b. when b (R z)) (open-same p (removed l t) l (removed-awake p l t) z)))
-      (enter-blocks limit p ok k (removed l t) (removed-nested p l t ok n (s .formed .good t) free awake) shorter R removed-blocks
+      (enter-blocks terms p ok k (removed l t) (removed-nested p l t ok n (s .formed .good t) free awake) shorter R removed-blocks
       (deviatesTo l t) (deviates-free p l t ok n (s .formed .good t) free awake)))

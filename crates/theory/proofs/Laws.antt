@@ -16,6 +16,7 @@ use Rattle.rules.proofs.Acceptance.{Accepted}
 use Rattle.theory.specs.Seams.{Seams, Call, event, signal, fire, installed, recorded, goes, changeOf, work}
 use Rattle.theory.proofs.Composition.{when, join}
 use Rattle.theory.proofs.SoundParts.{Sound, Over}
+use Rattle.rules.specs.declared.Terms.{Terms}
 
 -- a forward track without an open scope takes a transition of its state
 pub record Takes (p : Plan) (l : Ledger) (t x : ℕ) : Type 0 where
@@ -29,9 +30,9 @@ abbrev pub Settled : (σ : Seams) → Plan → Bool → Ledger → Ledger → Ty
 Settled σ p looked m l = ((l ≡ m) × (looked ≡ true → σ .isFinishing p m ≡ false)) ⊎ Over l
 
 -- who gets an entry from an event has room for it
-abbrev pub Spare : (σ : Seams) → ℕ → Plan → Ledger → σ .Event → Type 0
-Spare σ limit p l a =
-    (t : ℕ) → t < trackCount p → (hasCode p (σ .move p l a t) || isReplaced p (σ .moved p l a) t) ≡ true → length (l t .held) < limit
+abbrev pub Spare : (σ : Seams) → Terms → Plan → Ledger → σ .Event → Type 0
+Spare σ terms p l a =
+    (t : ℕ) → t < trackCount p → (hasCode p (σ .move p l a t) || isReplaced p (σ .moved p l a) t) ≡ true → length (l t .held) < terms .limit
 
 pub record Laws (σ : Seams) : Type 0 where
   -- who moves, by what, and to where
@@ -54,19 +55,19 @@ pub record Laws (σ : Seams) : Type 0 where
   pub goes-on : (p : Plan) (l : Ledger) (t : ℕ) → t < trackCount p → host p t ≡ none → (isEnded p l t || isBare p l t) ≡ false
       → σ .isFinishing p l ≡ false
   -- an accepted call does its work and then settles; a refused call alters nothing
-  pub settled : (limit : ℕ) (p : Plan) (h : σ .Head) (l : Ledger) (c : Call σ) → σ .refusal limit p h l c ≡ 0
-      → Settled σ p (σ .looksForFinish c) (work σ p l c) (σ .next limit p h l c)
-  pub refused : (limit : ℕ) (p : Plan) (h : σ .Head) (l : Ledger) (c : Call σ) → (σ .refusal limit p h l c ≡ 0 → ⊥)
-      → (σ .next limit p h l c ≡ l) × (σ .nextHead limit p h l c ≡ h)
+  pub settled : (terms : Terms) (p : Plan) (h : σ .Head) (l : Ledger) (c : Call σ) → σ .refusal terms p h l c ≡ 0
+      → Settled σ p (σ .looksForFinish c) (work σ p l c) (σ .next terms p h l c)
+  pub refused : (terms : Terms) (p : Plan) (h : σ .Head) (l : Ledger) (c : Call σ) → (σ .refusal terms p h l c ≡ 0 → ⊥)
+      → (σ .next terms p h l c ≡ l) × (σ .nextHead terms p h l c ≡ h)
   -- what is accepted: on no over ledger; an event where there is room for its entries, a firing of a track that may be fired
-  pub event-accepted : (limit : ℕ) (p : Plan) (h : σ .Head) (l : Ledger) (a : σ .Event) → σ .refusal limit p h l (event a) ≡ 0
-      → (isOver p l ≡ false) × Spare σ limit p l a
-  pub signal-accepted : (limit : ℕ) (p : Plan) (h : σ .Head) (l : Ledger) (a : σ .Signal) → σ .refusal limit p h l (signal a) ≡ 0 → isOver p l ≡ false
-  pub fire-accepted : (limit : ℕ) (p : Plan) (h : σ .Head) (l : Ledger) (a : σ .Firing) → σ .refusal limit p h l (fire a) ≡ 0
+  pub event-accepted : (terms : Terms) (p : Plan) (h : σ .Head) (l : Ledger) (a : σ .Event) → σ .refusal terms p h l (event a) ≡ 0
+      → (isOver p l ≡ false) × Spare σ terms p l a
+  pub signal-accepted : (terms : Terms) (p : Plan) (h : σ .Head) (l : Ledger) (a : σ .Signal) → σ .refusal terms p h l (signal a) ≡ 0 → isOver p l ≡ false
+  pub fire-accepted : (terms : Terms) (p : Plan) (h : σ .Head) (l : Ledger) (a : σ .Firing) → σ .refusal terms p h l (fire a) ≡ 0
       → (isOver p l ≡ false) × (mayFire p l (σ .track a) ≡ true)
 
 -- Where finish is not looked for after a call, it is not due: the one law that speaks of sound ledgers.
 abbrev pub Unfinished : Seams → Type 0
 Unfinished σ =
-    (limit : ℕ) (p : Plan) → Accepted p → (h : σ .Head) (l : Ledger) → Sound σ limit p l → (c : Call σ) → σ .refusal limit p h l c ≡ 0
+    (terms : Terms) (p : Plan) → Accepted p → (h : σ .Head) (l : Ledger) → Sound σ terms p l → (c : Call σ) → σ .refusal terms p h l c ≡ 0
     → σ .looksForFinish c ≡ false → σ .isFinishing p (work σ p l c) ≡ false

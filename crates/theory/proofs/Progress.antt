@@ -7,6 +7,7 @@ use Prim.Native.Nat.{ℕ, zero, suc, _+_, _<_, _≤_}
 use native.Mathlib.Omega.{arith}
 use borrow.Author.Tests.{not-true}
 use Rattle.rules.specs.declared.Mode.the-variants.{Undoing}
+use Rattle.rules.specs.declared.Terms.{Terms}
 use Rattle.rules.specs.Plan.{Plan, trackCount, someIn}
 use Rattle.rules.specs.Ledger.{Ledger, isUndoing, isEmpty}
 use Rattle.rules.specs.Scope.{hasOpenScope, isBare}
@@ -22,7 +23,7 @@ use Rattle.theory.proofs.Nesting.{Awake, Nested}
 use Rattle.theory.proofs.SoundParts.{Sound}
 use Rattle.theory.proofs.SoundEvent.{bare-of, abandoning-of}
 
-module _ {σ : Seams} (limit : ℕ) (p : Plan) (ok : Accepted p) (l : Ledger) (s : Sound σ limit p l) where
+module _ {σ : Seams} (terms : Terms) (p : Plan) (ok : Accepted p) (l : Ledger) (s : Sound σ terms p l) where
   abbrev n : Nested p l
   n = s .formed .nested
 

@@ -34,23 +34,24 @@ use Rattle.theory.proofs.ClosingNested.{closed-alike, closed-awake}
 use Rattle.theory.proofs.SoundRetraction.{fired-awake, hosted-kept}
 use Rattle.theory.proofs.SoundKept.{Kept, kept-next}
 use Rattle.theory.proofs.Histories.{reached-kept}
+use Rattle.rules.specs.declared.Terms.{Terms}
 
 -- the state that a track in a state is left in by the transition it takes, if any
 unfoldable pub stepped : Plan → Option ℕ → ℕ → ℕ
 stepped p none q = q
 stepped p (some x) q = transition p x .destination
 
-module _ {σ : Seams} (ω : Laws σ) (υ : Unfinished σ) (limit : ℕ) (p : Plan) (ok : Accepted p) where
+module _ {σ : Seams} (ω : Laws σ) (υ : Unfinished σ) (terms : Terms) (p : Plan) (ok : Accepted p) where
   open Seams σ using (Event, Signal, Firing, Head, Change, track, move, moved, closed, nextHead, refusal, next)
 
-  pub running-reached : {s : ℕ} {h : Head} {l : Ledger} {w : List Change} → Running σ p limit s h l w → Reached σ p limit h l
+  pub running-reached : {s : ℕ} {h : Head} {l : Ledger} {w : List Change} → Running σ p terms s h l w → Reached σ p terms h l
   running-reached (by-begin o) = run.start
   running-reached (by-call r c f o) = run.then r c
   running-reached (over-event r a z o) = run.then (running-reached r) (event a)
   running-reached (over-signal r a z f o) = run.then (running-reached r) (signal a)
   running-reached (over-fire r a z o) = run.then (running-reached r) (fire a)
 
-  pub running-open : {s : ℕ} {h : Head} {l : Ledger} {w : List Change} → Running σ p limit s h l w → isOpen p l s ≡ true
+  pub running-open : {s : ℕ} {h : Head} {l : Ledger} {w : List Change} → Running σ p terms s h l w → isOpen p l s ≡ true
   running-open (by-begin o) = o
   running-open (by-call r c f o) = o
   running-open (over-event r a z o) = o
@@ -58,28 +59,28 @@ module _ {σ : Seams} (ω : Laws σ) (υ : Unfinished σ) (limit : ℕ) (p : Pla
   running-open (over-fire r a z o) = o
 
   -- a ledger with an open scope is not over
-  pub open-sound : (l : Ledger) (s : ℕ) → Kept σ limit p l → isOpen p l s ≡ true → Sound σ limit p l
+  pub open-sound : (l : Ledger) (s : ℕ) → Kept σ terms p l → isOpen p l s ≡ true → Sound σ terms p l
   open-sound l s (inr k) o = k
   open-sound l s (inl v) o =
       let (t, b, e, a) = open-find p l s o in
       clash a (ap (λ (c : Configuration). isAwake (c .mode)) (v t) ∙ sleeping-asleep)
 
-  pub running-sound : {s : ℕ} {h : Head} {l : Ledger} {w : List Change} → Running σ p limit s h l w → Sound σ limit p l
-  running-sound {s} {h} {l} r = open-sound l s (reached-kept ω υ limit p ok (running-reached r)) (running-open r)
+  pub running-sound : {s : ℕ} {h : Head} {l : Ledger} {w : List Change} → Running σ p terms s h l w → Sound σ terms p l
+  running-sound {s} {h} {l} r = open-sound l s (reached-kept ω υ terms p ok (running-reached r)) (running-open r)
 
   -- the ledger after a call that leaves a scope open
-  pub open-next : (s : ℕ) (h : Head) (l : Ledger) (c : Call σ) → refusal limit p h l c ≡ 0 → isOpen p (next limit p h l c) s ≡ true
-      → next limit p h l c ≡ work σ p l c
+  pub open-next : (s : ℕ) (h : Head) (l : Ledger) (c : Call σ) → refusal terms p h l c ≡ 0 → isOpen p (next terms p h l c) s ≡ true
+      → next terms p h l c ≡ work σ p l c
   open-next s h l c z o =
-      elim (next-cases ω limit p h l c z) [
+      elim (next-cases ω terms p h l c z) [
         | inl q ↦ q
         | inr v ↦
-            let (u, b, i, w) = open-find p (next limit p h l c) s o in
+            let (u, b, i, w) = open-find p (next terms p h l c) s o in
             clash w (ap (λ (c : Configuration). isAwake (c .mode)) (v u) ∙ sleeping-asleep)
       ]
 
   -- an open forward scope has a forward track inside
-  pub forward-inside : (l : Ledger) (s : ℕ) → Sound σ limit p l → isOpen p l s ≡ true → isForward (l (owner p s) .mode) ≡ true
+  pub forward-inside : (l : Ledger) (s : ℕ) → Sound σ terms p l → isOpen p l s ≡ true → isForward (l (owner p s) .mode) ≡ true
       → (t : ℕ) × (isInside p s t ≡ true) × (isForward (l t .mode) ≡ true)
   forward-inside l s k o f =
       let (t, b, e, a) = open-find p l s o in (
@@ -90,10 +91,10 @@ module _ {σ : Seams} (ω : Laws σ) (υ : Unfinished σ) (limit : ℕ) (p : Pla
 
   -- A track of an open scope, and its state after a call.
   module _ (s t : ℕ) (e : host p t ≡ some s) where
-    pub open-awake : (l : Ledger) → Sound σ limit p l → isOpen p l s ≡ true → Awake l t
+    pub open-awake : (l : Ledger) → Sound σ terms p l → isOpen p l s ≡ true → Awake l t
     open-awake l k o = let (u, b, f, a) = open-find p l s o in k .formed .nested .whole t u s e f ∙ a
 
-    module _ (l : Ledger) (k : Sound σ limit p l) where
+    module _ (l : Ledger) (k : Sound σ terms p l) where
       abbrev n : Nested p l
       n = k .formed .nested
 
@@ -114,22 +115,22 @@ module _ {σ : Seams} (ω : Laws σ) (υ : Unfinished σ) (limit : ℕ) (p : Pla
       closed-state d a = let (c, w) = closed-awake ω p (moved p l d) d t a in (w, closed-alike ω p (moved p l d) d t c .1)
 
       -- an accepted call that leaves the scope open leaves its work, and the track awake
-      worked : (h : Head) (c : Call σ) → refusal limit p h l c ≡ 0 → isOpen p (next limit p h l c) s ≡ true
-          → (next limit p h l c ≡ work σ p l c) × Awake (work σ p l c) t
+      worked : (h : Head) (c : Call σ) → refusal terms p h l c ≡ 0 → isOpen p (next terms p h l c) s ≡ true
+          → (next terms p h l c ≡ work σ p l c) × Awake (work σ p l c) t
       worked h c z o =
           let q = open-next s h l c z o in
-          let a = open-awake (next limit p h l c) (open-sound (next limit p h l c) s (kept-next ω υ limit p ok h l (inr k) c) o) o in
+          let a = open-awake (next terms p h l c) (open-sound (next terms p h l c) s (kept-next ω υ terms p ok h l (inr k) c) o) o in
           (q, subst (λ (m : Ledger). isAwake (m t .mode) ≡ true) q a)
 
-      pub event-state : (h : Head) (a : Event) → refusal limit p h l (event a) ≡ 0 → isOpen p l s ≡ true → isOpen p (next limit p h l (event a)) s ≡ true
-          → next limit p h l (event a) t .state ≡ stepped p (move p l a t) (l t .state)
+      pub event-state : (h : Head) (a : Event) → refusal terms p h l (event a) ≡ 0 → isOpen p l s ≡ true → isOpen p (next terms p h l (event a)) s ≡ true
+          → next terms p h l (event a) t .state ≡ stepped p (move p l a t) (l t .state)
       event-state h a z o o′ =
           let (q, w) = worked h (event a) z o′ in
           ap (λ (m : Ledger). m t .state) q ∙ closed-state a w .1 ∙ moved-state a (open-awake l k o)
 
       -- a signal and a firing leave it
-      pub retraction-state : (h : Head) (c : Call σ) → isEvent c ≡ false → refusal limit p h l c ≡ 0 → isOpen p l s ≡ true
-          → isOpen p (next limit p h l c) s ≡ true → next limit p h l c t .state ≡ l t .state
+      pub retraction-state : (h : Head) (c : Call σ) → isEvent c ≡ false → refusal terms p h l c ≡ 0 → isOpen p l s ≡ true
+          → isOpen p (next terms p h l c) s ≡ true → next terms p h l c t .state ≡ l t .state
       retraction-state h (event a) v z o o′ = clash refl v
       retraction-state h (signal a) v z o o′ =
           let (q, w) = worked h (signal a) z o′ in
@@ -138,21 +139,21 @@ module _ {σ : Seams} (ω : Laws σ) (υ : Unfinished σ) (limit : ℕ) (p : Pla
           let (q, w) = worked h (fire a) z o′ in
           ap (λ (m : Ledger). m t .state) q
           ∙ ap (λ (c : Configuration). c .state) (awake-kept p ok (fired p l (track a)) t w .1)
-          ∙ hosted-kept ω limit p ok l k (track a) (ω .fire-accepted limit p h l a z .1) t s e (open-awake l k o) .1
+          ∙ hosted-kept ω terms p ok l k (track a) (ω .fire-accepted terms p h l a z .1) t s e (open-awake l k o) .1
 
       -- a call that opens the scope leaves it in its first state
-      pub opened-state : (h : Head) (c : Call σ) → isOpen p l s ≡ false → isOpen p (next limit p h l c) s ≡ true → next limit p h l c t .state ≡ firstState p t
+      pub opened-state : (h : Head) (c : Call σ) → isOpen p l s ≡ false → isOpen p (next terms p h l c) s ≡ true → next terms p h l c t .state ≡ firstState p t
       opened-state h c f o =
-          elim (look (eqb (refusal limit p h l c) 0)) [
+          elim (look (eqb (refusal terms p h l c) 0)) [
             | inr z ↦
-                clash (subst (λ m. isOpen p m s ≡ true) (ω .refused limit p h l c (eqb-false (refusal limit p h l c) 0 z) .0) o) f
-            | inl z ↦ go c (eqb-true (refusal limit p h l c) 0 z) o
+                clash (subst (λ m. isOpen p m s ≡ true) (ω .refused terms p h l c (eqb-false (refusal terms p h l c) 0 z) .0) o) f
+            | inl z ↦ go c (eqb-true (refusal terms p h l c) 0 z) o
           ]
         where
           slept : Sleeps l t
           slept = shut-at p l s t f (ok .hosted t s e) e
 
-          go : (c : Call σ) → refusal limit p h l c ≡ 0 → isOpen p (next limit p h l c) s ≡ true → next limit p h l c t .state ≡ firstState p t
+          go : (c : Call σ) → refusal terms p h l c ≡ 0 → isOpen p (next terms p h l c) s ≡ true → next terms p h l c t .state ≡ firstState p t
           go (event a) z o′ =
               let (q, w) = worked h (event a) z o′ in
               let (x, y) = closed-state a w in
@@ -163,11 +164,11 @@ module _ {σ : Seams} (ω : Laws σ) (υ : Unfinished σ) (limit : ℕ) (p : Pla
               clash (sym (turned-awake ω p l a t) ∙ ap (λ (c : Configuration). isAwake (c .mode)) (sym (awake-kept p ok (turned σ p l a) t w .1)) ∙ w) slept
           go (fire a) z o′ =
               let (q, w) = worked h (fire a) z o′ in
-              let may = ω .fire-accepted limit p h l a z .1 in
+              let may = ω .fire-accepted terms p h l a z .1 in
               let r = awake-kept p ok (fired p l (track a)) t w .1 in
               ap (λ (m : Ledger). m t .state) q
               ∙ ap (λ (c : Configuration). c .state)
               (r
               ∙ fired-new p l (track a) ok n (k .formed .good (track a)) (may-fire p l (track a) may .3)
-              (fired-awake ω limit p ok l k (track a) may) t slept (ap (λ (c : Configuration). isAwake (c .mode)) (sym r) ∙ w))
+              (fired-awake ω terms p ok l k (track a) may) t slept (ap (λ (c : Configuration). isAwake (c .mode)) (sym r) ∙ w))
               ∙ fresh-state p t

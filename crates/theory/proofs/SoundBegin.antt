@@ -27,6 +27,7 @@ use Rattle.theory.proofs.SoundParts.{Formed, RootsAwake, Sound, sleepin
 use Rattle.theory.proofs.Laws.{Laws}
 use Rattle.theory.proofs.ClosingNested.{closing-open}
 use Rattle.theory.proofs.Forming.{enter-formed}
+use Rattle.rules.specs.declared.Terms.{Terms}
 
 -- abandoning is due: the scope is open, and each of its tracks is bare
 pub abandoning-open : (p : Plan) (l : Ledger) (s : ℕ) → isAbandoning p l s ≡ true → isOpen p l s ≡ true
@@ -43,11 +44,11 @@ pub root-zero : (p : Plan) → Accepted p → host p 0 ≡ none
 root-zero p ok =
     elim (look-option (host p 0)) [ inl e ↦ e | inr e ↦ let l = ok .lower 0 (e .0) (e .1) in absurd (omega arith) ]
 
-module _ (limit : ℕ) (p : Plan) (ok : Accepted p) where
+module _ (terms : Terms) (p : Plan) (ok : Accepted p) where
   abbrev pub all-asleep : Ledger
   all-asleep t = sleeping
 
-  pub asleep-formed : Formed limit p all-asleep
+  pub asleep-formed : Formed terms p all-asleep
   asleep-formed =
       record {
         nested =
@@ -58,8 +59,8 @@ module _ (limit : ℕ) (p : Plan) (ok : Accepted p) where
               whole = λ t u h e f. refl;
               blank = λ t a. refl;
             };
-        few = λ t. sleeping-few limit p sleeping sleeping-held;
-        good = λ t. sleeping-good limit p t sleeping sleeping-held;
+        few = λ t. sleeping-few terms p sleeping sleeping-held;
+        good = λ t. sleeping-good terms p t sleeping sleeping-held;
       }
 
   -- who enters at begin is a root
@@ -88,9 +89,9 @@ module _ (limit : ℕ) (p : Plan) (ok : Accepted p) where
         forward = λ t s h k e. none-some (roots-known t s k .1) e;
       }
 
-  pub begun-formed : Formed limit p (begun p)
+  pub begun-formed : Formed terms p (begun p)
   unfolding begun
-  begun-formed = enter-formed limit p ok all-asleep asleep-formed (rootsFirst p) roots-free
+  begun-formed = enter-formed terms p ok all-asleep asleep-formed (rootsFirst p) roots-free
 
   -- what is awake is fresh
   pub begun-fresh : (t : ℕ) → Awake (begun p) t → begun p t ≡ fresh p t
@@ -123,25 +124,25 @@ module _ (limit : ℕ) (p : Plan) (ok : Accepted p) where
   begun-going t a =
       rw (begun-open t a, and-false (isForward (begun p t .mode))) (begun-not-bare t a)
 
-module _ {σ : Seams} (ω : Laws σ) (limit : ℕ) (p : Plan) (ok : Accepted p) where
-  pub begun-sound : Sound σ limit p (begun p)
+module _ {σ : Seams} (ω : Laws σ) (terms : Terms) (p : Plan) (ok : Accepted p) where
+  pub begun-sound : Sound σ terms p (begun p)
   begun-sound =
       record {
-        formed = begun-formed limit p ok;
-        roots = begun-roots limit p ok;
+        formed = begun-formed terms p ok;
+        roots = begun-roots terms p ok;
         closing =
             λ s.
             refuted (isClosing p (begun p) s)
             (λ c.
             let (t, b, e, a) = open-find p (begun p) s (closing-open p (begun p) s c) in
-            clash (closing-final p (begun p) s t c b e .1) (begun-open limit p ok t a));
+            clash (closing-final p (begun p) s t c b e .1) (begun-open terms p ok t a));
         finish =
             let z = root-zero p ok in
-            ω .goes-on p (begun p) 0 (ok .some-track) z (begun-going limit p ok 0 (begun-roots limit p ok 0 (ok .some-track) z));
+            ω .goes-on p (begun p) 0 (ok .some-track) z (begun-going terms p ok 0 (begun-roots terms p ok 0 (ok .some-track) z));
         abandoning =
             λ s.
             refuted (isAbandoning p (begun p) s)
             (λ c.
             let (t, b, e, a) = open-find p (begun p) s (abandoning-open p (begun p) s c) in
-            clash (abandoning-bare p ok (begun p) s t c e) (begun-not-bare limit p ok t a));
+            clash (abandoning-bare p ok (begun p) s t c e) (begun-not-bare terms p ok t a));
       }

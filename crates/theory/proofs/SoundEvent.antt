@@ -29,6 +29,7 @@ use Rattle.theory.proofs.MovingNested.{moved-is, recorded-awake, mover-
 use Rattle.theory.proofs.ClosingNested.{closing-open, closes-known, closed-nested, closed-undoing, closed-undoing-back, closed-alike}
 use Rattle.theory.proofs.Forming.{enter-formed}
 use Rattle.theory.proofs.SoundBegin.{abandoning-open, abandoning-bare}
+use Rattle.rules.specs.declared.Terms.{Terms}
 
 -- bare, put together
 pub bare-of : (p : Plan) (l : Ledger) (t : ℕ) → isUndoing (l t .mode) ≡ true → isEmpty (l t .held) ≡ true → hasOpenScope p l t ≡ false → isBare p l t ≡ true
@@ -40,7 +41,7 @@ unfolding isAbandoning
 abandoning-of p l s o f =
     and-both (isOpen p l s) (everyIn p s (isBare p l)) o (every-in-of p s (isBare p l) (λ t b i. f t (in-host p s t i)))
 
-module _ {σ : Seams} (ω : Laws σ) (limit : ℕ) (p : Plan) (ok : Accepted p) (l : Ledger) (f : Formed limit p l) (e : σ .Event) where
+module _ {σ : Seams} (ω : Laws σ) (terms : Terms) (p : Plan) (ok : Accepted p) (l : Ledger) (f : Formed terms p l) (e : σ .Event) where
   open Seams σ using (move, moved, entry, closed)
 
   abbrev m : Ledger
@@ -73,15 +74,15 @@ module _ {σ : Seams} (ω : Laws σ) (limit : ℕ) (p : Plan) (ok : Accepted p) 
       let o′ = subst (λ x. hasOpenScope p l x ≡ true) own o in
       (b′, o′, moved-busy ω p l e ok n t b′ o′)
 
-  module _ (spare : Spare σ limit p l e) where
-    recorded-few : (t : ℕ) → length (recorded σ p l e t .held) ≤ limit
+  module _ (spare : Spare σ terms p l e) where
+    recorded-few : (t : ℕ) → length (recorded σ p l e t .held) ≤ terms .limit
     recorded-few t =
         elim (look-option (move p l e t)) [
           | inl h ↦ rw (by-none (entry e) p (move p l e t) (l t) h) (f .few t)
           | inr h ↦
               let x = h .0 in
               rw (by-some (entry e) p (move p l e t) (l t) x (h .1))
-              (install-fits (entry e) limit (transition p x .code) (transition p x .deviation) (l t .held) (f .few t)
+              (install-fits (entry e) terms (transition p x .code) (transition p x .deviation) (l t .held) (f .few t)
               (λ z.
               spare t (n .below t (mover-awake ω p l e t x (h .1)))
               (ap (λ b. b || isReplaced p m t) (has-code p (move p l e t) x (h .1) ∙ ap not z))))
@@ -98,22 +99,22 @@ module _ {σ : Seams} (ω : Laws σ) (limit : ℕ) (p : Plan) (ok : Accepted p) 
               (λ z. may-own p ok x t (ω .move-takes p l e t x (h .1) .real) (mover-is ω p l e ok n t x (h .1))) (f .good t))
         ]
 
-    recorded-formed : Formed limit p (recorded σ p l e)
+    recorded-formed : Formed terms p (recorded σ p l e)
     recorded-formed = record { nested = recorded-nested ω p l e ok n; few = recorded-few; good = recorded-good }
 
-    pub moved-formed : Formed limit p m
+    pub moved-formed : Formed terms p m
     moved-formed =
-        subst (Formed limit p) (sym (moved-is ω p l e)) (enter-formed limit p ok (recorded σ p l e) recorded-formed (goes σ p l e) (goes-free ω p l e ok n))
+        subst (Formed terms p) (sym (moved-is ω p l e)) (enter-formed terms p ok (recorded σ p l e) recorded-formed (goes σ p l e) (goes-free ω p l e ok n))
 
     -- the host's track has room for the replacement
-    replaced-few : (t : ℕ) → closesScope p m t ≡ true → length (installed (entry e) (replacement p (m t .state)) noState (m t) .held) ≤ limit
+    replaced-few : (t : ℕ) → closesScope p m t ≡ true → length (installed (entry e) (replacement p (m t .state)) noState (m t) .held) ≤ terms .limit
     unfolding isReplaced
     replaced-few t d =
         let (a, o, q) = closes-kept t d in
         rw (installed-held (entry e) (replacement p (m t .state)) noState (m t))
-        (install-fits (entry e) limit (replacement p (m t .state)) noState (m t .held) (moved-formed .few t)
+        (install-fits (entry e) terms (replacement p (m t .state)) noState (m t .held) (moved-formed .few t)
         (λ z.
-        subst (λ (c : Configuration). length (c .held) < limit) (sym q)
+        subst (λ (c : Configuration). length (c .held) < terms .limit) (sym q)
         (spare t (n .below t a)
         (or-right (hasCode p (move p l e t)) (isReplaced p m t)
         (and-both (closesScope p m t) (not (eqb (replacement p (m t .state)) 0)) d (ap not z))))))
@@ -123,24 +124,24 @@ module _ {σ : Seams} (ω : Laws σ) (limit : ℕ) (p : Plan) (ok : Accepted p) 
         rw (installed-held (entry e) (replacement p (m t .state)) noState (m t))
         (good-install ω p e t (replacement p (m t .state)) noState (m t .held) (λ z. may-none p t) (moved-formed .good t))
 
-    pub event-formed : Formed limit p (closed p m e)
+    pub event-formed : Formed terms p (closed p m e)
     event-formed =
         record {
           nested = closed-nested ω p ok m m-nested e;
           few =
               λ t.
               elim (look (isClosed p m t)) [
-                | inl c ↦ sleeping-few limit p (closed p m e t) (ap (λ (k : Configuration). k .held) (ω .closed-asleep p m e t c) ∙ sleeping-held)
+                | inl c ↦ sleeping-few terms p (closed p m e t) (ap (λ (k : Configuration). k .held) (ω .closed-asleep p m e t c) ∙ sleeping-held)
                 | inr c ↦
                     elim (look (closesScope p m t)) [
-                      | inl d ↦ subst (λ (k : Configuration). length (k .held) ≤ limit) (sym (ω .closed-replaced p m e t c d)) (replaced-few t d)
-                      | inr d ↦ subst (λ (k : Configuration). length (k .held) ≤ limit) (sym (ω .closed-kept p m e t c d)) (moved-formed .few t)
+                      | inl d ↦ subst (λ (k : Configuration). length (k .held) ≤ terms .limit) (sym (ω .closed-replaced p m e t c d)) (replaced-few t d)
+                      | inr d ↦ subst (λ (k : Configuration). length (k .held) ≤ terms .limit) (sym (ω .closed-kept p m e t c d)) (moved-formed .few t)
                     ]
               ];
           good =
               λ t.
               elim (look (isClosed p m t)) [
-                | inl c ↦ sleeping-good limit p t (closed p m e t) (ap (λ (k : Configuration). k .held) (ω .closed-asleep p m e t c) ∙ sleeping-held)
+                | inl c ↦ sleeping-good terms p t (closed p m e t) (ap (λ (k : Configuration). k .held) (ω .closed-asleep p m e t c) ∙ sleeping-held)
                 | inr c ↦
                     elim (look (closesScope p m t)) [
                       | inl d ↦ subst (λ (k : Configuration). Good p t (k .held)) (sym (ω .closed-replaced p m e t c d)) (replaced-good t)

@@ -14,17 +14,18 @@ use Rattle.rules.specs.Signal.{isAbandoning}
 use Rattle.theory.specs.Seams.{Seams}
 use Rattle.theory.proofs.Nesting.{Awake, Nested}
 use Rattle.theory.proofs.Entries.{Good, good-nil}
+use Rattle.rules.specs.declared.Terms.{Terms}
 
-pub record Formed (limit : ℕ) (p : Plan) (l : Ledger) : Type 0 where
+pub record Formed (terms : Terms) (p : Plan) (l : Ledger) : Type 0 where
   pub nested : Nested p l
-  pub few : (t : ℕ) → length (l t .held) ≤ limit
+  pub few : (t : ℕ) → length (l t .held) ≤ terms .limit
   pub good : (t : ℕ) → Good p t (l t .held)
 
 abbrev pub RootsAwake : Plan → Ledger → Type 0
 RootsAwake p l = (t : ℕ) → t < trackCount p → host p t ≡ none → Awake l t
 
-pub record Sound (σ : Seams) (limit : ℕ) (p : Plan) (l : Ledger) : Type 0 where
-  pub formed : Formed limit p l
+pub record Sound (σ : Seams) (terms : Terms) (p : Plan) (l : Ledger) : Type 0 where
+  pub formed : Formed terms p l
   pub roots : RootsAwake p l
   pub closing : (s : ℕ) → isClosing p l s ≡ false
   pub finish : σ .isFinishing p l ≡ false
@@ -43,8 +44,8 @@ unfolding sleeping
 sleeping-held = refl
 
 -- a configuration that sleeps holds good entries, and few
-module _ (limit : ℕ) (p : Plan) where
-  pub sleeping-few : (c : Configuration) → c .held ≡ [] → length (c .held) ≤ limit
+module _ (terms : Terms) (p : Plan) where
+  pub sleeping-few : (c : Configuration) → c .held ≡ [] → length (c .held) ≤ terms .limit
   sleeping-few c e = rw e (omega arith)
 
   pub sleeping-good : (t : ℕ) (c : Configuration) → c .held ≡ [] → Good p t (c .held)

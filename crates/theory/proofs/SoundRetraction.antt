@@ -33,8 +33,9 @@ use Rattle.theory.proofs.Turning.{turned-awake, unturned}
 use Rattle.theory.proofs.ClosingNested.{closing-open, closing-of}
 use Rattle.theory.proofs.SignalNested.{left-together, left-awake, left-root}
 use Rattle.theory.proofs.Forming.{enter-formed, turned-formed, abandoned-formed}
+use Rattle.rules.specs.declared.Terms.{Terms}
 
-module _ {σ : Seams} (ω : Laws σ) (limit : ℕ) (p : Plan) (ok : Accepted p) (l : Ledger) (s : Sound σ limit p l) where
+module _ {σ : Seams} (ω : Laws σ) (terms : Terms) (p : Plan) (ok : Accepted p) (l : Ledger) (s : Sound σ terms p l) where
   open Seams σ using (isFinishing)
 
   abbrev n : Nested p l
@@ -44,8 +45,8 @@ module _ {σ : Seams} (ω : Laws σ) (limit : ℕ) (p : Plan) (ok : Accepted p) 
     abbrev T : Ledger
     T = turned σ p l a
 
-    pub signal-formed : Formed limit p T
-    signal-formed = turned-formed ω limit p ok l (s .formed) a
+    pub signal-formed : Formed terms p T
+    signal-formed = turned-formed ω terms p ok l (s .formed) a
 
     pub signal-root : (t : ℕ) → host p t ≡ none → abandoned p T t ≡ T t
     signal-root t e = left-root p ok T (signal-formed .nested) t e
@@ -70,10 +71,10 @@ module _ {σ : Seams} (ω : Laws σ) (limit : ℕ) (p : Plan) (ok : Accepted p) 
         let (u, b, e, w) = open-find p (abandoned p T) z (closing-open p (abandoned p T) z c) in
         clash (closing-of p l z (open-at p l z u b e (forward-awake (l u .mode) (final u e .0))) final) (s .closing z))
 
-    pub signal-sound : isFinishing p (abandoned p T) ≡ false → Sound σ limit p (abandoned p T)
+    pub signal-sound : isFinishing p (abandoned p T) ≡ false → Sound σ terms p (abandoned p T)
     signal-sound unfinished =
         record {
-          formed = abandoned-formed limit p ok T signal-formed;
+          formed = abandoned-formed terms p ok T signal-formed;
           roots = signal-roots;
           closing = signal-closing;
           finish = unfinished;
@@ -93,11 +94,11 @@ module _ {σ : Seams} (ω : Laws σ) (limit : ℕ) (p : Plan) (ok : Accepted p) 
     good : Good p t (l t .held)
     good = s .formed .good t
 
-    removed-few : (u : ℕ) → length (removed l t u .held) ≤ limit
+    removed-few : (u : ℕ) → length (removed l t u .held) ≤ terms .limit
     removed-few u =
         elim (look (eqb u t)) [
           | inl e ↦ rw (removed-here p l t u e) (let a = older-length (l u .held) in let b = s .formed .few u in omega arith)
-          | inr e ↦ subst (λ (c : Configuration). length (c .held) ≤ limit) (sym (removed-other p l t u e)) (s .formed .few u)
+          | inr e ↦ subst (λ (c : Configuration). length (c .held) ≤ terms .limit) (sym (removed-other p l t u e)) (s .formed .few u)
         ]
 
     removed-good : (u : ℕ) → Good p u (removed l t u .held)
@@ -107,18 +108,18 @@ module _ {σ : Seams} (ω : Laws σ) (limit : ℕ) (p : Plan) (ok : Accepted p) 
           | inr e ↦ subst (λ (c : Configuration). Good p u (c .held)) (sym (removed-other p l t u e)) (s .formed .good u)
         ]
 
-    pub fired-formed : Formed limit p (fired p l t)
+    pub fired-formed : Formed terms p (fired p l t)
     fired-formed =
-        subst (Formed limit p) (sym (fired-is p l t))
-        (enter-formed limit p ok (removed l t)
+        subst (Formed terms p) (sym (fired-is p l t))
+        (enter-formed terms p ok (removed l t)
         (record { nested = removed-nested p l t ok n good free fired-awake; few = removed-few; good = removed-good }) (deviatesTo l t)
         (deviates-free p l t ok n good free fired-awake))
 
     abbrev X : Ledger
     X = fired p l t
 
-    after : Formed limit p (abandoned p X)
-    after = abandoned-formed limit p ok X fired-formed
+    after : Formed terms p (abandoned p X)
+    after = abandoned-formed terms p ok X fired-formed
 
     pub fired-root : (u : ℕ) → host p u ≡ none → abandoned p X u ≡ X u
     fired-root u e = left-root p ok X (fired-formed .nested) u e
@@ -163,7 +164,7 @@ module _ {σ : Seams} (ω : Laws σ) (limit : ℕ) (p : Plan) (ok : Accepted p) 
               (s .closing z)
         ])
 
-    pub fire-sound : isFinishing p (abandoned p X) ≡ false → Sound σ limit p (abandoned p X)
+    pub fire-sound : isFinishing p (abandoned p X) ≡ false → Sound σ terms p (abandoned p X)
     fire-sound unfinished =
         record {
           formed = after;

@@ -7,6 +7,7 @@ use mathlib.Core.List.{List, [], _∷_}
 use mathlib.Core.Option.{Option, none, some}
 use Prim.Native.Nat.{ℕ}
 use lib.Dec.{eqb}
+use Rattle.rules.specs.declared.Terms.{Terms}
 use Rattle.rules.specs.Plan.{Plan, transition}
 use Rattle.rules.specs.Ledger.{Entry, Configuration, Ledger}
 use Rattle.rules.specs.Event.{destinationOf}
@@ -56,10 +57,10 @@ pub record Seams : Type 1 where
   -- what the ledger's leading words hold: after the begin, and after a call on the ledger
   pub Head : Type 0
   pub firstHead : Plan → Head
-  pub nextHead : ℕ → Plan → Head → Ledger → CallOf Event Signal Firing → Head
-  -- the number that refuses a call, 0 where it is accepted, and the ledger after the call, a refused one too; the first number is the limit
-  pub refusal : ℕ → Plan → Head → Ledger → CallOf Event Signal Firing → ℕ
-  pub next : ℕ → Plan → Head → Ledger → CallOf Event Signal Firing → Ledger
+  pub nextHead : Terms → Plan → Head → Ledger → CallOf Event Signal Firing → Head
+  -- the number that refuses a call, 0 where it is accepted, and the ledger after the call, a refused one too; under the terms given
+  pub refusal : Terms → Plan → Head → Ledger → CallOf Event Signal Firing → ℕ
+  pub next : Terms → Plan → Head → Ledger → CallOf Event Signal Firing → Ledger
 
 -- "A code other than 0 is installed as the newest entry": the entry that `make` makes of code and deviation
 module _ (make : ℕ → ℕ → Entry) where

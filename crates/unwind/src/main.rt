@@ -3,9 +3,11 @@
 use libc::STDIN_FILENO;
 use libc::STDOUT_FILENO;
 use replay::LEDGER_WORDS;
+use replay::MAIN_LIMIT;
 use replay::MOST_BYTES;
 use replay::RunAnswer;
 use replay::TEXT_BYTES;
+use rules::Terms;
 ghost use Prim.Native.Nat.{_≤_};
 ghost use Rattle.io.specs.Counts.{Counts};
 
@@ -59,7 +61,13 @@ fn main() {
     let m = io::read_full(STDIN_FILENO, &mut journal);
     let mut ledger = [0u16; LEDGER_WORDS];
     let mut text = [0u8; TEXT_BYTES];
-    let answer = replay::run(&plan[..n], &journal[..m], &mut ledger, &mut text);
+    let answer = replay::run(
+        Terms { limit: MAIN_LIMIT },
+        &plan[..n],
+        &journal[..m],
+        &mut ledger,
+        &mut text,
+    );
     match answer {
         RunAnswer::Written(written) => {
             print(&text[..written]);

@@ -10,7 +10,7 @@ use lib.ListN.{getD, set, replicate, length-replicate, getD-replicate}
 use lib.Seq.{getD-set-same, getD-set-other}
 use borrow.Author.Tests.{eqb-true, eqb-false, eq-eqb}
 use Rattle.rules.specs.declared.Counts.{Counts}
-use Rattle.rules.specs.Layout.{entryLimit}
+use Rattle.rules.specs.declared.Terms.{Terms}
 use Rattle.rules.specs.Plan.{Plan, planOf, trackCount, noState, optional}
 use Rattle.rules.specs.Ledger.{Ledger, written}
 use Rattle.rules.specs.Opening.{fresh, wakes, entered, enter}
@@ -24,7 +24,7 @@ use Rattle.lookup.proofs.Facts.{plan-facts}
 use Rattle.opening.specs.Entering.{statesOf, Sleepers}
 use Rattle.withdrawal.specs.Deviating.{deviating}
 
-module _ (bs : List ℕ) (c : Counts) (acc : Accepts bs c) (t : ℕ) (b : t < c .tracks) (s : ℕ) where
+module _ (terms : Terms) (bs : List ℕ) (c : Counts) (acc : Accepts bs c) (t : ℕ) (b : t < c .tracks) (s : ℕ) where
   abbrev p : Plan
   p = planOf bs c
 
@@ -53,23 +53,23 @@ module _ (bs : List ℕ) (c : Counts) (acc : Accepts bs c) (t : ℕ) (b : t < c 
   pub deviating-sleepers : (l : Ledger) → Sleepers p (deviating t s) l → Sleepers p (statesOf to) l
   deviating-sleepers l a u w = a u (sym (woken u) ∙ w)
 
-  pub deviating-done : (ws : List ℕ) {vs : List ℕ} → vs ≡ written entryLimit (c .tracks) (enter p (statesOf to) (ledgerOf c ws)) ws
-      → vs ≡ written entryLimit (c .tracks) (enter p (deviating t s) (ledgerOf c ws)) ws
+  pub deviating-done : (ws : List ℕ) {vs : List ℕ} → vs ≡ written terms (c .tracks) (enter p (statesOf to) (ledgerOf terms c ws)) ws
+      → vs ≡ written terms (c .tracks) (enter p (deviating t s) (ledgerOf terms c ws)) ws
   unfolding enter
   deviating-done ws d =
       d
-      ∙ written-same entryLimit (c .tracks) _ _ ws
-      (λ u h. let k = track-count bs c in ap₂ (entered (ledgerOf c ws u) (fresh p u)) (alone u (omega arith)) (woken u))
+      ∙ written-same terms (c .tracks) _ _ ws
+      (λ u h. let k = track-count bs c in ap₂ (entered (ledgerOf terms c ws u) (fresh p u)) (alone u (omega arith)) (woken u))
 
 -- a firing without a deviation enters nothing, and opens nothing
-pub deviates-not : (bs : List ℕ) (c : Counts) → Accepts bs c → (t s : ℕ) (ws : List ℕ) → Tidy ws (c .tracks) → s ≡ noState
-    → ws ≡ written entryLimit (c .tracks) (enter (planOf bs c) (deviating t s) (ledgerOf c ws)) ws
-deviates-not bs c acc t s ws o e =
-    sym (ap (λ (m : Ledger). written entryLimit (c .tracks) m ws) (enter-none (planOf bs c) (plan-facts bs c acc) (deviating t s) (ledgerOf c ws) to-none)
+pub deviates-not : (terms : Terms) (bs : List ℕ) (c : Counts) → Accepts bs c → (t s : ℕ) (ws : List ℕ) → Tidy terms ws (c .tracks) → s ≡ noState
+    → ws ≡ written terms (c .tracks) (enter (planOf bs c) (deviating t s) (ledgerOf terms c ws)) ws
+deviates-not terms bs c acc t s ws o e =
+    sym (ap (λ (m : Ledger). written terms (c .tracks) m ws) (enter-none (planOf bs c) (plan-facts bs c acc) (deviating t s) (ledgerOf terms c ws) to-none)
     ∙ unchanged)
   where
     to-none : (u : ℕ) → deviating t s u ≡ none
     to-none u = unfold deviating optional in elim (look (eqb u t)) [ inl q ↦ rw (q, eq-eqb s noState e) | inr q ↦ rw q ]
 
-    unchanged : written entryLimit (c .tracks) (ledgerOf c ws) ws ≡ ws
-    unchanged = unfold ledgerOf in written-read entryLimit (c .tracks) ws (o .tidy) (o .room .words)
+    unchanged : written terms (c .tracks) (ledgerOf terms c ws) ws ≡ ws
+    unchanged = unfold ledgerOf in written-read terms (c .tracks) ws (o .tidy) (o .room .words)

@@ -11,8 +11,9 @@ use lib.ListN.{length, getD}
 use borrow.Author.Tests.{eqb-true, eqb-false, eq-eqb, lt-ltb, le-ltb, not-true, not-false}
 use Rattle.rules.specs.declared.Counts.{Counts}
 use Rattle.rules.specs.declared.Track.{Track}
+use Rattle.rules.specs.declared.Terms.{Terms}
 use Rattle.rules.specs.Fold.{firstRefusal}
-use Rattle.rules.specs.Layout.{entryLimit, headWords, entryWidth, trackPlace, entriesPlace}
+use Rattle.rules.specs.Layout.{headWords, entryWidth, trackPlace, entriesPlace}
 use Rattle.rules.specs.Plan.{Plan, planOf, trackCount, host}
 use Rattle.rules.specs.Rights.{fireRight, isPermitted}
 use Rattle.rules.specs.Ledger.{Entry, Configuration, Ledger, isAwake, sleeping, entryAt, heldAt, configurationAt, ledgerAt, written}
@@ -45,19 +46,19 @@ use Rattle.withdrawal.proofs.ScopesNested.{nested-fired}
 use Rattle.withdrawal.proofs.Outcomes.{orderly, refused-call, done-call, going}
 
 -- the newest entry stands last in the track's words
-pub newest-read : (c : Counts) (ws : List ℕ) (t k : ℕ) → t < c .tracks → length (ledgerOf c ws t .held) ≡ suc k
-    → ledgerOf c ws t .held ≡ entryAt ws (entryPlace t k) ∷ older (ledgerOf c ws t .held)
+pub newest-read : (terms : Terms) (c : Counts) (ws : List ℕ) (t k : ℕ) → t < c .tracks → length (ledgerOf terms c ws t .held) ≡ suc k
+    → ledgerOf terms c ws t .held ≡ entryAt ws (entryPlace terms t k) ∷ older (ledgerOf terms c ws t .held)
 unfolding ledgerOf entryPlace entriesPlace configurationAt heldAt older
-newest-read c ws t k b e =
-    let q = read-at entryLimit (c .tracks) ws t b in
-    let h : ledgerAt entryLimit ws (c .tracks) t .held ≡ heldAt ws (trackPlace entryLimit t + headWords) (getD ws (trackPlace entryLimit t + 2) 0) = ap (λ (x : Configuration). x .held) q in
-    let n = sym (length-heldAt ws (trackPlace entryLimit t + headWords) (getD ws (trackPlace entryLimit t + 2) 0)) ∙ ap length (sym h) ∙ e in
-    let z = h ∙ ap (heldAt ws (trackPlace entryLimit t + headWords)) n in
-    z ∙ ap (λ (es : List Entry). entryAt ws (trackPlace entryLimit t + headWords + entryWidth * k) ∷ es) (sym (ap older z))
+newest-read terms c ws t k b e =
+    let q = read-at terms (c .tracks) ws t b in
+    let h : ledgerAt terms ws (c .tracks) t .held ≡ heldAt ws (trackPlace terms t + headWords) (getD ws (trackPlace terms t + 2) 0) = ap (λ (x : Configuration). x .held) q in
+    let n = sym (length-heldAt ws (trackPlace terms t + headWords) (getD ws (trackPlace terms t + 2) 0)) ∙ ap length (sym h) ∙ e in
+    let z = h ∙ ap (heldAt ws (trackPlace terms t + headWords)) n in
+    z ∙ ap (λ (es : List Entry). entryAt ws (trackPlace terms t + headWords + entryWidth * k) ∷ es) (sym (ap older z))
 
 -- the rule under Fire, as the code takes it
-module _ (bs : List ℕ) (c : Counts) (ws : List ℕ) (t : ℕ) where
-  pub may-beyond : c .tracks ≤ t → false ≡ mayFire (planOf bs c) (ledgerOf c ws) t
+module _ (terms : Terms) (bs : List ℕ) (c : Counts) (ws : List ℕ) (t : ℕ) where
+  pub may-beyond : c .tracks ≤ t → false ≡ mayFire (planOf bs c) (ledgerOf terms c ws) t
   unfolding mayFire
   may-beyond h =
       let q : ltb t (trackCount (planOf bs c)) ≡ false = rw (track-count bs c) (le-ltb t (c .tracks) h) in rw q
@@ -71,9 +72,9 @@ unfolding older
 older-less [] = omega arith
 older-less (e ∷ es) = omega arith
 
-less-stores : (limit : ℕ) (x : Configuration) → Stores limit x → Stores limit (lessOne x)
+less-stores : (terms : Terms) (x : Configuration) → Stores terms x → Stores terms (lessOne x)
 unfolding lessOne
-less-stores limit x s =
+less-stores terms x s =
     record {
       fits = let a = s .fits in let b = older-less (x .held) in omega arith;
       blank = λ a. ap lessOne (s .blank a) ∙ (unfold sleeping older in refl);
@@ -84,22 +85,22 @@ module _ (p : Plan) (l : Ledger) (t : ℕ) where
   unfolding removed lessOne
   removed-here u e = rw e
 
-  storable-removed : (limit n : ℕ) → t < n → Storable limit n l → Storable limit n (removed l t)
-  storable-removed limit n b s =
-      storable-of limit n (removed l t)
+  storable-removed : (terms : Terms) (n : ℕ) → t < n → Storable terms n l → Storable terms n (removed l t)
+  storable-removed terms n b s =
+      storable-of terms n (removed l t)
       (λ u.
       elim (look (eqb u t)) [
-        | inl e ↦ subst (Stores limit) (sym (removed-here u e)) (less-stores limit (l u) (stores-at limit n l s u))
-        | inr e ↦ subst (Stores limit) (sym (removed-other p l t u (eqb-false u t e))) (stores-at limit n l s u)
+        | inl e ↦ subst (Stores terms) (sym (removed-here u e)) (less-stores terms (l u) (stores-at terms n l s u))
+        | inr e ↦ subst (Stores terms) (sym (removed-other p l t u (eqb-false u t e))) (stores-at terms n l s u)
       ])
       (λ u h. removed-other p l t u (λ (z : u ≡ t). omega arith) ∙ s .beyond u h)
 
-  storable-fired : (ok : Accepted p) (limit n : ℕ) → trackCount p ≤ n → t < n → Storable limit n l → Storable limit n (fired p l t)
+  storable-fired : (ok : Accepted p) (terms : Terms) (n : ℕ) → trackCount p ≤ n → t < n → Storable terms n l → Storable terms n (fired p l t)
   unfolding fired enter
-  storable-fired ok limit n few b s =
-      let r = storable-removed limit n b s in
-      storable-of limit n (fired p l t)
-      (λ u. entered-stores limit p (removed l t u) u (deviatesTo l t u) (wakes p (deviatesTo l t) u) (stores-at limit n (removed l t) r u))
+  storable-fired ok terms n few b s =
+      let r = storable-removed terms n b s in
+      storable-of terms n (fired p l t)
+      (λ u. entered-stores terms p (removed l t u) u (deviatesTo l t u) (wakes p (deviatesTo l t) u) (stores-at terms n (removed l t) r u))
       (λ u h.
       enter-kept p ok (deviatesTo l t) (removed l t) u (to-other p l t u (λ (z : u ≡ t). omega arith)) (wakes-root p ok (deviatesTo l t) u (rootless u h))
       ∙ r .beyond u h)
@@ -108,40 +109,40 @@ module _ (p : Plan) (l : Ledger) (t : ℕ) where
       rootless u h = elim (look-option (host p u)) [ inl e ↦ e | inr e ↦ let k = ok .hosted u (e .0) (e .1) in absurd (omega arith) ]
 
 -- What the code found when it goes on to fire a track for a society.
-pub record Fireable (bs : List ℕ) (c : Counts) (ws : List ℕ) (t society : ℕ) : Type 0 where
-  pub checked : Checked bs c ws
-  pub not-over : isOver (planOf bs c) (ledgerOf c ws) ≡ false
+pub record Fireable (terms : Terms) (bs : List ℕ) (c : Counts) (ws : List ℕ) (t society : ℕ) : Type 0 where
+  pub checked : Checked terms bs c ws
+  pub not-over : isOver (planOf bs c) (ledgerOf terms c ws) ≡ false
   pub by-right : lacksFireRight (planOf bs c) (record { track = t; society = society }) ≡ false
-  pub may : mayFire (planOf bs c) (ledgerOf c ws) t ≡ true
+  pub may : mayFire (planOf bs c) (ledgerOf terms c ws) t ≡ true
 
 -- the three refusals, and what holds after them
-module _ {bs : List ℕ} {c : Counts} {ws : List ℕ} (g : Checked bs c ws) {r : Bool} (e : r ≡ isOver (planOf bs c) (ledgerOf c ws)) where
-  pub going-on : r ≡ false → isOver (planOf bs c) (ledgerOf c ws) ≡ false
+module _ (terms : Terms) {bs : List ℕ} {c : Counts} {ws : List ℕ} (g : Checked terms bs c ws) {r : Bool} (e : r ≡ isOver (planOf bs c) (ledgerOf terms c ws)) where
+  pub going-on : r ≡ false → isOver (planOf bs c) (ledgerOf terms c ws) ≡ false
   going-on h = sym e ∙ h
 
   module _ (t society : ℕ) where
     abbrev asked : FireArguments
     asked = record { track = t; society = society }
 
-    pub fire-over : r ≡ true → Meets (fireOutcome entryLimit bs ws asked) (refusal 20) ws
+    pub fire-over : r ≡ true → Meets (fireOutcome terms bs ws asked) (refusal 20) ws
     unfolding fireOutcome callRefusal callRefusals firstRefusal
     fire-over h =
-        let o : isOver (planOf bs c) (ledgerOf c ws) ≡ true = sym e ∙ h in
-        refused-call bs c ws g (fire asked) 19 (rw o)
+        let o : isOver (planOf bs c) (ledgerOf terms c ws) ≡ true = sym e ∙ h in
+        refused-call terms bs c ws g (fire asked) 19 (rw o)
 
     module _ (h : r ≡ false) {k : Bool} (l : k ≡ lacksFireRight (planOf bs c) asked) where
-      pub fire-lacks : k ≡ true → Meets (fireOutcome entryLimit bs ws asked) (refusal 28) ws
+      pub fire-lacks : k ≡ true → Meets (fireOutcome terms bs ws asked) (refusal 28) ws
       unfolding fireOutcome callRefusal callRefusals firstRefusal
-      fire-lacks n = refused-call bs c ws g (fire asked) 27 (rw (going-on h, sym l ∙ n))
+      fire-lacks n = refused-call terms bs c ws g (fire asked) 27 (rw (going-on h, sym l ∙ n))
 
-      module _ (i : k ≡ false) {q : Bool} (f : q ≡ mayFire (planOf bs c) (ledgerOf c ws) t) where
-        pub fire-not : not q ≡ true → Meets (fireOutcome entryLimit bs ws asked) (refusal 22) ws
+      module _ (i : k ≡ false) {q : Bool} (f : q ≡ mayFire (planOf bs c) (ledgerOf terms c ws) t) where
+        pub fire-not : not q ≡ true → Meets (fireOutcome terms bs ws asked) (refusal 22) ws
         unfolding fireOutcome callRefusal callRefusals firstRefusal
         fire-not n =
-            let m : mayFire (planOf bs c) (ledgerOf c ws) t ≡ false = sym f ∙ not-true q n in
-            refused-call bs c ws g (fire asked) 21 (rw (going-on h, sym l ∙ i, m))
+            let m : mayFire (planOf bs c) (ledgerOf terms c ws) t ≡ false = sym f ∙ not-true q n in
+            refused-call terms bs c ws g (fire asked) 21 (rw (going-on h, sym l ∙ i, m))
 
-        pub fireable : not q ≡ false → Fireable bs c ws t society
+        pub fireable : not q ≡ false → Fireable terms bs c ws t society
         fireable n = record { checked = g; not-over = going-on h; by-right = sym l ∙ i; may = sym f ∙ not-false q n }
 
 -- 28, as the code asks it: of a track beyond the plan's it is not asked
@@ -156,15 +157,15 @@ module _ (bs : List ℕ) (c : Counts) (t society : ℕ) where
   lacks-at h e = sym (rw (lt-ltb t (trackCount (planOf bs c)) (omega (arith, h, track-count bs c)), ← e))
 
 -- A firing step by step: vs are the words with the entry removed, us those with the deviation entered.
-module _ {bs : List ℕ} {c : Counts} {ws : List ℕ} {t society : ℕ} (a : Fireable bs c ws t society) where
+module _ (terms : Terms) {bs : List ℕ} {c : Counts} {ws : List ℕ} {t society : ℕ} (a : Fireable terms bs c ws t society) where
   abbrev p : Plan
   p = planOf bs c
 
   abbrev l : Ledger
-  l = ledgerOf c ws
+  l = ledgerOf terms c ws
 
   live : Live p l
-  live = live-of-going bs c ws (going bs c ws (a .checked) (a .not-over))
+  live = live-of-going terms bs c ws (going terms bs c ws (a .checked) (a .not-over))
 
   ok : Accepted p
   ok = plan-facts bs c (a .checked .lent .accepts)
@@ -172,8 +173,8 @@ module _ {bs : List ℕ} {c : Counts} {ws : List ℕ} {t society : ℕ} (a : Fir
   parts : Fires p l t
   parts = fire-parts p l t (a .may)
 
-  in-order : Tidy ws (c .tracks)
-  in-order = orderly bs c ws (a .checked)
+  in-order : Tidy terms ws (c .tracks)
+  in-order = orderly terms bs c ws (a .checked)
 
   pub low : t < c .tracks
   low = rw (track-count bs c) at (parts .low)
@@ -189,79 +190,79 @@ module _ {bs : List ℕ} {c : Counts} {ws : List ℕ} {t society : ℕ} (a : Fir
       let q : k .count ≡ length (l t .held) = ap (λ (x : Track). x .count) e in
       omega arith
 
-  pub removed-words : {k : Track} → k ≡ trackOf (l t) → {vs : List ℕ} → vs ≡ withRemoved ws t → vs ≡ written entryLimit (c .tracks) (removed l t) ws
+  pub removed-words : {k : Track} → k ≡ trackOf (l t) → {vs : List ℕ} → vs ≡ withRemoved terms ws t → vs ≡ written terms (c .tracks) (removed l t) ws
   unfolding withConfiguration lessOne
   removed-words {k} e d =
-      d ∙ put-removed c ws in-order t low (entryAt ws (entryPlace t (k .count - 1))) (older (l t .held)) (newest-read c ws t (k .count - 1) low (holding e))
-      ∙ written-same entryLimit (c .tracks) _ _ ws
+      d ∙ put-removed terms c ws in-order t low (entryAt ws (entryPlace terms t (k .count - 1))) (older (l t .held)) (newest-read terms c ws t (k .count - 1) low (holding e))
+      ∙ written-same terms (c .tracks) _ _ ws
       (λ u h.
       elim (look (eqb u t)) [
         | inl q ↦ rw q (ap (λ (v : ℕ). lessOne (l v)) (sym (eqb-true u t q)) ∙ sym (removed-here p l t u q))
         | inr q ↦ rw q (sym (removed-other p l t u (eqb-false u t q)))
       ])
 
-  pub counted : {k : Track} → k ≡ trackOf (l t) → (0 < k .count) × (k .count ≤ entryLimit)
+  pub counted : {k : Track} → k ≡ trackOf (l t) → (0 < k .count) × (k .count ≤ terms .limit)
   counted {k} e =
       let n = holding e in
       let q = count-as (l t) e in
-      let f = holds c ws in-order .fits t in
+      let f = holds terms c ws in-order .fits t in
       (omega arith, omega arith)
 
-  pub within-words : Within ws t
+  pub within-words : Within terms ws t
   within-words = in-room ws (c .tracks) t (a .checked .lent .room) low
 
-  pub removable : (0 < trackAt ws t .count) × (trackAt ws t .count ≤ entryLimit)
-  removable = counted (track-read c ws t low)
+  pub removable : (0 < trackAt terms ws t .count) × (trackAt terms ws t .count ≤ terms .limit)
+  removable = counted (track-read terms c ws t low)
 
   -- its newest entry, read
-  newest-is : {k : Track} → k ≡ trackOf (l t) → newest (l t .held) ≡ entryAt ws (entryPlace t (k .count - 1))
+  newest-is : {k : Track} → k ≡ trackOf (l t) → newest (l t .held) ≡ entryAt ws (entryPlace terms t (k .count - 1))
   unfolding newest
-  newest-is {k} e = ap newest (newest-read c ws t (k .count - 1) low (holding e))
+  newest-is {k} e = ap newest (newest-read terms c ws t (k .count - 1) low (holding e))
 
-  pub code-is : {k : Track} → k ≡ trackOf (l t) → {r : ℕ} → r ≡ entryAt ws (entryPlace t (k .count - 1)) .code → r ≡ newest (l t .held) .code
+  pub code-is : {k : Track} → k ≡ trackOf (l t) → {r : ℕ} → r ≡ entryAt ws (entryPlace terms t (k .count - 1)) .code → r ≡ newest (l t .held) .code
   code-is e f = f ∙ sym (ap (λ (x : Entry). x .code) (newest-is e))
 
-  pub deviation-is : {k : Track} → k ≡ trackOf (l t) → {r : ℕ} → r ≡ entryAt ws (entryPlace t (k .count - 1)) .deviation
+  pub deviation-is : {k : Track} → k ≡ trackOf (l t) → {r : ℕ} → r ≡ entryAt ws (entryPlace terms t (k .count - 1)) .deviation
       → r ≡ newest (l t .held) .deviation
   deviation-is e f = f ∙ sym (ap (λ (x : Entry). x .deviation) (newest-is e))
 
-  module _ {vs : List ℕ} (d : vs ≡ written entryLimit (c .tracks) (removed l t) ws) {dev : ℕ} (e : dev ≡ newest (l t .held) .deviation) where
-    stored : Storable entryLimit (c .tracks) (removed l t)
-    stored = storable-removed p l t entryLimit (c .tracks) low (holds c ws in-order)
+  module _ {vs : List ℕ} (d : vs ≡ written terms (c .tracks) (removed l t) ws) {dev : ℕ} (e : dev ≡ newest (l t .held) .deviation) where
+    stored : Storable terms (c .tracks) (removed l t)
+    stored = storable-removed p l t terms (c .tracks) low (holds terms c ws in-order)
 
-    pub removed-orderly : Tidy vs (c .tracks)
-    removed-orderly = orderly-after c ws in-order (removed l t) stored d
+    pub removed-orderly : Tidy terms vs (c .tracks)
+    removed-orderly = orderly-after terms c ws in-order (removed l t) stored d
 
     same-to : deviating t dev ≡ deviatesTo l t
     unfolding deviating deviatesTo
     same-to = rw e
 
-    pub sleepers : (u : ℕ) → wakes p (deviating t dev) u ≡ true → ledgerOf c vs u ≡ sleeping
+    pub sleepers : (u : ℕ) → wakes p (deviating t dev) u ≡ true → ledgerOf terms c vs u ≡ sleeping
     sleepers u w =
         let a = woken-asleep p ok l live t parts u (subst (λ (f : ℕ → Option ℕ). wakes p f u ≡ true) same-to w) in
         let n : u ≡ t → ⊥ = λ z. clash (undoing-awake (l t .mode) (parts .undoing)) (subst (λ v. isAwake (l v .mode) ≡ false) z a) in
-        ap (λ (m : Ledger). m u) (read-back c ws in-order (removed l t) stored d) ∙ removed-other p l t u n ∙ holds c ws in-order .blank u a
+        ap (λ (m : Ledger). m u) (read-back terms c ws in-order (removed l t) stored d) ∙ removed-other p l t u n ∙ holds terms c ws in-order .blank u a
 
-    module _ {us : List ℕ} (f : us ≡ written entryLimit (c .tracks) (enter p (deviating t dev) (ledgerOf c vs)) vs) where
-      fired-words : us ≡ written entryLimit (c .tracks) (fired p l t) ws
+    module _ {us : List ℕ} (f : us ≡ written terms (c .tracks) (enter p (deviating t dev) (ledgerOf terms c vs)) vs) where
+      fired-words : us ≡ written terms (c .tracks) (fired p l t) ws
       unfolding fired
       fired-words =
-          then c ws in-order (removed l t) stored d (enter p (deviating t dev)) f
-          ∙ ap (λ (h : ℕ → Option ℕ). written entryLimit (c .tracks) (enter p h (removed l t)) ws) same-to
+          then terms c ws in-order (removed l t) stored d (enter p (deviating t dev)) f
+          ∙ ap (λ (h : ℕ → Option ℕ). written terms (c .tracks) (enter p h (removed l t)) ws) same-to
 
-      stored-fired : Storable entryLimit (c .tracks) (fired p l t)
-      stored-fired = storable-fired p l t ok entryLimit (c .tracks) few low (holds c ws in-order)
+      stored-fired : Storable terms (c .tracks) (fired p l t)
+      stored-fired = storable-fired p l t ok terms (c .tracks) few low (holds terms c ws in-order)
 
-      pub fired-orderly : Tidy us (c .tracks)
-      fired-orderly = orderly-after c ws in-order (fired p l t) stored-fired fired-words
+      pub fired-orderly : Tidy terms us (c .tracks)
+      fired-orderly = orderly-after terms c ws in-order (fired p l t) stored-fired fired-words
 
-      pub fired-nested : Nested p (ledgerOf c us)
-      fired-nested = subst (Nested p) (sym (read-back c ws in-order (fired p l t) stored-fired fired-words)) (nested-fired p l live ok t parts)
+      pub fired-nested : Nested p (ledgerOf terms c us)
+      fired-nested = subst (Nested p) (sym (read-back terms c ws in-order (fired p l t) stored-fired fired-words)) (nested-fired p l live ok t parts)
 
       pub fire-done : {code : ℕ} → code ≡ newest (l t .held) .code → {xs : List ℕ}
-          → xs ≡ written entryLimit (c .tracks) (finished p (abandoned p (ledgerOf c us))) us
-          → Meets (fireOutcome entryLimit bs ws (record { track = t; society = society })) (done (code ∷ dev ∷ [])) xs
+          → xs ≡ written terms (c .tracks) (finished p (abandoned p (ledgerOf terms c us))) us
+          → Meets (fireOutcome terms bs ws (record { track = t; society = society })) (done (code ∷ dev ∷ [])) xs
       unfolding fireOutcome callRefusal callRefusals firstRefusal figures after datedBy afterFire
       fire-done k h =
-          done-call bs c ws (a .checked) (fire (record { track = t; society = society })) (rw (a .not-over, a .by-right, a .may)) (rw (k, e))
-          (then c ws in-order (fired p l t) stored-fired fired-words (λ m. finished p (abandoned p m)) h)
+          done-call terms bs c ws (a .checked) (fire (record { track = t; society = society })) (rw (a .not-over, a .by-right, a .may)) (rw (k, e))
+          (then terms c ws in-order (fired p l t) stored-fired fired-words (λ m. finished p (abandoned p m)) h)

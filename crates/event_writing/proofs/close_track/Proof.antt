@@ -16,13 +16,13 @@ put-to-sleep-requires c κs = let a = c .before .before .before .before .before 
 returns : tie.Need-returns
 returns c =
     let a = c .before .before .before .before .before .before .before .before .before .before .pre in
-    put-closed _ _ (a .1) _ (a .2) _ _ (c .before .before .before .before .before .before .track .ensures) (c .before .before .before .before .before .is-closed .ensures)
+    put-closed _ _ _ (a .1) _ (a .2) _ _ (c .before .before .before .before .before .before .track .ensures) (c .before .before .before .before .before .is-closed .ensures)
     (c .before .before .before .before .if1 .taken) (c .before .before .put-to-sleep .ensures)
 
 returns-2 : tie.Need-returns-2
 returns-2 c =
     let a = c .before .before .before .before .before .before .before .before .pre in
-    put-kept _ _ (a .1) _ (a .2) _ _ (c .before .before .before .before .track .ensures) (c .before .before .before .is-closed .ensures) (c .before .before .if1 .left)
+    put-kept _ _ _ (a .1) _ (a .2) _ _ (c .before .before .before .before .track .ensures) (c .before .before .before .is-closed .ensures) (c .before .before .if1 .left)
     (not-true _ (c .if2 .taken))
 
 replacement-of-requires : tie.Need-replacement-of-requires
@@ -41,7 +41,7 @@ returns-3 : tie.Need-returns-3
 unfolding noState
 returns-3 c =
     let a = c .before .before .before .before .before .before .before .before .before .before .before .before .before .pre in
-    put-replaced _ _ (a .1) _ (a .2) _ _ (c .before .before .before .before .before .before .before .before .before .track .ensures)
+    put-replaced _ _ _ (a .1) _ (a .2) _ _ (c .before .before .before .before .before .before .before .before .before .track .ensures)
     (c .before .before .before .before .before .before .before .before .is-closed .ensures) (c .before .before .before .before .before .before .before .if1 .left)
     (not-false _ (c .before .before .before .before .before .if2 .left)) (c .before .before .before .before .replacement-of .ensures) (c .before .before .give .ensures)
 

@@ -12,7 +12,7 @@ returns : tie.Need-returns
 unfolding noState
 returns c =
     let a = c .before .before .before .pre in
-    (kept-track _ _ (a .1) _ _ (stays _ _ (c .if1 .taken) _), enters-none _ _ (c .if1 .taken))
+    (kept-track _ _ _ (a .1) _ _ (stays _ _ (c .if1 .taken) _), enters-none _ _ (c .if1 .taken))
 
 code-of-requires : tie.Need-code-of-requires
 unfolding noState
@@ -41,7 +41,7 @@ returns-2 c =
     let n = c .before .before .before .before .before .before .before .if1 .left in
     let d = destination-low _ _ (a .0) (a .3 n) (c .destination-of .ensures) in
     let s = a .0 .holds .states in (
-      installs _ _ n (c .before .before .before .before .before .before .code-of .ensures) (c .before .before .before .before .before .deviation-of .ensures) _ _ _
+      installs _ _ n (c .before .before .before .before .before .before .code-of .ensures) (c .before .before .before .before .before .deviation-of .ensures) _ _ _ _
           (c .before .before .before .give .ensures),
       enters-some _ _ n (c .destination-of .ensures) (omega arith),
     )

@@ -8,32 +8,32 @@ use Rattle.event_writing.proofs.write.Tie as tie
 install-moves-requires : tie.Need-install-moves-requires
 install-moves-requires c κs =
     let a = c .before .before .before .before .before .before .pre in
-    (a .0 .checked .lent .accepts, tidy-words _ _ _ (a .0 .checked), in-range _ _ _ (a .0) _ (a .1), movers _ _ _ (a .0) _ (a .1) (a .2))
+    (a .0 .checked .lent .accepts, tidy-words _ _ _ _ (a .0 .checked), in-range _ _ _ _ (a .0) _ (a .1), movers _ _ _ _ (a .0) _ (a .1) (a .2))
 
 enter-all-requires : tie.Need-enter-all-requires
 enter-all-requires c κs =
     let a = c .before .before .before .before .before .before .before .before .before .before .before .pre in
     let m = c .before .before .before .before .install-moves .ensures in
-    (a .0 .checked .lent .accepts, first-tidy _ _ _ (a .0) _ (a .1) (a .2) (m .0), a .3, sleepers _ _ _ (a .0) _ (a .1) (a .2) (m .0) (m .1))
+    (a .0 .checked .lent .accepts, first-tidy _ _ _ _ (a .0) _ (a .1) (a .2) (m .0), a .3, sleepers _ _ _ _ (a .0) _ (a .1) (a .2) (m .0) (m .1))
 
 returns : tie.Need-returns
 returns c =
     let a = c .before .before .before .before .before .before .before .before .before .before .before .before .before .before .before .before .pre in
     let m = c .before .before .before .before .before .before .before .before .before .install-moves .ensures in
-    none-closed _ _ _ (a .0) _ (a .1) (a .2) (m .0) (m .1) (c .before .before .before .before .enter-all .ensures) (c .if1 .taken)
+    none-closed _ _ _ _ (a .0) _ (a .1) (a .2) (m .0) (m .1) (c .before .before .before .before .enter-all .ensures) (c .if1 .taken)
 
 close-scopes-requires : tie.Need-close-scopes-requires
 close-scopes-requires c κs =
     let a = c .before .before .before .before .before .before .before .before .before .before .before .before .before .before .before .before .before .before .pre in
     let m = c .before .before .before .before .before .before .before .before .before .before .before .install-moves .ensures in
     let e = c .before .before .before .before .before .before .enter-all .ensures in
-    (a .0 .checked .lent .accepts, second-tidy _ _ _ (a .0) _ (a .1) (a .2) (m .0) (m .1) e, closings _ _ _ (a .0) _ (a .1) (a .2) (m .0) (m .1) e)
+    (a .0 .checked .lent .accepts, second-tidy _ _ _ _ (a .0) _ (a .1) (a .2) (m .0) (m .1) e, closings _ _ _ _ (a .0) _ (a .1) (a .2) (m .0) (m .1) e)
 
 returns-2 : tie.Need-returns-2
 returns-2 c =
     let a = c .before .before .before .before .before .before .before .before .before .before .before .before .before .before .before .before .before .before .before .before .before .pre in
     let m = c .before .before .before .before .before .before .before .before .before .before .before .before .before .before .install-moves .ensures in
-    all-written _ _ _ (a .0) _ (a .1) (a .2) (m .0) (m .1) (c .before .before .before .before .before .before .before .before .before .enter-all .ensures) (c .before .before .close-scopes .ensures)
+    all-written _ _ _ _ (a .0) _ (a .1) (a .2) (m .0) (m .1) (c .before .before .before .before .before .before .before .before .before .enter-all .ensures) (c .before .before .close-scopes .ensures)
 
 pub write-spec : {M : Type 1} → statement M
 write-spec =

@@ -5,7 +5,7 @@ use Rattle.manager.proofs.entries.Statement.{statement}
 use Rattle.manager.proofs.entries.Tie as tie
 
 returns : tie.Need-returns
-returns c = hands-back _ _ _ _ _ _ (c .before .part-of .ensures)
+returns c = hands-back _ _ _ _ _ _ _ (c .before .part-of .ensures)
 
 pub entries-spec : {M : Type 1} → statement M
 entries-spec =

@@ -12,12 +12,12 @@ fire-requires : tie.Need-fire-requires
 unfolding planTold
 fire-requires c κs =
     let e = sym (ap planTold (c .before .before .before .before .answer2 .given .1)) ∙ c .before .before .before .before .before .before .verify .ensures .0 in
-    let k = call-checked _ _ _ e in
+    let k = call-checked _ _ _ _ e in
     (k, c .before .before .before .before .before .before .verify .ensures .1 _ (sym e), first-figures _ _ (k .lent .accepts) (c .before .before .before .before .before .before .verify .ensures .2 _ (k .lent .accepts .read)))
 
 returns : tie.Need-returns
 unfolding planTold fireTold fireOutcome
-returns c = meets _ _ _ _ (call-refused _ _ (fire (record { track = _; society = _ })) _ (sym (ap planTold (c .before .answer .given .1)) ∙ c .before .before .before .verify .ensures .0)) refl
+returns c = meets _ _ _ _ (call-refused _ _ _ (fire (record { track = _; society = _ })) _ (sym (ap planTold (c .before .answer .given .1)) ∙ c .before .before .before .verify .ensures .0)) refl
 
 pub fire-spec : {M : Type 1} → statement M
 fire-spec =

@@ -10,15 +10,15 @@ ready-bits-requires : tie.Need-ready-bits-requires
 unfolding planTold
 ready-bits-requires c κs =
     let e = sym (ap planTold (c .before .before .before .answer2 .given .1)) ∙ c .before .before .before .before .before .verify .ensures .0 in
-    (call-checked _ _ _ e, c .before .before .before .before .before .verify .ensures .1 _ (sym e))
+    (call-checked _ _ _ _ e, c .before .before .before .before .before .verify .ensures .1 _ (sym e))
 
 returns : tie.Need-returns
 unfolding planTold readyTold
-returns c = meets _ _ _ _ (ready-refused _ _ _ (sym (ap planTold (c .before .answer .given .1)) ∙ c .before .before .before .verify .ensures .0)) refl
+returns c = meets _ _ _ _ (ready-refused _ _ _ _ (sym (ap planTold (c .before .answer .given .1)) ∙ c .before .before .before .verify .ensures .0)) refl
 
 returns-2 : tie.Need-returns-2
 unfolding planTold readyTold
-returns-2 c = meets _ _ _ _ (ready-done _ _ _ _ (sym (ap planTold (c .before .before .before .before .answer2 .given .1)) ∙ c .before .before .before .before .before .before .verify .ensures .0) (c .ready-bits .ensures)) refl
+returns-2 c = meets _ _ _ _ (ready-done _ _ _ _ _ (sym (ap planTold (c .before .before .before .before .answer2 .given .1)) ∙ c .before .before .before .before .before .before .verify .ensures .0) (c .ready-bits .ensures)) refl
 
 pub ready-spec : {M : Type 1} → statement M
 ready-spec =

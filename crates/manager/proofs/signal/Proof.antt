@@ -9,11 +9,11 @@ use Rattle.manager.proofs.signal.Tie as tie
 
 signal-requires : tie.Need-signal-requires
 unfolding planTold
-signal-requires c κs = call-checked _ _ _ (sym (ap planTold (c .before .before .answer2 .given .1)) ∙ c .before .before .before .before .verify .ensures .0)
+signal-requires c κs = call-checked _ _ _ _ (sym (ap planTold (c .before .before .answer2 .given .1)) ∙ c .before .before .before .before .verify .ensures .0)
 
 returns : tie.Need-returns
 unfolding planTold signalTold signalOutcome
-returns c = meets _ _ _ _ (call-refused _ _ (signal (record { society = _ })) _ (sym (ap planTold (c .before .answer .given .1)) ∙ c .before .before .before .verify .ensures .0)) refl
+returns c = meets _ _ _ _ (call-refused _ _ _ (signal (record { society = _ })) _ (sym (ap planTold (c .before .answer .given .1)) ∙ c .before .before .before .verify .ensures .0)) refl
 
 pub signal-spec : {M : Type 1} → statement M
 signal-spec =

@@ -11,14 +11,14 @@ use Rattle.property3.proofs.make_calls.Statement.{statement}
 use Rattle.property3.proofs.make_calls.Tie as tie
 
 abbrev Inv-loop : tie.InvT-loop
-Inv-loop plan ledger₀ calls answers₀ count i₀ ledger answers i =
-    Underway plan ledger₀ calls answers₀ ledger answers i × (length answers ≡ length answers₀) × (length ledger ≡ length ledger₀)
+Inv-loop terms plan ledger₀ calls answers₀ count i₀ ledger answers i =
+    Underway terms plan ledger₀ calls answers₀ ledger answers i × (length answers ≡ length answers₀) × (length ledger ≡ length ledger₀)
 
 abbrev μ-loop : tie.MeasureT-loop
-μ-loop plan ledger₀ calls answers₀ count i₀ ledger answers i = count - i
+μ-loop terms plan ledger₀ calls answers₀ count i₀ ledger answers i = count - i
 
 loop-holds : tie.Need-loop-holds Inv-loop μ-loop
-loop-holds c = (underway-start _ _ _ _, refl, refl)
+loop-holds c = (underway-start _ _ _ _ _, refl, refl)
 
 write-answer-requires : tie.Need-write-answer-requires Inv-loop μ-loop
 unfolding answerRoom
@@ -31,14 +31,14 @@ loop-again c =
     let made = c .before .before .before .before .before .before in
     let read = made .before .before .before in
     let loop = read .before .before .before .before .before in (
-      underway-next _ _ _ _ _ _ _ (omega (arith, loop .loop-test .taken)) (omega (arith, loop .before .before .before .before .before .before .pre, loop .before .loop .inv .1)) (loop .before .loop .inv .0) _ _ _
+      underway-next _ _ _ _ _ _ _ _ (omega (arith, loop .loop-test .taken)) (omega (arith, loop .before .before .before .before .before .before .pre, loop .before .loop .inv .1)) (loop .before .loop .inv .0) _ _ _
           (on-read _ _ _ _ _ (read .join .result) (record { sfits = read .join .ok }) _ _ _ _ (read .join .ensures) (made .make-call .ensures)) (c .before .before .write-answer .ensures),
       search needs,
       search needs,
     )
 
 returns : tie.Need-returns Inv-loop μ-loop
-returns c = underway-done _ _ _ _ _ _ _ (c .loop-test .left) (c .before .loop .inv .0)
+returns c = underway-done _ _ _ _ _ _ _ _ (c .loop-test .left) (c .before .loop .inv .0)
 
 pub make-calls-spec : {M : Type 1} → statement M
 make-calls-spec =

@@ -7,10 +7,10 @@ use Rattle.replay.proofs.run_plan.Statement.{statement}
 use Rattle.replay.proofs.run_plan.Tie as tie
 
 run-records-requires : tie.Need-run-records-requires
-run-records-requires c κs = (begun-checked _ _ (c .before .before .before .before .before .before .before .before .before .before .before .before .before .before .before .before .before .pre .0 .accepts) _ _ (c .before .before .before .before .before .before .before .before .before .before .before .before .before .before .before .before .before .pre .0 .room) (c .before .before .before .before .before .begin-all .ensures), c .before .before .before .before .before .before .before .before .before .before .before .before .before .before .before .before .before .pre .1, omega (arith, c .before .before .before .before .before .before .before .before .before .before .before .plan-line .ensures .short, c .before .before .before .before .before .before .before .before .before .before .before .plan-line .kept .0, c .before .before .before .before .before .before .before .before .before .before .before .before .before .before .before .before .before .pre .2), c .before .before .before .before .before .before .before .before .first-states .ensures)
+run-records-requires c κs = (begun-checked _ _ _ (c .before .before .before .before .before .before .before .before .before .before .before .before .before .before .before .before .before .pre .0 .accepts) _ _ (c .before .before .before .before .before .before .before .before .before .before .before .before .before .before .before .before .before .pre .0 .room) (c .before .before .before .before .before .begin-all .ensures), c .before .before .before .before .before .before .before .before .before .before .before .before .before .before .before .before .before .pre .1, omega (arith, c .before .before .before .before .before .before .before .before .before .before .before .plan-line .ensures .short, c .before .before .before .before .before .before .before .before .before .before .before .plan-line .kept .0, c .before .before .before .before .before .before .before .before .before .before .before .before .before .before .before .before .before .pre .2), c .before .before .before .before .before .before .before .before .first-states .ensures)
 
 returns : tie.Need-returns
-returns c = ran-after _ _ _ _ _ _ _ _ _ (c .before .before .before .before .before .before .before .before .before .before .before .before .before .before .before .before .plan-line .ensures) (search needs) (ran-begun _ _ _ (c .before .before .before .before .before .before .before .before .before .before .before .before .before .before .before .before .before .before .before .before .before .before .pre .0 .accepts) _ _ (c .before .before .before .before .before .before .before .before .before .before .before .before .before .before .before .before .before .before .before .before .before .before .pre .0 .room) (c .before .before .before .before .before .before .before .before .before .before .begin-all .ensures) _ _ _ _ _ (c .before .before .before .before .run-records .ensures))
+returns c = ran-after _ _ _ _ _ _ _ _ _ (c .before .before .before .before .before .before .before .before .before .before .before .before .before .before .before .before .plan-line .ensures) (search needs) (ran-begun _ _ _ _ (c .before .before .before .before .before .before .before .before .before .before .before .before .before .before .before .before .before .before .before .before .before .before .pre .0 .accepts) _ _ (c .before .before .before .before .before .before .before .before .before .before .before .before .before .before .before .before .before .before .before .before .before .before .pre .0 .room) (c .before .before .before .before .before .before .before .before .before .before .begin-all .ensures) _ _ _ _ _ (c .before .before .before .before .run-records .ensures))
 
 pub run-plan-spec : {M : Type 1} → statement M
 run-plan-spec =

@@ -33,15 +33,15 @@ module _ (bs : List ℕ) (c : Counts) (l : Ledger) (goes : ℕ → Option ℕ) {
   at-last e m = rw (e ∙ sym (track-count bs c)) at m
 
 abbrev Inv-loop : tie.InvT-loop
-Inv-loop plan c ledger taken closing₀ tracks t₀ closing t = (t ≤ c .tracks) × Figures false closing (c .tracks) (closesAmong (planOf plan c) (ledgerOf c ledger) (movesOf taken (c .tracks)) t)
+Inv-loop terms plan c ledger taken closing₀ tracks t₀ closing t = (t ≤ c .tracks) × Figures false closing (c .tracks) (closesAmong (planOf plan c) (ledgerOf terms c ledger) (movesOf taken (c .tracks)) t)
 
 abbrev μ-loop : tie.MeasureT-loop
-μ-loop plan c ledger taken closing₀ tracks t₀ closing t = c .tracks - t
+μ-loop terms plan c ledger taken closing₀ tracks t₀ closing t = c .tracks - t
 
 loop-holds : tie.Need-loop-holds Inv-loop μ-loop
 loop-holds c =
     let a = c .before .before .args in
-    (omega arith, at-first (now (a .plan)) (a .c) (ledgerOf (a .c) (now (a .ledger))) _ (c .before .before .pre .2))
+    (omega arith, at-first (now (a .plan)) (a .c) (ledgerOf _ (a .c) (now (a .ledger))) _ (c .before .before .pre .2))
 
 array-write-closing : tie.Need-array-write-closing Inv-loop μ-loop
 unfolding noState
@@ -57,7 +57,7 @@ loop-again c =
     let few = c .before .before .before .before .before .before .pre .0 .checked .lent .room .few in
     let o = c .before .kept-open .ensures in
     let a = c .before .before .before .before .before .before .args in
-    let g = closes-more (planOf (now (a .plan)) (a .c)) (ledgerOf (a .c) (now (a .ledger))) (movesOf (now (a .taken)) (a .c .tracks)) (c .before .before .before .loop .t) in (
+    let g = closes-more (planOf (now (a .plan)) (a .c)) (ledgerOf _ (a .c) (now (a .ledger))) (movesOf (now (a .taken)) (a .c .tracks)) (c .before .before .before .loop .t) in (
       omega arith,
       elim (c .if1 .came) [
         | inl w ↦ rw (w .1) (visit-one m few o false _ (λ u b. g u) (w .0 .taken))
@@ -68,7 +68,7 @@ loop-again c =
 returns : tie.Need-returns Inv-loop μ-loop
 returns c =
     let a = c .before .before .before .before .args in
-    at-last (now (a .plan)) (a .c) (ledgerOf (a .c) (now (a .ledger))) _ (omega arith) (c .before .loop .inv .1)
+    at-last (now (a .plan)) (a .c) (ledgerOf _ (a .c) (now (a .ledger))) _ (omega arith) (c .before .loop .inv .1)
 
 pub closing-scopes-spec : {M : Type 1} → statement M
 closing-scopes-spec =

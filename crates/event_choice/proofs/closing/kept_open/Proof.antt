@@ -22,16 +22,16 @@ ends-requires : tie.Need-ends-requires
 unfolding noState
 ends-requires c κs =
     let a = c .before .before .before .before .before .before .pre in
-    (a .0 .checked .lent .accepts, state-low _ _ _ _ (a .0) (a .2) (c .before .before .before .track .ensures), a .1 .low _ (a .2))
+    (a .0 .checked .lent .accepts, state-low _ _ _ _ _ (a .0) (a .2) (c .before .before .before .track .ensures), a .1 .low _ (a .2))
 
 returns-2 : tie.Need-returns-2
 unfolding noState
 returns-2 c =
     let a = c .before .before .before .before .before .before .before .before in
-    let l = ledgerOf (a .args .c) (now (a .args .ledger)) in
+    let l = ledgerOf _ (a .args .c) (now (a .args .ledger)) in
     host-unless _ _ _ (a .pre .0 .checked .lent .accepts)
     (ending-leaves (isAwake (l (a .args .t) .mode))
-    (sym (ends-read (planOf (now (a .args .plan)) (a .args .c)) l (now (a .args .taken)) _ (a .args .t) (a .pre .2) (c .before .before .before .before .before .track .ensures) (c .before .ends .ensures))
+    (sym (ends-read (a .args .terms) (planOf (now (a .args .plan)) (a .args .c)) l (now (a .args .taken)) _ (a .args .t) (a .pre .2) (c .before .before .before .before .before .track .ensures) (c .before .ends .ensures))
     ∙ c .if2 .taken))
 
 returns-3 : tie.Need-returns-3
@@ -40,7 +40,7 @@ returns-3 c =
     let k = c .before .before .before .before .before .before .track .ensures in
     host-if _ _ _ (a .pre .0 .checked .lent .accepts) (c .host-track .ensures)
     (staying-keeps (holds (c .before .before .before .before .before .is-awake .ensures ∙ ap isAwake (mode-as _ k)) (c .before .before .before .before .if1 .left))
-    (sym (ends-read (planOf (now (a .args .plan)) (a .args .c)) (ledgerOf (a .args .c) (now (a .args .ledger))) _ _ _ (a .pre .2) k (c .before .before .ends .ensures)) ∙ c .before .if2 .left))
+    (sym (ends-read (a .args .terms) (planOf (now (a .args .plan)) (a .args .c)) (ledgerOf _ (a .args .c) (now (a .args .ledger))) _ _ _ (a .pre .2) k (c .before .before .ends .ensures)) ∙ c .before .if2 .left))
 
 pub kept-open-spec : {M : Type 1} → statement M
 kept-open-spec =

@@ -11,10 +11,10 @@ use Rattle.event_choice.proofs.indexed.taken_from.Statement.{statement}
 use Rattle.event_choice.proofs.indexed.taken_from.Tie as tie
 
 abbrev Inv-loop : tie.InvT-loop
-Inv-loop plan c ledger event opens head next taken₀ tracks t₀ taken t = (t ≤ tracks) × Numbers taken t (anyDayMove (planOf plan c) (ledgerOf c ledger) event)
+Inv-loop terms plan c ledger event opens head next taken₀ tracks t₀ taken t = (t ≤ tracks) × Numbers taken t (anyDayMove (planOf plan c) (ledgerOf terms c ledger) event)
 
 abbrev μ-loop : tie.MeasureT-loop
-μ-loop plan c ledger event opens head next taken₀ tracks t₀ taken t = tracks - t
+μ-loop terms plan c ledger event opens head next taken₀ tracks t₀ taken t = tracks - t
 
 loop-holds : tie.Need-loop-holds Inv-loop μ-loop
 loop-holds c = (search needs, numbers-empty _ _)

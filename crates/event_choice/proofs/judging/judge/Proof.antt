@@ -5,7 +5,6 @@ use Prim.Native.Nat.{_≤_, _-_}
 use native.Mathlib.Omega.{arith}
 use denote.Ref.{now}
 use Rattle.rules.specs.Fold.{someBelow, countBelow}
-use Rattle.rules.specs.Layout.{entryLimit}
 use Rattle.rules.specs.Plan.{planOf, noState}
 use Rattle.ledger.specs.Ladder.{ledgerOf}
 use Rattle.event_choice.specs.Next.{movesOf, closesNext, fullNext}
@@ -15,15 +14,15 @@ use Rattle.event_choice.proofs.judging.judge.Statement.{statement}
 use Rattle.event_choice.proofs.judging.judge.Tie as tie
 
 abbrev Inv-loop : tie.InvT-loop
-Inv-loop plan c ledger taken closing tracks closed₀ full₀ t₀ closed full t =
+Inv-loop terms plan c ledger taken closing tracks closed₀ full₀ t₀ closed full t =
     let p = planOf plan c in
-    let l = ledgerOf c ledger in
+    let l = ledgerOf terms c ledger in
     let goes = movesOf taken (c .tracks) in
     (t ≤ c .tracks) × (closed ≤ t) × (closed ≡ countBelow t (closesNext p l goes))
-    × (full ≡ someBelow t (fullNext p l goes entryLimit))
+    × (full ≡ someBelow t (fullNext p l goes terms))
 
 abbrev μ-loop : tie.MeasureT-loop
-μ-loop plan c ledger taken closing tracks closed₀ full₀ t₀ closed full t = c .tracks - t
+μ-loop terms plan c ledger taken closing tracks closed₀ full₀ t₀ closed full t = c .tracks - t
 
 loop-holds : tie.Need-loop-holds Inv-loop μ-loop
 unfolding countBelow someBelow
@@ -34,13 +33,13 @@ unfolding noState
 is-full-requires c κs =
     let a = c .before .before .before .before .before .before .before .before .pre in
     let b = c .before .before .before .before .loop-test .taken in
-    (a .0 .checked .lent .accepts, state-low _ _ _ _ (a .0) b (c .before .before .before .track .ensures), a .1 .low _ b)
+    (a .0 .checked .lent .accepts, state-low _ _ _ _ _ (a .0) b (c .before .before .before .track .ensures), a .1 .low _ b)
 
 loop-again : tie.Need-loop-again Inv-loop μ-loop
 loop-again c =
     let a = c .before .before .before .before .before .before .before .before .before in
     let p = planOf (now (a .args .plan)) (a .args .c) in
-    let l = ledgerOf (a .args .c) (now (a .args .ledger)) in
+    let l = ledgerOf _ (a .args .c) (now (a .args .ledger)) in
     let inv = c .before .before .before .before .before .before .loop .inv in
     let b = c .before .before .before .before .before .loop-test .taken in
     let k = c .before .before .before .before .track .ensures in
@@ -48,7 +47,7 @@ loop-again c =
       omega arith,
       omega (arith, inv .1, c .before .one-where .ensures .1),
       one-more (closesNext p l _) _ _ _ (inv .2) (c .before .one-where .ensures .0 ∙ ap (λ x. cond x 1 0) m),
-      full-more p l _ _ _ b k (inv .3) m (c .is-full .ensures) refl,
+      full-more _ p l _ _ _ b k (inv .3) m (c .is-full .ensures) refl,
     )
 
 returns : tie.Need-returns Inv-loop μ-loop

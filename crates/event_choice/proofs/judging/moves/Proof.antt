@@ -8,7 +8,6 @@ use lib.Dec.{eqb, leb}
 use lib.ListN.{length, getD}
 use borrow.Author.Tests.{eq-eqb, ne-eqb}
 use Rattle.rules.specs.Fold.{someBelow, countBelow}
-use Rattle.rules.specs.Layout.{entryLimit}
 use Rattle.rules.specs.Plan.{planOf, noState, optional}
 use Rattle.rules.specs.Event.{hasCode}
 use Rattle.ledger.specs.Ladder.{ledgerOf}
@@ -19,14 +18,14 @@ use Rattle.event_choice.proofs.judging.moves.Statement.{statement}
 use Rattle.event_choice.proofs.judging.moves.Tie as tie
 
 abbrev Inv-loop : tie.InvT-loop
-Inv-loop plan c ledger taken tracks n₀ ends₀ full₀ t₀ n ends full t =
+Inv-loop terms plan c ledger taken tracks n₀ ends₀ full₀ t₀ n ends full t =
     let p = planOf plan c in
     (t ≤ tracks) × (n ≤ t) × (n ≡ countBelow t (λ i. not (eqb (getD taken i 0) noState)))
     × (ends ≡ someBelow t (λ i. isLast p (optional (getD taken i 0))))
-    × (full ≡ someBelow t (λ i. hasCode p (optional (getD taken i 0)) && leb entryLimit (length (ledgerOf c ledger i .held))))
+    × (full ≡ someBelow t (λ i. hasCode p (optional (getD taken i 0)) && leb (terms .limit) (length (ledgerOf terms c ledger i .held))))
 
 abbrev μ-loop : tie.MeasureT-loop
-μ-loop plan c ledger taken tracks n₀ ends₀ full₀ t₀ n ends full t = tracks - t
+μ-loop terms plan c ledger taken tracks n₀ ends₀ full₀ t₀ n ends full t = tracks - t
 
 loop-holds : tie.Need-loop-holds Inv-loop μ-loop
 unfolding countBelow someBelow

@@ -1,16 +1,14 @@
 -- No code, or the count against the limit. Assumes nothing.
-use Rattle.rules.specs.Layout.{entryLimit}
 use Rattle.event_choice.proofs.Visits.{fills-zero, fills-full}
 use borrow.Author.Needs.{needs}
 use Rattle.event_choice.proofs.judging.overfills.Statement.{statement}
 use Rattle.event_choice.proofs.judging.overfills.Tie as tie
 
 returns : tie.Need-returns
-returns c = fills-zero _ _ (c .before .code-of .ensures) _ (c .if1 .taken)
+returns c = fills-zero (c .before .before .before .before .args .terms) _ _ (c .before .code-of .ensures) _ (c .if1 .taken)
 
 returns-2 : tie.Need-returns-2
-unfolding entryLimit
-returns-2 c = fills-full _ _ (c .before .before .before .code-of .ensures) (c .before .before .if1 .left) _ (c .before .track .ensures)
+returns-2 c = fills-full _ _ _ (c .before .before .before .before .code-of .ensures) (c .before .before .before .if1 .left) _ (c .before .before .track .ensures)
 
 pub overfills-spec : {M : Type 1} → statement M
-overfills-spec = tie.close (tie.spec (λ c κs. search needs) returns (λ c κs. search needs) (λ c. search needs) returns-2)
+overfills-spec = tie.close (tie.spec (λ c κs. search needs) returns (λ c κs. search needs) returns-2)

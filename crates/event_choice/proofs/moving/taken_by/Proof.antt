@@ -14,16 +14,16 @@ use Rattle.event_choice.proofs.moving.taken_by.Statement.{statement}
 use Rattle.event_choice.proofs.moving.taken_by.Tie as tie
 
 abbrev Inv-loop : tie.InvT-loop
-Inv-loop plan c ledger event opens taken₀ transitions x₀ taken x = (x ≤ c .transitions) × Numbers taken (c .tracks) (foundAmong (planOf plan c) (ledgerOf c ledger) event x)
+Inv-loop terms plan c ledger event opens taken₀ transitions x₀ taken x = (x ≤ c .transitions) × Numbers taken (c .tracks) (foundAmong (planOf plan c) (ledgerOf terms c ledger) event x)
 
 abbrev μ-loop : tie.MeasureT-loop
-μ-loop plan c ledger event opens taken₀ transitions x₀ taken x = c .transitions - x
+μ-loop terms plan c ledger event opens taken₀ transitions x₀ taken x = c .transitions - x
 
 loop-holds : tie.Need-loop-holds Inv-loop μ-loop
 unfolding noState
 loop-holds c =
     let a = c .before .before .args in
-    (omega arith, numbers-none (c .before .before .pre .0 .checked .lent .room .few) (λ t. found-none (planOf (now (a .plan)) (a .c)) (ledgerOf (a .c) (now (a .ledger))) _ t))
+    (omega arith, numbers-none (c .before .before .pre .0 .checked .lent .room .few) (λ t. found-none (planOf (now (a .plan)) (a .c)) (ledgerOf _ (a .c) (now (a .ledger))) _ t))
 
 array-write-taken : tie.Need-array-write-taken Inv-loop μ-loop
 unfolding noState
@@ -39,7 +39,7 @@ loop-again c =
     let k = c .before .before .before .before .before .before .pre .0 .checked .lent .accepts .holds .transitions in
     let m = c .before .before .before .loop .inv .1 in
     let b = c .before .before .loop-test .taken in
-    let next = found-more _ _ _ g _ (c .before .before .before .loop .x) b in (
+    let next = found-more _ _ _ _ g _ (c .before .before .before .loop .x) b in (
       omega arith,
       elim (c .if1 .came) [
         | inl w ↦ rw (w .1) (number-one m (g .checked .lent .room .few) (c .before .taker .ensures) (word-small (omega arith)) _ (λ t d. next t) (w .0 .taken))
@@ -48,7 +48,7 @@ loop-again c =
     )
 
 returns : tie.Need-returns Inv-loop μ-loop
-returns c = found-all _ _ _ (c .before .before .before .before .pre .0) _ (omega arith) (c .before .loop .inv .1)
+returns c = found-all _ _ _ _ (c .before .before .before .before .pre .0) _ (omega arith) (c .before .loop .inv .1)
 
 pub taken-by-spec : {M : Type 1} → statement M
 taken-by-spec =

@@ -11,7 +11,7 @@ use Rattle.event_choice.proofs.moving.taker.Tie as tie
 
 returns : tie.Need-returns
 unfolding noState
-returns c = other-event _ _ _ (c .before .before .before .before .pre .0) _ _ (c .before .event-of .ensures) (c .if1 .taken)
+returns c = other-event _ _ _ _ (c .before .before .before .before .pre .0) _ _ (c .before .event-of .ensures) (c .if1 .taken)
 
 track-of-requires : tie.Need-track-of-requires
 track-of-requires c κs =
@@ -30,7 +30,7 @@ unfolding noState
 returns-2 c =
     let a = c .before .before .before .before .before .before .before .before .pre in
     let b = mover-low _ _ (a .0 .checked .lent .accepts) (a .1) (c .before .before .before .source-of .ensures) (c .before .before .track-of .ensures) in
-    open-takes-not _ _ _ (a .0) _ _ (c .before .before .before .before .before .event-of .ensures) (c .before .before .before .before .if1 .left)
+    open-takes-not _ _ _ _ (a .0) _ _ (c .before .before .before .before .before .event-of .ensures) (c .before .before .before .before .if1 .left)
     (c .before .before .before .source-of .ensures) (c .before .before .track-of .ensures) (sym (a .2 .at _ b) ∙ c .if2 .taken)
 
 track-requires : tie.Need-track-requires
@@ -42,14 +42,14 @@ returns-3 : tie.Need-returns-3
 unfolding noState
 returns-3 c =
     let a = c .before .before .before .before .before .before .before .before .before .before .before .pre in
-    other-source _ _ _ (a .0) _ _ (c .before .before .before .before .before .before .before .before .event-of .ensures) (c .before .before .before .before .before .before .before .if1 .left)
+    other-source _ _ _ _ (a .0) _ _ (c .before .before .before .before .before .before .before .before .event-of .ensures) (c .before .before .before .before .before .before .before .if1 .left)
     (c .before .before .before .before .before .before .source-of .ensures) (c .before .before .before .before .before .track-of .ensures) (c .before .before .track .ensures) (c .if3 .taken)
 
 returns-4 : tie.Need-returns-4
 unfolding noState
 returns-4 c =
     let a = c .before .before .before .before .before .before .before .before .before .before .before .before .before .pre in
-    not-forward _ _ _ (a .0) _ _ (c .before .before .before .before .before .before .before .before .before .before .event-of .ensures) (c .before .before .before .before .before .before .before .before .before .if1 .left)
+    not-forward _ _ _ _ (a .0) _ _ (c .before .before .before .before .before .before .before .before .before .before .event-of .ensures) (c .before .before .before .before .before .before .before .before .before .if1 .left)
     (c .before .before .before .before .before .before .before .before .source-of .ensures) (c .before .before .before .before .before .before .before .track-of .ensures) (c .before .before .before .before .track .ensures)
     (c .before .is-forward .ensures) (not-true _ (c .if4 .taken))
 
@@ -60,7 +60,7 @@ returns-5 c =
     let src = c .before .before .before .before .before .before .before .before .source-of .ensures in
     let own = c .before .before .before .before .before .before .before .track-of .ensures in
     let b = mover-low _ _ (a .0 .checked .lent .accepts) (a .1) src own in
-    takes _ _ _ (a .0) _ _ (c .before .before .before .before .before .before .before .before .before .before .event-of .ensures) (c .before .before .before .before .before .before .before .before .before .if1 .left) src own
+    takes _ _ _ _ (a .0) _ _ (c .before .before .before .before .before .before .before .before .before .before .event-of .ensures) (c .before .before .before .before .before .before .before .before .before .if1 .left) src own
     (c .before .before .before .before .track .ensures) (c .before .is-forward .ensures) (not-false _ (c .if4 .left))
     (sym (a .2 .at _ b) ∙ c .before .before .before .before .before .if2 .left) (c .before .before .if3 .left) (a .1)
 

@@ -8,23 +8,23 @@ use Rattle.event_step.proofs.event.event_indexed.Statement.{statement}
 use Rattle.event_step.proofs.event.event_indexed.Tie as tie
 
 returns : tie.Need-returns
-returns c = event-refused _ _ _ (c .before .before .before .before .before .pre .0) _ _ (asked-of _ _ _ (c .before .before .before .before .before .args .event) (c .before .before .before .before .before .args .society) (read-back _ (c .before .before .before .before .before .fits .day .sfits)) (c .before .refusal-of .ensures)) (c .if1 .taken)
+returns c = event-refused _ _ _ _ (c .before .before .before .before .before .pre .0) _ _ (asked-of _ _ _ (c .before .before .before .before .before .args .event) (c .before .before .before .before .before .args .society) (read-back _ (c .before .before .before .before .before .fits .day .sfits)) (c .before .refusal-of .ensures)) (c .if1 .taken)
 
 choose-indexed-requires : tie.Need-choose-indexed-requires
 choose-indexed-requires c κs =
     let a = c .before .before .before .before .before .before .before .before .before .pre in
-    (going-of _ _ _ (a .0) _ (sym (c .before .before .before .before .before .refusal-of .ensures) ∙ c .before .before .before .before .if1 .left), c .before .before .open-scopes .ensures, a .2)
+    (going-of _ _ _ _ (a .0) _ (sym (c .before .before .before .before .before .refusal-of .ensures) ∙ c .before .before .before .before .if1 .left), c .before .before .open-scopes .ensures, a .2)
 
 go-on-requires : tie.Need-go-on-requires
 go-on-requires c κs =
     let a = c .before .before .before .before .before .before .before .before .before .before .before .before .pre in
     let z = sym (c .before .before .before .before .before .before .before .before .refusal-of .ensures) ∙ c .before .before .before .before .before .before .before .if1 .left in
     let h = c .before .before .choose-indexed .ensures in
-    (going-of _ _ _ (a .0) _ z, h .0, c .before .before .before .before .before .open-scopes .ensures, a .1, choice-day (c .before .before .choose-indexed .result) (h .1) (early-passed _ _ _ _ z .0))
+    (going-of _ _ _ _ (a .0) _ z, h .0, c .before .before .before .before .before .open-scopes .ensures, a .1, choice-day (c .before .before .choose-indexed .result) (h .1) (early-passed _ _ _ _ z .0))
 
 returns-2 : tie.Need-returns-2
 returns-2 c =
-    event-going _ _ _ (c .before .before .before .before .before .before .before .before .before .before .before .before .before .before .before .pre .0) _ (sym (asked-of _ _ _ (c .before .before .before .before .before .before .before .before .before .before .before .before .before .before .before .args .event) (c .before .before .before .before .before .before .before .before .before .before .before .before .before .before .before .args .society) (read-back _ (c .before .before .before .before .before .before .before .before .before .before .before .before .before .before .before .fits .day .sfits)) (c .before .before .before .before .before .before .before .before .before .before .before .refusal-of .ensures)) ∙ c .before .before .before .before .before .before .before .before .before .before .if1 .left) _ _ _
+    event-going _ _ _ _ (c .before .before .before .before .before .before .before .before .before .before .before .before .before .before .before .pre .0) _ (sym (asked-of _ _ _ (c .before .before .before .before .before .before .before .before .before .before .before .before .before .before .before .args .event) (c .before .before .before .before .before .before .before .before .before .before .before .before .before .before .before .args .society) (read-back _ (c .before .before .before .before .before .before .before .before .before .before .before .before .before .before .before .fits .day .sfits)) (c .before .before .before .before .before .before .before .before .before .before .before .refusal-of .ensures)) ∙ c .before .before .before .before .before .before .before .before .before .before .if1 .left) _ _ _
     (c .before .before .before .before .before .choose-indexed .ensures .1 ∙ same-arguments (c .before .before .before .before .before .before .before .before .before .before .before .before .before .before .before .args .event) (c .before .before .before .before .before .before .before .before .before .before .before .before .before .before .before .args .society) (read-back _ (c .before .before .before .before .before .before .before .before .before .before .before .before .before .before .before .fits .day .sfits))) (c .before .before .go-on .ensures)
 
 pub event-indexed-spec : {M : Type 1} → statement M

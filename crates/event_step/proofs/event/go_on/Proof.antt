@@ -10,7 +10,7 @@ use Rattle.event_step.proofs.event.go_on.Statement.{statement}
 use Rattle.event_step.proofs.event.go_on.Tie as tie
 
 returns : tie.Need-returns
-returns c = full-refused _ _ _ (c .before .before .before .pre .0) _ (c .before .before .before .pre .1, refl) (c .if1 .taken)
+returns c = full-refused _ _ _ _ (c .before .before .before .pre .0) _ (c .before .before .before .pre .1, refl) (c .if1 .taken)
 
 put-day-requires : tie.Need-put-day-requires
 put-day-requires c κs = leading-room (c .before .before .before .before .before .before .pre .0 .checked .lent .room)
@@ -20,7 +20,7 @@ returns-2 c =
     let s = c .before .before .before .before .before .before .before .before .before in
     let t = c .before .before .before .before in
     let d = read-back _ (day-fits _ (s .pre .4) .sfits) in
-    still-met _ _ _ (s .pre .0) _ (s .pre .1, refl) (t .before .before .if1 .left) (t .if2 .taken) (dated-with _ d (c .before .before .put-day .ensures))
+    still-met _ _ _ _ (s .pre .0) _ (s .pre .1, refl) (t .before .before .if1 .left) (t .if2 .taken) (dated-with _ d (c .before .before .put-day .ensures))
 
 write-requires : tie.Need-write-requires
 write-requires c κs =
@@ -32,13 +32,13 @@ finish-requires c κs =
     let a = c .before .before .before .before .before .before .before .before .before .before .pre in
     let free = c .before .before .before .before .before .before .before .if1 .left in
     let w = c .before .before .before .write .ensures in
-    (a .0 .checked .lent .accepts, settled-tidy _ _ _ (a .0) _ (a .1) free w, settled-scopes _ _ _ (a .0) _ (a .1) free w (a .2))
+    (a .0 .checked .lent .accepts, settled-tidy _ _ _ _ (a .0) _ (a .1) free w, settled-scopes _ _ _ _ (a .0) _ (a .1) free w (a .2))
 
 put-day-requires-2 : tie.Need-put-day-requires-2
 put-day-requires-2 c κs =
     let a = c .before .before .before .before .before .before .before .before .before .before .before .before .before .before .pre in
     let free = c .before .before .before .before .before .before .before .before .before .before .before .if1 .left in
-    ended-room _ _ _ (a .0) _ (a .1) free (event-ended _ _ _ (a .0) _ (a .1) free (c .before .before .before .before .before .before .before .write .ensures) (c .before .before .before .finish .ensures))
+    ended-room _ _ _ _ (a .0) _ (a .1) free (event-ended _ _ _ _ (a .0) _ (a .1) free (c .before .before .before .before .before .before .before .write .ensures) (c .before .before .before .finish .ensures))
 
 returns-3 : tie.Need-returns-3
 returns-3 c =
@@ -46,8 +46,8 @@ returns-3 c =
     let a = s .pre in
     let free = c .before .before .before .before .before .before .before .before .before .before .before .before .before .before .if1 .left in
     let d = read-back _ (day-fits _ (s .pre .4) .sfits) in
-    let e = event-ended _ _ _ (a .0) _ (a .1) free (c .before .before .before .before .before .before .before .before .before .before .write .ensures) (c .before .before .before .before .before .before .finish .ensures) in
-    step-met _ _ _ (a .0) _ (a .1, refl) free e (dated-with _ d (c .before .before .put-day2 .ensures))
+    let e = event-ended _ _ _ _ (a .0) _ (a .1) free (c .before .before .before .before .before .before .before .before .before .before .write .ensures) (c .before .before .before .before .before .before .finish .ensures) in
+    step-met _ _ _ _ (a .0) _ (a .1, refl) free e (dated-with _ d (c .before .before .put-day2 .ensures))
 
 pub go-on-spec : {M : Type 1} → statement M
 go-on-spec =

@@ -13,13 +13,13 @@ use Rattle.finish.proofs.finishing.is_finishing.Statement.{statement}
 use Rattle.finish.proofs.finishing.is_finishing.Tie as tie
 
 abbrev Inv-loop : tie.InvT-loop
-Inv-loop plan c ledger opens some-ended₀ tracks t₀ some-ended t =
+Inv-loop terms plan c ledger opens some-ended₀ tracks t₀ some-ended t =
     let p = planOf plan c in
-    let l = ledgerOf c ledger in
+    let l = ledgerOf terms c ledger in
     (t ≤ c .tracks) × (everyBelow t (isDone p l) ≡ true) × (some-ended ≡ someBelow t (hasEnded p l))
 
 abbrev μ-loop : tie.MeasureT-loop
-μ-loop plan c ledger opens some-ended₀ tracks t₀ some-ended t = c .tracks - t
+μ-loop terms plan c ledger opens some-ended₀ tracks t₀ some-ended t = c .tracks - t
 
 loop-holds : tie.Need-loop-holds Inv-loop μ-loop
 unfolding everyBelow someBelow
@@ -41,7 +41,7 @@ loop-again c =
     let open-scope = c .before .before .before .before .before .before .before .before .before .before .pre .1 .at _ (c .before .before .before .before .before .before .loop-test .taken) in (
       search needs,
       every-next _ _ (inv .1) (done-asked _ _ _ read root ended (c .before .is-bare .ensures) open-scope) (ap not (c .if1 .left)),
-      some-visit _ _ (inv .2) (ended-asked _ (ledgerOf _ _) _ read root ended),
+      some-visit _ _ (inv .2) (ended-asked _ (ledgerOf _ _ _) _ read root ended),
     )
 
 returns-2 : tie.Need-returns-2 Inv-loop μ-loop

@@ -11,10 +11,10 @@ use Rattle.journal.proofs.held.lowest_ready.Statement.{statement}
 use Rattle.journal.proofs.held.lowest_ready.Tie as tie
 
 abbrev Inv-loop : tie.InvT-loop
-Inv-loop plan c ledger society opens may tracks t₀ t = (t ≤ tracks) × (firstBelow t (isReady plan c ledger society) ≡ none)
+Inv-loop terms plan c ledger society opens may tracks t₀ t = (t ≤ tracks) × (firstBelow t (isReady terms plan c ledger society) ≡ none)
 
 abbrev μ-loop : tie.MeasureT-loop
-μ-loop plan c ledger society opens may tracks t₀ t = tracks - t
+μ-loop terms plan c ledger society opens may tracks t₀ t = tracks - t
 
 loop-holds : tie.Need-loop-holds Inv-loop μ-loop
 unfolding firstBelow
@@ -26,17 +26,17 @@ array-read-is-ready-for c = omega (arith, c .before .loop-test .taken, c .before
 returns : tie.Need-returns Inv-loop μ-loop
 returns c =
     let l = c .before .before .before .loop-test .taken in
-    lowest-is _ _ _ _ _ l (c .before .before .before .before .loop .inv .1) (marked-ready _ _ _ _ _ (c .before .before .before .before .before .permitted .ensures .at _ l) (c .before .is-ready-for .ensures) ∙ c .if1 .taken)
+    lowest-is _ _ _ _ _ _ l (c .before .before .before .before .loop .inv .1) (marked-ready _ _ _ _ _ _ (c .before .before .before .before .before .permitted .ensures .at _ l) (c .before .is-ready-for .ensures) ∙ c .if1 .taken)
 
 loop-again : tie.Need-loop-again Inv-loop μ-loop
 loop-again c = (
   search needs,
   first-more-none _ _ (c .before .before .before .before .loop .inv .1)
-      (marked-ready _ _ _ _ _ (c .before .before .before .before .before .permitted .ensures .at _ (c .before .before .before .loop-test .taken)) (c .before .is-ready-for .ensures) ∙ c .if1 .left),
+      (marked-ready _ _ _ _ _ _ (c .before .before .before .before .before .permitted .ensures .at _ (c .before .before .before .loop-test .taken)) (c .before .is-ready-for .ensures) ∙ c .if1 .left),
 )
 
 returns-2 : tie.Need-returns-2 Inv-loop μ-loop
-returns-2 c = lowest-lacks _ _ _ _ _ (c .before .loop .inv .0) (c .loop-test .left) (c .before .loop .inv .1)
+returns-2 c = lowest-lacks _ _ _ _ _ _ (c .before .loop .inv .0) (c .loop-test .left) (c .before .loop .inv .1)
 
 pub lowest-ready-spec : {M : Type 1} → statement M
 lowest-ready-spec =

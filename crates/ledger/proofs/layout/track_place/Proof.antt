@@ -1,9 +1,20 @@
--- The place is the layout's, written out in numbers. Assumes nothing.
-use Rattle.rules.specs.Layout.{leadingWords, headWords, entryWidth, entryLimit, trackWidth, trackPlace}
+-- The place is the layout's, and small. Assumes nothing.
+use native.Mathlib.Omega.{arith}
+use Rattle.rules.specs.Layout.{leadingWords, trackPlace}
+use Rattle.ledger.proofs.LayoutLaws.{tracks-small}
 use borrow.Author.Needs.{needs}
 use Rattle.ledger.proofs.layout.track_place.Statement.{statement}
 use Rattle.ledger.proofs.layout.track_place.Tie as tie
 
+mul-result : tie.Need-mul-result
+mul-result c = omega (arith, tracks-small (c .track-width .ensures .1) (c .before .pre))
+
+add-result : tie.Need-add-result
+add-result c = omega (arith, tracks-small (c .track-width .ensures .1) (c .before .pre))
+
+returns : tie.Need-returns
+unfolding trackPlace leadingWords
+returns c = rw (c .track-width .ensures .0)
+
 pub track-place-spec : {M : Type 1} → statement M
-unfolding trackPlace trackWidth headWords entryWidth entryLimit leadingWords
-track-place-spec = tie.close (tie.spec (λ c. search needs) (λ c. search needs) (λ c. search needs))
+track-place-spec = tie.close (tie.spec (λ c κs. search needs) mul-result add-result returns)

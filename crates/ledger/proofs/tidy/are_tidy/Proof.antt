@@ -2,7 +2,7 @@
 use mathlib.Core.Path.{_≡_, refl, ap, _∙_}
 use Prim.Native.Nat.{_-_, _≤_}
 use Rattle.rules.specs.Fold.{everyBelow}
-use Rattle.rules.specs.Layout.{entryLimit, trackPlace}
+use Rattle.rules.specs.Layout.{trackPlace}
 use Rattle.rules.specs.Soundness.{isTidy, areTidy}
 use Rattle.ledger.proofs.Loops.{every-visit, every-done}
 use Rattle.ledger.proofs.Words.{in-room}
@@ -11,10 +11,10 @@ use Rattle.ledger.proofs.tidy.are_tidy.Statement.{statement}
 use Rattle.ledger.proofs.tidy.are_tidy.Tie as tie
 
 abbrev Inv-loop : tie.InvT-loop
-Inv-loop ledger tracks all₀ t₀ all t = (t ≤ tracks) × (all ≡ everyBelow t (λ t. isTidy entryLimit ledger (trackPlace entryLimit t)))
+Inv-loop terms ledger tracks all₀ t₀ all t = (t ≤ tracks) × (all ≡ everyBelow t (λ t. isTidy terms ledger (trackPlace terms t)))
 
 abbrev μ-loop : tie.MeasureT-loop
-μ-loop ledger tracks all₀ t₀ all t = tracks - t
+μ-loop terms ledger tracks all₀ t₀ all t = tracks - t
 
 loop-holds : tie.Need-loop-holds Inv-loop μ-loop
 unfolding everyBelow
@@ -24,7 +24,7 @@ is-tidy-requires : tie.Need-is-tidy-requires Inv-loop μ-loop
 is-tidy-requires c κs = rw (c .track-place .ensures) (in-room _ _ (c .before .before .loop .t) (c .before .before .before .before .pre) (search needs) .room)
 
 loop-again : tie.Need-loop-again Inv-loop μ-loop
-loop-again c = (search needs, every-visit _ _ (c .before .before .before .loop .inv .1) (c .is-tidy .ensures ∙ ap (isTidy entryLimit _) (c .before .track-place .ensures)))
+loop-again c = (search needs, every-visit _ _ (c .before .before .before .loop .inv .1) (c .is-tidy .ensures ∙ ap (isTidy _ _) (c .before .track-place .ensures)))
 
 returns : tie.Need-returns Inv-loop μ-loop
 unfolding areTidy

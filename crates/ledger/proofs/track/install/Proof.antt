@@ -1,6 +1,5 @@
 -- The count read is the number of the new entry, which the limit allows. Assumes nothing.
 use native.Mathlib.Omega.{arith}
-use Rattle.rules.specs.Layout.{entryLimit}
 use Rattle.ledger.proofs.Words.{count-of, install-steps}
 use borrow.Author.Needs.{needs}
 use Rattle.ledger.proofs.track.install.Statement.{statement}
@@ -10,11 +9,10 @@ put-entry-requires : tie.Need-put-entry-requires
 put-entry-requires c κs = (c .before .before .before .before .pre .0, omega (arith, c .before .before .before .before .pre .1, count-of (c .before .track-at .ensures)))
 
 add-put-count : tie.Need-add-put-count
-unfolding entryLimit
 add-put-count c = omega (arith, c .before .before .before .before .before .before .before .before .pre .1, count-of (c .before .before .before .before .before .track-at .ensures))
 
 returns : tie.Need-returns
-returns c = install-steps _ _ _ _ _ _ _ (c .before .before .before .before .before .before .before .before .track-at .ensures) (c .before .before .before .before .before .before .put-entry .ensures) (c .before .before .put-count .ensures)
+returns c = install-steps _ _ _ _ _ _ _ _ (c .before .before .before .before .before .before .before .before .track-at .ensures) (c .before .before .before .before .before .before .put-entry .ensures) (c .before .before .put-count .ensures)
 
 pub install-spec : {M : Type 1} → statement M
 install-spec =

@@ -8,11 +8,11 @@ use Rattle.ledger.proofs.track.put_all_to_sleep.Tie as tie
 
 sub-clear : tie.Need-sub-clear
 unfolding leadingWords
-sub-clear c = leading-before _ (c .track-place .ensures)
+sub-clear c = leading-before _ _ (c .track-place .ensures)
 
 part-clear-start : tie.Need-part-clear-start
 unfolding leadingWords
-part-clear-start c = leading-before _ (c .track-place .ensures)
+part-clear-start c = leading-before _ _ (c .track-place .ensures)
 
 part-clear-end : tie.Need-part-clear-end
 unfolding wordCount
@@ -20,7 +20,7 @@ part-clear-end c = omega (arith, c .track-place .ensures, c .before .before .pre
 
 returns : tie.Need-returns
 unfolding leadingWords
-returns c = sleep-all _ _ _ _ (c .before .before .before .before .track-place .ensures) (c .before .before .before .before .before .before .pre .words) (c .before .before .clear .ensures)
+returns c = sleep-all _ _ _ _ _ (c .before .before .before .before .track-place .ensures) (c .before .before .before .before .before .before .pre .words) (c .before .before .clear .ensures)
 
 pub put-all-to-sleep-spec : {M : Type 1} → statement M
 unfolding wordCount

@@ -12,7 +12,7 @@ put-entry-requires : tie.Need-put-entry-requires
 put-entry-requires c κs = (c .before .before .before .before .before .pre .0, omega (arith, c .before .before .before .before .before .pre .1, c .before .before .before .before .before .pre .2, count-of (c .before .before .track-at .ensures)))
 
 returns : tie.Need-returns
-returns c = remove-steps _ _ _ _ _ (c .before .before .before .before .before .before .before .before .before .track-at .ensures) (c .before .before .before .before .before .before .put-entry .ensures) (c .before .before .put-count .ensures)
+returns c = remove-steps _ _ _ _ _ _ (c .before .before .before .before .before .before .before .before .before .track-at .ensures) (c .before .before .before .before .before .before .put-entry .ensures) (c .before .before .put-count .ensures)
 
 pub remove-newest-spec : {M : Type 1} → statement M
 remove-newest-spec =

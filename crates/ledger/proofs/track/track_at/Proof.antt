@@ -9,7 +9,7 @@ use Rattle.ledger.proofs.track.track_at.Statement.{statement}
 use Rattle.ledger.proofs.track.track_at.Tie as tie
 
 returns : tie.Need-returns
-returns c = rw (c .before .before .before .before .track-place .ensures) (track-words _ _ _ (c .before .before .mode-of .ensures ∙ ap (λ (i : _). modeOf (getD (c .before .before .before .before .before .before .args .ledger .now) i 0)) (c .before .before .before .before .track-place .ensures)))
+returns c = rw (c .before .before .before .before .track-place .ensures) (track-words _ _ _ _ (c .before .before .mode-of .ensures ∙ ap (λ (i : _). modeOf (getD (c .before .before .before .before .before .before .args .ledger .now) i 0)) (c .before .before .before .before .track-place .ensures)))
 
 pub track-at-spec : {M : Type 1} → statement M
 unfolding trackWidth headWords

@@ -43,10 +43,10 @@ unfolding hasOpenScope
 all-inside bs c l e m = rw (e ∙ sym (track-count bs c)) at m
 
 abbrev Inv-loop : tie.InvT-loop
-Inv-loop plan c ledger opens₀ tracks t₀ opens t = (t ≤ c .tracks) × Figures false opens (c .tracks) (someInside (planOf plan c) (ledgerOf c ledger) t)
+Inv-loop terms plan c ledger opens₀ tracks t₀ opens t = (t ≤ c .tracks) × Figures false opens (c .tracks) (someInside (planOf plan c) (ledgerOf terms c ledger) t)
 
 abbrev μ-loop : tie.MeasureT-loop
-μ-loop plan c ledger opens₀ tracks t₀ opens t = c .tracks - t
+μ-loop terms plan c ledger opens₀ tracks t₀ opens t = c .tracks - t
 
 loop-holds : tie.Need-loop-holds Inv-loop μ-loop
 unfolding someBelow
@@ -63,7 +63,7 @@ loop-again c =
     let few = c .before .before .before .before .before .before .pre .accepts .holds .tracks in
     let o = c .before .inside .ensures in
     let a = c .before .before .before .before .before .before .args in
-    let g = next (planOf (now (a .plan)) (a .c)) (ledgerOf (a .c) (now (a .ledger))) (c .before .before .before .loop .t) in (
+    let g = next (planOf (now (a .plan)) (a .c)) (ledgerOf _ (a .c) (now (a .ledger))) (c .before .before .before .loop .t) in (
       omega arith,
       elim (c .if1 .came) [
         | inl w ↦ rw (w .1) (visit-one m few o true _ (λ u b. g u) (w .0 .taken))
@@ -74,7 +74,7 @@ loop-again c =
 returns : tie.Need-returns Inv-loop μ-loop
 returns c =
     let a = c .before .before .before .before .args in
-    all-inside (now (a .plan)) (a .c) (ledgerOf (a .c) (now (a .ledger))) (omega arith) (c .before .loop .inv .1)
+    all-inside (now (a .plan)) (a .c) (ledgerOf _ (a .c) (now (a .ledger))) (omega arith) (c .before .loop .inv .1)
 
 pub open-scopes-spec : {M : Type 1} → statement M
 open-scopes-spec =

@@ -11,10 +11,10 @@ use Rattle.lookup.proofs.reading.all_asleep.Statement.{statement}
 use Rattle.lookup.proofs.reading.all_asleep.Tie as tie
 
 abbrev Inv-loop : tie.InvT-loop
-Inv-loop c ledger tracks t₀ t = (t ≤ tracks) × (everyBelow t (λ t. not (isAwake (ledgerOf c ledger t .mode))) ≡ true)
+Inv-loop terms c ledger tracks t₀ t = (t ≤ tracks) × (everyBelow t (λ t. not (isAwake (ledgerOf terms c ledger t .mode))) ≡ true)
 
 abbrev μ-loop : tie.MeasureT-loop
-μ-loop c ledger tracks t₀ t = tracks - t
+μ-loop terms c ledger tracks t₀ t = tracks - t
 
 loop-holds : tie.Need-loop-holds Inv-loop μ-loop
 unfolding everyBelow

@@ -13,10 +13,10 @@ use Rattle.manager.proofs.bits.ready_bits.Statement.{statement}
 use Rattle.manager.proofs.bits.ready_bits.Tie as tie
 
 abbrev Inv-loop : tie.InvT-loop
-Inv-loop plan c ledger opens tracks bits₀ bit₀ t₀ bits bit t = (t ≤ tracks) × (bit ≡ 2 ^ t) × (bits ≡ bitsBelow t (mayFire (planOf plan c) (ledgerOf c ledger)))
+Inv-loop terms plan c ledger opens tracks bits₀ bit₀ t₀ bits bit t = (t ≤ tracks) × (bit ≡ 2 ^ t) × (bits ≡ bitsBelow t (mayFire (planOf plan c) (ledgerOf terms c ledger)))
 
 abbrev μ-loop : tie.MeasureT-loop
-μ-loop plan c ledger opens tracks bits₀ bit₀ t₀ bits bit t = tracks - t
+μ-loop terms plan c ledger opens tracks bits₀ bit₀ t₀ bits bit t = tracks - t
 
 returns : tie.Need-returns Inv-loop μ-loop
 returns c = sym (over-ready _ _ (sym (c .before .is-over .ensures) ∙ c .if1 .taken))
@@ -40,7 +40,7 @@ cast-result : tie.Need-cast-result Inv-loop μ-loop
 cast-result c = let h : c .before .loop .t ≤ 32 = omega (arith, c .before .before .before .before .before .before .pre .0 .lent .room .few) in omega (arith, bits-fit _ _ _ (c .before .loop .inv .2) h)
 
 returns-2 : tie.Need-returns-2 Inv-loop μ-loop
-returns-2 c = bits-ready _ _ _ _ _ (c .before .loop .inv .2) (search needs) (search needs)
+returns-2 c = bits-ready _ _ _ _ _ _ (c .before .loop .inv .2) (search needs) (search needs)
 
 pub ready-bits-spec : {M : Type 1} → statement M
 ready-bits-spec =

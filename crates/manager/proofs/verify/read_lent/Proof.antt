@@ -13,15 +13,15 @@ has-room-requires c κs = accepted-holds _ _ (sym (c .before .before .before .re
 
 returns : tie.Need-returns
 unfolding planTold
-returns c = (lent-short _ _ _ (sym (ap planTold (c .before .before .before .answer2 .given .1)) ∙ c .before .before .before .before .before .read-plan-with .ensures .0) (short _ _ _ (c .before .has-room .ensures) (c .if1 .taken)), λ k e. c .before .before .before .before .before .read-plan-with .ensures .1 k (c .before .before .before .before .before .read-plan-with .ensures .0 ∙ e))
+returns c = (lent-short _ _ _ _ (sym (ap planTold (c .before .before .before .answer2 .given .1)) ∙ c .before .before .before .before .before .read-plan-with .ensures .0) (short _ _ _ _ (c .before .has-room .ensures) (c .if1 .taken)), λ k e. c .before .before .before .before .before .read-plan-with .ensures .1 k (c .before .before .before .before .before .read-plan-with .ensures .0 ∙ e))
 
 returns-2 : tie.Need-returns-2
 unfolding planTold
-returns-2 c = (lent-refused _ _ _ (sym (ap planTold (c .before .answer .given .1)) ∙ c .before .before .before .read-plan-with .ensures .0), λ k e. c .before .before .before .read-plan-with .ensures .1 k (c .before .before .before .read-plan-with .ensures .0 ∙ e))
+returns-2 c = (lent-refused _ _ _ _ (sym (ap planTold (c .before .answer .given .1)) ∙ c .before .before .before .read-plan-with .ensures .0), λ k e. c .before .before .before .read-plan-with .ensures .1 k (c .before .before .before .read-plan-with .ensures .0 ∙ e))
 
 returns-3 : tie.Need-returns-3
 unfolding planTold
-returns-3 c = (lent-accepted _ _ _ (sym (ap planTold (c .before .before .before .answer2 .given .1)) ∙ c .before .before .before .before .before .read-plan-with .ensures .0) (roomy _ _ _ (c .before .has-room .ensures) (c .if1 .left)), λ k e. c .before .before .before .before .before .read-plan-with .ensures .1 k (c .before .before .before .before .before .read-plan-with .ensures .0 ∙ e))
+returns-3 c = (lent-accepted _ _ _ _ (sym (ap planTold (c .before .before .before .answer2 .given .1)) ∙ c .before .before .before .before .before .read-plan-with .ensures .0) (roomy _ _ _ _ (c .before .has-room .ensures) (c .if1 .left)), λ k e. c .before .before .before .before .before .read-plan-with .ensures .1 k (c .before .before .before .before .before .read-plan-with .ensures .0 ∙ e))
 
 pub read-lent-spec : {M : Type 1} → statement M
 read-lent-spec =

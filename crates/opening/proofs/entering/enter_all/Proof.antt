@@ -4,7 +4,6 @@ use mathlib.Core.Bool.{false}
 use Prim.Native.Nat.{_≤_, _-_}
 use native.Mathlib.Omega.{arith}
 use lib.ListN.{getD}
-use Rattle.rules.specs.Layout.{entryLimit}
 use Rattle.rules.specs.Ledger.{written}
 use Rattle.rules.proofs.Passes.{upTo}
 use Rattle.ledger.specs.Ladder.{ledgerOf}
@@ -15,20 +14,20 @@ use Rattle.opening.proofs.entering.enter_all.Statement.{statement}
 use Rattle.opening.proofs.entering.enter_all.Tie as tie
 
 abbrev Inv-loop : tie.InvT-loop
-Inv-loop plan c ledger₀ firsts to woken tracks t₀ ledger t =
+Inv-loop terms plan c ledger₀ firsts to woken tracks t₀ ledger t =
     (t ≤ c .tracks)
     × (ledger
-    ≡ written entryLimit (c .tracks) (upTo (λ v. enteredBy (getD to v 0) (getD woken v false) (getD firsts v 0) (ledgerOf c ledger₀ v)) (ledgerOf c ledger₀) t)
+    ≡ written terms (c .tracks) (upTo (λ v. enteredBy (getD to v 0) (getD woken v false) (getD firsts v 0) (ledgerOf terms c ledger₀ v)) (ledgerOf terms c ledger₀) t)
     ledger₀)
 
 abbrev μ-loop : tie.MeasureT-loop
-μ-loop plan c ledger₀ firsts to woken tracks t₀ ledger t = c .tracks - t
+μ-loop terms plan c ledger₀ firsts to woken tracks t₀ ledger t = c .tracks - t
 
 woken-by-requires : tie.Need-woken-by-requires Inv-loop μ-loop
 woken-by-requires c κs = let a = c .before .before .before .before .pre in (a .0, a .2)
 
 loop-holds : tie.Need-loop-holds Inv-loop μ-loop
-loop-holds c = let a = c .before .before .before .before .before .pre in (omega arith, entering-start _ _ (a .1) _ _ (a .2) (c .woken-by .ensures))
+loop-holds c = let a = c .before .before .before .before .before .pre in (omega arith, entering-start _ _ _ (a .1) _ _ (a .2) (c .woken-by .ensures))
 
 array-read-enter-track : tie.Need-array-read-enter-track Inv-loop μ-loop
 array-read-enter-track c = let n = c .before .before .before .before .before .before .before .before .pre .0 .holds .tracks in omega arith
@@ -44,23 +43,23 @@ enter-track-requires c κs =
     let a = c .before .before .before .before .before .before .before .before .pre in
     let w = c .before .before .before .woken-by .ensures in
     let i = c .before .before .loop .inv in
-    (entering-tidy _ _ (a .1) _ _ (a .2) w _ (i .0) (i .1), search needs, entering-asleep _ _ (a .1) _ _ (a .2) w _ (i .0) (i .1) (omega arith) (a .3))
+    (entering-tidy _ _ _ (a .1) _ _ (a .2) w _ (i .0) (i .1), search needs, entering-asleep _ _ _ (a .1) _ _ (a .2) w _ (i .0) (i .1) (omega arith) (a .3))
 
 loop-again : tie.Need-loop-again Inv-loop μ-loop
 loop-again c =
     let a = c .before .before .before .before .before .before .before .before .before .before .before .pre in
     let i = c .before .before .before .before .before .loop .inv in
-    (omega arith, entering-more _ _ (a .1) _ _ (a .2) (c .before .before .before .before .before .before .woken-by .ensures) _ (i .0) (i .1) (c .before .before .enter-track .ensures))
+    (omega arith, entering-more _ _ _ (a .1) _ _ (a .2) (c .before .before .before .before .before .before .woken-by .ensures) _ (i .0) (i .1) (c .before .before .enter-track .ensures))
 
 same-length : tie.Need-same-length Inv-loop μ-loop
 same-length c =
     let a = c .before .before .before .before .before .before .before .pre in
-    entering-length _ _ (a .1) _ _ (a .2) (c .before .before .woken-by .ensures) _ (c .before .loop .inv .0) (c .before .loop .inv .1)
+    entering-length _ _ _ (a .1) _ _ (a .2) (c .before .before .woken-by .ensures) _ (c .before .loop .inv .0) (c .before .loop .inv .1)
 
 returns : tie.Need-returns Inv-loop μ-loop
 returns c =
     let a = c .before .before .before .before .before .before .before .pre in
-    entering-end _ _ (a .1) _ _ (a .2) (c .before .before .woken-by .ensures) _ (c .before .loop .inv .0) (c .before .loop .inv .1) (omega arith)
+    entering-end _ _ _ (a .1) _ _ (a .2) (c .before .before .woken-by .ensures) _ (c .before .loop .inv .0) (c .before .loop .inv .1) (omega arith)
 
 pub enter-all-spec : {M : Type 1} → statement M
 enter-all-spec =

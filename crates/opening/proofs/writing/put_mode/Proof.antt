@@ -9,7 +9,7 @@ put-track-requires : tie.Need-put-track-requires
 put-track-requires c κs = in-room _ _ _ (c .before .before .before .before .pre .0 .room) (c .before .before .before .before .pre .1)
 
 returns : tie.Need-returns
-returns c = mode-put _ _ (c .before .before .before .before .before .before .before .pre .0) _ (c .before .before .before .before .before .before .before .pre .1) _ _ _ (c .before .before .before .before .track .ensures) (c .before .before .put-track .ensures)
+returns c = mode-put _ _ _ (c .before .before .before .before .before .before .before .pre .0) _ (c .before .before .before .before .before .before .before .pre .1) _ _ _ (c .before .before .before .before .track .ensures) (c .before .before .put-track .ensures)
 
 pub put-mode-spec : {M : Type 1} → statement M
 put-mode-spec = tie.close (tie.spec (λ c κs. search needs) put-track-requires (λ c. search needs) returns)

@@ -15,7 +15,7 @@ returns-2 c = absurd (broken-none _ (c .enum-told2 .given .1) (c .before .before
 returns-3 : tie.Need-returns-3
 returns-3 c =
     let j = c .before .before .before .before .before .join in
-    rw (c .before .before .before .before .before .before .before .before .before .found .given .1) (carried-on _ _ (read-back _ (j .ok) ∙ j .ensures) (c .before .before .before .before .carry-out-event .ensures))
+    rw (c .before .before .before .before .before .before .before .before .before .found .given .1) (carried-on _ _ _ (read-back _ (j .ok) ∙ j .ensures) (c .before .before .before .before .carry-out-event .ensures))
 
 returns-4 : tie.Need-returns-4
 returns-4 c = rw (c .before .before .before .before .before .before .before .before .found2 .given .1) (c .before .before .before .before .carry-out-signal .ensures)

@@ -9,8 +9,8 @@ use Rattle.replay.proofs.carry_out.carry_out_event.Tie as tie
 returns : tie.Need-returns
 unfolding eventOutcome
 returns c =
-    carried-on _ _ (read-back _ (c .before .before .before .before .before .before .before .before .before .before .before .before .before .fits .day .sfits))
-    (carried-out _ _ (event (record { event = _; day = _; society = _ })) _ _ _ _ _ _ _ _ _ (c .before .before .before .before .before .before .before .before .event-indexed .ensures)
+    carried-on _ _ _ (read-back _ (c .before .before .before .before .before .before .before .before .before .before .before .before .before .fits .day .sfits))
+    (carried-out _ _ _ (event (record { event = _; day = _; society = _ })) _ _ _ _ _ _ _ _ _ (c .before .before .before .before .before .before .before .before .event-indexed .ensures)
     (c .before .before .before .before .event-line .ensures _ _) (event-fires _ _) (c .come-to .ensures))
 
 pub carry-out-event-spec : {M : Type 1} → statement M

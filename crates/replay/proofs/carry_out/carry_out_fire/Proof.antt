@@ -15,7 +15,7 @@ come-to-requires c κs = (search needs, omega (arith, c .before .firings-of .ens
 
 returns : tie.Need-returns
 unfolding fireOutcome
-returns c = carried-out _ _ (fire (record { track = _; society = _ })) _ _ _ _ _ _ _ _ _ (c .before .before .before .before .before .before .before .before .before .fire .ensures) (c .before .before .before .before .before .fire-line .ensures _) (c .before .before .firings-of .ensures _ _) (c .come-to .ensures)
+returns c = carried-out _ _ _ (fire (record { track = _; society = _ })) _ _ _ _ _ _ _ _ _ (c .before .before .before .before .before .before .before .before .before .fire .ensures) (c .before .before .before .before .before .fire-line .ensures _) (c .before .before .firings-of .ensures _ _) (c .come-to .ensures)
 
 pub carry-out-fire-spec : {M : Type 1} → statement M
 carry-out-fire-spec =

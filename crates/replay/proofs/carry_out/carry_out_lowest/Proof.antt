@@ -5,7 +5,7 @@ use Rattle.replay.proofs.carry_out.carry_out_lowest.Statement.{statemen
 use Rattle.replay.proofs.carry_out.carry_out_lowest.Tie as tie
 
 returns : tie.Need-returns
-returns c = carried-out-as _ _ _ _ _ _ _ _ _ _ (c .before .before .before .before .before .before .before .lowest-ready .ensures) (c .before .before .before .before .carry-out-fire .ensures)
+returns c = carried-out-as _ _ _ _ _ _ _ _ _ _ _ (c .before .before .before .before .before .before .before .lowest-ready .ensures) (c .before .before .before .before .carry-out-fire .ensures)
 
 pub carry-out-lowest-spec : {M : Type 1} → statement M
 carry-out-lowest-spec =

@@ -7,7 +7,7 @@ use Rattle.replay.proofs.carry_out.carry_out_signal.Tie as tie
 
 returns : tie.Need-returns
 unfolding signalOutcome
-returns c = carried-out _ _ (signal (record { society = _ })) _ _ _ _ _ _ _ _ _ (c .before .before .before .before .before .before .before .before .signal .ensures) (c .before .before .before .before .signal-line .ensures _) (signal-fires _ _) (c .come-to .ensures)
+returns c = carried-out _ _ _ (signal (record { society = _ })) _ _ _ _ _ _ _ _ _ (c .before .before .before .before .before .before .before .before .signal .ensures) (c .before .before .before .before .signal-line .ensures _) (signal-fires _ _) (c .come-to .ensures)
 
 pub carry-out-signal-spec : {M : Type 1} → statement M
 carry-out-signal-spec =

@@ -17,26 +17,26 @@ use Rattle.soundness.proofs.entries.good_entries.Statement.{statement}
 use Rattle.soundness.proofs.entries.good_entries.Tie as tie
 
 abbrev Inv-loop : tie.InvT-loop
-Inv-loop plan c ledger t count all₀ held k₀ all k = (k ≤ held) × (all ≡ everyBelow k (λ j. goodEntry (planOf plan c) t (entryAt ledger (entryPlace t j))))
+Inv-loop terms plan c ledger t count all₀ held k₀ all k = (k ≤ held) × (all ≡ everyBelow k (λ j. goodEntry (planOf plan c) t (entryAt ledger (entryPlace terms t j))))
 
 abbrev μ-loop : tie.MeasureT-loop
-μ-loop plan c ledger t count all₀ held k₀ all k = held - k
+μ-loop terms plan c ledger t count all₀ held k₀ all k = held - k
 
 loop-holds : tie.Need-loop-holds Inv-loop μ-loop
 unfolding everyBelow
 loop-holds c = (search needs, refl)
 
 entry-code-requires : tie.Need-entry-code-requires Inv-loop μ-loop
-entry-code-requires c κs = (in-room _ _ _ (c .before .before .before .before .pre .0 .room) (c .before .before .before .before .pre .1), omega (arith, holds (c .before .before .before .before .args .c) (c .before .before .before .before .args .ledger .now) (record { room = c .before .before .before .before .pre .0 .room; tidy = c .before .before .before .before .pre .2 }) .fits (c .before .before .before .before .args .t)))
+entry-code-requires c κs = (in-room _ _ _ (c .before .before .before .before .pre .0 .room) (c .before .before .before .before .pre .1), omega (arith, holds _ (c .before .before .before .before .args .c) (c .before .before .before .before .args .ledger .now) (record { room = c .before .before .before .before .pre .0 .room; tidy = c .before .before .before .before .pre .2 }) .fits (c .before .before .before .before .args .t)))
 
 entry-deviation-requires : tie.Need-entry-deviation-requires Inv-loop μ-loop
-entry-deviation-requires c κs = (in-room _ _ _ (c .before .before .before .before .before .pre .0 .room) (c .before .before .before .before .before .pre .1), omega (arith, holds (c .before .before .before .before .before .args .c) (c .before .before .before .before .before .args .ledger .now) (record { room = c .before .before .before .before .before .pre .0 .room; tidy = c .before .before .before .before .before .pre .2 }) .fits (c .before .before .before .before .before .args .t)))
+entry-deviation-requires c κs = (in-room _ _ _ (c .before .before .before .before .before .pre .0 .room) (c .before .before .before .before .before .pre .1), omega (arith, holds _ (c .before .before .before .before .before .args .c) (c .before .before .before .before .before .args .ledger .now) (record { room = c .before .before .before .before .before .pre .0 .room; tidy = c .before .before .before .before .before .pre .2 }) .fits (c .before .before .before .before .before .args .t)))
 
 loop-again : tie.Need-loop-again Inv-loop μ-loop
 loop-again c = (search needs, every-visit _ _ (c .before .before .before .before .loop .inv .1) (entry-asked _ _ _ (c .before .before .entry-code .ensures) (c .before .entry-deviation .ensures) (c .good-deviation .ensures)))
 
 returns : tie.Need-returns Inv-loop μ-loop
-returns c = every-done _ _ _ (c .before .loop .inv .1) (search needs) (search needs) ∙ held-asked _ _ _ _ _ (c .before .before .before .before .pre .1) (c .before .before .before .before .pre .3)
+returns c = every-done _ _ _ (c .before .loop .inv .1) (search needs) (search needs) ∙ held-asked _ _ _ _ _ _ (c .before .before .before .before .pre .1) (c .before .before .before .before .pre .3)
 
 pub good-entries-spec : {M : Type 1} → statement M
 good-entries-spec =

@@ -12,10 +12,10 @@ use Rattle.soundness.proofs.scopes.mark_scopes.Statement.{statement}
 use Rattle.soundness.proofs.scopes.mark_scopes.Tie as tie
 
 abbrev Inv-loop : tie.InvT-loop
-Inv-loop plan c ledger opens awake₀ asleep₀ unfinished₀ busy₀ tracks t₀ awake asleep unfinished busy t = (t ≤ c .tracks) × Marked (planOf plan c) (ledgerOf c ledger) t awake asleep unfinished busy
+Inv-loop terms plan c ledger opens awake₀ asleep₀ unfinished₀ busy₀ tracks t₀ awake asleep unfinished busy t = (t ≤ c .tracks) × Marked (planOf plan c) (ledgerOf terms c ledger) t awake asleep unfinished busy
 
 abbrev μ-loop : tie.MeasureT-loop
-μ-loop plan c ledger opens awake₀ asleep₀ unfinished₀ busy₀ tracks t₀ awake asleep unfinished busy t = c .tracks - t
+μ-loop terms plan c ledger opens awake₀ asleep₀ unfinished₀ busy₀ tracks t₀ awake asleep unfinished busy t = c .tracks - t
 
 loop-holds : tie.Need-loop-holds Inv-loop μ-loop
 loop-holds c = (search needs, marked-none _ _)

@@ -11,10 +11,10 @@ use Rattle.soundness.proofs.tracks.are_sound.Statement.{statement}
 use Rattle.soundness.proofs.tracks.are_sound.Tie as tie
 
 abbrev Inv-loop : tie.InvT-loop
-Inv-loop plan c ledger all₀ tracks t₀ all t = (t ≤ c .tracks) × (all ≡ everyBelow t (soundTrack (planOf plan c) (ledgerOf c ledger)))
+Inv-loop terms plan c ledger all₀ tracks t₀ all t = (t ≤ c .tracks) × (all ≡ everyBelow t (soundTrack (planOf plan c) (ledgerOf terms c ledger)))
 
 abbrev μ-loop : tie.MeasureT-loop
-μ-loop plan c ledger all₀ tracks t₀ all t = c .tracks - t
+μ-loop terms plan c ledger all₀ tracks t₀ all t = c .tracks - t
 
 loop-holds : tie.Need-loop-holds Inv-loop μ-loop
 unfolding everyBelow

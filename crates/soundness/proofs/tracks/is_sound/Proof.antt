@@ -8,7 +8,7 @@ use Rattle.soundness.proofs.tracks.is_sound.Statement.{statement}
 use Rattle.soundness.proofs.tracks.is_sound.Tie as tie
 
 returns : tie.Need-returns
-returns c = asleep-asked _ _ _ (c .before .before .before .track .ensures) (c .before .before .is-awake .ensures) (c .before .if1 .taken) (holds _ _ (record { room = c .before .before .before .before .before .before .pre .0 .room; tidy = c .before .before .before .before .before .before .pre .2 }) .blank _) (c .is-root .ensures)
+returns c = asleep-asked _ _ _ (c .before .before .before .track .ensures) (c .before .before .is-awake .ensures) (c .before .if1 .taken) (holds _ _ _ (record { room = c .before .before .before .before .before .before .pre .0 .room; tidy = c .before .before .before .before .before .before .pre .2 }) .blank _) (c .is-root .ensures)
 
 good-entries-requires : tie.Need-good-entries-requires
 good-entries-requires c κs = (c .before .before .before .before .before .before .before .pre .0, c .before .before .before .before .before .before .before .pre .1, c .before .before .before .before .before .before .before .pre .2, count-as _ (c .before .before .before .before .track .ensures))

@@ -18,7 +18,7 @@ use Rattle.withdrawal.proofs.abandoning.+climb.{statement}
 use Rattle.withdrawal.proofs.abandoning.+climb.Tie.{close}
 
 abbrev μ-climb : Measures 2 climb-kinds.ps ℕ
-μ-climb κs a = a .1 .1 .1 .1 .0
+μ-climb κs a = a .1 .1 .1 .1 .1 .0
 
 abbrev climb-at : ℕ → In 2 climb-kinds.ps
 climb-at t = and 2 climb-kinds.ps (is 2 climb-kinds.ps μ-climb t) climb.Pre
@@ -34,7 +34,7 @@ climb-element-write-next : (t : ℕ) → climb-lts.Need-element-write-next (
   climb-below t,
   climb.Post,
 ) (climb-at t) climb.Post
-climb-element-write-next t c = let b = climb-low _ _ (c .before .before .pre .1 .0) _ (c .before .before .pre .1 .1) _ _ (c .before .before .pre .1 .2) in let n = c .before .before .pre .1 .0 .holds .tracks in omega arith
+climb-element-write-next t c = let b = climb-low _ _ _ (c .before .before .pre .1 .0) _ (c .before .before .pre .1 .1) _ _ (c .before .before .pre .1 .2) in let n = c .before .before .pre .1 .0 .holds .tracks in omega arith
 
 climb-is-taken-back-requires : (t : ℕ) → climb-lts.Need-is-taken-back-requires (
   is-taken-back-reads.Asked,
@@ -44,7 +44,7 @@ climb-is-taken-back-requires : (t : ℕ) → climb-lts.Need-is-taken-back-requir
   climb-below t,
   climb.Post,
 ) (climb-at t) climb.Post
-climb-is-taken-back-requires t c κs = (c .before .before .pre .1 .1 .room, climb-low _ _ (c .before .before .pre .1 .0) _ (c .before .before .pre .1 .1) _ _ (c .before .before .pre .1 .2))
+climb-is-taken-back-requires t c κs = (c .before .before .pre .1 .1 .room, climb-low _ _ _ (c .before .before .pre .1 .0) _ (c .before .before .pre .1 .1) _ _ (c .before .before .pre .1 .2))
 
 climb-returns : (t : ℕ) → climb-lts.Need-returns (
   is-taken-back-reads.Asked,
@@ -54,7 +54,7 @@ climb-returns : (t : ℕ) → climb-lts.Need-returns (
   climb-below t,
   climb.Post,
 ) (climb-at t) climb.Post
-climb-returns t c = climb-busy _ _ (c .before .before .before .before .pre .1 .0) _ (c .before .before .before .before .pre .1 .1) _ _ (c .before .before .before .before .pre .1 .2) (c .before .is-taken-back .ensures) (c .if1 .taken)
+climb-returns t c = climb-busy _ _ _ (c .before .before .before .before .pre .1 .0) _ (c .before .before .before .before .pre .1 .1) _ _ (c .before .before .before .before .pre .1 .2) (c .before .is-taken-back .ensures) (c .if1 .taken)
 
 climb-host-track-requires : (t : ℕ) → climb-lts.Need-host-track-requires (
   is-taken-back-reads.Asked,
@@ -64,7 +64,7 @@ climb-host-track-requires : (t : ℕ) → climb-lts.Need-host-track-requires (
   climb-below t,
   climb.Post,
 ) (climb-at t) climb.Post
-climb-host-track-requires t c κs = let b = climb-low _ _ (c .before .before .before .before .pre .1 .0) _ (c .before .before .before .before .pre .1 .1) _ _ (c .before .before .before .before .pre .1 .2) in (c .before .before .before .before .pre .1 .0, omega arith)
+climb-host-track-requires t c κs = let b = climb-low _ _ _ (c .before .before .before .before .pre .1 .0) _ (c .before .before .before .before .pre .1 .1) _ _ (c .before .before .before .before .pre .1 .2) in (c .before .before .before .before .pre .1 .0, omega arith)
 
 climb-returns-2 : (t : ℕ) → climb-lts.Need-returns-2 (
   is-taken-back-reads.Asked,
@@ -75,7 +75,7 @@ climb-returns-2 : (t : ℕ) → climb-lts.Need-returns-2 (
   climb.Post,
 ) (climb-at t) climb.Post
 unfolding noState
-climb-returns-2 t c = climb-root _ _ (c .before .before .before .before .before .before .pre .1 .0) _ (c .before .before .before .before .before .before .pre .1 .1) _ _ (c .before .before .before .before .before .before .pre .1 .2) (c .before .before .before .is-taken-back .ensures) (c .before .before .if1 .left) (c .before .host-track .ensures) (c .if2 .taken)
+climb-returns-2 t c = climb-root _ _ _ (c .before .before .before .before .before .before .pre .1 .0) _ (c .before .before .before .before .before .before .pre .1 .1) _ _ (c .before .before .before .before .before .before .pre .1 .2) (c .before .before .before .is-taken-back .ensures) (c .before .before .if1 .left) (c .before .host-track .ensures) (c .if2 .taken)
 
 climb-cast-at : (t : ℕ) → climb-lts.Need-cast-at (
   is-taken-back-reads.Asked,
@@ -107,7 +107,7 @@ climb-sub-count : (t : ℕ) → climb-lts.Need-sub-count (
   climb.Post,
 ) (climb-at t) climb.Post
 unfolding noState
-climb-sub-count t c = let b = climb-some _ _ (c .before .before .before .before .before .before .before .pre .1 .0) _ (c .before .before .before .before .before .before .before .pre .1 .1) _ _ (c .before .before .before .before .before .before .before .pre .1 .2) (c .before .before .before .before .is-taken-back .ensures) (c .before .before .before .if1 .left) (c .before .before .host-track .ensures) (c .before .if2 .left) in omega arith
+climb-sub-count t c = let b = climb-some _ _ _ (c .before .before .before .before .before .before .before .pre .1 .0) _ (c .before .before .before .before .before .before .before .pre .1 .1) _ _ (c .before .before .before .before .before .before .before .pre .1 .2) (c .before .before .before .before .is-taken-back .ensures) (c .before .before .before .if1 .left) (c .before .before .host-track .ensures) (c .before .if2 .left) in omega arith
 
 climb-element-write-next-2 : (t : ℕ) → climb-lts.Need-element-write-next-2 (
   is-taken-back-reads.Asked,
@@ -129,7 +129,7 @@ climb-returns-3 : (t : ℕ) → climb-lts.Need-returns-3 (
   climb.Post,
 ) (climb-at t) climb.Post
 unfolding noState
-climb-returns-3 t c = climb-more _ _ (c .before .before .before .before .before .before .before .before .pre .1 .0) _ (c .before .before .before .before .before .before .before .before .pre .1 .1) _ _ (c .before .before .before .before .before .before .before .before .pre .1 .2) (c .before .before .before .before .before .is-taken-back .ensures) (c .before .before .before .before .if1 .left) (c .before .before .before .host-track .ensures) (c .before .before .if2 .left) refl (c .if3 .taken)
+climb-returns-3 t c = climb-more _ _ _ (c .before .before .before .before .before .before .before .before .pre .1 .0) _ (c .before .before .before .before .before .before .before .before .pre .1 .1) _ _ (c .before .before .before .before .before .before .before .before .pre .1 .2) (c .before .before .before .before .before .is-taken-back .ensures) (c .before .before .before .before .if1 .left) (c .before .before .before .host-track .ensures) (c .before .before .if2 .left) refl (c .if3 .taken)
 
 climb-climb-requires : (t : ℕ) → climb-lts.Need-climb-requires (
   is-taken-back-reads.Asked,
@@ -140,7 +140,7 @@ climb-climb-requires : (t : ℕ) → climb-lts.Need-climb-requires (
   climb.Post,
 ) (climb-at t) climb.Post
 unfolding noState
-climb-climb-requires t c κs = let m = c .before .before .before .before .before .before .before .before .pre .0 in let d = climb-lower _ _ (c .before .before .before .before .before .before .before .before .pre .1 .0) _ (c .before .before .before .before .before .before .before .before .pre .1 .1) _ _ (c .before .before .before .before .before .before .before .before .pre .1 .2) (c .before .before .before .before .before .is-taken-back .ensures) (c .before .before .before .before .if1 .left) (c .before .before .before .host-track .ensures) (c .before .before .if2 .left) in (omega arith, (c .before .before .before .before .before .before .before .before .pre .1 .0, c .before .before .before .before .before .before .before .before .pre .1 .1, climb-due _ _ (c .before .before .before .before .before .before .before .before .pre .1 .0) _ (c .before .before .before .before .before .before .before .before .pre .1 .1) _ _ (c .before .before .before .before .before .before .before .before .pre .1 .2) (c .before .before .before .before .before .is-taken-back .ensures) (c .before .before .before .before .if1 .left) (c .before .before .before .host-track .ensures) (c .before .before .if2 .left) refl (c .if3 .left)))
+climb-climb-requires t c κs = let m = c .before .before .before .before .before .before .before .before .pre .0 in let d = climb-lower _ _ _ (c .before .before .before .before .before .before .before .before .pre .1 .0) _ (c .before .before .before .before .before .before .before .before .pre .1 .1) _ _ (c .before .before .before .before .before .before .before .before .pre .1 .2) (c .before .before .before .before .before .is-taken-back .ensures) (c .before .before .before .before .if1 .left) (c .before .before .before .host-track .ensures) (c .before .before .if2 .left) in (omega arith, (c .before .before .before .before .before .before .before .before .pre .1 .0, c .before .before .before .before .before .before .before .before .pre .1 .1, climb-due _ _ _ (c .before .before .before .before .before .before .before .before .pre .1 .0) _ (c .before .before .before .before .before .before .before .before .pre .1 .1) _ _ (c .before .before .before .before .before .before .before .before .pre .1 .2) (c .before .before .before .before .before .is-taken-back .ensures) (c .before .before .before .before .if1 .left) (c .before .before .before .host-track .ensures) (c .before .before .if2 .left) refl (c .if3 .left)))
 
 climb-returns-4 : (t : ℕ) → climb-lts.Need-returns-4 (
   is-taken-back-reads.Asked,
@@ -151,7 +151,7 @@ climb-returns-4 : (t : ℕ) → climb-lts.Need-returns-4 (
   climb.Post,
 ) (climb-at t) climb.Post
 unfolding noState
-climb-returns-4 t c = climb-on _ _ (c .before .before .before .before .before .before .before .before .before .pre .1 .0) _ (c .before .before .before .before .before .before .before .before .before .pre .1 .1) _ _ (c .before .before .before .before .before .before .before .before .before .pre .1 .2) (c .before .before .before .before .before .before .is-taken-back .ensures) (c .before .before .before .before .before .if1 .left) (c .before .before .before .before .host-track .ensures) (c .before .before .before .if2 .left) refl (c .climb .ensures)
+climb-returns-4 t c = climb-on _ _ _ (c .before .before .before .before .before .before .before .before .before .pre .1 .0) _ (c .before .before .before .before .before .before .before .before .before .pre .1 .1) _ _ (c .before .before .before .before .before .before .before .before .before .pre .1 .2) (c .before .before .before .before .before .before .is-taken-back .ensures) (c .before .before .before .before .before .if1 .left) (c .before .before .before .before .host-track .ensures) (c .before .before .before .if2 .left) refl (c .climb .ensures)
 
 pub +climb-spec : {M : Type 1} → statement M
 +climb-spec = close μ-climb λ t. climb-lts.spec (

@@ -16,7 +16,7 @@ leave-all-requires c κs = let a = c .before .before .before .before .before .be
 returns : tie.Need-returns
 returns c =
     let d = c .before .before .before .leave-all .ensures in
-    (d .0, d .1, leaving-marks _ _ _ (c .before .before .before .before .before .before .before .before .before .before .before .pre .1) _ (c .before .before .before .before .before .left-open .ensures) (d .0))
+    (d .0, d .1, leaving-marks _ _ _ _ (c .before .before .before .before .before .before .before .before .before .before .before .pre .1) _ (c .before .before .before .before .before .left-open .ensures) (d .0))
 
 pub abandon-spec : {M : Type 1} → statement M
 abandon-spec =

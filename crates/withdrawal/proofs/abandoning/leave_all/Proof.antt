@@ -3,7 +3,6 @@ use mathlib.Core.Path.{_≡_}
 use Prim.Native.Nat.{_≤_, _-_}
 use native.Mathlib.Omega.{arith}
 use borrow.Author.Needs.{needs}
-use Rattle.rules.specs.Layout.{entryLimit}
 use Rattle.rules.specs.Plan.{planOf}
 use Rattle.rules.specs.Ledger.{written}
 use Rattle.rules.proofs.Passes.{upTo}
@@ -14,34 +13,34 @@ use Rattle.withdrawal.proofs.abandoning.leave_all.Statement.{statement}
 use Rattle.withdrawal.proofs.abandoning.leave_all.Tie as tie
 
 abbrev Inv-loop : tie.InvT-loop
-Inv-loop plan c ledger₀ opens tracks t₀ ledger t = (t ≤ c .tracks) × (ledger ≡ written entryLimit (c .tracks) (upTo (λ u. keptBy (planOf plan c) opens u (ledgerOf c ledger₀ u)) (ledgerOf c ledger₀) t) ledger₀)
+Inv-loop terms plan c ledger₀ opens tracks t₀ ledger t = (t ≤ c .tracks) × (ledger ≡ written terms (c .tracks) (upTo (λ u. keptBy (planOf plan c) opens u (ledgerOf terms c ledger₀ u)) (ledgerOf terms c ledger₀) t) ledger₀)
 
 abbrev μ-loop : tie.MeasureT-loop
-μ-loop plan c ledger₀ opens tracks t₀ ledger t = c .tracks - t
+μ-loop terms plan c ledger₀ opens tracks t₀ ledger t = c .tracks - t
 
 loop-holds : tie.Need-loop-holds Inv-loop μ-loop
-loop-holds c = let a = c .before .before .before .pre in (omega arith, leaving-start _ _ _ (a .1) _ (a .2))
+loop-holds c = let a = c .before .before .before .pre in (omega arith, leaving-start _ _ _ _ (a .1) _ (a .2))
 
 leave-track-requires : tie.Need-leave-track-requires Inv-loop μ-loop
 leave-track-requires c κs =
     let a = c .before .before .before .before .before .before .before .pre in
     let i = c .before .before .before .loop .inv in
-    (a .0, leaving-orderly _ _ _ (a .1) _ (a .2) _ (i .0) (i .1), search needs)
+    (a .0, leaving-orderly _ _ _ _ (a .1) _ (a .2) _ (i .0) (i .1), search needs)
 
 loop-again : tie.Need-loop-again Inv-loop μ-loop
 loop-again c =
     let a = c .before .before .before .before .before .before .before .before .before .before .pre in
     let i = c .before .before .before .before .before .before .loop .inv in
-    (omega arith, leaving-more _ _ _ (a .1) _ (a .2) _ (i .0) (i .1) (c .before .before .leave-track .ensures))
+    (omega arith, leaving-more _ _ _ _ (a .1) _ (a .2) _ (i .0) (i .1) (c .before .before .leave-track .ensures))
 
 same-length : tie.Need-same-length Inv-loop μ-loop
-same-length c = let a = c .before .before .before .before .before .pre in leaving-length _ _ _ (a .1) _ (a .2) _ (c .before .loop .inv .0) (c .before .loop .inv .1)
+same-length c = let a = c .before .before .before .before .before .pre in leaving-length _ _ _ _ (a .1) _ (a .2) _ (c .before .loop .inv .0) (c .before .loop .inv .1)
 
 returns : tie.Need-returns Inv-loop μ-loop
 returns c =
     let a = c .before .before .before .before .before .pre in
     let i = c .before .loop .inv in
-    (leaving-end _ _ _ (a .1) _ (a .2) _ (i .0) (i .1) (omega arith), leaving-orderly _ _ _ (a .1) _ (a .2) _ (i .0) (i .1))
+    (leaving-end _ _ _ _ (a .1) _ (a .2) _ (i .0) (i .1) (omega arith), leaving-orderly _ _ _ _ (a .1) _ (a .2) _ (i .0) (i .1))
 
 pub leave-all-spec : {M : Type 1} → statement M
 leave-all-spec =

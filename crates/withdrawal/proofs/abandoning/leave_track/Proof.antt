@@ -9,11 +9,11 @@ use Rattle.withdrawal.proofs.abandoning.leave_track.Statement.{statemen
 use Rattle.withdrawal.proofs.abandoning.leave_track.Tie as tie
 
 returns : tie.Need-returns
-returns c = leave-asleep _ _ (c .before .before .before .before .before .pre .0) _ (c .before .before .before .before .before .pre .1) _ _ (c .before .is-awake .ensures) (c .if1 .taken)
+returns c = leave-asleep _ _ _ (c .before .before .before .before .before .pre .0) _ (c .before .before .before .before .before .pre .1) _ _ (c .before .is-awake .ensures) (c .if1 .taken)
 
 returns-2 : tie.Need-returns-2
 unfolding noState
-returns-2 c = leave-root _ _ (c .before .before .before .before .before .before .before .pre .0) _ (c .before .before .before .before .before .before .before .pre .1) _ _ (c .before .before .before .is-awake .ensures) (c .before .host-track .ensures) (c .if2 .taken)
+returns-2 c = leave-root _ _ _ (c .before .before .before .before .before .before .before .pre .0) _ (c .before .before .before .before .before .before .before .pre .1) _ _ (c .before .before .before .is-awake .ensures) (c .before .host-track .ensures) (c .if2 .taken)
 
 element-copy-out-if3 : tie.Need-element-copy-out-if3
 unfolding noState
@@ -23,7 +23,7 @@ returns-3 : tie.Need-returns-3
 unfolding noState
 returns-3 c =
     let pre = c .before .before .before .before .before .before .before .before .before .pre in
-    leave-not _ _ (pre .0) _ (pre .1) _ _ (c .before .before .before .before .before .is-awake .ensures) (c .before .before .before .host-track .ensures) (c .before .before .if2 .left) (c .if3 .taken)
+    leave-not _ _ _ (pre .0) _ (pre .1) _ _ (c .before .before .before .before .before .is-awake .ensures) (c .before .before .before .host-track .ensures) (c .before .before .if2 .left) (c .if3 .taken)
 
 put-to-sleep-requires : tie.Need-put-to-sleep-requires
 put-to-sleep-requires c κs = let pre = c .before .before .before .before .before .before .before .before .before .before .pre in in-room _ _ _ (pre .1 .room) (pre .2)
@@ -32,7 +32,7 @@ returns-4 : tie.Need-returns-4
 unfolding noState
 returns-4 c =
     let pre = c .before .before .before .before .before .before .before .before .before .before .before .before .before .pre in
-    leave-done _ _ (pre .0) _ (pre .1) _ _ (c .before .before .before .before .before .before .before .before .before .is-awake .ensures) (c .before .before .before .before .before .before .before .host-track .ensures) (c .before .before .before .before .before .before .if2 .left) (pre .2) (c .before .before .before .before .if3 .left) (c .before .before .put-to-sleep .ensures)
+    leave-done _ _ _ (pre .0) _ (pre .1) _ _ (c .before .before .before .before .before .before .before .before .before .is-awake .ensures) (c .before .before .before .before .before .before .before .host-track .ensures) (c .before .before .before .before .before .before .if2 .left) (pre .2) (c .before .before .before .before .if3 .left) (c .before .before .put-to-sleep .ensures)
 
 pub leave-track-spec : {M : Type 1} → statement M
 leave-track-spec =

@@ -11,10 +11,10 @@ use Rattle.withdrawal.proofs.abandoning.open_scopes.Statement.{statemen
 use Rattle.withdrawal.proofs.abandoning.open_scopes.Tie as tie
 
 abbrev Inv-loop : tie.InvT-loop
-Inv-loop plan c ledger opens busy₀ tracks t₀ busy t = (t ≤ c .tracks) × Counted (planOf plan c) (ledgerOf c ledger) opens busy t
+Inv-loop terms plan c ledger opens busy₀ tracks t₀ busy t = (t ≤ c .tracks) × Counted (planOf plan c) (ledgerOf terms c ledger) opens busy t
 
 abbrev μ-loop : tie.MeasureT-loop
-μ-loop plan c ledger opens busy₀ tracks t₀ busy t = c .tracks - t
+μ-loop terms plan c ledger opens busy₀ tracks t₀ busy t = c .tracks - t
 
 loop-holds : tie.Need-loop-holds Inv-loop μ-loop
 loop-holds c = (omega arith, count-start _ _ (c .before .before .before .pre .accepts) _ _ (c .open-scopes .ensures))

@@ -6,7 +6,7 @@ use Rattle.withdrawal.proofs.fire.may_fire.Statement.{statement}
 use Rattle.withdrawal.proofs.fire.may_fire.Tie as tie
 
 returns : tie.Need-returns
-returns c = may-beyond _ _ _ _ (omega arith)
+returns c = may-beyond _ _ _ _ _ (omega arith)
 
 returns-2 : tie.Need-returns-2
 returns-2 c = c .is-ready .ensures

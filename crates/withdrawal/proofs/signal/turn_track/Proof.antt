@@ -6,20 +6,20 @@ use Rattle.withdrawal.proofs.signal.turn_track.Statement.{statement}
 use Rattle.withdrawal.proofs.signal.turn_track.Tie as tie
 
 returns : tie.Need-returns
-returns c = let (n, w) = turn-barred _ _ (c .before .before .pre .0) _ (c .before .before .args .may) (c .if1 .taken) in (n, w, omega arith)
+returns c = let (n, w) = turn-barred _ _ _ (c .before .before .pre .0) _ (c .before .before .args .may) (c .if1 .taken) in (n, w, omega arith)
 
 returns-2 : tie.Need-returns-2
 returns-2 c =
     let (n, w) =
-    turn-may _ _ (c .before .before .before .before .before .before .pre .0) _ (c .before .before .before .before .before .before .args .may) (c .before .before .before .before .if1 .left)
-    (turn-not _ _ (c .before .before .before .before .before .before .pre .0) _ _ (c .before .before .track .ensures) (c .before .is-forward .ensures) (c .if2 .taken)) in
+    turn-may _ _ _ (c .before .before .before .before .before .before .pre .0) _ (c .before .before .before .before .before .before .args .may) (c .before .before .before .before .if1 .left)
+    (turn-not _ _ _ (c .before .before .before .before .before .before .pre .0) _ _ (c .before .before .track .ensures) (c .before .is-forward .ensures) (c .if2 .taken)) in
     (n, w, omega arith)
 
 returns-3 : tie.Need-returns-3
 returns-3 c =
     let (n, w) =
-    turn-may _ _ (c .before .before .before .before .before .before .before .before .before .before .pre .0) _ (c .before .before .before .before .before .before .before .before .before .before .args .may) (c .before .before .before .before .before .before .before .before .if1 .left)
-    (turn-done _ _ (c .before .before .before .before .before .before .before .before .before .before .pre .0) _ _ (c .before .before .before .before .before .before .track .ensures) (c .before .before .before .before .before .is-forward .ensures) (c .before .before .before .before .if2 .left) (c .before .before .put-mode .ensures)) in
+    turn-may _ _ _ (c .before .before .before .before .before .before .before .before .before .before .pre .0) _ (c .before .before .before .before .before .before .before .before .before .before .args .may) (c .before .before .before .before .before .before .before .before .if1 .left)
+    (turn-done _ _ _ (c .before .before .before .before .before .before .before .before .before .before .pre .0) _ _ (c .before .before .before .before .before .before .track .ensures) (c .before .before .before .before .before .is-forward .ensures) (c .before .before .before .before .if2 .left) (c .before .before .put-mode .ensures)) in
     (n, w, omega arith)
 
 pub turn-track-spec : {M : Type 1} → statement M

@@ -1,0 +1,14 @@
+-- Places are small: a track's words start below 2^23, whatever limit a word can count. Assumes nothing.
+use Prim.Native.Nat.{ℕ, _+_, _*_, _<_, _≤_}
+use native.Mathlib.Nat.{mul-le-mul}
+use native.Mathlib.Omega.{arith}
+use Rattle.rules.specs.declared.Terms.{Terms}
+use Rattle.rules.specs.Layout.{leadingWords, headWords, entryWidth, trackWidth, trackPlace}
+
+-- the words of so many tracks
+pub tracks-small : {width t : ℕ} → width < 131074 → t ≤ 32 → width * t < 4194337
+tracks-small {width} {t} h k = let w : width ≤ 131073 = omega arith in let m : width * t ≤ 131073 * 32 = mul-le-mul w k in omega arith
+
+pub place-small : (terms : Terms) (t : ℕ) → terms .limit < 65536 → t ≤ 32 → trackPlace terms t < 4194341
+unfolding trackPlace trackWidth headWords entryWidth leadingWords
+place-small terms t h k = let m = tracks-small {width = 3 + 2 * terms .limit} {t = t} (omega arith) k in omega arith
