@@ -9,7 +9,7 @@ use Prim.Native.Nat.{ℕ, zero, suc, _+_, _<_, _≤_}
 use native.Mathlib.Omega.{arith}
 use lib.Dec.{eqb}
 use borrow.Author.Tests.{eq-eqb}
-use Rattle.rules.specs.Layout.{mainTerms}
+use Rattle.rules.specs.Setting.{mainTerms}
 use Rattle.rules.specs.declared.Mode.{Mode}
 use Rattle.rules.specs.declared.Mode.the-variants.{Forward}
 use Rattle.rules.specs.Plan.{Plan, trackCount, host, owner, isRoot, isStateOf, isIn, isHostedBy, isHosting, firstState}

@@ -9,7 +9,7 @@ use Prim.Native.Nat.{ℕ, _<_}
 use native.Mathlib.Omega.{arith}
 use lib.Dec.{eqb}
 use borrow.Author.Tests.{eqb-true, eqb-false, eq-eqb, ne-eqb}
-use Rattle.rules.specs.Layout.{mainTerms}
+use Rattle.rules.specs.Setting.{mainTerms}
 use Rattle.rules.specs.Plan.{Plan, trackCount, optional, host, isHostedBy, isAbove}
 use Rattle.rules.specs.Ledger.{Entry, Configuration, Ledger, isAwake, isForward, isEmpty}
 use Rattle.rules.specs.Scope.{hasOpenScope}

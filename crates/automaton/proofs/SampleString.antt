@@ -12,7 +12,7 @@ use lib.Dec.{eqb, ltb}
 use borrow.Author.Tests.{eqb-true, eq-eqb, ltb-true, ltb-false}
 use Rattle.rules.specs.Fold.{everyBelow}
 use Rattle.rules.specs.Plan.{Plan, State, planOf, stateCount, transitionCount, state, transition, replacement, mover, noState}
-use Rattle.rules.specs.Layout.{mainTerms}
+use Rattle.rules.specs.Setting.{mainTerms}
 use Rattle.rules.specs.Call.{Call, event, signal, fire}
 use Rattle.rules.proofs.Tests.{look, implies}
 use Rattle.rules.proofs.Folds.{every-at}

@@ -12,7 +12,8 @@ use Rattle.rules.specs.Names.{Day}
 use Rattle.rules.specs.declared.Terms.{Terms}
 use Rattle.rules.specs.Plan.{Plan, trackCount, planOf}
 use Rattle.rules.specs.Acceptance.{accepted, readPlan}
-use Rattle.rules.specs.Layout.{mainTerms}
+use Rattle.rules.specs.declared.Setting.{Setting}
+use Rattle.rules.specs.Setting.{limitOf, termsOf}
 use Rattle.rules.specs.Ledger.{Ledger}
 use Rattle.rules.specs.Call.{Answer, refusal, done, Call, event, signal, fire, refusedOr, ledgerRefusal, callRefusals, callRefusal, callOutcome}
 use Rattle.rules.specs.Leading.{lastDay}
@@ -121,10 +122,9 @@ module _ (terms : Terms) (bs : List ℕ) (k : Counts) (read : readPlan bs ≡ ac
           (theorem.firings-bounded laws01 terms p ok (listed cs) (lastDay ws) l (h .kept) (sym (same-eventless cs ws (lastDay ws) l h) ∙ n))
       go (suc r) e = let z = refused-all cs ws r e .1 in omega arith
 
--- "No firings beyond 32 times the number of tracks follow one another without an event or a deviation."
-pub no-firings-beyond : (bs : List ℕ) (k : Counts) → readPlan bs ≡ accepted k → (ws : List ℕ) (cs : List Call)
-    → isWithout isEventDone cs (answersFrom mainTerms bs ws cs) ≡ true
-    → isWithout isDeviation cs (answersFrom mainTerms bs ws cs) ≡ true
-    → firingsIn cs (answersFrom mainTerms bs ws cs) ≤ 32 * trackCount (planOf bs k)
-unfolding mainTerms
-no-firings-beyond bs k read ws cs n d = firings-bounded mainTerms bs k read ws cs n
+-- "No firings beyond 32 times the number of tracks follow one another without an event or a deviation.": at each setting its own limit
+pub no-firings-beyond : (setting : Setting) (bs : List ℕ) (k : Counts) → readPlan bs ≡ accepted k → (ws : List ℕ) (cs : List Call)
+    → isWithout isEventDone cs (answersFrom (termsOf setting) bs ws cs) ≡ true
+    → isWithout isDeviation cs (answersFrom (termsOf setting) bs ws cs) ≡ true
+    → firingsIn cs (answersFrom (termsOf setting) bs ws cs) ≤ limitOf (setting .limit) * trackCount (planOf bs k)
+no-firings-beyond setting bs k read ws cs n d = unfold termsOf in firings-bounded (termsOf setting) bs k read ws cs n

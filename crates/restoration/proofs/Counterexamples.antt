@@ -11,8 +11,9 @@ use lib.IntN.{pos}
 use lib.ListN.{length}
 use lib.Dec.{eqb}
 use Rattle.rules.specs.declared.Counts.{Counts}
+use Rattle.rules.specs.declared.Terms.{Terms}
 use Rattle.rules.specs.Plan.{Plan, planOf, transition, host, owner, replacement, mover, isAbove}
-use Rattle.rules.specs.Layout.{mainTerms}
+use Rattle.rules.specs.Setting.{mainTerms}
 use Rattle.rules.specs.Call.{Call, event, signal, fire}
 use Rattle.rules.specs.Books.{Apart, Deed, change, retraction, replacing, act}
 use Rattle.rules.specs.ReferenceRun.{ledgerAfter, AllWithdrawn}
@@ -25,9 +26,9 @@ use Rattle.restoration.proofs.Runs01.{same-act, to-finished}
 use Rattle.restoration.proofs.Restoration.{freely-restored}
 
 -- that retractions commute need not be asked: the claim holds without it, and so with it
-pub retractions-free : Claim changesAlone
-retractions-free bs c read k lent cs h w b =
-    freely-restored mainTerms bs c read
+pub retractions-free : (terms : Terms) → Claim terms changesAlone
+retractions-free terms bs c read k lent cs h w b =
+    freely-restored terms bs c read
     (record {
       State = k .State;
       changed = k .changed;
@@ -35,14 +36,14 @@ retractions-free bs c read k lent cs h w b =
       nothing = λ a d b. k .nothing refl b;
       undo = λ a x l b. k .undo x l refl b;
       undo-run = λ s t e a w f b.
-          ap (k .retracted (replacement (planOf bs c) s)) (sym (same-act (k .changed) w b)) ∙ k .undo-run s t e refl w (to-finished (planOf bs c) mainTerms f) b;
+          ap (k .retracted (replacement (planOf bs c) s)) (sym (same-act (k .changed) w b)) ∙ k .undo-run s t e refl w (to-finished (planOf bs c) terms f) b;
       commute = λ a c x y l m n b. k .commute refl x y l m n b;
     })
     lent cs h b w
 
-pub asked-of-all : Claim allAsked
-asked-of-all bs c read k =
-    retractions-free bs c read
+pub asked-of-all : (terms : Terms) → Claim terms allAsked
+asked-of-all terms bs c read k =
+    retractions-free terms bs c read
     (record {
       State = k .State;
       changed = k .changed;
@@ -134,25 +135,25 @@ real-C zero l r = record { undoing = refl; empty = refl; shut = refl }
 real-C (suc t) l r = absurd (omega arith)
 
 -- "code 0 changing none"
-pub nothing-needed : Claim withoutNothing → ⊥
+pub nothing-needed : Claim mainTerms withoutNothing → ⊥
 unfolding computing planC uncounted freely freelyBooked freelyCall act
 nothing-needed claim = let z : _≡_ {A = ℕ} 1 0 = claim (planC 0) countsC refl uncounted (lentFor 1) calls refl zero-C 0 in omega arith
 
 -- "each transition's code undo its change": asked of all codes but 0, of code 0 alone, of none
-pub code-zero-needed : Claim (undoneWhere onlyReal) → ⊥
+pub code-zero-needed : Claim mainTerms (undoneWhere onlyReal) → ⊥
 unfolding computing planC counted freely freelyBooked freelyCall act
 code-zero-needed claim =
     let z : _≡_ {A = ℕ} 1 0 = claim (planC 0) countsC refl (counted 0 onlyReal refl) (lentFor 1) calls refl zero-C 0 in omega arith
 
 -- where it is not asked of a code other than 0: here of 5, which was fired
-undo-asked : (f : ℕ → Bool) → f 5 ≡ false → Claim (undoneWhere f) → ⊥
+undo-asked : (f : ℕ → Bool) → f 5 ≡ false → Claim mainTerms (undoneWhere f) → ⊥
 unfolding computing planC counted freely freelyBooked freelyCall act
 undo-asked f e claim = let z : _≡_ {A = ℕ} 1 0 = claim (planC 5) countsC refl (counted 5 f e) (lentFor 1) calls refl real-C 0 in omega arith
 
-pub real-code-needed : Claim (undoneWhere onlyZero) → ⊥
+pub real-code-needed : Claim mainTerms (undoneWhere onlyZero) → ⊥
 real-code-needed = undo-asked onlyZero refl
 
-pub undo-needed : Claim (undoneWhere noneOf) → ⊥
+pub undo-needed : Claim mainTerms (undoneWhere noneOf) → ⊥
 undo-needed = undo-asked noneOf refl
 
 -- A root whose only state hosts a track, with a replacement: the event closes the scope, and the hosted entry is dropped for the replacement.
@@ -214,7 +215,7 @@ module _ (code : ℕ) where
           clash refl (subst (λ v. isAbove (R code) 0 v ≡ false) x (subst (λ v. isAbove (R code) v t ≡ false) y (a .not-below)))
 
 -- "each hosting state's replacement undo every finished run": asked of all replacements but 0, of 0 alone, of none
-pub replacement-zero-needed : Claim (replacedWhere onlyReal) → ⊥
+pub replacement-zero-needed : Claim mainTerms (replacedWhere onlyReal) → ⊥
 unfolding computing planR dropped freely freelyBooked freelyCall act
 replacement-zero-needed claim =
     let z : _≡_ {A = ℕ} 1 0 = claim (planR 0) countsR refl (dropped 0 onlyReal refl) (lentFor 2) calls refl withdrawn 0 in omega arith
@@ -225,7 +226,7 @@ replacement-zero-needed claim =
     withdrawn (suc (suc t)) l r = absurd (omega arith)
 
 -- where it is not asked of a replacement other than 0: here of 9, which was fired
-undo-run-asked : (f : ℕ → Bool) → f 9 ≡ false → Claim (replacedWhere f) → ⊥
+undo-run-asked : (f : ℕ → Bool) → f 9 ≡ false → Claim mainTerms (replacedWhere f) → ⊥
 unfolding computing planR dropped freely freelyBooked freelyCall act
 undo-run-asked f e claim =
     let z : _≡_ {A = ℕ} 1 0 = claim (planR 9) countsR refl (dropped 9 f e) (lentFor 2) calls refl withdrawn 0 in omega arith
@@ -235,10 +236,10 @@ undo-run-asked f e claim =
     withdrawn (suc zero) l r = clash r refl
     withdrawn (suc (suc t)) l r = absurd (omega arith)
 
-pub real-replacement-needed : Claim (replacedWhere onlyZero) → ⊥
+pub real-replacement-needed : Claim mainTerms (replacedWhere onlyZero) → ⊥
 real-replacement-needed = undo-run-asked onlyZero refl
 
-pub undo-run-needed : Claim (replacedWhere noneOf) → ⊥
+pub undo-run-needed : Claim mainTerms (replacedWhere noneOf) → ⊥
 undo-run-needed = undo-run-asked noneOf refl
 
 -- Two roots, each with one state and a transition from it to itself: both move on one event, and then the first is fired first.
@@ -286,7 +287,7 @@ piled =
     undone (suc (suc x)) l h b = absurd (omega arith)
 
 -- "changes and retractions of two tracks commute where neither hosts the other"
-pub commute-needed : Claim withoutCommuting → ⊥
+pub commute-needed : Claim mainTerms withoutCommuting → ⊥
 unfolding computing planW piled without freely freelyBooked freelyCall act
 commute-needed claim =
     let z : _≡_ {A = List ℕ} (0 ∷ []) [] = claim planW countsW refl piled (lentFor 2) made refl withdrawn [] in

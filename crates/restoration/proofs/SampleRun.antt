@@ -7,7 +7,7 @@ use Prim.Native.Nat.{ℕ, zero, suc, _<_}
 use native.Mathlib.Omega.{arith}
 use lib.IntN.{pos}
 use Rattle.rules.specs.Rights.{signalRight, fireRight, isPermitted}
-use Rattle.rules.specs.Layout.{mainTerms}
+use Rattle.rules.specs.Setting.{mainTerms}
 use Rattle.rules.specs.Call.{Call, event, signal, fire, done, beginOutcome}
 use Rattle.rules.specs.Books.{act, Books}
 use Rattle.rules.specs.ReferenceRun.{bookedCall, booked, booksFrom, booksAfter, ledgerAfter, AllWithdrawn}

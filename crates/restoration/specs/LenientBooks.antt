@@ -9,7 +9,6 @@ use Rattle.rules.specs.declared.Counts.{Counts}
 use Rattle.rules.specs.declared.Terms.{Terms}
 use Rattle.rules.specs.Plan.{Plan, planOf, trackCount, transitionCount, transition, host, replacement, mover}
 use Rattle.rules.specs.Acceptance.{accepted, readPlan}
-use Rattle.rules.specs.Layout.{mainTerms}
 use Rattle.rules.specs.Ledger.{Ledger, ledgerAt}
 use Rattle.rules.specs.Fire.{newest}
 use Rattle.rules.specs.Call.{Answer, refusal, done, Call, event, signal, fire, beginOutcome, callOutcome}
@@ -58,14 +57,14 @@ module _ (terms : Terms) (bs : List ℕ) (p : Plan) {S : Type 0} (changed retrac
       (freelyBooked (ledgerAt terms ws (trackCount p)) c (callOutcome terms bs ws c .answer) b)
 
 -- the claim, with so much asked
-abbrev pub Claim : Asked → Type 1
-Claim asked =
+abbrev pub Claim : Terms → Asked → Type 1
+Claim terms asked =
     (bs : List ℕ) (c : Counts) → readPlan bs ≡ accepted c
-    → (k : Lenient (planOf bs c) mainTerms asked) (lent : List ℕ) (cs : List Call)
-    → beginOutcome mainTerms bs lent .answer ≡ done []
-    → AllWithdrawn (planOf bs c) (ledgerAfter mainTerms bs (planOf bs c) lent cs)
+    → (k : Lenient (planOf bs c) terms asked) (lent : List ℕ) (cs : List Call)
+    → beginOutcome terms bs lent .answer ≡ done []
+    → AllWithdrawn (planOf bs c) (ledgerAfter terms bs (planOf bs c) lent cs)
     → (b : k .State)
-    → freely mainTerms bs (planOf bs c) (k .changed) (k .retracted) (beginOutcome mainTerms bs lent .words) cs b ≡ b
+    → freely terms bs (planOf bs c) (k .changed) (k .retracted) (beginOutcome terms bs lent .words) cs b ≡ b
 
 -- all conditions, and all but one
 abbrev pub every : ℕ → Bool

@@ -3,13 +3,6 @@ use Prim.Native.Nat.{ℕ, _+_, _*_}
 use Rattle.rules.specs.Names.{Place, TrackNumber}
 use Rattle.rules.specs.declared.Terms.{Terms}
 
--- "The reading rooms' machine allows 8 entries for each track, the main program still 32." Everything else takes the terms as a parameter
-unfoldable pub mainTerms : Terms
-mainTerms = record { limit = 32 }
-
-unfoldable pub readingRoomTerms : Terms
-readingRoomTerms = record { limit = 8 }
-
 -- "Each ledger gains two leading words", and "the ledger's next two leading words hold the last accepted" day: they stand before the
 -- first track's; where each of them stands
 unfoldable pub leadingWords : ℕ
@@ -45,7 +38,7 @@ abbrev pub deviationPlace : Place → Place
 deviationPlace at = at + 1
 
 module _ (terms : Terms) where
-  -- "67 for each track"
+  -- "3 + 2 × limit words for each track"
   unfoldable pub trackWidth : ℕ
   trackWidth = headWords + entryWidth * terms .limit
 
@@ -56,6 +49,6 @@ module _ (terms : Terms) where
   unfoldable pub entriesPlace : TrackNumber → Place
   entriesPlace t = trackPlace t + headWords
 
-  -- "The ledger needs 2 + 67 × tracks words", and two more for the day
+  -- "a ledger has four leading words and then 3 + 2 × limit words for each track"
   unfoldable pub wordCount : ℕ → ℕ
   wordCount tracks = trackPlace tracks

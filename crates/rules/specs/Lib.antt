@@ -7,6 +7,7 @@ pub mod Record
 pub mod Plan
 pub mod Rights
 pub mod Acceptance
+pub mod Setting
 pub mod Layout
 pub mod Leading
 pub mod Ledger

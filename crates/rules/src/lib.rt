@@ -15,7 +15,18 @@ pub struct Track {
     pub count: u16,
 }
 
-// What the caller keeps to from begin on: the most entries that a track holds.
+// How many entries a track may hold: as in the main program, or as on the reading rooms' machine.
+pub enum Limit {
+    Main,
+    ReadingRoom,
+}
+
+// What a caller chooses on each call, and keeps to from a ledger's begin on. No ledger stores it.
+pub struct Setting {
+    pub limit: Limit,
+}
+
+// What a setting comes to below the public calls, where any limit that a word can count will do.
 pub struct Terms {
     pub limit: u16,
 }

@@ -9,7 +9,7 @@ use Rattle.rules.specs.Names.{Day}
 use Rattle.rules.specs.declared.Counts.{Counts}
 use Rattle.rules.specs.Plan.{planOf}
 use Rattle.rules.specs.Acceptance.{accepted, turnedBack, readPlan}
-use Rattle.rules.specs.Layout.{mainTerms}
+use Rattle.rules.specs.Setting.{mainTerms}
 use Rattle.rules.specs.Leading.{lastDay, dated}
 use Rattle.rules.specs.Call.{Answer, refusal, done, Call, event, signal, fire, beginOutcome, readyOutcome, callOutcome}
 use Rattle.rules.specs.Text.{ascii}

@@ -9,7 +9,7 @@ use lib.IntN.{pos}
 use Rattle.rules.specs.declared.Counts.{Counts}
 use Rattle.rules.specs.Plan.{Plan, trackCount, planOf}
 use Rattle.rules.specs.Acceptance.{accepted, readPlan}
-use Rattle.rules.specs.Layout.{mainTerms}
+use Rattle.rules.specs.Setting.{mainTerms}
 use Rattle.rules.specs.Ledger.{Ledger, ledgerAt}
 use Rattle.rules.specs.Fire.{ready}
 use Rattle.rules.specs.Call.{Call, event, signal, fire}

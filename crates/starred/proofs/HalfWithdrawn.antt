@@ -5,7 +5,7 @@ use mathlib.Core.List.{List, [], _∷_, _++_}
 use Prim.Native.Nat.{ℕ}
 use lib.IntN.{pos}
 use lib.ListN.{take, replicate}
-use Rattle.rules.specs.Layout.{mainTerms}
+use Rattle.rules.specs.Setting.{mainTerms}
 use Rattle.rules.specs.Call.{Answer, refusal, done, Call, event, signal, fire, readyOutcome, callOutcome}
 use Rattle.rules.specs.ReferenceRun.{wordsAfter, answersAfter}
 use Rattle.starred.specs.SamplePlan.{twoRoots, lentFor}

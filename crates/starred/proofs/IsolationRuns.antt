@@ -11,7 +11,7 @@ use borrow.Author.Tests.{ne-eqb}
 use Rattle.rules.specs.declared.Counts.{Counts}
 use Rattle.rules.specs.Plan.{Plan, planOf}
 use Rattle.rules.specs.Acceptance.{accepted, readPlan}
-use Rattle.rules.specs.Layout.{mainTerms}
+use Rattle.rules.specs.Setting.{mainTerms}
 use Rattle.rules.specs.Call.{Answer, refusal, done, Call, event, signal, fire, readyOutcome, entriesPart}
 use Rattle.rules.specs.ReferenceRun.{wordsAfter, answersAfter}
 use Rattle.rules.specs.Isolation.{holdsAny, Alone, ownCalls, ownAnswers, isOverNow, lasts}

@@ -8,7 +8,7 @@ use lib.ListN.{length}
 use Rattle.rules.specs.declared.Counts.{Counts}
 use Rattle.rules.specs.Plan.{Plan, planOf}
 use Rattle.rules.specs.Acceptance.{accepted}
-use Rattle.rules.specs.Layout.{mainTerms}
+use Rattle.rules.specs.Setting.{mainTerms}
 use Rattle.rules.specs.Call.{Call, event}
 use Rattle.rules.specs.ReferenceRun.{ledgerAfter}
 use Rattle.rules.specs.Largest.{ofTransition, ofState, leaves, mostWithin, largest, hasDeviation, goesOn, hasCycle, isUnbounded, readBounded}

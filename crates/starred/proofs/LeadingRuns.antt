@@ -5,7 +5,7 @@ use mathlib.Core.List.{List, [], _∷_}
 use Prim.Native.Nat.{ℕ}
 use lib.IntN.{pos}
 use lib.ListN.{length, take, replicate}
-use Rattle.rules.specs.Layout.{mainTerms}
+use Rattle.rules.specs.Setting.{mainTerms}
 use Rattle.rules.specs.Leading.{planSum}
 use Rattle.rules.specs.Call.{Answer, refusal, done, Call, event, signal, fire, beginOutcome, readyOutcome, callOutcome, entriesPart}
 use Rattle.rules.specs.ReferenceRun.{wordsAfter}

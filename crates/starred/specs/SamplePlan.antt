@@ -2,7 +2,8 @@
 use mathlib.Core.List.{List, [], _∷_}
 use Prim.Native.Nat.{ℕ, _+_, _/_, _%_}
 use lib.ListN.{replicate}
-use Rattle.rules.specs.Layout.{mainTerms, wordCount}
+use Rattle.rules.specs.Setting.{mainTerms}
+use Rattle.rules.specs.Layout.{wordCount}
 
 -- the bytes of 16-bit little-endian numbers
 unfoldable pub bytesOf : List ℕ → List ℕ

@@ -8,8 +8,8 @@ use Rattle.ledger.proofs.ReadTracks.{count-as}
 use Rattle.lookup.proofs.Facts.{track-read}
 use Rattle.manager.proofs.Checks.{call-checked, span-at, span-refused, span-absent, span-held}
 use borrow.Author.Needs.{needs}
-use Rattle.manager.proofs.part_of.Statement.{statement}
-use Rattle.manager.proofs.part_of.Tie as tie
+use Rattle.manager.proofs.calls.part_of.Statement.{statement}
+use Rattle.manager.proofs.calls.part_of.Tie as tie
 
 returns : tie.Need-returns
 unfolding planTold
