@@ -9,7 +9,9 @@ use lib.Dec.{ltb, eqb}
 use lib.ListN.{length, take, drop}
 use borrow.Author.Tests.{ltb-true, eqb-true, eq-eqb, ne-eqb}
 use Rattle.rules.specs.declared.Counts.{Counts}
+use Rattle.rules.specs.declared.Setting.{Setting}
 use Rattle.rules.specs.declared.Terms.{Terms}
+use Rattle.rules.specs.Setting.{termsOf}
 use Rattle.rules.specs.Layout.{entryWidth, headWords, entriesPlace}
 use Rattle.ledger.proofs.LayoutLaws.{place-small}
 use Rattle.rules.specs.Plan.{planOf, trackCount}
@@ -18,6 +20,7 @@ use Rattle.rules.specs.Ledger.{ledgerAt}
 use Rattle.rules.specs.Soundness.{areTidy, isSound}
 use Rattle.rules.specs.Call.{Answer, Outcome, Meets, ledgerRefusal, heldPart, entriesPart}
 use Rattle.rules.proofs.Tests.{and-holds}
+use Rattle.rules.proofs.SettingLaws.{limit-most}
 use Rattle.rules.proofs.LedgerChecks.{none-passes}
 use Rattle.rules.proofs.Soundness.{sound-words}
 use Rattle.plan.proofs.FieldLaws.{track-count}
@@ -89,7 +92,11 @@ pub part-packed : (terms : Terms) (part xs : List ℕ) (t from : ℕ) → xs ≡
 unfolding packedPart bit16 entryWidth
 part-packed terms part xs t from e h f = rw (sym e, ne-eqb (length xs) 0 h) (omega arith)
 
--- a track's entries start at a small place
-pub part-small : (terms : Terms) (t u from : ℕ) → terms .limit < 65536 → u ≡ t → t < 32 → from ≡ entriesPlace terms u + entryWidth * 0 → from < 4194344
+-- the place of a track's entries, by the setting that the terms come from; it is small
+pub part-place : (setting : Setting) {terms : Terms} (t u from : ℕ) → terms ≡ termsOf setting → u ≡ t
+    → from ≡ entriesPlace terms u + entryWidth * 0 → from ≡ entriesPlace (termsOf setting) t + entryWidth * 0
+part-place setting t u from e f g = rw (sym e, sym f) g
+
+pub part-small : (setting : Setting) (t from : ℕ) → t < 32 → from ≡ entriesPlace (termsOf setting) t + entryWidth * 0 → from < 4194344
 unfolding entriesPlace headWords entryWidth
-part-small terms t u from l e h f = omega (arith, place-small terms u l (omega arith))
+part-small setting t from h f = omega (arith, place-small (termsOf setting) t (omega (arith, limit-most setting)) (omega arith))

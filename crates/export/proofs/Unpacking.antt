@@ -12,10 +12,13 @@ use Rattle.rules.specs.Day.{isDay}
 use Rattle.rules.specs.Layout.{entryWidth, entriesPlace}
 use Rattle.rules.specs.declared.Counts.{Counts}
 use Rattle.rules.specs.declared.Date.{Date}
+use Rattle.rules.specs.declared.Setting.{Setting}
 use Rattle.rules.specs.declared.Terms.{Terms}
+use Rattle.rules.specs.Setting.{termsOf}
 use Rattle.rules.specs.Acceptance.{turnedBack, accepted}
 use Rattle.rules.specs.Call.{refusal, done, entriesPart}
 use Rattle.rules.specs.Conversion as converted
+use Rattle.rules.proofs.SettingLaws.{limit-most}
 use Rattle.rules.proofs.SignedLaws.{signed-bits, day-fits}
 use Rattle.export.specs.Packed.{bit16, bit32, bit48, packedReading, packed, packedReady, packedPart, packedDate, packedDay}
 use Rattle.export.proofs.Packing.{held}
@@ -98,11 +101,15 @@ unfolding packedDay bit16
 no-day-read n h = omega arith
 
 -- the part that entries speaks of, from the number alone
-module _ (terms : Terms) (few : terms .limit < 32768) (ws : List ℕ) (t : ℕ) where
+module _ (setting : Setting) (ws : List ℕ) (t : ℕ) where
+  abbrev terms : Terms
+  terms = termsOf setting
+
   held-read : (part : List ℕ) → (length part ≡ 0 → ⊥) → length part ≤ entryWidth * terms .limit
       → part ≡ take (length part) (drop (entriesPlace terms t) ws) → take (packedPart terms part t % bit16) (drop (packedPart terms part t / bit16) ws) ≡ part
   unfolding packedPart bit16 entryWidth
   held-read part h most e =
+      let few = limit-most setting in
       let n : packedPart terms part t ≡ length part + entriesPlace terms t * bit16 = rw (ne-eqb (length part) 0 h, packedPart) in
       let count : packedPart terms part t % bit16 ≡ length part = omega arith in
       let index : packedPart terms part t / bit16 ≡ entriesPlace terms t = omega arith in

@@ -2,6 +2,7 @@
 // answer packed into one number.
 use largest::NO_TRANSITION;
 use ledger::layout;
+use manager::terms;
 use rules::BeginAnswer;
 use rules::Counts;
 use rules::Date;
@@ -10,16 +11,19 @@ use rules::DayAnswer;
 use rules::EventAnswer;
 use rules::FireAnswer;
 use rules::LargestAnswer;
+use rules::Limit;
 use rules::PlanAnswer;
 use rules::ReadyAnswer;
+use rules::Setting;
 use rules::SignalAnswer;
-use rules::Terms;
 ghost use mathlib.Core.Path.{_≡_};
 ghost use Prim.Native.Nat.{_+_, _*_, _<_};
+ghost use Rattle.rules.specs.Setting.{termsOf};
 ghost use Rattle.rules.specs.Acceptance.{readPlan};
 ghost use Rattle.rules.specs.Conversion.{dateOfDay, dayOfDate};
 ghost use Rattle.rules.specs.Call.{beginOutcome, eventOutcome, signalOutcome, fireOutcome, readyOutcome, entriesPart};
 ghost use Rattle.plan.specs.Holds.{Holds};
+ghost use Rattle.export.specs.Options.{settingOf};
 ghost use Rattle.export.specs.Shown.{trackShown, stepShown};
 ghost use Rattle.export.specs.Packed.{bit16, bit32, bit48, packedReading, packed, packedReady, packedPart, packedDate, packedDay, Returns};
 
@@ -65,6 +69,18 @@ fn triple(a: u16, b: u16, c: u16) -> u64
     (a as u64) * BIT16 + (b as u64) * BIT32 + (c as u64) * BIT48
 }
 
+// What the caller keeps to, by the bits of the options.
+fn setting_of(options: u32) -> Setting
+    ensures { λ r. ⌜ r ≡ settingOf options ⌝ }
+{
+    if options % 2 == 1 {
+        return Setting {
+            limit: Limit::ReadingRoom,
+        };
+    }
+    Setting { limit: Limit::Main }
+}
+
 // A plan's tracks, states and transitions, at bits 16, 32 and 48: they are few.
 fn counted(plan: &[u8], c: Counts) -> u64
     requires { ⌜ Holds (now plan) c ⌝ }
@@ -85,10 +101,10 @@ pub extern "C" fn retraction_read(plan: &[u8]) -> u64
 }
 
 #[no_mangle]
-pub extern "C" fn retraction_begin(limit: u16, plan: &[u8], ledger: &mut [u16]) -> u64
-    ensures { λ r. ⌜ Returns packed (beginOutcome (record { limit = limit }) (now (plan .entry)) (now (ledger .entry))) r (now (ledger .exit)) ⌝ }
+pub extern "C" fn retraction_begin(plan: &[u8], ledger: &mut [u16], options: u32) -> u64
+    ensures { λ r. ⌜ Returns packed (beginOutcome (termsOf (settingOf options)) (now (plan .entry)) (now (ledger .entry))) r (now (ledger .exit)) ⌝ }
 {
-    let answer = manager::begin(Terms { limit: limit }, plan, &mut ledger[..]);
+    let answer = manager::begin(setting_of(options), plan, &mut ledger[..]);
     match answer {
         BeginAnswer::Refused(n) => at_bit0(n),
         BeginAnswer::Begun => 0,
@@ -97,18 +113,18 @@ pub extern "C" fn retraction_begin(limit: u16, plan: &[u8], ledger: &mut [u16]) 
 
 #[no_mangle]
 pub extern "C" fn retraction_event(
-    limit: u16,
     plan: &[u8],
     ledger: &mut [u16],
     event: u16,
     day: i32,
     society: u16,
+    options: u32,
 ) -> u64
-    ensures { λ r. ⌜ Returns packed (eventOutcome (record { limit = limit }) (now (plan .entry)) (now (ledger .entry))
+    ensures { λ r. ⌜ Returns packed (eventOutcome (termsOf (settingOf options)) (now (plan .entry)) (now (ledger .entry))
         (record { event = event; day = day; society = society })) r (now (ledger .exit)) ⌝ }
 {
     let answer = manager::event(
-        Terms { limit: limit },
+        setting_of(options),
         plan,
         &mut ledger[..],
         event,
@@ -123,15 +139,15 @@ pub extern "C" fn retraction_event(
 
 #[no_mangle]
 pub extern "C" fn retraction_signal(
-    limit: u16,
     plan: &[u8],
     ledger: &mut [u16],
     society: u16,
+    options: u32,
 ) -> u64
-    ensures { λ r. ⌜ Returns packed (signalOutcome (record { limit = limit }) (now (plan .entry)) (now (ledger .entry)) (record { society = society }))
+    ensures { λ r. ⌜ Returns packed (signalOutcome (termsOf (settingOf options)) (now (plan .entry)) (now (ledger .entry)) (record { society = society }))
         r (now (ledger .exit)) ⌝ }
 {
-    let answer = manager::signal(Terms { limit: limit }, plan, &mut ledger[..], society);
+    let answer = manager::signal(setting_of(options), plan, &mut ledger[..], society);
     match answer {
         SignalAnswer::Refused(n) => at_bit0(n),
         SignalAnswer::Turned(turned) => at_bit16(turned),
@@ -140,22 +156,16 @@ pub extern "C" fn retraction_signal(
 
 #[no_mangle]
 pub extern "C" fn retraction_fire(
-    limit: u16,
     plan: &[u8],
     ledger: &mut [u16],
     track: u16,
     society: u16,
+    options: u32,
 ) -> u64
-    ensures { λ r. ⌜ Returns packed (fireOutcome (record { limit = limit }) (now (plan .entry)) (now (ledger .entry))
+    ensures { λ r. ⌜ Returns packed (fireOutcome (termsOf (settingOf options)) (now (plan .entry)) (now (ledger .entry))
         (record { track = track; society = society })) r (now (ledger .exit)) ⌝ }
 {
-    let answer = manager::fire(
-        Terms { limit: limit },
-        plan,
-        &mut ledger[..],
-        track,
-        society,
-    );
+    let answer = manager::fire(setting_of(options), plan, &mut ledger[..], track, society);
     match answer {
         FireAnswer::Refused(n) => at_bit0(n),
         FireAnswer::Fired(code, deviation) => pair(code, deviation),
@@ -163,10 +173,10 @@ pub extern "C" fn retraction_fire(
 }
 
 #[no_mangle]
-pub extern "C" fn retraction_ready(limit: u16, plan: &[u8], ledger: &mut [u16]) -> u64
-    ensures { λ r. ⌜ Returns packedReady (readyOutcome (record { limit = limit }) (now (plan .entry)) (now (ledger .entry))) r (now (ledger .exit)) ⌝ }
+pub extern "C" fn retraction_ready(plan: &[u8], ledger: &mut [u16], options: u32) -> u64
+    ensures { λ r. ⌜ Returns packedReady (readyOutcome (termsOf (settingOf options)) (now (plan .entry)) (now (ledger .entry))) r (now (ledger .exit)) ⌝ }
 {
-    let answer = manager::ready(Terms { limit: limit }, plan, &mut ledger[..]);
+    let answer = manager::ready(setting_of(options), plan, &mut ledger[..]);
     match answer {
         ReadyAnswer::Refused(n) => at_bit0(n),
         ReadyAnswer::Ready(bits) => at_bit32(bits),
@@ -174,15 +184,16 @@ pub extern "C" fn retraction_ready(limit: u16, plan: &[u8], ledger: &mut [u16]) 
 }
 
 #[no_mangle]
-pub extern "C" fn retraction_entries(limit: u16, plan: &[u8], ledger: &[u16], track: u16) -> u64
-    ensures { λ r. ⌜ r ≡ packedPart (record { limit = limit }) (entriesPart (record { limit = limit }) (now (plan .entry)) (now (ledger .entry)) track) track ⌝ }
+pub extern "C" fn retraction_entries(plan: &[u8], ledger: &[u16], track: u16, options: u32) -> u64
+    ensures { λ r. ⌜ r ≡ packedPart (termsOf (settingOf options)) (entriesPart (termsOf (settingOf options)) (now (plan .entry)) (now (ledger .entry)) track) track ⌝ }
 {
-    let part = manager::entries(Terms { limit: limit }, plan, ledger, track);
+    let setting = setting_of(options);
+    let part = manager::entries(setting, plan, ledger, track);
     let count = part.len();
     if count == 0 {
         return 0;
     }
-    let from = layout::entry_place(Terms { limit: limit }, layout::wide(track), 0);
+    let from = layout::entry_place(terms::terms_of(setting), layout::wide(track), 0);
     (count as u64) + (from as u64) * BIT16
 }
 

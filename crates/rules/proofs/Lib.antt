@@ -1,4 +1,5 @@
 -- Laws of the definitions, for the layers above.
+pub mod SettingLaws
 pub mod Tests
 pub mod Modes
 pub mod Folds

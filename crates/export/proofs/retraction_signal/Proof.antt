@@ -9,16 +9,17 @@ use Rattle.export.proofs.retraction_signal.Tie as tie
 
 returns : tie.Need-returns
 unfolding signalTold packed
-returns c = packs _ _ _ _ _ (c .before .before .before .before .before .before .signal .ensures) (c .at-bit0 .ensures ∙ sym (ap (λ x. packed (signalTold x)) (c .before .before .answer .given .1)))
+returns c = rw (sym (c .before .before .before .before .before .before .before .before .setting-of .ensures)) (packs _ _ _ _ _ (c .before .before .before .before .before .before .signal .ensures) (c .at-bit0 .ensures ∙ sym (ap (λ x. packed (signalTold x)) (c .before .before .answer .given .1))))
 
 returns-2 : tie.Need-returns-2
 unfolding signalTold packed
-returns-2 c = packs _ _ _ _ _ (c .before .before .before .before .before .before .signal .ensures) (c .at-bit16 .ensures .0 ∙ sym (ap (λ x. packed (signalTold x)) (c .before .before .answer2 .given .1)))
+returns-2 c = rw (sym (c .before .before .before .before .before .before .before .before .setting-of .ensures)) (packs _ _ _ _ _ (c .before .before .before .before .before .before .signal .ensures) (c .at-bit16 .ensures .0 ∙ sym (ap (λ x. packed (signalTold x)) (c .before .before .answer2 .given .1))))
 
 pub retraction-signal-spec : {M : Type 1} → statement M
 retraction-signal-spec =
     tie.close
     (tie.spec
+    (λ c κs. search needs)
     (λ c κs. search needs)
     (λ c. search needs)
     (λ c κs. search needs)
