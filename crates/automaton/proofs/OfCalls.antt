@@ -16,15 +16,15 @@ use Rattle.rules.specs.Ledger.{ledgerAt}
 use Rattle.rules.specs.Call.{Answer, refusal, done, Call, callOutcome, Meets}
 use Rattle.rules.specs.Call as paper
 use Rattle.rules.specs.Answers.{eventTold, signalTold, fireTold}
-use Rattle.manager.proofs.event as event
-use Rattle.manager.proofs.event.Kinds as event-kinds
-use Rattle.manager.proofs.event.Reads as event-reads
-use Rattle.manager.proofs.signal as signal
-use Rattle.manager.proofs.signal.Kinds as signal-kinds
-use Rattle.manager.proofs.signal.Reads as signal-reads
-use Rattle.manager.proofs.fire as fire
-use Rattle.manager.proofs.fire.Kinds as fire-kinds
-use Rattle.manager.proofs.fire.Reads as fire-reads
+use Rattle.manager.proofs.calls.event as event
+use Rattle.manager.proofs.calls.event.Kinds as event-kinds
+use Rattle.manager.proofs.calls.event.Reads as event-reads
+use Rattle.manager.proofs.calls.signal as signal
+use Rattle.manager.proofs.calls.signal.Kinds as signal-kinds
+use Rattle.manager.proofs.calls.signal.Reads as signal-reads
+use Rattle.manager.proofs.calls.fire as fire
+use Rattle.manager.proofs.calls.fire.Kinds as fire-kinds
+use Rattle.manager.proofs.calls.fire.Reads as fire-reads
 use Rattle.property3.proofs.Readings.{event-meets, signal-meets, fire-meets}
 use Rattle.automaton.specs.Semantics.{FailReading}
 use Rattle.automaton.specs.View.{view}

@@ -2,7 +2,7 @@
 // answer packed into one number.
 use largest::NO_TRANSITION;
 use ledger::layout;
-use manager::terms;
+use ledger::setting::terms_of;
 use rules::BeginAnswer;
 use rules::Counts;
 use rules::Date;
@@ -193,7 +193,7 @@ pub extern "C" fn retraction_entries(plan: &[u8], ledger: &[u16], track: u16, op
     if count == 0 {
         return 0;
     }
-    let from = layout::entry_place(terms::terms_of(setting), layout::wide(track), 0);
+    let from = layout::entry_place(terms_of(setting), layout::wide(track), 0);
     (count as u64) + (from as u64) * BIT16
 }
 

@@ -2,5 +2,6 @@
 // belong to.
 pub mod layout;
 pub mod leading;
+pub mod setting;
 pub mod tidy;
 pub mod track;

@@ -2,9 +2,9 @@
 // result with its figures or a refusal with its number, and a refused call changes no word.
 mod bits;
 pub mod calls;
-pub mod terms;
 mod verify;
 
+use ledger::setting::terms_of;
 use rules::BeginAnswer;
 use rules::EventAnswer;
 use rules::FireAnswer;
@@ -19,7 +19,7 @@ ghost use Rattle.rules.specs.Answers.{beginTold, eventTold, signalTold, fireTol
 pub fn begin(setting: Setting, plan: &[u8], ledger: &mut [u16]) -> BeginAnswer
     ensures { λ r. ⌜ Meets (beginOutcome (termsOf setting) (now (plan .entry)) (now (ledger .entry))) (beginTold r) (now (ledger .exit)) ⌝ }
 {
-    calls::begin(terms::terms_of(setting), plan, &mut ledger[..])
+    calls::begin(terms_of(setting), plan, &mut ledger[..])
 }
 
 // Moves each forward track without an open scope that the society may move and that has a transition for the event on that day, then closes,
@@ -36,7 +36,7 @@ pub fn event(
         (record { event = event; day = day; society = society })) (eventTold r) (now (ledger .exit)) ⌝ }
 {
     calls::event(
-        terms::terms_of(setting),
+        terms_of(setting),
         plan,
         &mut ledger[..],
         event,
@@ -51,7 +51,7 @@ pub fn signal(setting: Setting, plan: &[u8], ledger: &mut [u16], society: u16) -
     ensures { λ r. ⌜ Meets (signalOutcome (termsOf setting) (now (plan .entry)) (now (ledger .entry)) (record { society = society }))
         (signalTold r) (now (ledger .exit)) ⌝ }
 {
-    calls::signal(terms::terms_of(setting), plan, &mut ledger[..], society)
+    calls::signal(terms_of(setting), plan, &mut ledger[..], society)
 }
 
 // Fires a named track that the society may fire: its newest entry is removed, a deviation is entered, scopes with nothing left are put to sleep,
@@ -67,7 +67,7 @@ pub fn fire(
         (record { track = track; society = society })) (fireTold r) (now (ledger .exit)) ⌝ }
 {
     calls::fire(
-        terms::terms_of(setting),
+        terms_of(setting),
         plan,
         &mut ledger[..],
         track,
@@ -79,12 +79,12 @@ pub fn fire(
 pub fn ready(setting: Setting, plan: &[u8], ledger: &mut [u16]) -> ReadyAnswer
     ensures { λ r. ⌜ Meets (readyOutcome (termsOf setting) (now (plan .entry)) (now (ledger .entry))) (readyTold r) (now (ledger .exit)) ⌝ }
 {
-    calls::ready(terms::terms_of(setting), plan, &mut ledger[..])
+    calls::ready(terms_of(setting), plan, &mut ledger[..])
 }
 
 // The part of the ledger that holds a track's entries: those held, and no unused pairs. Only an empty part may lie anywhere.
 pub fn entries<'a>(setting: Setting, plan: &[u8], ledger: &'a [u16], track: u16) -> &'a [u16]
     ensures { λ r. ⌜ HandsBack (termsOf setting) (now (plan .entry)) (now (ledger .entry)) track (ledger .entry .ptr) (r .ptr) (now r) (now (ledger .exit)) ⌝ }
 {
-    calls::entries(terms::terms_of(setting), plan, ledger, track)
+    calls::entries(terms_of(setting), plan, ledger, track)
 }

@@ -23,18 +23,18 @@ use Rattle.rules.specs.ReferenceRun.{wordsFrom, answersFrom}
 use Rattle.rules.specs.History as history
 use Rattle.rules.specs.History.{History, Property3}
 use Rattle.restoration.specs.Firings.{isEventDone, isWithout}
-use Rattle.manager.proofs.begin as begin
-use Rattle.manager.proofs.begin.Kinds as begin-kinds
-use Rattle.manager.proofs.begin.Reads as begin-reads
-use Rattle.manager.proofs.event as event
-use Rattle.manager.proofs.event.Kinds as event-kinds
-use Rattle.manager.proofs.event.Reads as event-reads
-use Rattle.manager.proofs.signal as signal
-use Rattle.manager.proofs.signal.Kinds as signal-kinds
-use Rattle.manager.proofs.signal.Reads as signal-reads
-use Rattle.manager.proofs.fire as fire
-use Rattle.manager.proofs.fire.Kinds as fire-kinds
-use Rattle.manager.proofs.fire.Reads as fire-reads
+use Rattle.manager.proofs.calls.begin as begin
+use Rattle.manager.proofs.calls.begin.Kinds as begin-kinds
+use Rattle.manager.proofs.calls.begin.Reads as begin-reads
+use Rattle.manager.proofs.calls.event as event
+use Rattle.manager.proofs.calls.event.Kinds as event-kinds
+use Rattle.manager.proofs.calls.event.Reads as event-reads
+use Rattle.manager.proofs.calls.signal as signal
+use Rattle.manager.proofs.calls.signal.Kinds as signal-kinds
+use Rattle.manager.proofs.calls.signal.Reads as signal-reads
+use Rattle.manager.proofs.calls.fire as fire
+use Rattle.manager.proofs.calls.fire.Kinds as fire-kinds
+use Rattle.manager.proofs.calls.fire.Reads as fire-reads
 use Rattle.property3.proofs.Readings.{begin-meets, event-meets, signal-meets, fire-meets}
 use Rattle.property3.proofs.Property3.{Follows, follows, property3, firings-of-history}
 

@@ -32,18 +32,18 @@ use Rattle.restoration.proofs.FiringsDue.{calls-length, ready-passes, counted, 
 use Rattle.restoration.proofs.Restoration.{history-holds}
 use Rattle.restoration.proofs.SoundWords.{holds-passes}
 use Rattle.isolation.proofs.Readings.{part-length}
-use Rattle.manager.proofs.begin as begin
-use Rattle.manager.proofs.begin.Kinds as begin-kinds
-use Rattle.manager.proofs.begin.Reads as begin-reads
-use Rattle.manager.proofs.signal as signal
-use Rattle.manager.proofs.signal.Kinds as signal-kinds
-use Rattle.manager.proofs.signal.Reads as signal-reads
-use Rattle.manager.proofs.ready as ready
-use Rattle.manager.proofs.ready.Kinds as ready-kinds
-use Rattle.manager.proofs.ready.Reads as ready-reads
-use Rattle.manager.proofs.entries as entries
-use Rattle.manager.proofs.entries.Kinds as entries-kinds
-use Rattle.manager.proofs.entries.Reads as entries-reads
+use Rattle.manager.proofs.calls.begin as begin
+use Rattle.manager.proofs.calls.begin.Kinds as begin-kinds
+use Rattle.manager.proofs.calls.begin.Reads as begin-reads
+use Rattle.manager.proofs.calls.signal as signal
+use Rattle.manager.proofs.calls.signal.Kinds as signal-kinds
+use Rattle.manager.proofs.calls.signal.Reads as signal-reads
+use Rattle.manager.proofs.calls.ready as ready
+use Rattle.manager.proofs.calls.ready.Kinds as ready-kinds
+use Rattle.manager.proofs.calls.ready.Reads as ready-reads
+use Rattle.manager.proofs.calls.entries as entries
+use Rattle.manager.proofs.calls.entries.Kinds as entries-kinds
+use Rattle.manager.proofs.calls.entries.Reads as entries-reads
 use Rattle.property3.proofs.Readings.{signal-meets}
 use Rattle.property3.proofs.Calls.{Calls, calls-follow}
 use Rattle.property3.proofs.WrongPlan.{begun, words}

@@ -22,15 +22,15 @@ use Rattle.rules.specs.Largest.{largest, largestOf, readBounded, HoldsNoMore}
 use Rattle.rules.proofs.Folds.{getD-tabulate}
 use Rattle.rules.proofs.Figures.{bounded-read}
 use Rattle.restoration.proofs.HeldMost.{held-most, part-most}
-use Rattle.manager.proofs.begin as begin
-use Rattle.manager.proofs.begin.Kinds as begin-kinds
-use Rattle.manager.proofs.begin.Reads as begin-reads
+use Rattle.manager.proofs.calls.begin as begin
+use Rattle.manager.proofs.calls.begin.Kinds as begin-kinds
+use Rattle.manager.proofs.calls.begin.Reads as begin-reads
 use Rattle.largest.proofs.of_plan as of-plan
 use Rattle.largest.proofs.of_plan.Kinds as of-plan-kinds
 use Rattle.largest.proofs.of_plan.Reads as of-plan-reads
-use Rattle.manager.proofs.entries as entries
-use Rattle.manager.proofs.entries.Kinds as entries-kinds
-use Rattle.manager.proofs.entries.Reads as entries-reads
+use Rattle.manager.proofs.calls.entries as entries
+use Rattle.manager.proofs.calls.entries.Kinds as entries-kinds
+use Rattle.manager.proofs.calls.entries.Reads as entries-reads
 use Rattle.property3.proofs.Calls.{Calls}
 use Rattle.property3.proofs.WrongPlan.{begun, words}
 

@@ -14,3 +14,4 @@ pub mod EachCall
 pub mod Decoding
 pub mod WholeRun
 pub mod RunCalls
+pub mod AtSetting

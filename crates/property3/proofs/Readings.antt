@@ -11,18 +11,18 @@ use borrow.Fn.World.{ArgsD, ResD}
 use Rattle.rules.specs.Call.{Answer, Outcome, beginOutcome, callOutcome, eventOutcome, signalOutcome, fireOutcome, Meets}
 use Rattle.rules.specs.Call as paper
 use Rattle.rules.specs.Answers.{beginTold, eventTold, signalTold, fireTold}
-use Rattle.manager.proofs.begin as begin
-use Rattle.manager.proofs.begin.Kinds as begin-kinds
-use Rattle.manager.proofs.begin.Reads as begin-reads
-use Rattle.manager.proofs.event as event
-use Rattle.manager.proofs.event.Kinds as event-kinds
-use Rattle.manager.proofs.event.Reads as event-reads
-use Rattle.manager.proofs.signal as signal
-use Rattle.manager.proofs.signal.Kinds as signal-kinds
-use Rattle.manager.proofs.signal.Reads as signal-reads
-use Rattle.manager.proofs.fire as fire
-use Rattle.manager.proofs.fire.Kinds as fire-kinds
-use Rattle.manager.proofs.fire.Reads as fire-reads
+use Rattle.manager.proofs.calls.begin as begin
+use Rattle.manager.proofs.calls.begin.Kinds as begin-kinds
+use Rattle.manager.proofs.calls.begin.Reads as begin-reads
+use Rattle.manager.proofs.calls.event as event
+use Rattle.manager.proofs.calls.event.Kinds as event-kinds
+use Rattle.manager.proofs.calls.event.Reads as event-reads
+use Rattle.manager.proofs.calls.signal as signal
+use Rattle.manager.proofs.calls.signal.Kinds as signal-kinds
+use Rattle.manager.proofs.calls.signal.Reads as signal-reads
+use Rattle.manager.proofs.calls.fire as fire
+use Rattle.manager.proofs.calls.fire.Kinds as fire-kinds
+use Rattle.manager.proofs.calls.fire.Reads as fire-reads
 
 -- Each at its arguments a, its answer r and what it left s: a .0 are the terms, a .1 .0 the plan, a .1 .1 .0 the ledger, s .1 .1 .0 the ledger afterwards.
 pub begin-meets : (κs : Lfts 2) (a : ArgsD begin.signature κs) (r : ResD begin.signature κs) (s : AtExit (endedOf 2 begin-kinds.ps begin-kinds.r) κs)

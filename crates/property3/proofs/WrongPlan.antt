@@ -17,15 +17,15 @@ use Rattle.rules.specs.Call.{Answer, refusal, done, Outcome, Call, beginOutcome
 use Rattle.rules.specs.Answers.{beginTold, readyTold}
 use Rattle.rules.specs.ReferenceRun.{wordsAfter}
 use Rattle.restoration.proofs.WrongPlan.{Differ, call-wrong, ready-wrong, entries-wrong}
-use Rattle.manager.proofs.begin as begin
-use Rattle.manager.proofs.begin.Kinds as begin-kinds
-use Rattle.manager.proofs.begin.Reads as begin-reads
-use Rattle.manager.proofs.ready as ready
-use Rattle.manager.proofs.ready.Kinds as ready-kinds
-use Rattle.manager.proofs.ready.Reads as ready-reads
-use Rattle.manager.proofs.entries as entries
-use Rattle.manager.proofs.entries.Kinds as entries-kinds
-use Rattle.manager.proofs.entries.Reads as entries-reads
+use Rattle.manager.proofs.calls.begin as begin
+use Rattle.manager.proofs.calls.begin.Kinds as begin-kinds
+use Rattle.manager.proofs.calls.begin.Reads as begin-reads
+use Rattle.manager.proofs.calls.ready as ready
+use Rattle.manager.proofs.calls.ready.Kinds as ready-kinds
+use Rattle.manager.proofs.calls.ready.Reads as ready-reads
+use Rattle.manager.proofs.calls.entries as entries
+use Rattle.manager.proofs.calls.entries.Kinds as entries-kinds
+use Rattle.manager.proofs.calls.entries.Reads as entries-reads
 use Rattle.property3.proofs.Readings.{begin-meets}
 use Rattle.property3.proofs.Calls.{Calls, call-meets, property3-of-calls}
 

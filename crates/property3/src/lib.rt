@@ -60,7 +60,7 @@ fn make_event(
     ensures { λ r. ⌜ CallMade (eventOutcome terms (now (plan .entry)) (now (ledger .entry)) (record { event = name; day = day; society = society }))
         r (now (ledger .exit)) ⌝ }
 {
-    let answer = manager::event(terms, plan, &mut ledger[..], name, day, society);
+    let answer = manager::calls::event(terms, plan, &mut ledger[..], name, day, society);
     match answer {
         EventAnswer::Refused(n) => encoded_refusal(n),
         EventAnswer::Moved(moved, closed) => EncodedAnswer {
@@ -74,7 +74,7 @@ fn make_event(
 fn make_signal(terms: Terms, plan: &[u8], ledger: &mut [u16], society: u16) -> EncodedAnswer
     ensures { λ r. ⌜ CallMade (signalOutcome terms (now (plan .entry)) (now (ledger .entry)) (record { society = society })) r (now (ledger .exit)) ⌝ }
 {
-    let answer = manager::signal(terms, plan, &mut ledger[..], society);
+    let answer = manager::calls::signal(terms, plan, &mut ledger[..], society);
     match answer {
         SignalAnswer::Refused(n) => encoded_refusal(n),
         SignalAnswer::Turned(turned) => EncodedAnswer {
@@ -95,7 +95,7 @@ fn make_fire(
     ensures { λ r. ⌜ CallMade (fireOutcome terms (now (plan .entry)) (now (ledger .entry)) (record { track = track; society = society }))
         r (now (ledger .exit)) ⌝ }
 {
-    let answer = manager::fire(terms, plan, &mut ledger[..], track, society);
+    let answer = manager::calls::fire(terms, plan, &mut ledger[..], track, society);
     match answer {
         FireAnswer::Refused(n) => encoded_refusal(n),
         FireAnswer::Fired(code, deviation) => EncodedAnswer {
@@ -171,7 +171,7 @@ pub fn run_calls(
     if answers.len() / ANSWER_WIDTH < calls.len() / CALL_WIDTH {
         return CallsAnswer::NoRoom;
     }
-    let answer = manager::begin(terms, plan, &mut ledger[..]);
+    let answer = manager::calls::begin(terms, plan, &mut ledger[..]);
     match answer {
         BeginAnswer::Refused(n) => CallsAnswer::Refused(n),
         BeginAnswer::Begun => {

@@ -6,6 +6,7 @@ use crate::records::run_records;
 use journal::lines::plan_line;
 use journal::lines::refusal_line;
 use ledger::layout;
+use ledger::setting::MAIN_TRACK_WIDTH;
 use opening::firsts;
 use rules::Counts;
 use rules::PlanAnswer;
@@ -22,13 +23,8 @@ pub const MOST_BYTES: usize = 32768;
 
 const MOST_TRACKS: usize = 32;
 
-// The most entries that a track holds in the main program.
-pub const MAIN_LIMIT: u16 = 32;
-
-const MAIN_WIDTH: usize = layout::HEAD_WORDS + layout::ENTRY_WIDTH * 32;
-
 // The words of a ledger of the main program that serves every plan.
-pub const LEDGER_WORDS: usize = layout::LEADING_WORDS + MAIN_WIDTH * MOST_TRACKS;
+pub const LEDGER_WORDS: usize = layout::LEADING_WORDS + MAIN_TRACK_WIDTH * MOST_TRACKS;
 
 // No line is longer than 24 bytes and no record shorter than 4; three lines stand for no record.
 const ROOM_OF_BYTE: usize = 6;

@@ -1,8 +1,8 @@
 // Reads plan P, runs the calls of the paper's sample through `run_calls`, and prints a line for each answer: its refusal, 0 where accepted, and
 // its two figures.
-use ledger::layout::ENTRY_WIDTH;
-use ledger::layout::HEAD_WORDS;
 use ledger::layout::LEADING_WORDS;
+use ledger::setting::MAIN_TRACK_WIDTH;
+use ledger::setting::terms_of;
 use libc::STDIN_FILENO;
 use libc::STDOUT_FILENO;
 use property3::ANSWER_WIDTH;
@@ -11,7 +11,8 @@ use property3::CallsAnswer;
 use property3::EVENT;
 use property3::FIRE;
 use property3::SIGNAL;
-use rules::Terms;
+use rules::Limit;
+use rules::Setting;
 ghost use Prim.Native.Nat.{_<_};
 
 const COUNT: usize = 8;
@@ -61,7 +62,7 @@ const CALLS: [u16; CALL_WIDTH * COUNT] = [
 ];
 
 // The words of a ledger of 3 tracks.
-const LEDGER_WORDS: usize = LEADING_WORDS + (HEAD_WORDS + ENTRY_WIDTH * 32) * 3;
+const LEDGER_WORDS: usize = LEADING_WORDS + MAIN_TRACK_WIDTH * 3;
 
 fn print_word(n: u16, end: &[u8]) {
     io::print_decimal(STDOUT_FILENO, n as u64);
@@ -88,7 +89,7 @@ fn main() {
     let mut ledger = [0u16; LEDGER_WORDS];
     let mut answers = [0u16; ANSWER_WIDTH * COUNT];
     let answer = property3::run_calls(
-        Terms { limit: 32 },
+        terms_of(Setting { limit: Limit::Main }),
         &plan[..n],
         &mut ledger,
         &CALLS,

@@ -1,13 +1,14 @@
 // Reads a plan and a journal, and prints what the journal's records did. A plan file that cannot be read, or output that cannot be written, is a
 // line on standard error; standard output is the paper's to the byte.
+use ledger::setting::terms_of;
 use libc::STDIN_FILENO;
 use libc::STDOUT_FILENO;
 use replay::LEDGER_WORDS;
-use replay::MAIN_LIMIT;
 use replay::MOST_BYTES;
 use replay::RunAnswer;
 use replay::TEXT_BYTES;
-use rules::Terms;
+use rules::Limit;
+use rules::Setting;
 ghost use Prim.Native.Nat.{_≤_};
 ghost use Rattle.io.specs.Counts.{Counts};
 
@@ -62,7 +63,7 @@ fn main() {
     let mut ledger = [0u16; LEDGER_WORDS];
     let mut text = [0u8; TEXT_BYTES];
     let answer = replay::run(
-        Terms { limit: MAIN_LIMIT },
+        terms_of(Setting { limit: Limit::Main }),
         &plan[..n],
         &journal[..m],
         &mut ledger,

@@ -2,8 +2,8 @@
 use mathlib.Core.Path.{refl}
 use Rattle.rules.specs.Setting.{limitOf, termsOf}
 use borrow.Author.Needs.{needs}
-use Rattle.manager.proofs.terms.terms_of.Statement.{statement}
-use Rattle.manager.proofs.terms.terms_of.Tie as tie
+use Rattle.ledger.proofs.setting.terms_of.Statement.{statement}
+use Rattle.ledger.proofs.setting.terms_of.Tie as tie
 
 returns : tie.Need-returns
 unfolding termsOf limitOf
