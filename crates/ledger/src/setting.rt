@@ -12,7 +12,8 @@ pub const MAIN_LIMIT: u16 = 32;
 pub const READING_ROOM_LIMIT: u16 = 8;
 
 // Words of one track in the main program.
-pub const MAIN_TRACK_WIDTH: usize = layout::HEAD_WORDS + layout::ENTRY_WIDTH * (MAIN_LIMIT as usize);
+pub const MAIN_TRACK_WIDTH: usize = layout::HEAD_WORDS
+    + layout::ENTRY_WIDTH * (MAIN_LIMIT as usize);
 
 pub fn terms_of(setting: Setting) -> Terms
     ensures { λ r. ⌜ r ≡ termsOf setting ⌝ }

@@ -66,13 +66,7 @@ pub fn fire(
     ensures { λ r. ⌜ Meets (fireOutcome (termsOf setting) (now (plan .entry)) (now (ledger .entry))
         (record { track = track; society = society })) (fireTold r) (now (ledger .exit)) ⌝ }
 {
-    calls::fire(
-        terms_of(setting),
-        plan,
-        &mut ledger[..],
-        track,
-        society,
-    )
+    calls::fire(terms_of(setting), plan, &mut ledger[..], track, society)
 }
 
 // A number with bit n set exactly if track n may be fired.
