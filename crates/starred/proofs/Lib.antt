@@ -8,3 +8,4 @@ pub mod RightsRuns
 pub mod IsolationRuns
 pub mod LargestRuns
 pub mod FiringRuns
+pub mod LimitRuns

@@ -28,11 +28,11 @@ use Rattle.rules.specs.Transcript.{refusalLine, planLine, tallyLine, deviationT
 use Rattle.rules.specs.FinishedRun.{taken, movesBelow, movesOf}
 use Rattle.rules.specs.ReferenceRun.{wordsFrom, wordsAfter, answersFrom, answersAfter, ledgerAfter}
 use Rattle.rules.specs.FiringsDue.{isPlain, holdsNoDeviation, noneForward, turnsEvery, isOrder, afterOrder, isFiringOrder, firingCalls, heldBy}
-use Rattle.starred.specs.SamplePlan.{bytesOf, planOfCodes, planP, neighbourP, alikeP, twoRoots, journalP, lentFor}
+use Rattle.starred.specs.SamplePlan.{bytesOf, planOfCodes, planP, neighbourP, alikeP, twoRoots, journalP, lentAt, lentFor, planLoop}
 use Rattle.starred.specs.WindowPlans.{withWindows, planD, windowLast, windowEarly, chainTracks, chainStates, chained}
 use Rattle.starred.specs.RightsPlans.{withRights, planR, planOwn, planShared, manyRights, entriesOf, rightsEarly, rightsLast}
 use Rattle.starred.specs.BranchingPlans.{planB, deviatingB, trackWords}
 
 unfoldable pub computing : ℕ
-unfolding someBelow everyBelow countBelow sumBelow greatestBelow firstBelow tabulateFrom tabulate firstRefusal signedOf bitsOf joined lowWord highWord isDay word dayAt sizeAt kindAt lengthOf rankOf mostOf countOf oneMore noCounts judgeRecord scanFrom scan noState optional trackRecord stateRecord transitionRecord windowRecord stateAt transitionAt windowAt isWithin planOf trackCount stateCount transitionCount windowCount hostWord state transition window host owner replacement isRoot isStateOf isFinal isIn isHostedBy isHosting everyIn someIn first firstState transitionFor mayTake takenOn mover reachBy heightTo height climbTo climb isInside isAbove noTrack badState badHost badFirst badHosting badTransition badDeviation repeatsEvent tooHigh repeatsWindow badWindow judgePlan judged readPlan limitOf termsOf mainTerms readingRoomTerms leadingWords headWords entryWidth trackWidth trackPlace entriesPlace wordCount numbersTotal planSum lastDay dated stamped otherPlan isAwake isForward isUndoing isEmpty sleeping modeWord heldWords modeOf entryAt heldAt configurationAt configurationWords ledgerWords written ledgerAt isOpen hasOpenScope isBare isOver fresh wakesIn wakes entered enter rootsFirst begun install installed destinationOf installedBy hasCode isMove move moves moved isClosing isClosed closesScope closed rootsDone someRootEnded isFinishing finished closings isReplaced isFull afterEvent turnedTrack turned turnings isAbandoning isSpentTo isSpent isLeft isAbandoned abandoned afterSignal newest older mayFire removed deviatesTo fired ready lowestReady afterFire goodMode goodCount unusedZero asleepZero isTidy areTidy everyHeld sameMode rootsAwake statesOwn codesReal goodDeviation deviationsGood isWhole scopesWhole isHostedWell hostsAwake closingDone finishDone abandoningDone isLive isSound refusedOr underPlan tooShort ledgerRefusals ledgerRefusal badDay callRefusals callRefusal figures after dayAfter datedBy next nextDay callOutcome eventOutcome signalOutcome fireOutcome beginOutcome readyOutcome heldPart entriesPart ascii decimalTo decimal fieldsText line journalLength isBroken recordOf itemAt fireLowestCall refusalLine planLine tallyLine deviationText doneLine callLine firingsOf firingsIn heldTotal ledgerOf lastLine callText replay ownWords transcript taken movesBelow movesOf wordsFrom wordsAfter answersFrom answersAfter ledgerAfter bytesOf planOfCodes planP neighbourP alikeP twoRoots journalP lentFor withWindows planD windowLast windowEarly chainTracks chainStates chained isLeap february monthLength isDate nextDate dateAfter inMonths inYears daysTo daysSince dayNumber dateOfDay dayOfDate grantRecord grantAt grantCount grant rootTo rootOf namesNoRoot repeatsPair badGrant mayMove lacksFireRight societyAt gives givesTo holds isPermitted holdsSomewhere societyOf holdsAny isUnder ownCalls ownAnswers isForDay readyBit isOverNow lasts withRights planR planOwn planShared manyRights entriesOf rightsEarly rightsLast planB deviatingB trackWords isPlain holdsNoDeviation noneForward turnsEvery isOrder afterOrder isFiringOrder firingCalls heldBy
+unfolding someBelow everyBelow countBelow sumBelow greatestBelow firstBelow tabulateFrom tabulate firstRefusal signedOf bitsOf joined lowWord highWord isDay word dayAt sizeAt kindAt lengthOf rankOf mostOf countOf oneMore noCounts judgeRecord scanFrom scan noState optional trackRecord stateRecord transitionRecord windowRecord stateAt transitionAt windowAt isWithin planOf trackCount stateCount transitionCount windowCount hostWord state transition window host owner replacement isRoot isStateOf isFinal isIn isHostedBy isHosting everyIn someIn first firstState transitionFor mayTake takenOn mover reachBy heightTo height climbTo climb isInside isAbove noTrack badState badHost badFirst badHosting badTransition badDeviation repeatsEvent tooHigh repeatsWindow badWindow judgePlan judged readPlan limitOf termsOf mainTerms readingRoomTerms leadingWords headWords entryWidth trackWidth trackPlace entriesPlace wordCount numbersTotal planSum lastDay dated stamped otherPlan isAwake isForward isUndoing isEmpty sleeping modeWord heldWords modeOf entryAt heldAt configurationAt configurationWords ledgerWords written ledgerAt isOpen hasOpenScope isBare isOver fresh wakesIn wakes entered enter rootsFirst begun install installed destinationOf installedBy hasCode isMove move moves moved isClosing isClosed closesScope closed rootsDone someRootEnded isFinishing finished closings isReplaced isFull afterEvent turnedTrack turned turnings isAbandoning isSpentTo isSpent isLeft isAbandoned abandoned afterSignal newest older mayFire removed deviatesTo fired ready lowestReady afterFire goodMode goodCount unusedZero asleepZero isTidy areTidy everyHeld sameMode rootsAwake statesOwn codesReal goodDeviation deviationsGood isWhole scopesWhole isHostedWell hostsAwake closingDone finishDone abandoningDone isLive isSound refusedOr underPlan tooShort ledgerRefusals ledgerRefusal badDay callRefusals callRefusal figures after dayAfter datedBy next nextDay callOutcome eventOutcome signalOutcome fireOutcome beginOutcome readyOutcome heldPart entriesPart ascii decimalTo decimal fieldsText line journalLength isBroken recordOf itemAt fireLowestCall refusalLine planLine tallyLine deviationText doneLine callLine firingsOf firingsIn heldTotal ledgerOf lastLine callText replay ownWords transcript taken movesBelow movesOf wordsFrom wordsAfter answersFrom answersAfter ledgerAfter bytesOf planOfCodes planP neighbourP alikeP twoRoots journalP lentAt lentFor planLoop withWindows planD windowLast windowEarly chainTracks chainStates chained isLeap february monthLength isDate nextDate dateAfter inMonths inYears daysTo daysSince dayNumber dateOfDay dayOfDate grantRecord grantAt grantCount grant rootTo rootOf namesNoRoot repeatsPair badGrant mayMove lacksFireRight societyAt gives givesTo holds isPermitted holdsSomewhere societyOf holdsAny isUnder ownCalls ownAnswers isForDay readyBit isOverNow lasts withRights planR planOwn planShared manyRights entriesOf rightsEarly rightsLast planB deviatingB trackWords isPlain holdsNoDeviation noneForward turnsEvery isOrder afterOrder isFiringOrder firingCalls heldBy
 computing = 0

@@ -2,6 +2,7 @@
 use mathlib.Core.List.{List, [], _∷_}
 use Prim.Native.Nat.{ℕ, _+_, _/_, _%_}
 use lib.ListN.{replicate}
+use Rattle.rules.specs.declared.Terms.{Terms}
 use Rattle.rules.specs.Setting.{mainTerms}
 use Rattle.rules.specs.Layout.{wordCount}
 
@@ -84,5 +85,19 @@ journalP =
     ∷ [])
 
 -- a lent ledger with two words more than so many tracks need, whatever it held
+unfoldable pub lentAt : Terms → ℕ → List ℕ
+lentAt terms tracks = replicate (wordCount terms tracks + 2) 7
+
 unfoldable pub lentFor : ℕ → List ℕ
-lentFor tracks = replicate (wordCount mainTerms tracks + 2) 7
+lentFor tracks = lentAt mainTerms tracks
+
+-- one root that takes the same step, event 1 with code 5, as often as it is asked to
+unfoldable pub planLoop : List ℕ
+planLoop =
+    bytesOf
+    (6 ∷ 1 ∷ 65535
+    ∷ 10 ∷ 2 ∷ 0 ∷ 0 ∷ 0
+    ∷ 14 ∷ 3 ∷ 0 ∷ 1 ∷ 5 ∷ 65535 ∷ 0
+    ∷ 10 ∷ 6 ∷ 1 ∷ 0 ∷ 7
+    ∷ 4 ∷ 4
+    ∷ [])
