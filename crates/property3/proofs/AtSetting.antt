@@ -47,6 +47,7 @@ use Rattle.manager.proofs.ready.Reads as ready-reads
 use Rattle.manager.proofs.entries as entries
 use Rattle.manager.proofs.entries.Kinds as entries-kinds
 use Rattle.manager.proofs.entries.Reads as entries-reads
+use Rattle.property3.proofs.PublicReadings.{begin-at, event-at, signal-at, fire-at, ready-at, entries-at}
 use Rattle.property3.proofs.Isolation.{isolation-of-calls}
 use Rattle.property3.proofs.HeldMost.{held-most-of-calls}
 use Rattle.property3.proofs.FiringsDue.{ReadyIs, PartIs, exactly-of-calls, held-of-entries}
@@ -73,9 +74,9 @@ pub data PublicCalls (setting : Setting) (bs : List ℕ) : List ℕ → List Cal
 pub at-terms : {setting : Setting} {bs ws end : List ℕ} {cs : List Call} {rs : List Answer} → PublicCalls setting bs ws cs rs end
     → Calls (termsOf setting) bs ws cs rs end
 at-terms none = calls.none
-at-terms (by-event κs a r s p l e q h) = calls.by-event κs (termsOf (a .0), a .1) r (termsOf (s .0), s .1) p (ap termsOf l) e q (at-terms h)
-at-terms (by-signal κs a r s p l e q h) = calls.by-signal κs (termsOf (a .0), a .1) r (termsOf (s .0), s .1) p (ap termsOf l) e q (at-terms h)
-at-terms (by-fire κs a r s p l e q h) = calls.by-fire κs (termsOf (a .0), a .1) r (termsOf (s .0), s .1) p (ap termsOf l) e q (at-terms h)
+at-terms (by-event κs a r s p l e q h) = calls.by-event κs (termsOf (a .0), a .1) r (termsOf (s .0), s .1) (event-at κs a r s p) (ap termsOf l) e q (at-terms h)
+at-terms (by-signal κs a r s p l e q h) = calls.by-signal κs (termsOf (a .0), a .1) r (termsOf (s .0), s .1) (signal-at κs a r s p) (ap termsOf l) e q (at-terms h)
+at-terms (by-fire κs a r s p l e q h) = calls.by-fire κs (termsOf (a .0), a .1) r (termsOf (s .0), s .1) (fire-at κs a r s p) (ap termsOf l) e q (at-terms h)
 
 -- Property 3 of a public begin that answered `Begun` and the public calls after it, all at its setting.
 pub property3-at-setting : (κs : Lfts 2) (a : ArgsD begin.signature κs) (r : ResD begin.signature κs) (s : AtExit (endedOf 2 begin-kinds.ps begin-kinds.r) κs)
@@ -83,7 +84,7 @@ pub property3-at-setting : (κs : Lfts 2) (a : ArgsD begin.signature κs) (r : R
     → {cs : List Call} {rs : List Answer} {end : List ℕ} → PublicCalls (a .0) (now (a .1 .0)) (now (s .1 .1 .0)) cs rs end
     → (c : Counts) × (readPlan (now (a .1 .0)) ≡ accepted c)
     × Property3 (termsOf (a .0)) (now (a .1 .0)) (planOf (now (a .1 .0)) c) (now (a .1 .1 .0)) cs rs end
-property3-at-setting κs a r s p e h = property3-of-calls κs (termsOf (a .0), a .1) r (termsOf (s .0), s .1) p e (at-terms h)
+property3-at-setting κs a r s p e h = property3-of-calls κs (termsOf (a .0), a .1) r (termsOf (s .0), s .1) (begin-at κs a r s p) e (at-terms h)
 
 -- The bound on firings, at either setting its own limit.
 pub firings-at-setting : (setting : Setting) (bs : List ℕ) (c : Counts) → readPlan bs ≡ accepted c
@@ -123,7 +124,7 @@ ready-at-terms z =
       a = (termsOf (z .a .0), z .a .1);
       r = z .r;
       s = (termsOf (z .s .0), z .s .1);
-      promise = z .promise;
+      promise = ready-at (z .κs) (z .a) (z .r) (z .s) (z .promise);
       one-limit = ap termsOf (z .one-setting);
       plan = z .plan;
       ledger = z .ledger;
@@ -137,7 +138,7 @@ part-at-terms z =
       a = (termsOf (z .a .0), z .a .1);
       r = z .r;
       s = (termsOf (z .s .0), z .s .1);
-      promise = z .promise;
+      promise = entries-at (z .κs) (z .a) (z .r) (z .s) (z .promise);
       one-limit = ap termsOf (z .one-setting);
       plan = z .plan;
       ledger = z .ledger;
@@ -163,12 +164,12 @@ module _ (κs : Lfts 2) (a : ArgsD begin.signature κs) (r : ResD begin.signatur
       → ownCalls own cs ≡ ownCalls own ds → lasts terms bs (planOf bs k) own begun cs ≡ true → lasts terms bs (planOf bs k) own begun ds ≡ true
       → Isolated terms bs (planOf bs k) own cs rs end ds ss end′
   isolation-at-setting k read own alone h g =
-      isolation-of-calls κs (terms, a .1) r (termsOf (s .0), s .1) post done-begin k read own alone (at-terms h) (at-terms g)
+      isolation-of-calls κs (terms, a .1) r (termsOf (s .0), s .1) (begin-at κs a r s post) done-begin k read own alone (at-terms h) (at-terms g)
 
   -- What tracks hold at most, after public calls.
   pub held-most-at-setting : {cs : List Call} {rs : List Answer} {ws : List ℕ} → PublicCalls (a .0) bs begun cs rs ws
       → (k : Counts) → readBounded bs ≡ accepted k → HoldsNoMore terms (planOf bs k) ws
-  held-most-at-setting h k read = held-most-of-calls κs (terms, a .1) r (termsOf (s .0), s .1) post done-begin (at-terms h) k read
+  held-most-at-setting h k read = held-most-of-calls κs (terms, a .1) r (termsOf (s .0), s .1) (begin-at κs a r s post) done-begin (at-terms h) k read
 
 -- Firings exactly: public firings, and a public ready that answered 0.
 pub exactly-at-setting : (setting : Setting) (bs : List ℕ) (k : Counts) (read : readPlan bs ≡ accepted k)

@@ -38,7 +38,8 @@ use Rattle.manager.proofs.calls.fire.Reads as fire-reads
 use Rattle.property3.proofs.Readings.{begin-meets, event-meets, signal-meets, fire-meets}
 use Rattle.property3.proofs.Property3.{Follows, follows, property3, firings-of-history}
 
--- "Its first call gets the ledger as an accepted begin left it, each later one the ledger as the call before left it, and all get the same plan", and, since h, at the one limit.
+-- "Its first call gets the ledger as an accepted begin left it, each later one the ledger as the call before left it, and all get the same plan";
+-- and all are "at that one limit".
 -- Read `Calls terms bs ws cs rs end` as `History`: under the plan bytes bs, from the words ws, the calls cs were answered rs and left the words end.
 -- Of each call there are its arguments a, its answer r and what it left s, of which the reading `Post` of its contract holds.
 pub data Calls (terms : Terms) (bs : List ℕ) : List ℕ → List Call → List Answer → List ℕ → Type 0 where

@@ -14,4 +14,5 @@ pub mod EachCall
 pub mod Decoding
 pub mod WholeRun
 pub mod RunCalls
+pub mod PublicReadings
 pub mod AtSetting
