@@ -214,7 +214,7 @@ static inline const char *retraction_refusal_text(uint16_t refusal)
     case RETRACTION_DAY: return "the day or the date is out of range, or the event's day is before the last accepted one";
     case RETRACTION_OVER: return "the ledger is over";
     case RETRACTION_NO_RIGHT: return "the society has no fire right for the track, or no move or signal right anywhere";
-    case RETRACTION_FULL: return "a track that the event gives an entry holds as many as the limit already";
+    case RETRACTION_FULL: return "a track that the event gives an entry already holds as many as the limit";
     case RETRACTION_NOT_READY: return "the track may not be fired now, or does not exist";
     case RETRACTION_BROKEN_RECORD: return "a journal record is broken";
     default: return "no such refusal";
