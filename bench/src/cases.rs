@@ -154,12 +154,13 @@ impl Case {
             return self.largest(call);
         }
         let mut given = Vec::new();
+        let second = limit::Limit(limit.entries());
         let rare = [FINISHING, LAST_SIGNAL].contains(&call);
         let histories = if rare { 400 } else { 40 };
         for index in 0..histories {
             let mut rng = Rng::for_case(1, 22, index);
-            let (records, _) = journals::history(&mut rng, &self.read);
-            let mut ledger = rules::begin(limit::Limit(limit.entries()), &self.read);
+            let (records, _) = journals::history(&mut rng, second, &self.read);
+            let mut ledger = rules::begin(second, &self.read);
             for record in records.into_iter().map(on_the_day) {
                 if let Some(call) = self.call(call, &ledger, record) {
                     let words = ledger.words();
