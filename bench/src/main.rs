@@ -1,8 +1,8 @@
 //! Prints tables of times: the proved calls beside the second program's and
-//! the fast one's at both limits, the sum of a plan's bytes alone, days and dates, the largest
-//! number of entries, whole runs, and how each call grows. The sides make the
-//! same checks on each call; rounds alternate between them, and each figure is a
-//! median.
+//! the fast one's at both limits, the sum of a plan's bytes alone, days and
+//! dates, the largest number of entries, whole runs, and how each call grows. The
+//! sides make the same checks on each call; rounds alternate between them, and
+//! each figure is a median.
 //!
 //! `bench calls | sums | days | largest | scaling`, `bench runs PROVED SECOND
 //! FAST` with three programs `unwind`, `bench all PROVED SECOND FAST` print
