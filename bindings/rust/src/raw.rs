@@ -11,12 +11,12 @@
 //! [`event`], [`signal`] and [`fire`] are each a society's. The plan says what it
 //! may do; any number may be given.
 //!
-//! Each call on a ledger has options last, those of a [`crate::Limit`]: it is
-//! [`crate::Limit::options`] that gives them. Bit 0 tells the limit, the others
-//! are ignored. The words needed, the place of a track's words, the count and
-//! refusals 17, 18 and 21 are read at that limit. No word of a ledger names it:
-//! keep to the limit of its [`begin`]. A ledger begun at one limit is promised
-//! neither to be sound nor to be refused at the other.
+//! Each call on a ledger has options last, which [`crate::Limit::options`] gives.
+//! Bit 0 tells the limit; the other bits are ignored. The words needed, the place
+//! of a track's words, the count and refusals 17, 18 and 21 are read at that
+//! limit. No word of a ledger names it: keep to the limit of its [`begin`]. A
+//! ledger begun at one limit is promised neither to be sound nor to be refused at
+//! the other.
 //!
 //! [`largest`] and [`largest_step`] are given the plan alone, as [`read`] is.
 
