@@ -1,14 +1,14 @@
 /* The retraction manager's calls. Link with libretraction.a: `pkg-config --cflags --libs retraction`.
  *
- * Every call but the two conversions is given the plan's bytes, and all of these but read, largest and largest step the lent ledger and the
- * caller's options: four leading words, then 3 + 2 * limit words for each track of the plan; words beyond are never touched. Any bytes and any
- * words may be given. A refused call changes no word.
+ * Every call but the two conversions is given the plan's bytes. All of these but read, largest and largest step are lent a ledger as well, and
+ * are given the caller's options, which tell the limit. A ledger has four leading words, then 3 + 2 * limit words for each track of the plan;
+ * words beyond are never touched. Any bytes, any words and any options may be given. A refused call changes no word.
  * docs/FORMATS.md says what the bytes and the words are, docs/REFUSALS.md what each refusal means.
  *
- * The limit is the most entries that a track holds: 32 for the main program, 8 for the reading rooms' machine. Bit 0 of the options is set for 8
- * and clear for 32; the other bits are ignored. Each call reads the ledger at the limit that it is given: the words needed, where a track's words
- * stand, the count, and when a track is full. No word of a ledger names its limit. Keep to the limit of its begin: a ledger that was begun at one
- * is promised neither to be sound nor to be refused at the other.
+ * The limit is the most entries that a track holds: 32 for the main program, 8 for the reading rooms' machine. Bit 0 of the options tells it,
+ * clear for 32 and set for 8; the other bits are ignored. Each call reads the ledger at the limit that it is given: how many words it needs, where
+ * a track's words stand, how high the count may go, and when a track is full. No word of a ledger names its limit. A caller keeps to the limit of
+ * the begin: a ledger that was begun at one limit is promised neither to be sound nor to be refused at the other.
  *
  *   word of a ledger   what it is; w is 67 at limit 32 and 19 at limit 8
  *   0                  the plan's length in bytes
@@ -17,7 +17,7 @@
  *   4 + w * t          track t's mode: 0 asleep, 1 forward, 2 undoing
  *   5 + w * t          its state
  *   6 + w * t          the count of entries that it holds, 0 to the limit
- *   7 + w * t          the first of as many pairs of code and deviation as the limit says, oldest first, unused pairs zero
+ *   7 + w * t          the first of its pairs of code and deviation, as many as the limit, oldest first, unused pairs zero
  *
  * Begin writes the leading words. Event, signal, fire, ready and entries test the first two: a ledger that was begun under a plan of another
  * length or sum is refused as 24, checked between 17 and 18. So are zeros: a ledger starts with a begin.
@@ -50,14 +50,14 @@
  * state on, each leaving the state that the one before it leads to. It has one entry for each transition with a code and one for each hosting
  * state with a replacement, its first and last state included. Largest gives the largest number of entries along any path and the length of
  * such a path; largest step gives the transition at an index of it, from 0 on. Which of several paths with so many entries it is, is free; it
- * is the same one in every call on the same plan. No history, whatever its days and rights, makes the track hold more. Figures above the
- * limit, the most that a track can hold, are told as they are. A plan with a deviation, or with a cycle of transitions, a step from a state to itself
- * included and reached or not, is refused as 29 by these two calls and by no other, checked after 27.
+ * is the same one in every call on the same plan. No history, whatever its days and rights, makes the track hold more. The figure knows no
+ * limit: one above what a track can hold is told as it is. A plan with a deviation, or with a cycle of transitions, a step from a state to
+ * itself included and reached or not, is refused as 29 by these two calls and by no other, checked after 27.
  *
  * What a caller owes: a pointer is not null, even where its length is 0, and holds so many bytes or words; the ledger's is at an even
  * address; the plan and the ledger do not overlap; and nothing else writes to either during a call. Plans alike in length and sum are not
- * told apart: among those a ledger is kept with the plan that it was begun under. A society is taken as it is given: whether the call is really
- * that society's is for the caller to know.
+ * told apart: among those a ledger is kept with the plan that it was begun under. Limits are not told apart either: a ledger is kept at the
+ * limit that it was begun at. A society is taken as it is given: whether the call is really that society's is for the caller to know.
  *
  * The calls are reentrant and thread-safe: none allocates, keeps a pointer, prints, or has any state but the ledger lent to it. A ledger's
  * words have the machine's own byte order; a plan's bytes are little-endian everywhere.
@@ -96,7 +96,7 @@ extern "C" {
 #define RETRACTION_VERSION 700
 #define RETRACTION_VERSION_TEXT "0.7.0"
 
-/* A call's options: the limit that the caller keeps to, the main program's or the reading rooms'. */
+/* A call's options: the limit that the caller keeps to. It is 32 for the main program and 8 for the reading rooms. */
 enum retraction_options {
     RETRACTION_LIMIT_32 = 0,
     RETRACTION_LIMIT_8 = 1
@@ -105,7 +105,8 @@ enum retraction_options {
 /* The most entries that a track holds under these options. */
 #define RETRACTION_LIMIT(options) ((uint32_t)(options) & RETRACTION_LIMIT_8 ? 8u : 32u)
 
-/* Words of a ledger: the leading ones, those of each track, and all of them with so many tracks. Read tells a plan's tracks. */
+/* Words of a ledger under these options: the leading ones, those of each track, and all of them with so many tracks. Read tells a plan's
+ * tracks. */
 #define RETRACTION_LEADING_WORDS 4
 #define RETRACTION_TRACK_WORDS(options) (3 + 2 * (size_t)RETRACTION_LIMIT(options))
 #define RETRACTION_LEDGER_WORDS(tracks, options) (RETRACTION_LEADING_WORDS + RETRACTION_TRACK_WORDS(options) * (size_t)(tracks))
@@ -214,7 +215,7 @@ static inline const char *retraction_refusal_text(uint16_t refusal)
     case RETRACTION_DAY: return "the day or the date is out of range, or the event's day is before the last accepted one";
     case RETRACTION_OVER: return "the ledger is over";
     case RETRACTION_NO_RIGHT: return "the society has no fire right for the track, or no move or signal right anywhere";
-    case RETRACTION_FULL: return "a track that the event gives an entry holds as many as the limit already";
+    case RETRACTION_FULL: return "a track that the event gives an entry already holds as many as the limit";
     case RETRACTION_NOT_READY: return "the track may not be fired now, or does not exist";
     case RETRACTION_BROKEN_RECORD: return "a journal record is broken";
     default: return "no such refusal";

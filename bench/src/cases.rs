@@ -1,7 +1,8 @@
 //! What is timed: plan P, the samples, a plan of two roots, random plans of
 //! three sizes, the largest one with windows and one shared by societies, with
-//! ledgers that a history left, on each of which a call does something. All
-//! events are on day 0, on which no window keeps a track from moving.
+//! ledgers that a history left at either limit, on each of which a call does
+//! something. All events are on day 0, on which no window keeps a track from
+//! moving.
 
 use std::fs;
 use std::io;
@@ -9,8 +10,10 @@ use std::path::Path;
 
 use bench::fast;
 use bench::sides::Call;
+use retraction::Limit;
 use second::journal::{self, Record, MAX_BYTES};
 use second::ledger::Ledger;
+use second::limit;
 use second::plan::{self, members, Plan, Records, Right, MAX_RIGHTS};
 use second::rules;
 use testing::generate::rng::Rng;
@@ -116,7 +119,9 @@ impl Case {
             within(case.read.track_count(), tracks)
                 && within(case.read.state_count(), states)
                 && within(case.read.transition_count(), transitions)
-                && CALLS.iter().all(|call| case.given(call, 4).len() == 4)
+                && CALLS
+                    .iter()
+                    .all(|call| case.given(call, 4, Limit::Main).len() == 4)
                 && case.stays_lively()
         };
         let made = (0..).map(|index| plans::records(&mut Rng::for_case(1, 21, index), 32));
@@ -140,25 +145,26 @@ impl Case {
         format!("{} ({counts})", self.name)
     }
 
-    /// Ledgers on which the call is accepted and does something; at most so
-    /// many, fewer where few histories lead to one. Few do to a firing or a
-    /// signal that finishes, so that more are tried. The calls on the largest
+    /// Ledgers kept at a limit on which the call is accepted and does something;
+    /// at most so many, fewer where few histories lead to one. Few do to a firing
+    /// or a signal that finishes, so that more are tried. The calls on the largest
     /// number of entries are lent none, and made of each track.
-    pub fn given(&self, call: &str, count: usize) -> Vec<Given> {
+    pub fn given(&self, call: &str, count: usize, limit: Limit) -> Vec<Given> {
         if call == LARGEST || call == LARGEST_STEP {
             return self.largest(call);
         }
         let mut given = Vec::new();
+        let second = limit::Limit(limit.entries());
         let rare = [FINISHING, LAST_SIGNAL].contains(&call);
         let histories = if rare { 400 } else { 40 };
         for index in 0..histories {
             let mut rng = Rng::for_case(1, 22, index);
-            let (records, _) = journals::history(&mut rng, &self.read);
-            let mut ledger = rules::begin(&self.read);
+            let (records, _) = journals::history(&mut rng, second, &self.read);
+            let mut ledger = rules::begin(second, &self.read);
             for record in records.into_iter().map(on_the_day) {
                 if let Some(call) = self.call(call, &ledger, record) {
                     let words = ledger.words();
-                    given.push(Given { words, call });
+                    given.push(Given { words, call, limit });
                 }
                 if given.len() == count {
                     return given;
@@ -177,10 +183,7 @@ impl Case {
             Ok((_, length)) if call == LARGEST_STEP => Call::LargestStep(track, length / 2),
             _ => Call::Largest(track),
         };
-        let given = |track| Given {
-            words: Vec::new(),
-            call: of_track(track),
-        };
+        let given = |track| Given::main(Vec::new(), of_track(track));
         tracks.map(given).collect()
     }
 
@@ -242,7 +245,7 @@ impl Case {
     /// and then firings of the lowest ready track, by each society in turn.
     fn lively_journal(&self, bytes: usize) -> Vec<u8> {
         let mut journal = Vec::new();
-        let mut ledger = rules::begin(&self.read);
+        let mut ledger = rules::begin(limit::Limit::MAIN, &self.read);
         let mut rng = Rng::for_case(1, 23, 0);
         while journal.len() < bytes / 4 * 3 {
             let (event, society) = self.lively_event(&mut rng, &ledger);
@@ -265,7 +268,7 @@ impl Case {
 
     /// Whether events still move something after many.
     fn stays_lively(&self) -> bool {
-        let mut ledger = rules::begin(&self.read);
+        let mut ledger = rules::begin(limit::Limit::MAIN, &self.read);
         let mut rng = Rng::for_case(1, 24, 0);
         (0..400).all(|_| {
             let (event, society) = self.lively_event(&mut rng, &ledger);

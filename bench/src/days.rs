@@ -4,6 +4,7 @@
 use std::time::Instant;
 
 use bench::sides::{self, Call, Side, SIDES};
+use retraction::Limit;
 use second::days::{date_of_day, Term};
 use testing::generate::rng::Rng;
 
@@ -13,12 +14,12 @@ use crate::rounds::Rounds;
 /// Conversions of a round.
 const CONVERSIONS: usize = 1024;
 
-/// Nanoseconds a conversion, and the sum of the answers.
+/// Nanoseconds a conversion, and the sum of the answers. It reads no limit.
 fn round(calls: &[Call], side: Side) -> (f64, u64) {
     let mut sum = 0u64;
     let start = Instant::now();
     for &call in calls {
-        sum = sum.wrapping_add(side(&[], &mut [], call));
+        sum = sum.wrapping_add(side(&[], &mut [], call, Limit::default()));
     }
     let time = start.elapsed().as_nanos() as f64;
     (time / calls.len() as f64, sum)

@@ -1,6 +1,8 @@
 //! Times of the calls on the largest number of entries, by each side, of every
 //! track in turn.
 
+use retraction::Limit;
+
 use crate::calls::{times, LARGEST, LARGEST_STEP, LEDGERS};
 use crate::cases::Case;
 use crate::rounds::Rounds;
@@ -31,7 +33,7 @@ fn print_rows(rounds: &mut Rounds, case: &Case) {
 }
 
 fn print_row(rounds: &mut Rounds, case: &Case, call: &str, name: &str) {
-    let given = case.given(call, LEDGERS);
+    let given = case.given(call, LEDGERS, Limit::default());
     let [proved, second, fast] = times(rounds, &case.plan, &given);
     let (label, to_second, to_fast) = (case.label(), proved / second, proved / fast);
     println!(

@@ -1,14 +1,15 @@
 //! Prints tables of times: the proved calls beside the second program's and
-//! the fast one's, the sum of a plan's bytes alone, days and dates, the largest
-//! number of entries, whole runs, and how each call grows. The sides make the
-//! same checks on each call; rounds alternate between them, and each figure is a
-//! median.
+//! the fast one's at both limits, the sum of a plan's bytes alone, days and
+//! dates, the largest number of entries, whole runs, and how each call grows. The
+//! sides make the same checks on each call; rounds alternate between them, and
+//! each figure is a median.
 //!
 //! `bench calls | sums | days | largest | scaling`, `bench runs PROVED SECOND
 //! FAST` with three programs `unwind`, `bench all PROVED SECOND FAST` print
 //! tables, and in the last line whether the machine was disturbed. For a
-//! profiler: `bench one PLAN CALL` makes one round of the proved calls alone,
-//! `bench write PLAN FOLDER` writes the plan and its journal.
+//! profiler: `bench one PLAN CALL [LIMIT]` makes one round of the proved calls
+//! alone, at limit 32 if none is given, `bench write PLAN FOLDER` writes the plan
+//! and its journal.
 
 mod calls;
 mod cases;
@@ -23,11 +24,13 @@ mod sums;
 use std::io;
 use std::path::Path;
 
+use bench::sides::LIMITS;
 use cases::Case;
+use retraction::Limit;
 use rounds::Rounds;
 
 const USAGE: &str = "usage: bench calls | sums | days | largest | scaling | \
-    runs PROVED SECOND FAST | all PROVED SECOND FAST | one PLAN CALL | write PLAN FOLDER";
+    runs PROVED SECOND FAST | all PROVED SECOND FAST | one PLAN CALL [LIMIT] | write PLAN FOLDER";
 
 fn main() -> io::Result<()> {
     let words: Vec<String> = std::env::args().skip(1).collect();
@@ -56,19 +59,34 @@ fn main() -> io::Result<()> {
             println!();
             scaling::print(&mut rounds);
         }
-        ["one", plan, call] => {
-            calls::one(&cases, plan, call);
-            calls::one(&Case::rows(), plan, call);
+        ["one", plan, call, ref limit @ ..] => {
+            let limit = read_limit(limit)?;
+            calls::one(&cases, plan, call, limit);
+            calls::one(&Case::rows(), plan, call, limit);
             return Ok(());
         }
         ["write", plan, folder] => {
             return match cases.iter().find(|case| case.name == plan) {
                 Some(case) => runs::write(case, Path::new(folder)),
-                None => Err(io::Error::new(io::ErrorKind::Other, "no such plan")),
+                None => Err(wrong("no such plan")),
             }
         }
-        _ => return Err(io::Error::new(io::ErrorKind::Other, USAGE)),
+        _ => return Err(wrong(USAGE)),
     }
     println!("\n## The machine\n\n{}", rounds.verdict());
     Ok(())
+}
+
+fn wrong(text: &str) -> io::Error {
+    io::Error::new(io::ErrorKind::Other, text)
+}
+
+/// The limit that is named by its number of entries, if one is.
+fn read_limit(words: &[&str]) -> io::Result<Limit> {
+    let named = |word: &str| LIMITS.into_iter().find(|l| l.entries().to_string() == word);
+    match words {
+        [] => Ok(Limit::default()),
+        [word] => named(word).ok_or_else(|| wrong("no such limit")),
+        _ => Err(wrong(USAGE)),
+    }
 }

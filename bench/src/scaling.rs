@@ -1,8 +1,10 @@
 //! Tables in which one thing grows and all else stays, so that the growth of
-//! each call shows.
+//! each call shows. Every ledger is at the main program's limit.
 
 use bench::sides::{Call, SIDES};
-use second::ledger::{track_start, Entry, Ledger, Mode, Track};
+use retraction::Limit;
+use second::ledger::{Entry, Ledger, Mode, Track};
+use second::limit;
 use second::plan::{self, Plan, Records, NONE};
 use second::rules;
 use testing::samples::SOCIETY;
@@ -105,7 +107,7 @@ fn rows(plans: &[(Records, usize)]) -> Vec<Row> {
 /// A ledger after so many events 1 of one society, undoing for a firing, and its
 /// call on it.
 fn given(name: &str, plan: &Plan, events: usize) -> Given {
-    let mut ledger = rules::begin(plan);
+    let mut ledger = rules::begin(limit::Limit::MAIN, plan);
     for _ in 0..events {
         let moved = rules::event(plan, &mut ledger, 1, 0, SOCIETY).map(|figures| figures.moved);
         assert!(moved != Ok(0), "an event that moves");
@@ -121,8 +123,7 @@ fn given(name: &str, plan: &Plan, events: usize) -> Given {
         "ready" => Call::Ready,
         _ => Call::Entries(last_holding(&ledger)),
     };
-    let words = ledger.words();
-    Given { words, call }
+    Given::main(ledger.words(), call)
 }
 
 /// The last track that holds something.
@@ -205,9 +206,8 @@ fn refused(plans: &[(Records, usize)], order: &str) -> Row {
         if let Some(last) = records.transitions.last_mut() {
             last.event = event;
         }
-        let words = vec![0; track_start(records.tracks.len())];
-        let call = Call::Begin;
-        (records.encode(), Given { words, call })
+        let words = vec![0; Limit::Main.ledger_words(records.tracks.len())];
+        (records.encode(), Given::main(words, Call::Begin))
     };
     Row {
         name: format!("begin, {order}, refused as 15"),
@@ -239,9 +239,8 @@ fn repeated(plans: &[(Records, usize)]) -> Row {
         if let Some(last) = records.windows.last_mut() {
             last.transition = transition;
         }
-        let words = vec![0; track_start(records.tracks.len())];
-        let call = Call::Begin;
-        (records.encode(), Given { words, call })
+        let words = vec![0; Limit::Main.ledger_words(records.tracks.len())];
+        (records.encode(), Given::main(words, Call::Begin))
     };
     Row {
         name: "begin, refused as 25".to_string(),
@@ -273,9 +272,8 @@ fn repeated_pair(plans: &[(Records, usize)]) -> Row {
         if let Some(last) = records.rights.last_mut() {
             *last = first;
         }
-        let words = vec![0; track_start(records.tracks.len())];
-        let call = Call::Begin;
-        (records.encode(), Given { words, call })
+        let words = vec![0; Limit::Main.ledger_words(records.tracks.len())];
+        (records.encode(), Given::main(words, Call::Begin))
     };
     Row {
         name: "begin, refused as 27".to_string(),
@@ -309,7 +307,7 @@ fn finishing(plans: &[(Records, usize)]) -> Row {
             code: 7,
             deviation: NONE,
         };
-        let mut ledger = Ledger::asleep(&plan);
+        let mut ledger = Ledger::asleep(limit::Limit::MAIN, &plan);
         for root in 0..last {
             let end = plan.states_of(root).last().expect("a state");
             ledger.tracks[root] = Track::awake(Mode::Forward, end);
@@ -321,8 +319,8 @@ fn finishing(plans: &[(Records, usize)]) -> Row {
         }
         let ends = finishes(&plan, &ledger, last as u16, SOCIETY);
         assert!(ends, "a firing that ends");
-        let (words, call) = (ledger.words(), Call::Fire(last as u16, SOCIETY));
-        (bytes, Given { words, call })
+        let call = Call::Fire(last as u16, SOCIETY);
+        (bytes, Given::main(ledger.words(), call))
     };
     Row {
         name: FINISHING.to_string(),
@@ -339,9 +337,8 @@ fn largest() -> Table {
         name: name.to_string(),
         points: (sizes.iter())
             .map(|&transitions| {
-                let words = Vec::new();
                 let plan = shapes::rows(1, states, transitions);
-                (plan.encode(), Given { words, call })
+                (plan.encode(), Given::main(Vec::new(), call))
             })
             .collect(),
     };

@@ -1,12 +1,18 @@
-//! A call by the proved library, by the second program and by the fast one,
-//! each answer packed into one number, as the calls for C have it. Of the path
-//! with the most entries each side shows its own; [`agreed`] leaves it out.
+//! A call by the proved library, by the second program and by the fast one, at
+//! either limit, each answer packed into one number, as the calls for C have it.
+//! Of the path with the most entries each side shows its own; [`agreed`] leaves
+//! it out.
 
-use retraction::{raw, NONE};
+use retraction::{raw, Limit, NONE};
 use second::days::Date;
+use second::limit;
 use second::manager::{self, Answer};
 
+use crate::fast::limit::{Limit as Constant, Main, ReadingRoom};
 use crate::fast::{self, Refused};
+
+/// Both limits, the main program's first.
+pub const LIMITS: [Limit; 2] = [Limit::Main, Limit::ReadingRoom];
 
 /// A call on lent words, on the plan alone, or a conversion, which is given
 /// neither.
@@ -29,8 +35,9 @@ pub enum Call {
     LargestStep(u16, u16),
 }
 
-/// Who makes a call: on the plan's bytes and the words lent.
-pub type Side = fn(&[u8], &mut [u16], Call) -> u64;
+/// Who makes a call: on the plan's bytes and the words lent, at a limit. The
+/// conversions and the calls on the plan alone do not read it.
+pub type Side = fn(&[u8], &mut [u16], Call, Limit) -> u64;
 
 /// A side and its name.
 pub type Named = (&'static str, Side);
@@ -49,24 +56,25 @@ pub fn agreed(call: Call, answer: u64) -> u64 {
 }
 
 /// The call by the proved library.
-pub fn proved(plan: &[u8], words: &mut [u16], call: Call) -> u64 {
+pub fn proved(plan: &[u8], words: &mut [u16], call: Call, limit: Limit) -> u64 {
     let refused = |refusal: retraction::Refusal| refusal.number();
+    let options = limit.options();
     match call {
-        Call::Begin => number(raw::begin(plan, words).map_err(refused), |()| 0),
+        Call::Begin => number(raw::begin(plan, words, options).map_err(refused), |()| 0),
         Call::Event(event, day, society) => {
-            let done = raw::event(plan, words, event, day, society).map_err(refused);
+            let done = raw::event(plan, words, event, day, society, options).map_err(refused);
             number(done, |figures| pair(figures.moved, figures.closed))
         }
         Call::Signal(society) => {
-            let done = raw::signal(plan, words, society).map_err(refused);
+            let done = raw::signal(plan, words, society, options).map_err(refused);
             number(done, |turned| pair(turned, 0))
         }
         Call::Fire(track, society) => {
-            let done = raw::fire(plan, words, track, society).map_err(refused);
+            let done = raw::fire(plan, words, track, society, options).map_err(refused);
             number(done, |e| pair(e.code, e.deviation.unwrap_or(NONE)))
         }
-        Call::Ready => number(raw::ready(plan, words).map_err(refused), bits),
-        Call::Entries(track) => part(words, raw::entries(plan, words, track)),
+        Call::Ready => number(raw::ready(plan, words, options).map_err(refused), bits),
+        Call::Entries(track) => part(words, raw::entries(plan, words, track, options)),
         Call::DateOfDay(day) => number(raw::date_of_day(day).map_err(refused), |d| {
             triple(d.year, d.month, d.day)
         }),
@@ -86,23 +94,28 @@ pub fn proved(plan: &[u8], words: &mut [u16], call: Call) -> u64 {
 }
 
 /// The call by the second program.
-pub fn second(plan: &[u8], words: &mut [u16], call: Call) -> u64 {
+pub fn second(plan: &[u8], words: &mut [u16], call: Call, limit: Limit) -> u64 {
+    second_at(plan, words, call, limit::Limit(limit.entries()))
+}
+
+/// The call by the second program at any limit.
+pub fn second_at(plan: &[u8], words: &mut [u16], call: Call, limit: limit::Limit) -> u64 {
     match call {
-        Call::Begin => number(result(manager::begin(plan, words)), |()| 0),
+        Call::Begin => number(result(manager::begin(limit, plan, words)), |()| 0),
         Call::Event(event, day, society) => {
-            let done = result(manager::event(plan, words, event, day, society));
+            let done = result(manager::event(limit, plan, words, event, day, society));
             number(done, |figures| pair(figures.moved, figures.closed))
         }
         Call::Signal(society) => {
-            let done = result(manager::signal(plan, words, society));
+            let done = result(manager::signal(limit, plan, words, society));
             number(done, |turned| pair(turned, 0))
         }
         Call::Fire(track, society) => {
-            let done = result(manager::fire(plan, words, track, society));
+            let done = result(manager::fire(limit, plan, words, track, society));
             number(done, |entry| pair(entry.code, entry.deviation))
         }
-        Call::Ready => number(result(manager::ready(plan, words)), bits),
-        Call::Entries(track) => part(words, manager::entries(plan, words, track)),
+        Call::Ready => number(result(manager::ready(limit, plan, words)), bits),
+        Call::Entries(track) => part(words, manager::entries(limit, plan, words, track)),
         Call::DateOfDay(day) => number(result(manager::date_of_day(day)), |d| {
             triple(d.year, d.month, d.day)
         }),
@@ -122,24 +135,32 @@ fn second_largest(plan: &[u8], track: u16) -> Result<(u16, Vec<u16>), u16> {
 }
 
 /// The call by the fast program.
-pub fn fast(plan: &[u8], words: &mut [u16], call: Call) -> u64 {
+pub fn fast(plan: &[u8], words: &mut [u16], call: Call, limit: Limit) -> u64 {
+    match limit {
+        Limit::Main => fast_at::<Main>(plan, words, call),
+        Limit::ReadingRoom => fast_at::<ReadingRoom>(plan, words, call),
+    }
+}
+
+/// The call by the fast program at any limit.
+pub fn fast_at<L: Constant>(plan: &[u8], words: &mut [u16], call: Call) -> u64 {
     let refused = |Refused(number)| number;
     match call {
-        Call::Begin => number(fast::begin(plan, words).map_err(refused), |()| 0),
+        Call::Begin => number(fast::begin::<L>(plan, words).map_err(refused), |()| 0),
         Call::Event(event, day, society) => {
-            let done = fast::event(plan, words, event, day, society).map_err(refused);
+            let done = fast::event::<L>(plan, words, event, day, society).map_err(refused);
             number(done, |figures| pair(figures.moved, figures.closed))
         }
         Call::Signal(society) => {
-            let done = fast::signal(plan, words, society).map_err(refused);
+            let done = fast::signal::<L>(plan, words, society).map_err(refused);
             number(done, |turned| pair(turned, 0))
         }
         Call::Fire(track, society) => {
-            let done = fast::fire(plan, words, track, society).map_err(refused);
+            let done = fast::fire::<L>(plan, words, track, society).map_err(refused);
             number(done, |entry| pair(entry.code, entry.deviation))
         }
-        Call::Ready => number(fast::ready(plan, words).map_err(refused), bits),
-        Call::Entries(track) => part(words, fast::entries(plan, words, track)),
+        Call::Ready => number(fast::ready::<L>(plan, words).map_err(refused), bits),
+        Call::Entries(track) => part(words, fast::entries::<L>(plan, words, track)),
         Call::DateOfDay(day) => number(fast::days::date_of_day(day).map_err(refused), |d| {
             triple(d.year, d.month, d.day)
         }),

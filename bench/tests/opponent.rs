@@ -1,27 +1,57 @@
 //! The fast program against the second one: the same answers, the same words
-//! and the same texts, on input made from fixed seeds.
+//! and the same texts, on input made from fixed seeds, at both limits and some
+//! others, and on ledgers that are read at another limit than their own.
 
+use bench::fast::limit::{self, Main, ReadingRoom};
 use bench::fast::run;
 use bench::sides::{self, Call};
 use second::days::{Date, Term};
 use second::journal::{self, Record};
-use second::ledger::{track_start, Entry, Ledger, Mode, Track, LEADING_WORDS};
+use second::ledger::{Entry, Ledger, Mode, Track, LEADING_WORDS};
+use second::limit::Limit;
 use second::plan::{self, Rights, MAX_RIGHTS, MAX_TRACKS, NONE};
 use testing::generate::rng::Rng;
 use testing::generate::{damage, days, journals, ledgers, neighbours, plans, singles, societies};
 use testing::samples::{every_right, looping, rights, state, step, track, window, SOCIETY};
 
+/// The main program's limit, at which plans are tried.
+const MAIN: Limit = Limit::MAIN;
+
+/// A limit that neither program is used at.
+enum Other<const ENTRIES: u16> {}
+
+impl<const ENTRIES: u16> limit::Limit for Other<ENTRIES> {
+    const ENTRIES: u16 = ENTRIES;
+}
+
+/// The call by the fast program, which has these limits compiled in.
+fn fast(limit: Limit, plan: &[u8], words: &mut [u16], call: Call) -> u64 {
+    match limit {
+        Limit::MAIN => sides::fast_at::<Main>(plan, words, call),
+        Limit::READING_ROOM => sides::fast_at::<ReadingRoom>(plan, words, call),
+        Limit(0) => sides::fast_at::<Other<0>>(plan, words, call),
+        Limit(1) => sides::fast_at::<Other<1>>(plan, words, call),
+        Limit(3) => sides::fast_at::<Other<3>>(plan, words, call),
+        Limit(100) => sides::fast_at::<Other<100>>(plan, words, call),
+        Limit(u16::MAX) => sides::fast_at::<Other<{ u16::MAX }>>(plan, words, call),
+        Limit(other) => panic!("limit {other} is not compiled in"),
+    }
+}
+
 /// Makes the call by both on copies of the words; the answer, and the words
 /// afterwards.
-fn agreed(plan: &[u8], words: &[u16], call: Call, case: u64) -> (u64, Vec<u16>) {
+fn agreed(limit: Limit, plan: &[u8], words: &[u16], call: Call, case: u64) -> (u64, Vec<u16>) {
     let (mut expected, mut found) = (words.to_vec(), words.to_vec());
-    let answer = sides::second(plan, &mut expected, call);
+    let answer = sides::second_at(plan, &mut expected, call, limit);
     assert_eq!(
-        sides::fast(plan, &mut found, call),
+        fast(limit, plan, &mut found, call),
         answer,
-        "the answer of {call:?} in case {case}"
+        "the answer of {call:?} in case {case} at {limit:?}"
     );
-    assert!(found == expected, "the words after {call:?} in case {case}");
+    assert!(
+        found == expected,
+        "the words after {call:?} in case {case} at {limit:?}"
+    );
     (answer, expected)
 }
 
@@ -54,56 +84,153 @@ fn calls(rng: &mut Rng, plan: &[u8], call: singles::Call) -> [Call; 7] {
     ]
 }
 
-/// Accepted and refused plans; sound, damaged and too short ledgers, and those
-/// of other plans. Each refusal of a call is among the answers.
-#[test]
-fn half_a_million_single_calls() {
+/// How often each refusal is answered to single calls: accepted and refused
+/// plans; sound, damaged and too short ledgers, those of other plans and those
+/// made at other limits. The calls are at the limit that they are made for.
+fn refused(limit: Limit, stream: u64, singles: u64) -> [u64; 29] {
     let mut refused = [0; 29];
-    let mut made = 0;
-    for index in 0..72_000 {
-        let mut rng = Rng::for_case(31, 1, index);
-        let single = singles::single(&mut rng, MAX_TRACKS);
+    for index in 0..singles {
+        let mut rng = Rng::for_case(31, stream, index);
+        let single = singles::single_at(&mut rng, limit, MAX_TRACKS);
         for call in calls(&mut rng, &single.plan, single.call) {
-            let (answer, _) = agreed(&single.plan, &single.words, call, index);
+            let (answer, _) = agreed(limit, &single.plan, &single.words, call, index);
             if !matches!(call, Call::Entries(_)) {
                 refused[usize::from(answer as u16)] += 1;
             }
-            made += 1;
         }
     }
-    assert!(made >= 500_000);
-    for number in (2..=22).chain(24..=28) {
-        assert!(refused[number] >= 100, "{number}: {}", refused[number]);
-    }
-    assert!(refused[24] >= 20_000, "24: {}", refused[24]);
-    assert!(refused[28] >= 10_000, "28: {}", refused[28]);
+    refused
 }
 
-/// Ledgers that go on from call to call, from a begin on any words. Now and
-/// then a neighbour's plan is given: 24, and the history goes on. Some end half
-/// withdrawn, in a firing or in a signal.
+/// Half a million at each limit: every refusal of a call is among the answers.
+#[test]
+fn a_million_single_calls() {
+    for (limit, stream) in Limit::SETTINGS.into_iter().zip([1, 7]) {
+        let refused = refused(limit, stream, 72_000);
+        for number in (2..=22).chain(24..=28) {
+            let times = refused[number];
+            assert!(times >= 100, "{number} at {limit:?}: {times}");
+        }
+        assert!(refused[24] >= 20_000, "24 at {limit:?}: {}", refused[24]);
+        assert!(refused[28] >= 10_000, "28 at {limit:?}: {}", refused[28]);
+    }
+}
+
+/// Limits that neither program is used at.
+#[test]
+fn single_calls_at_other_limits() {
+    for (limit, stream) in [Limit(1), Limit(3), Limit(100)].into_iter().zip(8..) {
+        let refused = refused(limit, stream, 3_000);
+        for number in [17, 18, 20, 21, 22, 24] {
+            let times = refused[number];
+            assert!(times >= 5, "{number} at {limit:?}: {times}");
+        }
+    }
+}
+
+/// Words that are called on at either limit, whichever they were made for: those
+/// of single calls, mostly longer than they were made.
+#[test]
+fn ledgers_read_across_limits() {
+    let (mut accepted, mut refused) = (0, [0; 29]);
+    for index in 0..20_000 {
+        let mut rng = Rng::for_case(31, 6, index);
+        let most_tracks = rng.pick(&[1, 1, 2, MAX_TRACKS]).unwrap_or(1);
+        let single = singles::single(&mut rng, most_tracks);
+        let across = match single.limit {
+            MAIN => Limit::READING_ROOM,
+            _ => MAIN,
+        };
+        let mut words = single.words.clone();
+        let beyond = across.track_start(most_tracks) - LEADING_WORDS;
+        words.resize(words.len() + rng.pick(&[0, beyond]).unwrap_or(0), 0);
+        for call in calls(&mut rng, &single.plan, single.call) {
+            let (answer, _) = agreed(across, &single.plan, &words, call, index);
+            let number = usize::from(answer as u16);
+            match call {
+                Call::Entries(_) | Call::Begin => {}
+                _ if number == 0 => accepted += 1,
+                _ => refused[number] += 1,
+            }
+        }
+    }
+    assert!(accepted >= 500, "{accepted}");
+    for number in [17, 18, 20, 21, 22, 24, 28] {
+        let times = refused[number];
+        assert!(times >= 5, "{number}: {times}");
+    }
+}
+
+/// A track of the greatest limit and of none: what it holds, and when it is
+/// full.
+#[test]
+fn limits_that_a_word_can_count() {
+    let bytes = looping().encode();
+    let plan = plan::read(&bytes).expect("accepted");
+    for (limit, held) in [
+        (0, 0),
+        (1, 0),
+        (1, 1),
+        (u16::MAX, u16::MAX - 1),
+        (u16::MAX, u16::MAX),
+    ] {
+        let entry = Entry {
+            code: 7,
+            deviation: NONE,
+        };
+        let mut ledger = Ledger::asleep(Limit(limit), &plan);
+        ledger.tracks[0] = Track::awake(Mode::Forward, 0);
+        (0..held).for_each(|_| ledger.tracks[0].install(entry));
+        let words = ledger.words();
+        let at = |words: &[u16], call: Call| agreed(Limit(limit), &bytes, words, call, held.into());
+        assert_eq!(at(&words, Call::Begin).0, 0);
+        let (answer, _) = at(&words, event(1));
+        assert_eq!(answer, if held == limit { 21 } else { 1 << 16 });
+        let shown = at(&words, Call::Entries(0)).0;
+        assert_eq!(shown as u16, held.wrapping_mul(2));
+        let (turned, undoing) = at(&words, signal());
+        assert_eq!(turned, 1 << 16);
+        let (fired, _) = at(&undoing, fire(0));
+        assert_eq!(fired as u16, if held == 0 { 22 } else { 0 });
+        assert_eq!(at(&words[..words.len() - 1], Call::Ready).0, 17);
+    }
+}
+
+/// Ledgers that go on from call to call, from a begin on any words, at either
+/// limit. Now and then a neighbour's plan is given: 24, and the history goes on;
+/// or the call is made at the other limit. Some end half withdrawn, in a firing
+/// or in a signal.
 #[test]
 fn calls_of_histories() {
     let (mut ending_firings, mut ending_signals) = (0, 0);
     for index in 0..10_000 {
         let mut rng = Rng::for_case(31, 2, index);
+        let [limit, other] = match index % 2 {
+            0 => [MAIN, Limit::READING_ROOM],
+            _ => [Limit::READING_ROOM, MAIN],
+        };
         let bytes = plans::bytes(&mut rng, MAX_TRACKS);
         let plan = plan::read(&bytes).expect("accepted");
         let neighbour = neighbours::neighbour(&mut rng, &plan).records().encode();
-        let needed = track_start(plan.track_count());
-        let words = ledgers::garbage(&mut rng, &plan);
-        let (_, mut words) = agreed(&bytes, &words, Call::Begin, index);
-        for record in journals::history(&mut rng, &plan).0 {
+        let needed = limit.track_start(plan.track_count());
+        let words = ledgers::garbage(&mut rng, limit, &plan);
+        let (_, mut words) = agreed(limit, &bytes, &words, Call::Begin, index);
+        for record in journals::history(&mut rng, limit, &plan).0 {
             let call = match record {
                 Record::Event(event, day, society) => Call::Event(event, day, society),
                 Record::Signal(society) => Call::Signal(society),
                 Record::Fire(track, society) => Call::Fire(track, society),
-                Record::FireLowest(society) => Call::Fire(lowest_ready(&bytes, &words), society),
+                Record::FireLowest(society) => {
+                    Call::Fire(lowest_ready(limit, &bytes, &words), society)
+                }
             };
             if rng.chance(10) {
-                assert_eq!(agreed(&neighbour, &words, call, index).0, 24);
+                assert_eq!(agreed(limit, &neighbour, &words, call, index).0, 24);
             }
-            let (answer, after) = agreed(&bytes, &words, call, index);
+            if rng.chance(10) {
+                agreed(other, &bytes, &words, call, index);
+            }
+            let (answer, after) = agreed(limit, &bytes, &words, call, index);
             let ended = answer as u16 == 0 && are_over(&after[..needed]);
             ending_firings += usize::from(ended && matches!(call, Call::Fire(..)));
             ending_signals += usize::from(ended && matches!(call, Call::Signal(_)));
@@ -114,8 +241,8 @@ fn calls_of_histories() {
     assert!(ending_signals >= 50, "{ending_signals}");
 }
 
-fn lowest_ready(plan: &[u8], words: &[u16]) -> u16 {
-    let ready = sides::second(plan, &mut words.to_vec(), Call::Ready);
+fn lowest_ready(limit: Limit, plan: &[u8], words: &[u16]) -> u16 {
+    let ready = sides::second_at(plan, &mut words.to_vec(), Call::Ready, limit);
     (ready >> 32).trailing_zeros() as u16
 }
 
@@ -125,8 +252,8 @@ fn damaged_plans() {
     for index in 0..20_000 {
         let mut rng = Rng::for_case(31, 3, index);
         let plan = damage::any_plan(&mut rng, MAX_TRACKS);
-        let words = vec![0; track_start(MAX_TRACKS)];
-        agreed(&plan, &words, Call::Begin, index);
+        let words = vec![0; MAIN.track_start(MAX_TRACKS)];
+        agreed(MAIN, &plan, &words, Call::Begin, index);
     }
 }
 
@@ -137,8 +264,8 @@ fn repeated_events_of_a_wide_state() {
     for index in 0..400 {
         let mut rng = Rng::for_case(31, 4, index);
         let records = wide(&mut rng);
-        let words = vec![0; track_start(records.tracks.len())];
-        agreed(&records.encode(), &words, Call::Begin, index);
+        let words = vec![0; MAIN.track_start(records.tracks.len())];
+        agreed(MAIN, &records.encode(), &words, Call::Begin, index);
     }
 }
 
@@ -159,17 +286,23 @@ fn wide(rng: &mut Rng) -> plan::Records {
 fn thousands_of_windows() {
     let mut records = looping();
     records.windows = vec![window(0, 0, 9); 70_000];
-    let words = vec![0; track_start(1)];
-    assert_eq!(agreed(&records.encode(), &words, Call::Begin, 0).0, 25);
+    let words = vec![0; MAIN.track_start(1)];
+    assert_eq!(
+        agreed(MAIN, &records.encode(), &words, Call::Begin, 0).0,
+        25
+    );
     records.transitions[1].event = 1;
-    assert_eq!(agreed(&records.encode(), &words, Call::Begin, 1).0, 15);
+    assert_eq!(
+        agreed(MAIN, &records.encode(), &words, Call::Begin, 1).0,
+        15
+    );
 }
 
 /// Rights records up to the 64th and beyond, by far, in any order: 27, but 8 to
 /// 16 and 25 come first. One of them may repeat another's pair.
 #[test]
 fn thousands_of_rights() {
-    let words = vec![0; track_start(1)];
+    let words = vec![0; MAIN.track_start(1)];
     for index in 0..2_000 {
         let mut rng = Rng::for_case(33, 1, index);
         let mut records = looping();
@@ -189,12 +322,18 @@ fn thousands_of_rights() {
             fits &= first == second;
         }
         let expected = if fits { 0 } else { 27 };
-        let answer = agreed(&records.encode(), &words, Call::Begin, index).0;
+        let answer = agreed(MAIN, &records.encode(), &words, Call::Begin, index).0;
         assert_eq!(answer, expected, "case {index}");
         records.windows = vec![window(0, 0, 9); 2];
-        assert_eq!(agreed(&records.encode(), &words, Call::Begin, index).0, 25);
+        assert_eq!(
+            agreed(MAIN, &records.encode(), &words, Call::Begin, index).0,
+            25
+        );
         records.transitions[1].event = 1;
-        assert_eq!(agreed(&records.encode(), &words, Call::Begin, index).0, 15);
+        assert_eq!(
+            agreed(MAIN, &records.encode(), &words, Call::Begin, index).0,
+            15
+        );
     }
 }
 
@@ -202,13 +341,13 @@ fn thousands_of_rights() {
 /// plan with a hosted track.
 #[test]
 fn roots_and_sums_of_rights() {
-    let words = vec![0; track_start(3)];
+    let words = vec![0; MAIN.track_start(3)];
     let mut accepted = 0;
     for root in (0..40).chain([255, 256, 65_534, NONE]) {
         for sum in (0..20).chain([255, 256, 257, 263, 65_535]) {
             let mut records = scoped_roots();
             records.rights = vec![rights(9, 1, 2), rights(7, root, sum)];
-            let answer = agreed(&records.encode(), &words, Call::Begin, 0).0;
+            let answer = agreed(MAIN, &records.encode(), &words, Call::Begin, 0).0;
             accepted += usize::from(answer == 0);
         }
     }
@@ -228,16 +367,16 @@ fn families_of_many_societies() {
     let society = |n: u16| rights(n / 3, 4 * (n % 8), 1 + n % 7);
     records.rights = (0..MAX_RIGHTS as u16).map(society).collect();
     let bytes = records.encode();
-    let words = vec![0; track_start(MAX_TRACKS)];
-    let begun = agreed(&bytes, &words, Call::Begin, 0).1;
+    let words = vec![0; MAIN.track_start(MAX_TRACKS)];
+    let begun = agreed(MAIN, &bytes, &words, Call::Begin, 0).1;
     let mut allowed = 0;
     for society in 0..24 {
         for track in 0..34 {
-            let (answer, _) = agreed(&bytes, &begun, Call::Fire(track, society), 0);
+            let (answer, _) = agreed(MAIN, &bytes, &begun, Call::Fire(track, society), 0);
             allowed += usize::from(answer == 22 && track < 32);
         }
-        agreed(&bytes, &begun, Call::Event(1, 0, society), 0);
-        agreed(&bytes, &begun, Call::Signal(society), 0);
+        agreed(MAIN, &bytes, &begun, Call::Event(1, 0, society), 0);
+        agreed(MAIN, &bytes, &begun, Call::Signal(society), 0);
     }
     let fires = |r: &&Rights| r.sum & 4 != 0;
     assert_eq!(allowed, 4 * records.rights.iter().filter(fires).count());
@@ -257,17 +396,23 @@ fn days_about_every_window() {
     records.windows = windows.collect();
     rng.shuffle(&mut records.windows);
     let bytes = records.encode();
-    let begun = agreed(&bytes, &vec![0; track_start(1)], Call::Begin, 0).1;
+    let begun = agreed(MAIN, &bytes, &vec![0; MAIN.track_start(1)], Call::Begin, 0).1;
     let (mut taken, mut ignored) = (0, 0);
     for window in &records.windows {
         let event = window.transition + 1;
         let Term { first, last } = window.term;
         for day in [first - 1, first, last, last + 1] {
-            let (answer, after) = agreed(&bytes, &begun, Call::Event(event, day, SOCIETY), 0);
+            let (answer, after) = agreed(MAIN, &bytes, &begun, Call::Event(event, day, SOCIETY), 0);
             taken += usize::from(answer == 1 << 16);
             ignored += usize::from(answer == 0);
-            agreed(&bytes, &after, Call::Event(event, day, SOCIETY), 1);
-            agreed(&bytes, &after, Call::Event(event, day - 1, SOCIETY), 2);
+            agreed(MAIN, &bytes, &after, Call::Event(event, day, SOCIETY), 1);
+            agreed(
+                MAIN,
+                &bytes,
+                &after,
+                Call::Event(event, day - 1, SOCIETY),
+                2,
+            );
         }
     }
     assert!(taken == 512 && ignored >= 300, "{taken} {ignored}");
@@ -278,8 +423,8 @@ fn days_about_every_window() {
 #[test]
 fn days_and_dates() {
     let agreed = |call: Call| {
-        let answer = sides::second(&[], &mut [], call);
-        assert_eq!(sides::fast(&[], &mut [], call), answer, "{call:?}");
+        let answer = sides::second_at(&[], &mut [], call, MAIN);
+        assert_eq!(fast(MAIN, &[], &mut [], call), answer, "{call:?}");
         usize::from(answer as u16 == 0)
     };
     let Term { first, last } = Term::RANGE;
@@ -372,12 +517,12 @@ fn are_over(words: &[u16]) -> bool {
 }
 
 /// The words after a begin and the calls, each given with its two figures.
-fn after(bytes: &[u8], calls: &[(Call, u16, u16)]) -> Vec<u16> {
-    let words = vec![0; track_start(3)];
-    let (_, mut words) = agreed(bytes, &words, Call::Begin, 0);
+fn after(limit: Limit, bytes: &[u8], calls: &[(Call, u16, u16)]) -> Vec<u16> {
+    let words = vec![0; limit.track_start(3)];
+    let (_, mut words) = agreed(limit, bytes, &words, Call::Begin, 0);
     for (&(call, first, second), place) in calls.iter().zip(1..) {
         assert!(!are_over(&words), "over before {call:?}");
-        let (answer, next) = agreed(bytes, &words, call, place);
+        let (answer, next) = agreed(limit, bytes, &words, call, place);
         let figures = u64::from(first) << 16 | u64::from(second) << 32;
         assert_eq!(answer, figures, "the figures of {call:?}");
         words = next;
@@ -386,12 +531,19 @@ fn after(bytes: &[u8], calls: &[(Call, u16, u16)]) -> Vec<u16> {
 }
 
 /// Every call that an over ledger refuses.
-fn is_over(bytes: &[u8], words: &[u16]) {
+fn is_over(limit: Limit, bytes: &[u8], words: &[u16]) {
     assert!(are_over(words));
     for call in [event(1), signal(), fire(0), fire(1)] {
-        assert_eq!(agreed(bytes, words, call, 0).0, 20, "{call:?}");
+        assert_eq!(agreed(limit, bytes, words, call, 0).0, 20, "{call:?}");
     }
-    assert_eq!(agreed(bytes, words, Call::Ready, 0).0, 0);
+    assert_eq!(agreed(limit, bytes, words, Call::Ready, 0).0, 0);
+}
+
+/// At both limits the ledger is over after a begin and the calls.
+fn end(bytes: &[u8], calls: &[(Call, u16, u16)]) {
+    for limit in Limit::SETTINGS {
+        is_over(limit, bytes, &after(limit, bytes, calls));
+    }
 }
 
 /// Root 0 is taken back, root 1 deviates and ends; whichever comes last ends
@@ -402,14 +554,8 @@ fn links_that_end_half_withdrawn() {
     let begun = [(event(1), 2, 0), (signal(), 3, 0)];
     let ended = [(fire(1), 60, 3), (event(6), 1, 0)];
     let taken_back = [(fire(0), 50, NONE)];
-    is_over(
-        &bytes,
-        &after(&bytes, &[&begun[..], &ended, &taken_back].concat()),
-    );
-    is_over(
-        &bytes,
-        &after(&bytes, &[&begun[..], &taken_back, &ended].concat()),
-    );
+    end(&bytes, &[&begun[..], &ended, &taken_back].concat());
+    end(&bytes, &[&begun[..], &taken_back, &ended].concat());
     let branch = [
         (event(2), 1, 0),
         (event(1), 1, 0),
@@ -417,30 +563,27 @@ fn links_that_end_half_withdrawn() {
         (signal(), 3, 0),
     ];
     let branch_taken_back = [(fire(2), 51, NONE)];
-    is_over(
-        &bytes,
-        &after(&bytes, &[&branch[..], &ended, &branch_taken_back].concat()),
-    );
+    end(&bytes, &[&branch[..], &ended, &branch_taken_back].concat());
 }
 
 /// Where every root is taken back nothing has ended.
 #[test]
 fn a_link_withdrawn_as_a_whole_is_not_over() {
     let bytes = scoped_roots().encode();
-    let words = after(
-        &bytes,
-        &[
-            (event(1), 2, 0),
-            (signal(), 3, 0),
-            (fire(0), 50, NONE),
-            (fire(1), 60, 3),
-            (signal(), 1, 0),
-            (signal(), 0, 0),
-            (Call::Ready, 0, 0),
-        ],
-    );
-    assert!(!are_over(&words));
-    assert_eq!(agreed(&bytes, &words, fire(0), 0).0, 22);
+    let calls = [
+        (event(1), 2, 0),
+        (signal(), 3, 0),
+        (fire(0), 50, NONE),
+        (fire(1), 60, 3),
+        (signal(), 1, 0),
+        (signal(), 0, 0),
+        (Call::Ready, 0, 0),
+    ];
+    for limit in Limit::SETTINGS {
+        let words = after(limit, &bytes, &calls);
+        assert!(!are_over(&words));
+        assert_eq!(agreed(limit, &bytes, &words, fire(0), 0).0, 22);
+    }
 }
 
 /// Root 1 has ended, and is another society's: the signal that takes back root 0
@@ -451,16 +594,16 @@ fn a_signal_over_one_root_ends_the_link() {
     let by = |number, society| Call::Event(number, 0, society);
     let ended = (by(6, OF_ROOT_1), 1, 0);
     let taken_back = |turned| (Call::Signal(OF_ROOT_0), turned, 0);
-    let at_once = [ended, taken_back(1)];
-    is_over(&bytes, &after(&bytes, &at_once));
-    let abandoned = [(by(2, OF_ROOT_0), 1, 0), ended, taken_back(2)];
-    is_over(&bytes, &after(&bytes, &abandoned));
+    end(&bytes, &[ended, taken_back(1)]);
+    end(&bytes, &[(by(2, OF_ROOT_0), 1, 0), ended, taken_back(2)]);
     let held = [(by(1, OF_ROOT_0), 1, 0), ended, taken_back(2)];
-    let words = after(&bytes, &held);
-    assert!(!are_over(&words));
-    assert_eq!(agreed(&bytes, &words, Call::Fire(0, OF_ROOT_1), 0).0, 28);
-    let fired = agreed(&bytes, &words, Call::Fire(0, OF_ROOT_0), 0).1;
-    is_over(&bytes, &fired);
+    for limit in Limit::SETTINGS {
+        let words = after(limit, &bytes, &held);
+        assert!(!are_over(&words));
+        let fired = |society| agreed(limit, &bytes, &words, Call::Fire(0, society), 0);
+        assert_eq!(fired(OF_ROOT_1).0, 28);
+        is_over(limit, &bytes, &fired(OF_ROOT_0).1);
+    }
 }
 
 /// Every way in which a track can stand: asleep, or awake in one of its states
@@ -469,10 +612,9 @@ fn standings(states: &[u16], deviations: &[u16]) -> Vec<Track> {
     let mut standings = vec![Track::ASLEEP];
     for &state in states {
         for mode in [Mode::Forward, Mode::Undoing] {
-            let holding_nothing = Track::awake(mode, state);
-            standings.push(holding_nothing);
+            standings.push(Track::awake(mode, state));
             standings.extend(deviations.iter().map(|&deviation| {
-                let mut holding = holding_nothing;
+                let mut holding = Track::awake(mode, state);
                 holding.install(Entry { code: 7, deviation });
                 holding
             }));
@@ -484,23 +626,31 @@ fn standings(states: &[u16], deviations: &[u16]) -> Vec<Track> {
 /// Every ledger of the two roots whose tracks hold at most one entry: 2,223, of
 /// which 337 are sound. 33 events end the link, 15 of them half withdrawn, and
 /// 21 firings do. No signal over both roots does. Of those over one root nine
-/// take back root 0 with root 1 at its end, and three the other way round.
+/// take back root 0 with root 1 at its end, and three the other way round. It is
+/// the same at both limits.
 #[test]
 fn every_small_ledger_of_scoped_roots() {
+    for limit in Limit::SETTINGS {
+        every_small_ledger(limit);
+    }
+}
+
+fn every_small_ledger(limit: Limit) {
     let bytes = held_roots().encode();
     let plan = plan::read(&bytes).expect("accepted");
     let (mut sound, mut events, mut firings, mut signals) = (0, 0, 0, [0; 2]);
-    let mut ledger = Ledger::asleep(&plan);
+    let mut ledger = Ledger::asleep(limit, &plan);
     for root_0 in standings(&[0, 1, 2], &[NONE, 0]) {
         for root_1 in standings(&[3, 4], &[NONE, 3]) {
             for branch in standings(&[5, 6], &[NONE]) {
-                ledger.tracks = vec![root_0, root_1, branch];
+                ledger.tracks = vec![root_0.clone(), root_1.clone(), branch];
                 let words = ledger.words();
                 let ends = |call: Call| {
-                    let (answer, after) = agreed(&bytes, &words, call, 0);
+                    let (answer, after) = agreed(limit, &bytes, &words, call, 0);
                     usize::from(answer as u16 == 0 && are_over(&after))
                 };
-                sound += usize::from(agreed(&bytes, &words, Call::Ready, 0).0 as u16 == 0);
+                let (ready, _) = agreed(limit, &bytes, &words, Call::Ready, 0);
+                sound += usize::from(ready as u16 == 0);
                 events += (1..=6).map(|number| ends(event(number))).sum::<usize>();
                 firings += (0..=3).map(|track| ends(fire(track))).sum::<usize>();
                 assert_eq!(ends(signal()), 0);

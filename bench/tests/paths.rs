@@ -2,14 +2,17 @@
 //! in another way, and the path, which is free, is a path with so many entries.
 //! Plans are made from fixed seeds.
 
-use bench::sides::{Call, Named, SIDES};
+use bench::sides::{Call, Named, Side, SIDES};
+use retraction::Limit;
 use second::plan::{self, Plan, Records, Transition, MAX_TRACKS, NONE};
 use testing::generate::rng::Rng;
 use testing::generate::{damage, plans};
 use testing::samples::{every_right, looping, sample_records, state, step, track};
 
-/// Bits 16 to 31 and 32 to 47 of an answer, or its refusal.
-fn figures(answer: u64) -> Result<(u16, u16), u16> {
+/// Bits 16 to 31 and 32 to 47 of a side's answer, or its refusal. The call is
+/// given the plan alone, and reads no limit.
+fn figures(side: Side, plan: &[u8], call: Call) -> Result<(u16, u16), u16> {
+    let answer = side(plan, &mut [], call, Limit::default());
     match answer as u16 {
         0 => Ok(((answer >> 16) as u16, (answer >> 32) as u16)),
         refusal => {
@@ -92,7 +95,7 @@ fn along(plan: &Plan, track: usize, path: &[u16]) -> u16 {
 /// comes beyond it.
 fn path(bytes: &[u8], (name, side): Named, track: u16, length: u16) -> Vec<u16> {
     let step = |index| {
-        let step = figures(side(bytes, &mut [], Call::LargestStep(track, index)));
+        let step = figures(side, bytes, Call::LargestStep(track, index));
         step.expect("accepted as the figure is").0
     };
     for beyond in [length, length + 1, 256, 65_535] {
@@ -108,11 +111,11 @@ fn ask(bytes: &[u8]) -> Result<Vec<u16>, u16> {
     let expected = plan.as_ref().map_err(|&refusal| refusal).and_then(expected);
     for (name, side) in SIDES {
         for track in (0..MAX_TRACKS as u16 + 2).chain([65_535]) {
-            let answer = figures(side(bytes, &mut [], Call::Largest(track)));
+            let answer = figures(side, bytes, Call::Largest(track));
             let (plan, wanted) = match (&plan, &expected) {
                 (Ok(plan), Ok(figures)) => (plan, figures.get(usize::from(track))),
                 (_, Err(refusal)) | (Err(refusal), _) => {
-                    let step = figures(side(bytes, &mut [], Call::LargestStep(track, 0)));
+                    let step = figures(side, bytes, Call::LargestStep(track, 0));
                     assert_eq!((answer, step), (Err(*refusal), Err(*refusal)), "{name}");
                     continue;
                 }

@@ -1,18 +1,15 @@
 //! The ledger's leading words, and its tracks as sets, read off their words in
 //! one visit to each. But for the leading words, `words` are the tracks' alone.
 
+use super::limit::Limit;
 use super::plan::{Plan, NONE};
 
 /// Words by which a ledger is known: the plan's length and its sum.
 pub const PLAN_WORDS: usize = 2;
 /// Words before those of the tracks: the plan's, and the last accepted day's.
 pub const LEADING_WORDS: usize = 4;
-/// Words for each track: mode, state, count, and 32 pairs.
-pub const TRACK_WORDS: usize = 67;
 /// Where a track's pairs start among its words.
 pub const PAIRS: usize = 3;
-/// Entries that a track can hold.
-pub const CAPACITY: u16 = 32;
 /// Modes of a track that is awake.
 pub const FORWARD: u16 = 1;
 pub const UNDOING: u16 = 2;
@@ -64,28 +61,28 @@ impl Sets {
     /// The sets of a sound ledger's tracks, which have enough words; `None` if
     /// it is not sound.
     #[inline(always)]
-    pub fn of(plan: &Plan, words: &[u16]) -> Option<Sets> {
-        let words = &words[..plan.tracks * TRACK_WORDS];
+    pub fn of<L: Limit>(plan: &Plan, words: &[u16]) -> Option<Sets> {
+        let words = &words[..plan.tracks * L::TRACK_WORDS];
         let mut sets = Sets::default();
-        for (track, own) in words.chunks_exact(TRACK_WORDS).enumerate() {
-            if !sets.add(plan, words, track, own) {
+        for (track, own) in words.chunks_exact(L::TRACK_WORDS).enumerate() {
+            if !sets.add::<L>(plan, words, track, own) {
                 return None;
             }
         }
-        (sets.awake == 0 || sets.is_settled(plan, words)).then_some(sets)
+        (sets.awake == 0 || sets.is_settled::<L>(plan, words)).then_some(sets)
     }
 
     /// Adds one track; whether its words are sound by themselves and beside
     /// its host's.
     #[inline(always)]
-    fn add(&mut self, plan: &Plan, words: &[u16], track: usize, own: &[u16]) -> bool {
+    fn add<L: Limit>(&mut self, plan: &Plan, words: &[u16], track: usize, own: &[u16]) -> bool {
         let (mode, number, count) = (own[0], own[1], own[2]);
         if mode == 0 {
             return are_zero(own);
         }
         let state = plan.state(number);
         let exists = usize::from(number) < plan.states && usize::from(state.track) == track;
-        if mode > UNDOING || count > CAPACITY || !exists {
+        if mode > UNDOING || count > L::ENTRIES || !exists {
             return false;
         }
         let bit = 1 << track;
@@ -100,16 +97,17 @@ impl Sets {
         }
         let above = usize::from(plan.above[track % 32]);
         self.open |= 1 << above;
-        let beside = words[above * TRACK_WORDS] == mode && words[above * TRACK_WORDS + 1] == host;
+        let at = above * L::TRACK_WORDS;
+        let beside = words[at] == mode && words[at + 1] == host;
         beside && are_zero(unused) && fit_hosted(held)
     }
 
     /// Every root awake, scopes awake as a whole, and no settling left to do.
     #[inline(always)]
-    fn is_settled(&self, plan: &Plan, words: &[u16]) -> bool {
+    fn is_settled<L: Limit>(&self, plan: &Plan, words: &[u16]) -> bool {
         let (done, spent) = (self.done(), self.spent());
         let scope_fits = |host: usize| {
-            let scope = open_scope(plan, words, host);
+            let scope = open_scope::<L>(plan, words, host);
             (scope & !self.awake == 0) & (scope & !done != 0) & (scope & !spent != 0)
         };
         plan.roots & !self.awake == 0
@@ -151,8 +149,8 @@ pub fn finishes(plan: &Plan, done: u32, spent: u32) -> bool {
 
 /// The scope that a track with an open scope has open.
 #[inline(always)]
-pub fn open_scope(plan: &Plan, words: &[u16], host: usize) -> u32 {
-    plan.scope(words[host * TRACK_WORDS + 1])
+pub fn open_scope<L: Limit>(plan: &Plan, words: &[u16], host: usize) -> u32 {
+    plan.scope(words[host * L::TRACK_WORDS + 1])
 }
 
 /// The track numbers whose bits are set, the lowest first.

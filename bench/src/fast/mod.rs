@@ -10,6 +10,7 @@
 //!   society may strike.
 //! - [`ledger`]: the leading words, whether the tracks' words are sound, and
 //!   the tracks as sets.
+//! - [`limit`]: how many entries a track can hold, compiled into each call.
 //! - [`days`]: days as dates, and dates as days.
 //! - [`steps`]: what the calls do, on an accepted plan and a sound ledger.
 //! - [`paths`]: how many entries a plan can ask for, refusal 29.
@@ -17,13 +18,15 @@
 
 pub mod days;
 pub mod ledger;
+pub mod limit;
 pub mod paths;
 pub mod plan;
 pub mod run;
 pub mod steps;
 
 use days::FIRST_DAY;
-use ledger::{Sets, LEADING_WORDS, PAIRS, PLAN_WORDS, TRACK_WORDS};
+use ledger::{Sets, LEADING_WORDS, PAIRS, PLAN_WORDS};
+use limit::Limit;
 use paths::Paths;
 use plan::{Plan, NONE};
 use steps::Given;
@@ -47,17 +50,17 @@ pub struct Entry {
 }
 
 /// Begin overwrites the ledger, its leading words included.
-pub fn begin(bytes: &[u8], words: &mut [u16]) -> Result<(), Refused> {
+pub fn begin<L: Limit>(bytes: &[u8], words: &mut [u16]) -> Result<(), Refused> {
     let mut plan = Plan::unread();
-    accept(&mut plan, bytes, words)?;
+    accept::<L>(&mut plan, bytes, words)?;
     words[..PLAN_WORDS].copy_from_slice(&ledger::plan_words(bytes));
     ledger::set_day(words, FIRST_DAY);
-    steps::begin(&plan, &mut words[LEADING_WORDS..]);
+    steps::begin::<L>(&plan, &mut words[LEADING_WORDS..]);
     Ok(())
 }
 
 /// A society's event on a day: tracks moved, scopes closed.
-pub fn event(
+pub fn event<L: Limit>(
     bytes: &[u8],
     words: &mut [u16],
     event: u16,
@@ -65,46 +68,51 @@ pub fn event(
     society: u16,
 ) -> Result<Moved, Refused> {
     let mut plan = Plan::unread();
-    let mut sets = check(&mut plan, bytes, words)?;
+    let mut sets = check::<L>(&mut plan, bytes, words)?;
     let (leading, tracks) = words.split_at_mut(LEADING_WORDS);
     let given = Given {
         event,
         day,
         society,
     };
-    steps::event(&plan, leading, tracks, &mut sets, given)
+    steps::event::<L>(&plan, leading, tracks, &mut sets, given)
 }
 
 /// A society's signal: tracks turned.
-pub fn signal(bytes: &[u8], words: &mut [u16], society: u16) -> Result<u16, Refused> {
+pub fn signal<L: Limit>(bytes: &[u8], words: &mut [u16], society: u16) -> Result<u16, Refused> {
     let mut plan = Plan::unread();
-    let mut sets = check(&mut plan, bytes, words)?;
-    steps::signal(&plan, &mut words[LEADING_WORDS..], &mut sets, society)
+    let mut sets = check::<L>(&mut plan, bytes, words)?;
+    steps::signal::<L>(&plan, &mut words[LEADING_WORDS..], &mut sets, society)
 }
 
 /// A society fires a named track: code and deviation.
-pub fn fire(bytes: &[u8], words: &mut [u16], track: u16, society: u16) -> Result<Entry, Refused> {
+pub fn fire<L: Limit>(
+    bytes: &[u8],
+    words: &mut [u16],
+    track: u16,
+    society: u16,
+) -> Result<Entry, Refused> {
     let mut plan = Plan::unread();
-    let mut sets = check(&mut plan, bytes, words)?;
+    let mut sets = check::<L>(&mut plan, bytes, words)?;
     let tracks = &mut words[LEADING_WORDS..];
-    steps::fire(&plan, tracks, &mut sets, track, society)
+    steps::fire::<L>(&plan, tracks, &mut sets, track, society)
 }
 
 /// Ready: bit n set exactly if track n may be fired.
-pub fn ready(bytes: &[u8], words: &[u16]) -> Result<u32, Refused> {
-    let sets = check(&mut Plan::unread(), bytes, words)?;
+pub fn ready<L: Limit>(bytes: &[u8], words: &[u16]) -> Result<u32, Refused> {
+    let sets = check::<L>(&mut Plan::unread(), bytes, words)?;
     Ok(sets.ready())
 }
 
 /// Entries: the part of the ledger that holds one track's pairs, those held
 /// and no unused ones; the empty part on refusal.
-pub fn entries<'a>(bytes: &[u8], words: &'a [u16], track: u16) -> &'a [u16] {
+pub fn entries<'a, L: Limit>(bytes: &[u8], words: &'a [u16], track: u16) -> &'a [u16] {
     let mut plan = Plan::unread();
     let track = usize::from(track);
-    if check(&mut plan, bytes, words).is_err() || track >= plan.tracks {
+    if check::<L>(&mut plan, bytes, words).is_err() || track >= plan.tracks {
         return &[];
     }
-    let own = &words[LEADING_WORDS + track * TRACK_WORDS..][..TRACK_WORDS];
+    let own = &words[LEADING_WORDS + track * L::TRACK_WORDS..][..L::TRACK_WORDS];
     &own[PAIRS..][..2 * usize::from(own[2])]
 }
 
@@ -136,9 +144,13 @@ pub fn largest_step(bytes: &[u8], track: u16, index: u16) -> Result<u16, Refused
 
 /// 2 to 16, 25, 27 and 17: an accepted plan, and enough words for it.
 #[inline(always)]
-fn accept<'a>(plan: &mut Plan<'a>, bytes: &'a [u8], words: &[u16]) -> Result<(), Refused> {
+fn accept<'a, L: Limit>(
+    plan: &mut Plan<'a>,
+    bytes: &'a [u8],
+    words: &[u16],
+) -> Result<(), Refused> {
     plan.read(bytes)?;
-    match words.len() < LEADING_WORDS + plan.tracks * TRACK_WORDS {
+    match words.len() < LEADING_WORDS + plan.tracks * L::TRACK_WORDS {
         true => Err(Refused(17)),
         false => Ok(()),
     }
@@ -147,8 +159,12 @@ fn accept<'a>(plan: &mut Plan<'a>, bytes: &'a [u8], words: &[u16]) -> Result<(),
 /// 2 to 16, 25, 27, 17, 24 and 18: an accepted plan and its own and sound
 /// ledger, whose sets are the answer.
 #[inline(always)]
-fn check<'a>(plan: &mut Plan<'a>, bytes: &'a [u8], words: &[u16]) -> Result<Sets, Refused> {
-    accept(plan, bytes, words)?;
+fn check<'a, L: Limit>(
+    plan: &mut Plan<'a>,
+    bytes: &'a [u8],
+    words: &[u16],
+) -> Result<Sets, Refused> {
+    accept::<L>(plan, bytes, words)?;
     let (leading, tracks) = words.split_at(LEADING_WORDS);
     if leading[..PLAN_WORDS] != ledger::plan_words(bytes) {
         return Err(Refused(24));
@@ -156,5 +172,5 @@ fn check<'a>(plan: &mut Plan<'a>, bytes: &'a [u8], words: &[u16]) -> Result<Sets
     if !days::in_range(ledger::day(leading)) {
         return Err(Refused(18));
     }
-    Sets::of(plan, tracks).ok_or(Refused(18))
+    Sets::of::<L>(plan, tracks).ok_or(Refused(18))
 }

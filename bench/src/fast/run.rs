@@ -1,9 +1,11 @@
 //! The program `unwind` as a function of plan bytes and journal bytes. The
 //! plan is read once, and the sets go on from record to record. The ledger is
-//! its own, from a begin on, so that 17, 24 and 18 never apply.
+//! its own, from a begin on and at the main program's limit, so that 17, 24 and
+//! 18 never apply.
 
 use super::days::FIRST_DAY;
-use super::ledger::{plan_words, set_day, Sets, LEADING_WORDS, PLAN_WORDS, TRACK_WORDS};
+use super::ledger::{plan_words, set_day, Sets, LEADING_WORDS, PLAN_WORDS};
+use super::limit::{Limit, Main};
 use super::plan::{self, Plan, NONE};
 use super::steps::{self, Given};
 use super::Refused;
@@ -34,24 +36,24 @@ pub fn unwind(plan: &[u8], journal: &[u8]) -> Vec<u8> {
 
 /// Begins, then does the records in order.
 fn run(plan: &Plan, plan_words: [u16; PLAN_WORDS], journal: &[u8], text: &mut Text) {
-    let mut ledger = [0; LEADING_WORDS + 32 * TRACK_WORDS];
+    let mut ledger = [0; LEADING_WORDS + 32 * Main::TRACK_WORDS];
     let (leading, words) = ledger.split_at_mut(LEADING_WORDS);
     leading[..PLAN_WORDS].copy_from_slice(&plan_words);
     set_day(leading, FIRST_DAY);
-    let mut sets = steps::begin(plan, words);
+    let mut sets = steps::begin::<Main>(plan, words);
     let mut firings = 0;
     let mut rest = journal;
     let [tracks, states, transitions] = [plan.tracks, plan.states, plan.transition_count()];
     text.line("PLAN", &[tracks as u16, states as u16, transitions as u16]);
     while !rest.is_empty() {
         let done = next(&mut rest).and_then(|record| match record {
-            Record::Event(given) => steps::event(plan, leading, words, &mut sets, given)
+            Record::Event(given) => steps::event::<Main>(plan, leading, words, &mut sets, given)
                 .map(|figures| text.line("E", &[given.event, figures.moved, figures.closed])),
-            Record::Signal(society) => steps::signal(plan, words, &mut sets, society)
+            Record::Signal(society) => steps::signal::<Main>(plan, words, &mut sets, society)
                 .map(|turned| text.line("S", &[turned])),
             Record::Fire(track, society) => {
                 let track = track.unwrap_or_else(|| lowest_ready(plan, &sets, society));
-                let entry = steps::fire(plan, words, &mut sets, track, society)?;
+                let entry = steps::fire::<Main>(plan, words, &mut sets, track, society)?;
                 firings += 1;
                 text.firing(track, entry.code, entry.deviation);
                 Ok(())
@@ -61,7 +63,10 @@ fn run(plan: &Plan, plan_words: [u16; PLAN_WORDS], journal: &[u8], text: &mut Te
             text.line("R", &[number]);
         }
     }
-    let held = words.chunks_exact(TRACK_WORDS).map(|own| own[2]).sum();
+    let held = words
+        .chunks_exact(Main::TRACK_WORDS)
+        .map(|own| own[2])
+        .sum();
     text.line("H", &[held, firings]);
 }
 

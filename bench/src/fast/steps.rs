@@ -3,47 +3,48 @@
 
 use super::days::in_range;
 use super::ledger::{self, finishes, members, open_scope, Sets};
-use super::ledger::{CAPACITY, FORWARD, PAIRS, TRACK_WORDS, UNDOING};
+use super::ledger::{FORWARD, PAIRS, UNDOING};
+use super::limit::Limit;
 use super::plan::{Plan, FIRE, MOVE, NONE, SIGNAL};
 use super::{Entry, Moved, Refused};
 
 /// Begin: roots forward in their first states, others asleep.
 #[inline(always)]
-pub fn begin(plan: &Plan, words: &mut [u16]) -> Sets {
+pub fn begin<L: Limit>(plan: &Plan, words: &mut [u16]) -> Sets {
     let mut sets = Sets::default();
-    words[..plan.tracks * TRACK_WORDS].fill(0);
-    wake(plan, words, &mut sets, plan.roots);
+    words[..plan.tracks * L::TRACK_WORDS].fill(0);
+    wake::<L>(plan, words, &mut sets, plan.roots);
     sets
 }
 
 /// Wakes sleeping tracks forward in their first states, with the scopes of
 /// these.
-fn wake(plan: &Plan, words: &mut [u16], sets: &mut Sets, tracks: u32) {
+fn wake<L: Limit>(plan: &Plan, words: &mut [u16], sets: &mut Sets, tracks: u32) {
     sets.awake |= tracks;
     sets.forward |= tracks;
     for track in members(tracks) {
         let state = plan.first[track];
-        words[track * TRACK_WORDS] = FORWARD;
-        words[track * TRACK_WORDS + 1] = state;
-        enter(plan, words, sets, track, state);
+        words[track * L::TRACK_WORDS] = FORWARD;
+        words[track * L::TRACK_WORDS + 1] = state;
+        enter::<L>(plan, words, sets, track, state);
     }
 }
 
 /// Opens the scope of a state that a track has entered, if it hosts.
 #[inline(always)]
-fn enter(plan: &Plan, words: &mut [u16], sets: &mut Sets, track: usize, state: u16) {
+fn enter<L: Limit>(plan: &Plan, words: &mut [u16], sets: &mut Sets, track: usize, state: u16) {
     let scope = plan.scope(state);
     if scope != 0 {
         sets.open |= 1 << track;
-        wake(plan, words, sets, scope);
+        wake::<L>(plan, words, sets, scope);
     }
 }
 
 /// Puts the tracks of a track's open scope to sleep.
 #[inline(always)]
-fn close(words: &mut [u16], sets: &mut Sets, host: usize, scope: u32) {
+fn close<L: Limit>(words: &mut [u16], sets: &mut Sets, host: usize, scope: u32) {
     for track in members(scope) {
-        let own = &mut words[track * TRACK_WORDS..][..TRACK_WORDS];
+        let own = &mut words[track * L::TRACK_WORDS..][..L::TRACK_WORDS];
         let used = PAIRS + 2 * usize::from(own[2]);
         own[..used].fill(0);
     }
@@ -56,16 +57,16 @@ fn close(words: &mut [u16], sets: &mut Sets, host: usize, scope: u32) {
 
 /// Puts every track to sleep.
 #[inline(always)]
-fn finish(plan: &Plan, words: &mut [u16], sets: &mut Sets) {
-    words[..plan.tracks * TRACK_WORDS].fill(0);
+fn finish<L: Limit>(plan: &Plan, words: &mut [u16], sets: &mut Sets) {
+    words[..plan.tracks * L::TRACK_WORDS].fill(0);
     *sets = Sets::default();
 }
 
 /// Installs a code other than 0 in a track that is not full.
 #[inline(always)]
-fn install(words: &mut [u16], sets: &mut Sets, track: usize, entry: Entry) {
+fn install<L: Limit>(words: &mut [u16], sets: &mut Sets, track: usize, entry: Entry) {
     if entry.code != 0 {
-        let own = &mut words[track * TRACK_WORDS..][..TRACK_WORDS];
+        let own = &mut words[track * L::TRACK_WORDS..][..L::TRACK_WORDS];
         let at = PAIRS + 2 * usize::from(own[2]);
         own[at] = entry.code;
         own[at + 1] = entry.deviation;
@@ -74,10 +75,10 @@ fn install(words: &mut [u16], sets: &mut Sets, track: usize, entry: Entry) {
     }
 }
 
-/// Whether installing the code would be the 33rd entry.
+/// Whether installing the code would be one entry more than the limit.
 #[inline(always)]
-fn overfills(words: &[u16], track: usize, code: u16) -> bool {
-    code != 0 && words[track * TRACK_WORDS + 2] == CAPACITY
+fn overfills<L: Limit>(words: &[u16], track: usize, code: u16) -> bool {
+    code != 0 && words[track * L::TRACK_WORDS + 2] == L::ENTRIES
 }
 
 /// An event, its day, and the society whose event it is.
@@ -105,7 +106,7 @@ struct Chosen {
 /// closed. It moves the society's tracks alone. It leaves undoing tracks as they
 /// are, so that those spent afterwards are those spent before.
 #[inline(always)]
-pub fn event(
+pub fn event<L: Limit>(
     plan: &Plan,
     leading: &mut [u16],
     words: &mut [u16],
@@ -132,14 +133,14 @@ pub fn event(
         last: sets.last,
         closing: 0,
     };
-    chosen.choose_moves(plan, words, sets.may_move() & permitted, given)?;
+    chosen.choose_moves::<L>(plan, words, sets.may_move() & permitted, given)?;
     let done = sets.forward & chosen.last;
-    chosen.choose_closing(plan, words, sets, done)?;
+    chosen.choose_closing::<L>(plan, words, sets, done)?;
     ledger::set_day(leading, day);
     if finishes(plan, done, sets.spent()) {
-        finish(plan, words, sets);
+        finish::<L>(plan, words, sets);
     } else {
-        chosen.write(plan, words, sets);
+        chosen.write::<L>(plan, words, sets);
     }
     Ok(Moved {
         moved: chosen.moved.count_ones() as u16,
@@ -148,9 +149,10 @@ pub fn event(
 }
 
 impl Chosen {
-    /// The moves of these tracks; 21 where one would install a 33rd entry.
+    /// The moves of these tracks; 21 where one would install an entry more than
+    /// the limit.
     #[inline(always)]
-    fn choose_moves(
+    fn choose_moves<L: Limit>(
         &mut self,
         plan: &Plan,
         words: &[u16],
@@ -158,12 +160,12 @@ impl Chosen {
         given: Given,
     ) -> Result<(), Refused> {
         for track in members(tracks) {
-            let number = plan.transition_number(words[track * TRACK_WORDS + 1], given.event);
+            let number = plan.transition_number(words[track * L::TRACK_WORDS + 1], given.event);
             if number == 0 || !plan.is_open(number, given.day) {
                 continue;
             }
             let transition = plan.transition(number);
-            if overfills(words, track, transition.code) {
+            if overfills::<L>(words, track, transition.code) {
                 return Err(Refused(21));
             }
             let last = u32::from(plan.is_last(transition.destination));
@@ -175,9 +177,9 @@ impl Chosen {
     }
 
     /// The scopes whose tracks are all done after the moves; 21 where a host
-    /// would install a 33rd entry.
+    /// would install an entry more than the limit.
     #[inline(always)]
-    fn choose_closing(
+    fn choose_closing<L: Limit>(
         &mut self,
         plan: &Plan,
         words: &[u16],
@@ -185,11 +187,11 @@ impl Chosen {
         done: u32,
     ) -> Result<(), Refused> {
         for host in members(sets.open) {
-            let state = words[host * TRACK_WORDS + 1];
+            let state = words[host * L::TRACK_WORDS + 1];
             if plan.scope(state) & !done != 0 {
                 continue;
             }
-            if overfills(words, host, plan.state(state).replacement) {
+            if overfills::<L>(words, host, plan.state(state).replacement) {
                 return Err(Refused(21));
             }
             self.closing |= 1 << host;
@@ -198,7 +200,7 @@ impl Chosen {
     }
 
     #[inline(always)]
-    fn write(&self, plan: &Plan, words: &mut [u16], sets: &mut Sets) {
+    fn write<L: Limit>(&self, plan: &Plan, words: &mut [u16], sets: &mut Sets) {
         sets.last = self.last;
         for track in members(self.moved) {
             let transition = plan.transition(self.moves[track]);
@@ -206,18 +208,18 @@ impl Chosen {
                 code: transition.code,
                 deviation: transition.deviation,
             };
-            install(words, sets, track, entry);
-            words[track * TRACK_WORDS + 1] = transition.destination;
-            enter(plan, words, sets, track, transition.destination);
+            install::<L>(words, sets, track, entry);
+            words[track * L::TRACK_WORDS + 1] = transition.destination;
+            enter::<L>(plan, words, sets, track, transition.destination);
         }
         for host in members(self.closing) {
-            let state = words[host * TRACK_WORDS + 1];
+            let state = words[host * L::TRACK_WORDS + 1];
             let entry = Entry {
                 code: plan.state(state).replacement,
                 deviation: NONE,
             };
-            close(words, sets, host, plan.scope(state));
-            install(words, sets, host, entry);
+            close::<L>(words, sets, host, plan.scope(state));
+            install::<L>(words, sets, host, entry);
         }
     }
 }
@@ -227,7 +229,7 @@ impl Chosen {
 /// have nothing to abandon. Then finish, where another society's root is done.
 /// Answers how many turned.
 #[inline(always)]
-pub fn signal(
+pub fn signal<L: Limit>(
     plan: &Plan,
     words: &mut [u16],
     sets: &mut Sets,
@@ -242,28 +244,28 @@ pub fn signal(
     }
     let turned = sets.forward & permitted;
     for track in members(turned) {
-        words[track * TRACK_WORDS] = UNDOING;
+        words[track * L::TRACK_WORDS] = UNDOING;
     }
     sets.forward &= !turned;
     let mut open = sets.open & turned;
     while open != 0 {
         let host = 31 - open.leading_zeros() as usize;
         open &= !(1 << host);
-        abandon(plan, words, sets, host);
+        abandon::<L>(plan, words, sets, host);
     }
     if finishes(plan, sets.done(), sets.spent()) {
-        finish(plan, words, sets);
+        finish::<L>(plan, words, sets);
     }
     Ok(turned.count_ones() as u16)
 }
 
 /// Puts a track's open scope to sleep if it is spent; whether it was.
 #[inline(always)]
-fn abandon(plan: &Plan, words: &mut [u16], sets: &mut Sets, host: usize) -> bool {
-    let scope = open_scope(plan, words, host);
+fn abandon<L: Limit>(plan: &Plan, words: &mut [u16], sets: &mut Sets, host: usize) -> bool {
+    let scope = open_scope::<L>(plan, words, host);
     let spent = scope & !sets.spent() == 0;
     if spent {
-        close(words, sets, host, scope);
+        close::<L>(words, sets, host, scope);
     }
     spent
 }
@@ -272,7 +274,7 @@ fn abandon(plan: &Plan, words: &mut [u16], sets: &mut Sets, host: usize) -> bool
 /// state that is not final, so that nothing finishes. Otherwise the last entry
 /// abandons its scope, and so on up; then finish. Answers the entry.
 #[inline(always)]
-pub fn fire(
+pub fn fire<L: Limit>(
     plan: &Plan,
     words: &mut [u16],
     sets: &mut Sets,
@@ -290,32 +292,34 @@ pub fn fire(
         return Err(Refused(22));
     }
     let track = usize::from(track);
-    let entry = remove(words, track);
-    if words[track * TRACK_WORDS + 2] == 0 {
+    let entry = remove::<L>(words, track);
+    if words[track * L::TRACK_WORDS + 2] == 0 {
         sets.holding &= !(1 << track);
     }
     if entry.deviation != NONE {
-        words[track * TRACK_WORDS] = FORWARD;
-        words[track * TRACK_WORDS + 1] = entry.deviation;
+        words[track * L::TRACK_WORDS] = FORWARD;
+        words[track * L::TRACK_WORDS + 1] = entry.deviation;
         sets.forward |= 1 << track;
         sets.last &= !(1 << track);
-        enter(plan, words, sets, track, entry.deviation);
+        enter::<L>(plan, words, sets, track, entry.deviation);
         return Ok(entry);
     }
     let mut inner = track;
-    while plan.host[inner] != NONE && abandon(plan, words, sets, usize::from(plan.above[inner])) {
+    while plan.host[inner] != NONE
+        && abandon::<L>(plan, words, sets, usize::from(plan.above[inner]))
+    {
         inner = usize::from(plan.above[inner]);
     }
     if finishes(plan, sets.done(), sets.spent()) {
-        finish(plan, words, sets);
+        finish::<L>(plan, words, sets);
     }
     Ok(entry)
 }
 
 /// Removes the newest entry of a track that holds one.
 #[inline(always)]
-fn remove(words: &mut [u16], track: usize) -> Entry {
-    let own = &mut words[track * TRACK_WORDS..][..TRACK_WORDS];
+fn remove<L: Limit>(words: &mut [u16], track: usize) -> Entry {
+    let own = &mut words[track * L::TRACK_WORDS..][..L::TRACK_WORDS];
     own[2] -= 1;
     let at = PAIRS + 2 * usize::from(own[2]);
     let pair = &mut own[at..at + 2];

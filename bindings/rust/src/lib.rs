@@ -2,7 +2,8 @@
 //!
 //! A [`Plan`] owns the bytes of a plan that was accepted; a [`Ledger`] belongs
 //! to a plan, has the words that it needs, led by the plan's length and sum and
-//! by the last accepted day, and is sound at all times. Each call either
+//! by the last accepted day, and is sound at all times. It keeps the [`Limit`]
+//! that it was begun at, the most entries that a track holds. Each call either
 //! answers its figures or is refused with the paper's number, and a refused
 //! call changes nothing. The calls are those of `include/retraction.h`, each
 //! proved to meet the paper's rules; this crate only unpacks their answers.
@@ -18,7 +19,7 @@
 //! alone.
 //!
 //! ```
-//! use retraction::{day_of_date, Date, Moved, Plan, Refusal};
+//! use retraction::{day_of_date, Date, Limit, Moved, Plan, Refusal};
 //!
 //! # fn main() -> Result<(), Refusal> {
 //! // One track, whose first step on event 10 is taken back by retraction 50. It
@@ -32,7 +33,7 @@
 //!     10, 0, 6, 0, 1, 0, 0, 0, 7, 0, // society 1 over track 0: 1 move, 2 signal, 4 fire
 //!     4, 0, 4, 0, // end
 //! ])?;
-//! let mut ledger = plan.begin();
+//! let mut ledger = plan.begin(Limit::Main);
 //! let christmas = day_of_date(Date { year: 1899, month: 12, day: 25 })?;
 //! assert_eq!(ledger.event(10, christmas, 1)?, Moved { moved: 0, closed: 0 });
 //! assert_eq!(ledger.event(10, 0, 1)?, Moved { moved: 1, closed: 0 });
@@ -46,18 +47,17 @@
 //! # }
 //! ```
 
+mod limit;
 pub mod raw;
 mod refusal;
 
+pub use limit::Limit;
 pub use refusal::Refusal;
 
 /// Words of a ledger before those of its tracks: the plan's length in bytes,
 /// the sum modulo 65,536 of its bytes as little-endian 16-bit numbers, and two
 /// for the last accepted day, a signed 32-bit number, its low word first.
 pub const LEADING_WORDS: usize = 4;
-
-/// Words of a ledger for each track.
-pub const TRACK_WORDS: usize = 67;
 
 /// The first day of the range, 1 January 1600: begin leaves it as the last
 /// accepted one.
@@ -101,8 +101,8 @@ pub struct Entry {
 #[derive(Clone, Debug, PartialEq, Eq)]
 #[must_use]
 pub struct Largest {
-    /// The largest number of entries along any path of the track. A track can
-    /// hold 32; a figure above that is told as it is.
+    /// The largest number of entries along any path of the track. A track holds
+    /// no more than its ledger's limit; a figure above that is told as it is.
     pub figure: u16,
     /// A path with so many: transition numbers in order. The first leaves the
     /// track's first state, each other one the state that the one before it
@@ -177,11 +177,11 @@ impl Plan {
         self.counts
     }
 
-    /// The words that a ledger under this plan has: the leading ones, and those
-    /// of each track.
+    /// The words that a ledger under this plan has at a limit: the leading
+    /// ones, and those of each track.
     #[must_use]
-    pub fn ledger_words(&self) -> usize {
-        LEADING_WORDS + TRACK_WORDS * usize::from(self.counts.tracks)
+    pub fn ledger_words(&self, limit: Limit) -> usize {
+        limit.ledger_words(usize::from(self.counts.tracks))
     }
 
     /// How many entries a track can ask for: the largest number along any path
@@ -233,47 +233,81 @@ impl Plan {
 
     /// A ledger at its begin: led by the plan's length and sum and by the first
     /// day of the range, roots forward in their first states, others asleep.
-    pub fn begin(&self) -> Ledger<'_> {
-        let mut words = vec![0; self.ledger_words()];
-        let begun = raw::begin(&self.bytes, &mut words);
+    /// Every later call on it is at the limit given here.
+    ///
+    /// ```
+    /// # use retraction::{Limit, Plan, Refusal};
+    /// # fn main() -> Result<(), Refusal> {
+    /// // One root. Event 10 stays in state 0 and leaves code 50.
+    /// let plan = Plan::read([
+    ///     6, 0, 1, 0, 255, 255, 10, 0, 2, 0, 0, 0, 0, 0, 0, 0, // track 0, state 0
+    ///     14, 0, 3, 0, 0, 0, 10, 0, 50, 0, 255, 255, 0, 0, // from 0 on event 10, code 50, to 0
+    ///     10, 0, 6, 0, 1, 0, 0, 0, 7, 0, 4, 0, 4, 0, // society 1 over track 0; end
+    /// ])?;
+    /// let mut ledger = plan.begin(Limit::ReadingRoom);
+    /// for _ in 0..8 {
+    ///     assert_eq!(ledger.event(10, 0, 1)?.moved, 1);
+    /// }
+    /// assert_eq!(ledger.event(10, 0, 1), Err(Refusal::Full));
+    /// # Ok(())
+    /// # }
+    /// ```
+    pub fn begin(&self, limit: Limit) -> Ledger<'_> {
+        let mut words = vec![0; self.ledger_words(limit)];
+        let begun = raw::begin(&self.bytes, &mut words, limit.options());
         begun.expect("an accepted plan and enough words");
-        Ledger { plan: self, words }
+        self.with(words, limit)
     }
 
-    /// A ledger that was stored as words; refused as 17 where they are too
-    /// few, as 24 where the first two are not those of this plan, as 18 where
-    /// they are not sound under it. Words beyond those that the plan
-    /// needs are dropped.
+    /// A ledger that was stored as words, at the limit that it was begun at;
+    /// refused as 17 where they are too few, as 24 where the first two are not
+    /// those of this plan, as 18 where they are not sound under it. Words beyond
+    /// those that the plan needs at this limit are dropped.
     ///
-    /// Plans alike in length and sum are not told apart: among those, store
+    /// No word names the limit: store it beside the words. Words begun at
+    /// another limit are promised neither to be taken nor to be refused. Plans
+    /// alike in length and sum are not told apart either: among those, store
     /// beside a ledger which plan it was begun under.
     ///
     /// ```
-    /// # use retraction::{Plan, Refusal};
+    /// # use retraction::{Limit, Plan, Refusal};
     /// # fn main() -> Result<(), Refusal> {
     /// # let plan = Plan::read([
     /// #     6, 0, 1, 0, 255, 255, 10, 0, 2, 0, 0, 0, 0, 0, 0, 0, 4, 0, 4, 0,
     /// # ])?;
-    /// let stored = plan.begin().words().to_vec();
-    /// assert_eq!(plan.ledger(stored.clone())?, plan.begin());
-    /// assert_eq!(plan.ledger(&stored[1..]), Err(Refusal::FewWords));
-    /// assert_eq!(plan.ledger(vec![0; stored.len()]), Err(Refusal::OtherPlan));
+    /// let limit = Limit::ReadingRoom;
+    /// let begun = plan.begin(limit);
+    /// let stored = begun.words().to_vec();
+    /// assert_eq!(plan.ledger(stored.clone(), limit)?, begun);
+    /// assert_eq!(plan.ledger(&stored[1..], limit), Err(Refusal::FewWords));
+    /// let zeros = vec![0; stored.len()];
+    /// assert_eq!(plan.ledger(zeros, limit), Err(Refusal::OtherPlan));
     /// # Ok(())
     /// # }
     /// ```
-    pub fn ledger(&self, words: impl Into<Vec<u16>>) -> Result<Ledger<'_>, Refusal> {
+    pub fn ledger(&self, words: impl Into<Vec<u16>>, limit: Limit) -> Result<Ledger<'_>, Refusal> {
         let mut words = words.into();
-        raw::ready(&self.bytes, &mut words)?;
-        words.truncate(self.ledger_words());
-        Ok(Ledger { plan: self, words })
+        raw::ready(&self.bytes, &mut words, limit.options())?;
+        words.truncate(self.ledger_words(limit));
+        Ok(self.with(words, limit))
+    }
+
+    fn with(&self, words: Vec<u16>, limit: Limit) -> Ledger<'_> {
+        Ledger {
+            plan: self,
+            limit,
+            words,
+        }
     }
 }
 
-/// A sound ledger, with the plan that it is read under.
+/// A sound ledger, with the plan that it is read under and the limit that it
+/// was begun at, which every call on it reads.
 #[derive(Clone, Debug, PartialEq, Eq)]
 #[must_use]
 pub struct Ledger<'plan> {
     plan: &'plan Plan,
+    limit: Limit,
     words: Vec<u16>,
 }
 
@@ -283,9 +317,15 @@ impl<'plan> Ledger<'plan> {
         self.plan
     }
 
-    /// Its words, the plan's length and sum, the last accepted day, then 67 for
-    /// each track, in the machine's own byte order: to be stored, and read
-    /// again by [`Plan::ledger`].
+    /// The limit that it was begun at: the most entries that a track holds.
+    #[must_use]
+    pub fn limit(&self) -> Limit {
+        self.limit
+    }
+
+    /// Its words, the plan's length and sum, the last accepted day, then
+    /// [`Limit::track_words`] for each track, in the machine's own byte order:
+    /// to be stored with its limit, and read again by [`Plan::ledger`].
     #[must_use]
     pub fn words(&self) -> &[u16] {
         &self.words
@@ -309,7 +349,7 @@ impl<'plan> Ledger<'plan> {
     /// it only where a root has ended that the society may not turn.
     ///
     /// ```
-    /// # use retraction::{Plan, Refusal};
+    /// # use retraction::{Limit, Plan, Refusal};
     /// # fn main() -> Result<(), Refusal> {
     /// // Two roots. Code 60, when fired, sends root 1 back to its first state.
     /// let plan = Plan::read([
@@ -324,7 +364,7 @@ impl<'plan> Ledger<'plan> {
     ///     10, 0, 6, 0, 1, 0, 1, 0, 7, 0, // and over track 1
     ///     4, 0, 4, 0, // end
     /// ])?;
-    /// let mut ledger = plan.begin();
+    /// let mut ledger = plan.begin(Limit::Main);
     /// assert_eq!(ledger.event(10, 0, 1)?.moved, 2);
     /// assert_eq!(ledger.signal(1)?, 2);
     /// assert_eq!(ledger.fire(1, 1)?.deviation, Some(1));
@@ -346,10 +386,13 @@ impl<'plan> Ledger<'plan> {
     /// its window, and the society has the move right over its root. Accepted,
     /// it leaves its day in the ledger ([`Ledger::day`]), even where no track
     /// moves; it may leave the ledger over ([`Ledger::is_over`]). Refused as
-    /// 19, 20 or 21, as 26 where the day is out of range or before the last
+    /// 19 or 20, as 21 where it gives an entry to a track that holds as many as
+    /// the limit, as 26 where the day is out of range or before the last
     /// accepted one, and as 28 where the society has the move right nowhere.
     pub fn event(&mut self, event: u16, day: i32, society: u16) -> Result<Moved, Refusal> {
-        raw::event(&self.plan.bytes, &mut self.words, event, day, society)
+        let options = self.limit.options();
+        let plan = self.plan.bytes();
+        raw::event(plan, &mut self.words, event, day, society, options)
     }
 
     /// A society's withdrawal: every forward track turns to undoing over whose
@@ -358,7 +401,7 @@ impl<'plan> Ledger<'plan> {
     /// where the society has the signal right nowhere.
     ///
     /// ```
-    /// # use retraction::{Plan, Refusal};
+    /// # use retraction::{Limit, Plan, Refusal};
     /// # fn main() -> Result<(), Refusal> {
     /// // Two roots, one of each society. Event 10 takes root 1 to its end.
     /// let plan = Plan::read([
@@ -371,7 +414,7 @@ impl<'plan> Ledger<'plan> {
     ///     10, 0, 6, 0, 2, 0, 1, 0, 7, 0, // society 2 over track 1
     ///     4, 0, 4, 0, // end
     /// ])?;
-    /// let mut ledger = plan.begin();
+    /// let mut ledger = plan.begin(Limit::Main);
     /// assert_eq!(ledger.event(10, 0, 1)?.moved, 0);
     /// assert_eq!(ledger.event(10, 0, 2)?.moved, 1);
     /// // Root 0 has nothing to take back: with root 1 at its end all is done.
@@ -381,7 +424,8 @@ impl<'plan> Ledger<'plan> {
     /// # }
     /// ```
     pub fn signal(&mut self, society: u16) -> Result<u16, Refusal> {
-        raw::signal(&self.plan.bytes, &mut self.words, society)
+        let options = self.limit.options();
+        raw::signal(&self.plan.bytes, &mut self.words, society, options)
     }
 
     /// A society fires a track: its newest entry is removed, and answered. It
@@ -390,7 +434,8 @@ impl<'plan> Ledger<'plan> {
     /// Refused as 20 or 22, and as 28 where the track exists and the society
     /// has no fire right over its root.
     pub fn fire(&mut self, track: u16, society: u16) -> Result<Entry, Refusal> {
-        raw::fire(&self.plan.bytes, &mut self.words, track, society)
+        let options = self.limit.options();
+        raw::fire(&self.plan.bytes, &mut self.words, track, society, options)
     }
 
     /// The tracks that may be fired, the lowest first, whoever has the right to.
@@ -398,7 +443,7 @@ impl<'plan> Ledger<'plan> {
     /// changes none.
     pub fn ready(&self) -> impl Iterator<Item = u16> {
         let mut words = self.words.clone();
-        let ready = raw::ready(&self.plan.bytes, &mut words);
+        let ready = raw::ready(&self.plan.bytes, &mut words, self.limit.options());
         let ready = ready.expect("an accepted plan and a sound ledger");
         (0..32).filter(move |track| ready >> track & 1 == 1)
     }
@@ -408,7 +453,9 @@ impl<'plan> Ledger<'plan> {
     /// forward track, and no entry held has a deviation, exactly as many firings
     /// are due as all tracks together hold entries, in whatever order.
     pub fn entries(&self, track: u16) -> impl DoubleEndedIterator<Item = Entry> + '_ {
-        let pairs = raw::entries(&self.plan.bytes, &self.words, track).chunks_exact(2);
+        let options = self.limit.options();
+        let held = raw::entries(&self.plan.bytes, &self.words, track, options);
+        let pairs = held.chunks_exact(2);
         pairs.map(|pair| raw::entry(pair[0], pair[1]))
     }
 }

@@ -8,8 +8,15 @@
 //! the plan as 24, and [`entries`] then gives the empty part. The next two hold
 //! the last accepted day, which an [`event`] writes.
 //!
-//! [`event`], [`signal`] and [`fire`] are each a society's, which comes last. The
-//! plan says what it may do; any number may be given.
+//! [`event`], [`signal`] and [`fire`] are each a society's. The plan says what it
+//! may do; any number may be given.
+//!
+//! Each call on a ledger has options last, which [`crate::Limit::options`] gives.
+//! Bit 0 tells the limit; the other bits are ignored. The words needed, the place
+//! of a track's words, the count and refusals 17, 18 and 21 are read at that
+//! limit. No word of a ledger names it: keep to the limit of its [`begin`]. A
+//! ledger begun at one limit is promised neither to be sound nor to be refused at
+//! the other.
 //!
 //! [`largest`] and [`largest_step`] are given the plan alone, as [`read`] is.
 
@@ -23,6 +30,7 @@ mod c {
             plan_len: usize,
             ledger: *mut u16,
             ledger_len: usize,
+            options: u32,
         ) -> u64;
         pub fn retraction_event(
             plan: *const u8,
@@ -32,6 +40,7 @@ mod c {
             event: u16,
             day: i32,
             society: u16,
+            options: u32,
         ) -> u64;
         pub fn retraction_signal(
             plan: *const u8,
@@ -39,6 +48,7 @@ mod c {
             ledger: *mut u16,
             ledger_len: usize,
             society: u16,
+            options: u32,
         ) -> u64;
         pub fn retraction_fire(
             plan: *const u8,
@@ -47,12 +57,14 @@ mod c {
             ledger_len: usize,
             track: u16,
             society: u16,
+            options: u32,
         ) -> u64;
         pub fn retraction_ready(
             plan: *const u8,
             plan_len: usize,
             ledger: *mut u16,
             ledger_len: usize,
+            options: u32,
         ) -> u64;
         pub fn retraction_entries(
             plan: *const u8,
@@ -60,6 +72,7 @@ mod c {
             ledger: *const u16,
             ledger_len: usize,
             track: u16,
+            options: u32,
         ) -> u64;
         pub fn retraction_date_of_day(day: i32) -> u64;
         pub fn retraction_day_of_date(year: u16, month: u16, day: u16) -> u64;
@@ -107,11 +120,11 @@ pub fn read(plan: &[u8]) -> Result<Counts, Refusal> {
 /// Overwrites the ledger: the plan's length and sum lead, the first day of the
 /// range is the last accepted one, roots are forward in their first states,
 /// others asleep.
-pub fn begin(plan: &[u8], ledger: &mut [u16]) -> Result<(), Refusal> {
+pub fn begin(plan: &[u8], ledger: &mut [u16], options: u32) -> Result<(), Refusal> {
     let (words, len) = (ledger.as_mut_ptr(), ledger.len());
     // SAFETY: both slices are whole, apart, and live through the call.
-    accepted(unsafe { c::retraction_begin(plan.as_ptr(), plan.len(), words, len) })?;
-    Ok(())
+    let answer = unsafe { c::retraction_begin(plan.as_ptr(), plan.len(), words, len, options) };
+    accepted(answer).map(|_| ())
 }
 
 /// Tracks moved and scopes closed by a society's event on a day. It may leave
@@ -122,11 +135,13 @@ pub fn event(
     event: u16,
     day: i32,
     society: u16,
+    options: u32,
 ) -> Result<Moved, Refusal> {
     let (bytes, size) = (plan.as_ptr(), plan.len());
     let (words, len) = (ledger.as_mut_ptr(), ledger.len());
     // SAFETY: as under `begin`.
-    let answer = unsafe { c::retraction_event(bytes, size, words, len, event, day, society) };
+    let answer =
+        unsafe { c::retraction_event(bytes, size, words, len, event, day, society, options) };
     let answer = accepted(answer)?;
     Ok(Moved {
         moved: bits(answer, 16),
@@ -136,40 +151,48 @@ pub fn event(
 
 /// Tracks turned by a society's signal. It may leave the ledger over, as
 /// [`crate::Ledger::is_over`] has it.
-pub fn signal(plan: &[u8], ledger: &mut [u16], society: u16) -> Result<u16, Refusal> {
+pub fn signal(plan: &[u8], ledger: &mut [u16], society: u16, options: u32) -> Result<u16, Refusal> {
+    let (bytes, size) = (plan.as_ptr(), plan.len());
     let (words, len) = (ledger.as_mut_ptr(), ledger.len());
     // SAFETY: as under `begin`.
-    let answer = unsafe { c::retraction_signal(plan.as_ptr(), plan.len(), words, len, society) };
+    let answer = unsafe { c::retraction_signal(bytes, size, words, len, society, options) };
     Ok(bits(accepted(answer)?, 16))
 }
 
 /// The entry fired by a society. It may leave the ledger over, as
 /// [`crate::Ledger::is_over`] has it.
-pub fn fire(plan: &[u8], ledger: &mut [u16], track: u16, society: u16) -> Result<Entry, Refusal> {
+pub fn fire(
+    plan: &[u8],
+    ledger: &mut [u16],
+    track: u16,
+    society: u16,
+    options: u32,
+) -> Result<Entry, Refusal> {
     let (bytes, size) = (plan.as_ptr(), plan.len());
     let (words, len) = (ledger.as_mut_ptr(), ledger.len());
     // SAFETY: as under `begin`.
-    let answer = unsafe { c::retraction_fire(bytes, size, words, len, track, society) };
+    let answer = unsafe { c::retraction_fire(bytes, size, words, len, track, society, options) };
     let answer = accepted(answer)?;
     Ok(entry(bits(answer, 16), bits(answer, 32)))
 }
 
 /// Bit n of the number is set exactly if track n may be fired, whoever has the
 /// right to. No word is changed.
-pub fn ready(plan: &[u8], ledger: &mut [u16]) -> Result<u32, Refusal> {
+pub fn ready(plan: &[u8], ledger: &mut [u16], options: u32) -> Result<u32, Refusal> {
     let (words, len) = (ledger.as_mut_ptr(), ledger.len());
     // SAFETY: as under `begin`.
-    let answer = unsafe { c::retraction_ready(plan.as_ptr(), plan.len(), words, len) };
+    let answer = unsafe { c::retraction_ready(plan.as_ptr(), plan.len(), words, len, options) };
     Ok((accepted(answer)? >> 32) as u32)
 }
 
 /// The part of the ledger that holds a track's pairs of code and deviation,
 /// oldest first; empty on a refusal, which [`ready`] tells.
 #[must_use]
-pub fn entries<'a>(plan: &[u8], ledger: &'a [u16], track: u16) -> &'a [u16] {
+pub fn entries<'a>(plan: &[u8], ledger: &'a [u16], track: u16, options: u32) -> &'a [u16] {
+    let (bytes, size) = (plan.as_ptr(), plan.len());
     let (words, len) = (ledger.as_ptr(), ledger.len());
     // SAFETY: as under `begin`; the ledger is only read.
-    let answer = unsafe { c::retraction_entries(plan.as_ptr(), plan.len(), words, len, track) };
+    let answer = unsafe { c::retraction_entries(bytes, size, words, len, track, options) };
     let from = (answer >> 16) as usize;
     &ledger[from..][..usize::from(answer as u16)]
 }

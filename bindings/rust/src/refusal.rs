@@ -60,7 +60,7 @@ refusals! {
     Day = 26, "the day or the date is out of range, or the event's day is before the last accepted one";
     Over = 20, "the ledger is over";
     NoRight = 28, "the society has no fire right for the track, or no move or signal right anywhere";
-    Full = 21, "a track that the event gives an entry holds 32 already";
+    Full = 21, "a track that the event gives an entry already holds as many as the limit";
     NotReady = 22, "the track may not be fired now, or does not exist";
     BrokenRecord = 23, "a journal record is broken";
 }

@@ -7,8 +7,12 @@ use retraction::Refusal::{
     AfterEnd, Day, EventZero, FewWords, Full, Kind, OtherPlan, Over, Unsound, Window,
 };
 use retraction::{date_of_day, day_of_date};
-use retraction::{Date, Moved, Plan, Refusal, FIRST_DAY, LAST_DAY, LEADING_WORDS, NONE};
-use sample_plan::{begun, plan, SOCIETY, WORDS};
+use retraction::{Date, Limit, Moved, Plan, Refusal, FIRST_DAY, LAST_DAY, LEADING_WORDS, NONE};
+use sample_plan::{begun, plan, SOCIETY, TRACKS};
+
+/// The options of a call at the main program's limit, and the words that a ledger of plan P has at it.
+const MAIN: u32 = Limit::Main.options();
+const WORDS: usize = Limit::Main.ledger_words(TRACKS);
 
 /// Where plan P's transitions start, where its rights record does, and where its end record does.
 const TRANSITIONS: usize = 3 * 6 + 8 * 10;
@@ -50,7 +54,7 @@ fn date(year: u16, month: u16, day: u16) -> Date {
 
 #[test]
 fn begin_writes_the_first_day() {
-    let (_, ledger) = begun();
+    let (_, ledger) = begun(Limit::Main);
     assert_eq!(ledger[..7], [182, 633, 21499, 65534, 1, 0, 0]);
     assert_eq!(day(&ledger), FIRST_DAY);
 }
@@ -66,8 +70,11 @@ fn an_event_writes_its_day_low_word_first() {
         (70_000, [4464, 1]),
         (LAST_DAY, [51548, 2]),
     ] {
-        let (plan, mut ledger) = begun();
-        assert_eq!(event(&plan, &mut ledger, 10, number, SOCIETY), moved(1, 0));
+        let (plan, mut ledger) = begun(Limit::Main);
+        assert_eq!(
+            event(&plan, &mut ledger, 10, number, SOCIETY, MAIN),
+            moved(1, 0)
+        );
         assert_eq!(ledger[..7], [182, 633, words[0], words[1], 1, 1, 1]);
         assert_eq!(ledger[WORDS..], [7; 5]);
     }
@@ -87,9 +94,9 @@ fn a_window_restricts_its_transition() {
         (LAST_DAY, 0),
     ] {
         let mut ledger = vec![7; WORDS];
-        assert_eq!(begin(&plan, &mut ledger), Ok(()));
+        assert_eq!(begin(&plan, &mut ledger, MAIN), Ok(()));
         assert_eq!(
-            event(&plan, &mut ledger, 10, number, SOCIETY),
+            event(&plan, &mut ledger, 10, number, SOCIETY, MAIN),
             moved(tracks, 0)
         );
         assert_eq!(day(&ledger), number);
@@ -101,13 +108,25 @@ fn a_window_restricts_its_transition() {
 fn each_transition_has_its_own_window() {
     let plan = windowed(&[(4, -5, 29), (0, 0, 0), (3, 30, 30)]);
     let mut ledger = vec![7; WORDS];
-    assert_eq!(begin(&plan, &mut ledger), Ok(()));
-    assert_eq!(event(&plan, &mut ledger, 10, 0, SOCIETY), moved(1, 0));
-    assert_eq!(event(&plan, &mut ledger, 11, 29, SOCIETY), moved(1, 0));
-    assert_eq!(event(&plan, &mut ledger, 12, 29, SOCIETY), moved(0, 0));
-    assert_eq!(event(&plan, &mut ledger, 12, 30, SOCIETY), moved(1, 0));
-    assert_eq!(event(&plan, &mut ledger, 14, 30, SOCIETY), moved(0, 0));
-    assert_eq!(entries(&plan, &ledger, 2), [52, NONE]);
+    assert_eq!(begin(&plan, &mut ledger, MAIN), Ok(()));
+    assert_eq!(event(&plan, &mut ledger, 10, 0, SOCIETY, MAIN), moved(1, 0));
+    assert_eq!(
+        event(&plan, &mut ledger, 11, 29, SOCIETY, MAIN),
+        moved(1, 0)
+    );
+    assert_eq!(
+        event(&plan, &mut ledger, 12, 29, SOCIETY, MAIN),
+        moved(0, 0)
+    );
+    assert_eq!(
+        event(&plan, &mut ledger, 12, 30, SOCIETY, MAIN),
+        moved(1, 0)
+    );
+    assert_eq!(
+        event(&plan, &mut ledger, 14, 30, SOCIETY, MAIN),
+        moved(0, 0)
+    );
+    assert_eq!(entries(&plan, &ledger, 2, MAIN), [52, NONE]);
 }
 
 /// A window of one day at either end of the range.
@@ -116,10 +135,13 @@ fn a_window_may_end_where_the_range_does() {
     for number in [FIRST_DAY, LAST_DAY] {
         let plan = windowed(&[(0, number, number)]);
         let mut ledger = vec![7; WORDS];
-        assert_eq!(begin(&plan, &mut ledger), Ok(()));
-        assert_eq!(event(&plan, &mut ledger, 10, 0, SOCIETY), moved(0, 0));
-        assert_eq!(begin(&plan, &mut ledger), Ok(()));
-        assert_eq!(event(&plan, &mut ledger, 10, number, SOCIETY), moved(1, 0));
+        assert_eq!(begin(&plan, &mut ledger, MAIN), Ok(()));
+        assert_eq!(event(&plan, &mut ledger, 10, 0, SOCIETY, MAIN), moved(0, 0));
+        assert_eq!(begin(&plan, &mut ledger, MAIN), Ok(()));
+        assert_eq!(
+            event(&plan, &mut ledger, 10, number, SOCIETY, MAIN),
+            moved(1, 0)
+        );
     }
 }
 
@@ -137,9 +159,9 @@ fn a_window_that_does_not_fit_is_25() {
     ] {
         let plan = windowed(windows);
         assert_eq!(read(&plan), Err(Window), "{windows:?}");
-        assert_eq!(begin(&plan, &mut []), Err(Window), "{windows:?}");
+        assert_eq!(begin(&plan, &mut [], MAIN), Err(Window), "{windows:?}");
     }
-    assert_eq!(begin(&windowed(&[(0, 0, 9)]), &mut []), Err(FewWords));
+    assert_eq!(begin(&windowed(&[(0, 0, 9)]), &mut [], MAIN), Err(FewWords));
 }
 
 /// More windows than transitions, as many as a file may have: one of them repeats another's transition.
@@ -165,57 +187,72 @@ fn windows_stand_between_the_transitions_and_the_rights() {
 
 #[test]
 fn days_never_fall() {
-    let (plan, mut ledger) = begun();
-    assert_eq!(event(&plan, &mut ledger, 10, -3, SOCIETY), moved(1, 0));
-    assert_eq!(event(&plan, &mut ledger, 11, -3, SOCIETY), moved(1, 0));
+    let (plan, mut ledger) = begun(Limit::Main);
+    assert_eq!(
+        event(&plan, &mut ledger, 10, -3, SOCIETY, MAIN),
+        moved(1, 0)
+    );
+    assert_eq!(
+        event(&plan, &mut ledger, 11, -3, SOCIETY, MAIN),
+        moved(1, 0)
+    );
     let before = ledger.clone();
     for number in [-4, FIRST_DAY].into_iter().chain(OUTSIDE) {
         assert_eq!(
-            event(&plan, &mut ledger, 12, number, SOCIETY),
+            event(&plan, &mut ledger, 12, number, SOCIETY, MAIN),
             Err(Day),
             "{number}"
         );
         assert_eq!(ledger, before);
     }
-    assert_eq!(event(&plan, &mut ledger, 12, -2, SOCIETY), moved(1, 0));
+    assert_eq!(
+        event(&plan, &mut ledger, 12, -2, SOCIETY, MAIN),
+        moved(1, 0)
+    );
 }
 
 #[test]
 fn an_event_that_moves_none_keeps_its_day() {
-    let (plan, mut ledger) = begun();
-    assert_eq!(event(&plan, &mut ledger, 13, 5, SOCIETY), moved(0, 0));
-    assert_eq!(event(&plan, &mut ledger, 10, 4, SOCIETY), Err(Day));
-    assert_eq!(event(&plan, &mut ledger, 10, 5, SOCIETY), moved(1, 0));
+    let (plan, mut ledger) = begun(Limit::Main);
+    assert_eq!(event(&plan, &mut ledger, 13, 5, SOCIETY, MAIN), moved(0, 0));
+    assert_eq!(event(&plan, &mut ledger, 10, 4, SOCIETY, MAIN), Err(Day));
+    assert_eq!(event(&plan, &mut ledger, 10, 5, SOCIETY, MAIN), moved(1, 0));
 }
 
 #[test]
 fn signals_and_firings_leave_the_day() {
-    let (plan, mut ledger) = begun();
-    assert_eq!(event(&plan, &mut ledger, 10, 40, SOCIETY), moved(1, 0));
-    assert_eq!(signal(&plan, &mut ledger, SOCIETY), Ok(3));
-    assert!(fire(&plan, &mut ledger, 0, SOCIETY).is_ok());
-    assert_eq!(ready(&plan, &mut ledger), Ok(0));
+    let (plan, mut ledger) = begun(Limit::Main);
+    assert_eq!(
+        event(&plan, &mut ledger, 10, 40, SOCIETY, MAIN),
+        moved(1, 0)
+    );
+    assert_eq!(signal(&plan, &mut ledger, SOCIETY, MAIN), Ok(3));
+    assert!(fire(&plan, &mut ledger, 0, SOCIETY, MAIN).is_ok());
+    assert_eq!(ready(&plan, &mut ledger, MAIN), Ok(0));
     assert_eq!(day(&ledger), 40);
 }
 
 /// 26 comes after 19 and before 20; a ledger that is over keeps its last day.
 #[test]
 fn after_19_and_before_20() {
-    let (plan, mut ledger) = begun();
+    let (plan, mut ledger) = begun(Limit::Main);
     for (number, at) in [(10, 1), (11, 2), (12, 3), (14, 4), (13, 5)] {
-        assert!(event(&plan, &mut ledger, number, at, SOCIETY).is_ok());
+        assert!(event(&plan, &mut ledger, number, at, SOCIETY, MAIN).is_ok());
     }
-    assert_eq!(signal(&plan, &mut ledger, SOCIETY), Err(Over));
+    assert_eq!(signal(&plan, &mut ledger, SOCIETY, MAIN), Err(Over));
     assert_eq!(day(&ledger), 5);
     let before = ledger.clone();
     for number in [4].into_iter().chain(OUTSIDE) {
         assert_eq!(
-            event(&plan, &mut ledger, 0, number, SOCIETY),
+            event(&plan, &mut ledger, 0, number, SOCIETY, MAIN),
             Err(EventZero)
         );
-        assert_eq!(event(&plan, &mut ledger, 10, number, SOCIETY), Err(Day));
+        assert_eq!(
+            event(&plan, &mut ledger, 10, number, SOCIETY, MAIN),
+            Err(Day)
+        );
     }
-    assert_eq!(event(&plan, &mut ledger, 10, 5, SOCIETY), Err(Over));
+    assert_eq!(event(&plan, &mut ledger, 10, 5, SOCIETY, MAIN), Err(Over));
     assert_eq!(ledger, before);
 }
 
@@ -231,13 +268,16 @@ fn a_refused_event_leaves_the_day() {
     ];
     let words = records.concat();
     let plan: Vec<u8> = words.iter().flat_map(|word| word.to_le_bytes()).collect();
-    let mut ledger = vec![7; LEADING_WORDS + 67];
-    assert_eq!(begin(&plan, &mut ledger), Ok(()));
+    let mut ledger = vec![7; Limit::Main.ledger_words(1)];
+    assert_eq!(begin(&plan, &mut ledger, MAIN), Ok(()));
     for number in 1..=32 {
-        assert_eq!(event(&plan, &mut ledger, 1, number, SOCIETY), moved(1, 0));
+        assert_eq!(
+            event(&plan, &mut ledger, 1, number, SOCIETY, MAIN),
+            moved(1, 0)
+        );
     }
     let before = ledger.clone();
-    assert_eq!(event(&plan, &mut ledger, 1, 33, SOCIETY), Err(Full));
+    assert_eq!(event(&plan, &mut ledger, 1, 33, SOCIETY, MAIN), Err(Full));
     assert_eq!((day(&ledger), ledger), (32, before));
 }
 
@@ -245,13 +285,19 @@ fn a_refused_event_leaves_the_day() {
 fn is_refused(plan: &[u8], ledger: &[u16], refusal: Refusal) {
     let mut lent = ledger.to_vec();
     for number in [0, FIRST_DAY, i32::MAX] {
-        assert_eq!(event(plan, &mut lent, 10, number, SOCIETY), Err(refusal));
-        assert_eq!(event(plan, &mut lent, 0, number, SOCIETY), Err(refusal));
+        assert_eq!(
+            event(plan, &mut lent, 10, number, SOCIETY, MAIN),
+            Err(refusal)
+        );
+        assert_eq!(
+            event(plan, &mut lent, 0, number, SOCIETY, MAIN),
+            Err(refusal)
+        );
     }
-    assert_eq!(signal(plan, &mut lent, SOCIETY), Err(refusal));
-    assert_eq!(fire(plan, &mut lent, 0, SOCIETY), Err(refusal));
-    assert_eq!(ready(plan, &mut lent), Err(refusal));
-    assert_eq!(entries(plan, &lent, 0), []);
+    assert_eq!(signal(plan, &mut lent, SOCIETY, MAIN), Err(refusal));
+    assert_eq!(fire(plan, &mut lent, 0, SOCIETY, MAIN), Err(refusal));
+    assert_eq!(ready(plan, &mut lent, MAIN), Err(refusal));
+    assert_eq!(entries(plan, &lent, 0, MAIN), []);
     assert_eq!(lent, ledger);
 }
 
@@ -259,7 +305,7 @@ fn is_refused(plan: &[u8], ledger: &[u16], refusal: Refusal) {
 #[test]
 fn a_day_out_of_range_is_not_sound() {
     for number in OUTSIDE {
-        let (plan, mut ledger) = begun();
+        let (plan, mut ledger) = begun(Limit::Main);
         let [low, high] = [number as u16, (number >> 16) as u16];
         ledger[2..LEADING_WORDS].copy_from_slice(&[low, high]);
         is_refused(&plan, &ledger, Unsound);
@@ -272,7 +318,7 @@ fn a_day_out_of_range_is_not_sound() {
 #[test]
 fn a_ledger_tells_its_day() -> Result<(), Refusal> {
     let plan = Plan::read(windowed(&[(0, 59, 89)]))?;
-    let mut ledger = plan.begin();
+    let mut ledger = plan.begin(Limit::Main);
     assert_eq!(ledger.day(), FIRST_DAY);
     assert_eq!(ledger.event(10, -1, SOCIETY)?.moved, 0);
     assert_eq!(ledger.day(), -1);
@@ -283,7 +329,7 @@ fn a_ledger_tells_its_day() -> Result<(), Refusal> {
         1
     );
     assert_eq!(ledger.event(11, 58, SOCIETY), Err(Day));
-    assert_eq!(plan.ledger(ledger.words())?.day(), 59);
+    assert_eq!(plan.ledger(ledger.words(), Limit::Main)?.day(), 59);
     Ok(())
 }
 

@@ -3,7 +3,7 @@
 
 use retraction::raw::{begin, entries, event, fire, ready, signal};
 use retraction::Refusal::{EventZero, NoRight, NotReady, Over, Unsound};
-use retraction::{Entry, Moved, Plan, Refusal, LEADING_WORDS, NONE, TRACK_WORDS};
+use retraction::{Entry, Limit, Moved, Plan, Refusal, LEADING_WORDS, NONE};
 
 /// The society that has every right over both roots, one that has them over root 0 alone, and one over root 1.
 const SOCIETY: u16 = 1;
@@ -13,8 +13,11 @@ const OF_ROOT_1: u16 = 3;
 const FORWARD: u16 = 1;
 const UNDOING: u16 = 2;
 
+/// The options of a call at the main program's limit.
+const MAIN: u32 = Limit::Main.options();
+
 /// The words that a ledger of the plan has.
-const WORDS: usize = LEADING_WORDS + 3 * TRACK_WORDS;
+const WORDS: usize = Limit::Main.ledger_words(3);
 
 /// Two roots. Root 0 goes through state 1, which hosts track 2, to its end in state 2. Root 1 stays in state 3 on event 10, and code 60, when
 /// fired, sends it forward there again; it ends in state 4 on event 13.
@@ -59,43 +62,43 @@ fn fired(code: u16, deviation: Option<u16>) -> Result<Entry, Refusal> {
 /// The plan begun, then the events given, each with the tracks that it moves, and a signal that turns so many. A word beyond is 7.
 fn withdrawn(events: &[(u16, u16)], turned: u16) -> (Vec<u8>, Vec<u16>) {
     let (plan, mut ledger) = (plan(), vec![7; WORDS + 1]);
-    assert_eq!(begin(&plan, &mut ledger), Ok(()));
+    assert_eq!(begin(&plan, &mut ledger, MAIN), Ok(()));
     for &(number, tracks) in events {
         assert_eq!(
-            event(&plan, &mut ledger, number, 0, SOCIETY),
+            event(&plan, &mut ledger, number, 0, SOCIETY, MAIN),
             moved(tracks, 0)
         );
     }
-    assert_eq!(signal(&plan, &mut ledger, SOCIETY), Ok(turned));
+    assert_eq!(signal(&plan, &mut ledger, SOCIETY, MAIN), Ok(turned));
     (plan, ledger)
 }
 
 /// Root 1, whose code 60 is its newest, deviates and ends: it then holds code 61.
 fn root_1_ends(plan: &[u8], ledger: &mut [u16]) {
-    assert_eq!(fire(plan, ledger, 1, SOCIETY), fired(60, Some(3)));
-    assert_eq!(event(plan, ledger, 13, 0, SOCIETY), moved(1, 0));
+    assert_eq!(fire(plan, ledger, 1, SOCIETY, MAIN), fired(60, Some(3)));
+    assert_eq!(event(plan, ledger, 13, 0, SOCIETY, MAIN), moved(1, 0));
 }
 
 /// The tracks are all asleep, the leading words are the plan's and the last event's day, 0, the word beyond is as it was, and every call that
 /// needs a ledger not over is 20.
 fn is_over(plan: &[u8], ledger: &[u16]) {
     let mut begun = vec![7; WORDS + 1];
-    assert_eq!(begin(plan, &mut begun), Ok(()));
+    assert_eq!(begin(plan, &mut begun, MAIN), Ok(()));
     assert_eq!(ledger[..2], begun[..2]);
     assert_eq!(ledger[2..LEADING_WORDS], [0, 0]);
-    assert_eq!(ledger[LEADING_WORDS..WORDS], [0; 3 * TRACK_WORDS]);
+    assert_eq!(ledger[LEADING_WORDS..WORDS], [0; WORDS - LEADING_WORDS]);
     assert_eq!(ledger[WORDS..], [7]);
     let mut lent = ledger.to_vec();
-    assert_eq!(event(plan, &mut lent, 0, 0, SOCIETY), Err(EventZero));
+    assert_eq!(event(plan, &mut lent, 0, 0, SOCIETY, MAIN), Err(EventZero));
     for number in [10, 13] {
-        assert_eq!(event(plan, &mut lent, number, 0, SOCIETY), Err(Over));
+        assert_eq!(event(plan, &mut lent, number, 0, SOCIETY, MAIN), Err(Over));
     }
-    assert_eq!(signal(plan, &mut lent, SOCIETY), Err(Over));
+    assert_eq!(signal(plan, &mut lent, SOCIETY, MAIN), Err(Over));
     for track in [0, 1, 2, 99] {
-        assert_eq!(fire(plan, &mut lent, track, SOCIETY), Err(Over));
-        assert_eq!(entries(plan, &lent, track), []);
+        assert_eq!(fire(plan, &mut lent, track, SOCIETY, MAIN), Err(Over));
+        assert_eq!(entries(plan, &lent, track, MAIN), []);
     }
-    assert_eq!(ready(plan, &mut lent), Ok(0));
+    assert_eq!(ready(plan, &mut lent, MAIN), Ok(0));
     assert_eq!(lent, ledger);
 }
 
@@ -103,19 +106,19 @@ fn is_over(plan: &[u8], ledger: &[u16]) {
 #[test]
 fn the_last_firing_of_a_root_ends_it() {
     let (plan, mut ledger) = withdrawn(&[(10, 2)], 3);
-    assert_eq!(ready(&plan, &mut ledger), Ok(0b011));
+    assert_eq!(ready(&plan, &mut ledger, MAIN), Ok(0b011));
     root_1_ends(&plan, &mut ledger);
-    assert_eq!(entries(&plan, &ledger, 1), [61, NONE]);
-    assert_eq!(ready(&plan, &mut ledger), Ok(0b001));
-    assert_eq!(fire(&plan, &mut ledger, 0, SOCIETY), fired(50, None));
+    assert_eq!(entries(&plan, &ledger, 1, MAIN), [61, NONE]);
+    assert_eq!(ready(&plan, &mut ledger, MAIN), Ok(0b001));
+    assert_eq!(fire(&plan, &mut ledger, 0, SOCIETY, MAIN), fired(50, None));
     is_over(&plan, &ledger);
 }
 
 #[test]
 fn the_last_event_of_a_root_ends_it() {
     let (plan, mut ledger) = withdrawn(&[(10, 2)], 3);
-    assert_eq!(fire(&plan, &mut ledger, 0, SOCIETY), fired(50, None));
-    assert_eq!(ready(&plan, &mut ledger), Ok(0b010));
+    assert_eq!(fire(&plan, &mut ledger, 0, SOCIETY, MAIN), fired(50, None));
+    assert_eq!(ready(&plan, &mut ledger, MAIN), Ok(0b010));
     root_1_ends(&plan, &mut ledger);
     is_over(&plan, &ledger);
 }
@@ -125,22 +128,22 @@ fn the_last_event_of_a_root_ends_it() {
 fn the_last_firing_of_a_branch_ends_it() {
     let (plan, mut ledger) = withdrawn(&[(11, 1), (10, 1), (14, 1)], 3);
     root_1_ends(&plan, &mut ledger);
-    assert_eq!(ready(&plan, &mut ledger), Ok(0b100));
-    assert_eq!(fire(&plan, &mut ledger, 2, SOCIETY), fired(51, None));
+    assert_eq!(ready(&plan, &mut ledger, MAIN), Ok(0b100));
+    assert_eq!(fire(&plan, &mut ledger, 2, SOCIETY, MAIN), fired(51, None));
     is_over(&plan, &ledger);
 }
 
 #[test]
 fn a_firing_that_leaves_an_entry_does_not_end_it() {
     let (plan, mut ledger) = (plan(), vec![7; WORDS + 1]);
-    assert_eq!(begin(&plan, &mut ledger), Ok(()));
-    assert_eq!(event(&plan, &mut ledger, 10, 0, SOCIETY), moved(2, 0));
-    assert_eq!(event(&plan, &mut ledger, 15, 0, SOCIETY), moved(1, 1));
-    assert_eq!(signal(&plan, &mut ledger, SOCIETY), Ok(2));
+    assert_eq!(begin(&plan, &mut ledger, MAIN), Ok(()));
+    assert_eq!(event(&plan, &mut ledger, 10, 0, SOCIETY, MAIN), moved(2, 0));
+    assert_eq!(event(&plan, &mut ledger, 15, 0, SOCIETY, MAIN), moved(1, 1));
+    assert_eq!(signal(&plan, &mut ledger, SOCIETY, MAIN), Ok(2));
     root_1_ends(&plan, &mut ledger);
-    assert_eq!(fire(&plan, &mut ledger, 0, SOCIETY), fired(90, None));
-    assert_eq!(ready(&plan, &mut ledger), Ok(0b001));
-    assert_eq!(fire(&plan, &mut ledger, 0, SOCIETY), fired(50, None));
+    assert_eq!(fire(&plan, &mut ledger, 0, SOCIETY, MAIN), fired(90, None));
+    assert_eq!(ready(&plan, &mut ledger, MAIN), Ok(0b001));
+    assert_eq!(fire(&plan, &mut ledger, 0, SOCIETY, MAIN), fired(50, None));
     is_over(&plan, &ledger);
 }
 
@@ -148,15 +151,18 @@ fn a_firing_that_leaves_an_entry_does_not_end_it() {
 #[test]
 fn a_link_withdrawn_as_a_whole_is_not_over() {
     let (plan, mut ledger) = withdrawn(&[(10, 2)], 3);
-    assert_eq!(fire(&plan, &mut ledger, 0, SOCIETY), fired(50, None));
-    assert_eq!(fire(&plan, &mut ledger, 1, SOCIETY), fired(60, Some(3)));
-    assert_eq!(signal(&plan, &mut ledger, SOCIETY), Ok(1));
-    assert_eq!(ready(&plan, &mut ledger), Ok(0));
+    assert_eq!(fire(&plan, &mut ledger, 0, SOCIETY, MAIN), fired(50, None));
+    assert_eq!(
+        fire(&plan, &mut ledger, 1, SOCIETY, MAIN),
+        fired(60, Some(3))
+    );
+    assert_eq!(signal(&plan, &mut ledger, SOCIETY, MAIN), Ok(1));
+    assert_eq!(ready(&plan, &mut ledger, MAIN), Ok(0));
     assert_eq!(ledger[LEADING_WORDS..][..3], [UNDOING, 1, 0]);
-    assert_eq!(ledger[LEADING_WORDS + TRACK_WORDS..][..3], [UNDOING, 3, 0]);
-    assert_eq!(event(&plan, &mut ledger, 13, 0, SOCIETY), moved(0, 0));
-    assert_eq!(signal(&plan, &mut ledger, SOCIETY), Ok(0));
-    assert_eq!(fire(&plan, &mut ledger, 1, SOCIETY), Err(NotReady));
+    assert_eq!(ledger[Limit::Main.ledger_words(1)..][..3], [UNDOING, 3, 0]);
+    assert_eq!(event(&plan, &mut ledger, 13, 0, SOCIETY, MAIN), moved(0, 0));
+    assert_eq!(signal(&plan, &mut ledger, SOCIETY, MAIN), Ok(0));
+    assert_eq!(fire(&plan, &mut ledger, 1, SOCIETY, MAIN), Err(NotReady));
 }
 
 /// Root 1 has ended when the signal turns it back: code 61 is due again, and nothing is over.
@@ -164,23 +170,29 @@ fn a_link_withdrawn_as_a_whole_is_not_over() {
 fn a_signal_turns_back_a_root_that_has_ended() {
     let (plan, mut ledger) = withdrawn(&[(10, 2)], 3);
     root_1_ends(&plan, &mut ledger);
-    assert_eq!(signal(&plan, &mut ledger, SOCIETY), Ok(1));
-    assert_eq!(ready(&plan, &mut ledger), Ok(0b011));
-    assert_eq!(fire(&plan, &mut ledger, 0, SOCIETY), fired(50, None));
-    assert_eq!(fire(&plan, &mut ledger, 1, SOCIETY), fired(61, None));
-    assert_eq!(ready(&plan, &mut ledger), Ok(0));
-    assert_eq!(signal(&plan, &mut ledger, SOCIETY), Ok(0));
+    assert_eq!(signal(&plan, &mut ledger, SOCIETY, MAIN), Ok(1));
+    assert_eq!(ready(&plan, &mut ledger, MAIN), Ok(0b011));
+    assert_eq!(fire(&plan, &mut ledger, 0, SOCIETY, MAIN), fired(50, None));
+    assert_eq!(fire(&plan, &mut ledger, 1, SOCIETY, MAIN), fired(61, None));
+    assert_eq!(ready(&plan, &mut ledger, MAIN), Ok(0));
+    assert_eq!(signal(&plan, &mut ledger, SOCIETY, MAIN), Ok(0));
 }
 
 /// Root 1 is at its end, holding code 61, and root 0 at its begin: taken back by its own society, it leaves nothing to do, and code 61 is dropped.
 #[test]
 fn a_signal_over_one_root_ends_it() {
     let (plan, mut ledger) = (plan(), vec![7; WORDS + 1]);
-    assert_eq!(begin(&plan, &mut ledger), Ok(()));
-    assert_eq!(event(&plan, &mut ledger, 13, 0, OF_ROOT_0), moved(0, 0));
-    assert_eq!(event(&plan, &mut ledger, 13, 0, OF_ROOT_1), moved(1, 0));
-    assert_eq!(entries(&plan, &ledger, 1), [61, NONE]);
-    assert_eq!(signal(&plan, &mut ledger, OF_ROOT_0), Ok(1));
+    assert_eq!(begin(&plan, &mut ledger, MAIN), Ok(()));
+    assert_eq!(
+        event(&plan, &mut ledger, 13, 0, OF_ROOT_0, MAIN),
+        moved(0, 0)
+    );
+    assert_eq!(
+        event(&plan, &mut ledger, 13, 0, OF_ROOT_1, MAIN),
+        moved(1, 0)
+    );
+    assert_eq!(entries(&plan, &ledger, 1, MAIN), [61, NONE]);
+    assert_eq!(signal(&plan, &mut ledger, OF_ROOT_0, MAIN), Ok(1));
     is_over(&plan, &ledger);
 }
 
@@ -188,10 +200,16 @@ fn a_signal_over_one_root_ends_it() {
 #[test]
 fn a_signal_that_abandons_a_scope_ends_it() {
     let (plan, mut ledger) = (plan(), vec![7; WORDS + 1]);
-    assert_eq!(begin(&plan, &mut ledger), Ok(()));
-    assert_eq!(event(&plan, &mut ledger, 11, 0, OF_ROOT_0), moved(1, 0));
-    assert_eq!(event(&plan, &mut ledger, 13, 0, OF_ROOT_1), moved(1, 0));
-    assert_eq!(signal(&plan, &mut ledger, OF_ROOT_0), Ok(2));
+    assert_eq!(begin(&plan, &mut ledger, MAIN), Ok(()));
+    assert_eq!(
+        event(&plan, &mut ledger, 11, 0, OF_ROOT_0, MAIN),
+        moved(1, 0)
+    );
+    assert_eq!(
+        event(&plan, &mut ledger, 13, 0, OF_ROOT_1, MAIN),
+        moved(1, 0)
+    );
+    assert_eq!(signal(&plan, &mut ledger, OF_ROOT_0, MAIN), Ok(2));
     is_over(&plan, &ledger);
 }
 
@@ -199,25 +217,34 @@ fn a_signal_that_abandons_a_scope_ends_it() {
 #[test]
 fn a_signal_that_leaves_something_held_does_not_end_it() {
     let (plan, mut ledger) = (plan(), vec![7; WORDS + 1]);
-    assert_eq!(begin(&plan, &mut ledger), Ok(()));
-    assert_eq!(event(&plan, &mut ledger, 10, 0, OF_ROOT_0), moved(1, 0));
-    assert_eq!(event(&plan, &mut ledger, 13, 0, OF_ROOT_1), moved(1, 0));
+    assert_eq!(begin(&plan, &mut ledger, MAIN), Ok(()));
+    assert_eq!(
+        event(&plan, &mut ledger, 10, 0, OF_ROOT_0, MAIN),
+        moved(1, 0)
+    );
+    assert_eq!(
+        event(&plan, &mut ledger, 13, 0, OF_ROOT_1, MAIN),
+        moved(1, 0)
+    );
     let mut other = ledger.clone();
-    assert_eq!(signal(&plan, &mut ledger, OF_ROOT_0), Ok(2));
-    assert_eq!(ready(&plan, &mut ledger), Ok(0b001));
-    assert_eq!(fire(&plan, &mut ledger, 0, OF_ROOT_1), Err(NoRight));
-    assert_eq!(fire(&plan, &mut ledger, 0, OF_ROOT_0), fired(50, None));
+    assert_eq!(signal(&plan, &mut ledger, OF_ROOT_0, MAIN), Ok(2));
+    assert_eq!(ready(&plan, &mut ledger, MAIN), Ok(0b001));
+    assert_eq!(fire(&plan, &mut ledger, 0, OF_ROOT_1, MAIN), Err(NoRight));
+    assert_eq!(
+        fire(&plan, &mut ledger, 0, OF_ROOT_0, MAIN),
+        fired(50, None)
+    );
     is_over(&plan, &ledger);
-    assert_eq!(signal(&plan, &mut other, SOCIETY), Ok(3));
-    assert_eq!(ready(&plan, &mut other), Ok(0b011));
+    assert_eq!(signal(&plan, &mut other, SOCIETY, MAIN), Ok(3));
+    assert_eq!(ready(&plan, &mut other, MAIN), Ok(0b011));
 }
 
 /// Mode and state of both roots, which hold nothing, and track 2 asleep.
 fn standing(roots: [(u16, u16); 2]) -> Vec<u16> {
     let mut ledger = vec![0; WORDS];
-    assert_eq!(begin(&plan(), &mut ledger), Ok(()));
+    assert_eq!(begin(&plan(), &mut ledger, MAIN), Ok(()));
     for (track, (mode, state)) in roots.into_iter().enumerate() {
-        ledger[LEADING_WORDS + track * TRACK_WORDS..][..2].copy_from_slice(&[mode, state]);
+        ledger[Limit::Main.ledger_words(track)..][..2].copy_from_slice(&[mode, state]);
     }
     ledger
 }
@@ -235,21 +262,21 @@ fn finish_left_to_do_is_18() {
         let before = standing(roots);
         let (plan, mut ledger) = (plan(), before.clone());
         assert_eq!(
-            event(&plan, &mut ledger, 10, 0, SOCIETY),
+            event(&plan, &mut ledger, 10, 0, SOCIETY, MAIN),
             Err(Unsound),
             "{roots:?}"
         );
         assert_eq!(
-            signal(&plan, &mut ledger, SOCIETY),
+            signal(&plan, &mut ledger, SOCIETY, MAIN),
             Err(Unsound),
             "{roots:?}"
         );
         assert_eq!(
-            fire(&plan, &mut ledger, 0, SOCIETY),
+            fire(&plan, &mut ledger, 0, SOCIETY, MAIN),
             Err(Unsound),
             "{roots:?}"
         );
-        assert_eq!(ready(&plan, &mut ledger), Err(Unsound), "{roots:?}");
+        assert_eq!(ready(&plan, &mut ledger, MAIN), Err(Unsound), "{roots:?}");
         assert_eq!(ledger, before);
     }
 }
@@ -262,14 +289,18 @@ fn no_finish_left_to_do_is_sound() {
         [(UNDOING, 1), (FORWARD, 3)],
         [(FORWARD, 1), (FORWARD, 4)],
     ] {
-        assert_eq!(ready(&plan(), &mut standing(roots)), Ok(0), "{roots:?}");
+        assert_eq!(
+            ready(&plan(), &mut standing(roots), MAIN),
+            Ok(0),
+            "{roots:?}"
+        );
     }
 }
 
 #[test]
 fn a_ledger_tells_that_it_is_over() -> Result<(), Refusal> {
     let plan = Plan::read(plan())?;
-    let mut ledger = plan.begin();
+    let mut ledger = plan.begin(Limit::Main);
     assert_eq!(ledger.event(10, 0, SOCIETY), moved(2, 0));
     assert_eq!(ledger.signal(SOCIETY), Ok(3));
     assert_eq!(ledger.fire(1, SOCIETY), fired(60, Some(3)));
@@ -279,9 +310,9 @@ fn a_ledger_tells_that_it_is_over() -> Result<(), Refusal> {
     assert!(ledger.is_over());
     assert_eq!(ledger.ready().count(), 0);
     assert_eq!(ledger.fire(1, SOCIETY), Err(Over));
-    assert!(plan.ledger(ledger.words())?.is_over());
+    assert!(plan.ledger(ledger.words(), Limit::Main)?.is_over());
     assert_eq!(
-        plan.ledger(standing([(UNDOING, 1), (FORWARD, 4)])),
+        plan.ledger(standing([(UNDOING, 1), (FORWARD, 4)]), Limit::Main),
         Err(Unsound)
     );
     Ok(())

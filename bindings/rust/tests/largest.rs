@@ -4,8 +4,11 @@ mod sample_plan;
 
 use retraction::raw::{begin, entries, event, largest, largest_step, read};
 use retraction::Refusal::{NoRecord, NoTrack, Rights, SameEvent, Unbounded, Window};
-use retraction::{Largest, Plan, Refusal, LEADING_WORDS, NONE, TRACK_WORDS};
+use retraction::{Largest, Limit, Plan, Refusal, NONE};
 use sample_plan::{begun, plan, SOCIETY};
+
+/// The options of a call at the main program's limit.
+const MAIN: u32 = Limit::Main.options();
 
 /// Source, event, code, deviation and destination.
 type Step = [u16; 5];
@@ -221,7 +224,7 @@ fn only_what_is_reached_counts() {
     assert_eq!(Records::of_root(4, &steps).figures(), Ok(vec![1]));
 }
 
-/// A row of 128 states, two steps between neighbours: a track that can hold 32 may be asked for 127.
+/// A row of 128 states, two steps between neighbours: a track that can hold 32, or 8, may be asked for 127.
 #[test]
 fn a_figure_above_32_is_told_as_it_is() {
     let step_of = |number: u16| step(number % 127, 1 + number / 127, 7, number % 127 + 1);
@@ -305,8 +308,8 @@ fn after_27_and_for_these_calls_alone() {
     let twice = Records::of_root(1, &[step(0, 1, 7, 0), step(0, 1, 7, 0)]);
     refused(&twice.bytes(), SameEvent);
     let mut plan = looping.bytes();
-    let mut ledger = vec![7; LEADING_WORDS + TRACK_WORDS];
-    assert_eq!(begin(&plan, &mut ledger), Ok(()));
+    let mut ledger = vec![7; Limit::Main.ledger_words(1)];
+    assert_eq!(begin(&plan, &mut ledger, MAIN), Ok(()));
     let end = plan.len() - 4;
     plan.splice(end..end, [10, 0, 6, 0, 2, 0, 1, 0, 7, 0]);
     refused(&plan, Rights);
@@ -401,15 +404,15 @@ fn no_path_has_more() {
 /// Once its scope has closed, the root of plan P holds as many as it can ask for.
 #[test]
 fn the_sample_comes_to_its_figure() {
-    let (plan, mut ledger) = begun();
+    let (plan, mut ledger) = begun(Limit::Main);
     for number in [10, 11, 12, 14] {
-        assert!(event(&plan, &mut ledger, number, 0, SOCIETY).is_ok());
+        assert!(event(&plan, &mut ledger, number, 0, SOCIETY, MAIN).is_ok());
         for track in 0..3 {
-            let held = entries(&plan, &ledger, track).len() / 2;
+            let held = entries(&plan, &ledger, track, MAIN).len() / 2;
             assert!(held <= usize::from(sample().asked(track).expect("no cycle")));
         }
     }
-    assert_eq!(entries(&plan, &ledger, 0), [50, NONE, 90, NONE]);
+    assert_eq!(entries(&plan, &ledger, 0, MAIN), [50, NONE, 90, NONE]);
 }
 
 /// Histories of events: no track holds more than the figure, and some hold as much.
@@ -424,7 +427,7 @@ fn no_history_makes_a_track_hold_more() -> Result<(), Refusal> {
             Err(_) => continue,
         };
         let figures: Vec<usize> = figures.collect();
-        let mut ledger = plan.begin();
+        let mut ledger = plan.begin(Limit::Main);
         for _ in 0..40 {
             let event = 1 + drawn.below(12);
             let _ = ledger.event(event, 0, SOCIETY)?;

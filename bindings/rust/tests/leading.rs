@@ -4,8 +4,12 @@ mod sample_plan;
 
 use retraction::raw::{begin, entries, event, fire, read, ready, signal};
 use retraction::Refusal::{FewWords, OtherPlan, Over, Unsound};
-use retraction::{Moved, Plan, Refusal, LEADING_WORDS, NONE};
-use sample_plan::{begun, plan, SOCIETY, WORDS};
+use retraction::{Limit, Moved, Plan, Refusal, LEADING_WORDS, NONE};
+use sample_plan::{begun, plan, SOCIETY, TRACKS};
+
+/// The options of a call at the main program's limit, and the words that a ledger of plan P has at it.
+const MAIN: u32 = Limit::Main.options();
+const WORDS: usize = Limit::Main.ledger_words(TRACKS);
 
 /// Where plan P's transitions start, and where its rights record does.
 const TRANSITIONS: usize = 3 * 6 + 8 * 10;
@@ -40,10 +44,10 @@ fn neighbours() -> [Vec<u8>; 2] {
 /// The words that a begin and then events leave, each event moving a track.
 fn worked(plan: &[u8], events: &[u16]) -> Vec<u16> {
     let mut ledger = vec![7; WORDS + 1];
-    assert_eq!(begin(plan, &mut ledger), Ok(()));
+    assert_eq!(begin(plan, &mut ledger, MAIN), Ok(()));
     for &number in events {
         assert!(matches!(
-            event(plan, &mut ledger, number, 0, SOCIETY),
+            event(plan, &mut ledger, number, 0, SOCIETY, MAIN),
             Ok(Moved { moved: 1, .. })
         ));
     }
@@ -54,20 +58,23 @@ fn worked(plan: &[u8], events: &[u16]) -> Vec<u16> {
 fn is_refused(plan: &[u8], ledger: &[u16], refusal: Refusal) {
     let mut lent = ledger.to_vec();
     for number in [0, 10, 13] {
-        assert_eq!(event(plan, &mut lent, number, 0, SOCIETY), Err(refusal));
+        assert_eq!(
+            event(plan, &mut lent, number, 0, SOCIETY, MAIN),
+            Err(refusal)
+        );
     }
-    assert_eq!(signal(plan, &mut lent, SOCIETY), Err(refusal));
+    assert_eq!(signal(plan, &mut lent, SOCIETY, MAIN), Err(refusal));
     for track in [0, 1, 99] {
-        assert_eq!(fire(plan, &mut lent, track, SOCIETY), Err(refusal));
-        assert_eq!(entries(plan, &lent, track), []);
+        assert_eq!(fire(plan, &mut lent, track, SOCIETY, MAIN), Err(refusal));
+        assert_eq!(entries(plan, &lent, track, MAIN), []);
     }
-    assert_eq!(ready(plan, &mut lent), Err(refusal));
+    assert_eq!(ready(plan, &mut lent, MAIN), Err(refusal));
     assert_eq!(lent, ledger);
 }
 
 #[test]
 fn begin_writes_the_length_and_the_sum() {
-    let (plan, ledger) = begun();
+    let (plan, ledger) = begun(Limit::Main);
     assert_eq!(ledger[..2], [182, 633]);
     assert_eq!(ledger[LEADING_WORDS..][..3], [1, 0, 0]);
     assert_eq!(plan.len(), 182);
@@ -80,7 +87,7 @@ fn begin_writes_the_length_and_the_sum() {
 fn a_begin_takes_a_neighbours_ledger() {
     for neighbour in neighbours() {
         let mut ledger = worked(&neighbour, &[10, 11]);
-        assert_eq!(begin(&plan(), &mut ledger), Ok(()));
+        assert_eq!(begin(&plan(), &mut ledger, MAIN), Ok(()));
         assert_eq!(ledger, worked(&plan(), &[]));
     }
 }
@@ -99,7 +106,7 @@ fn a_neighbours_ledger_is_24() {
 #[test]
 fn an_over_ledger_of_a_neighbour_is_24() {
     let mut over = worked(&plan(), &[10, 11, 12, 14, 13]);
-    assert_eq!(signal(&plan(), &mut over, SOCIETY), Err(Over));
+    assert_eq!(signal(&plan(), &mut over, SOCIETY, MAIN), Err(Over));
     for neighbour in neighbours() {
         is_refused(&neighbour, &over, OtherPlan);
     }
@@ -127,20 +134,26 @@ fn plans_alike_in_both_words_are_not_told_apart() {
     let alike = recoded(&[(2, 52), (3, 51)]);
     let mut ledger = worked(&plan(), &[10]);
     assert_eq!(worked(&alike, &[10]), ledger);
-    assert!(event(&alike, &mut ledger, 11, 0, SOCIETY).is_ok());
-    assert_eq!(entries(&plan(), &ledger, 1), [52, NONE]);
+    assert!(event(&alike, &mut ledger, 11, 0, SOCIETY, MAIN).is_ok());
+    assert_eq!(entries(&plan(), &ledger, 1, MAIN), [52, NONE]);
 }
 
 #[test]
 fn a_stored_ledger_is_read_under_its_own_plan() -> Result<(), Refusal> {
     let own = Plan::read(plan())?;
-    let stored = own.begin().words().to_vec();
+    let stored = own.begin(Limit::Main).words().to_vec();
     assert_eq!(stored[..2], [182, 633]);
-    assert_eq!(own.ledger(stored.clone())?, own.begin());
-    assert_eq!(own.ledger(&stored[LEADING_WORDS..]), Err(FewWords));
+    assert_eq!(
+        own.ledger(stored.clone(), Limit::Main)?,
+        own.begin(Limit::Main)
+    );
+    assert_eq!(
+        own.ledger(&stored[LEADING_WORDS..], Limit::Main),
+        Err(FewWords)
+    );
     for neighbour in neighbours() {
         assert_eq!(
-            Plan::read(neighbour)?.ledger(stored.clone()),
+            Plan::read(neighbour)?.ledger(stored.clone(), Limit::Main),
             Err(OtherPlan)
         );
     }

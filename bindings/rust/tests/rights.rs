@@ -7,8 +7,12 @@ use retraction::Refusal::{
     AfterEnd, CutShort, Day, EventZero, FewWords, Full, Kind, Length, NoRecord, NoRight, NotReady,
     OtherPlan, Over, Rights, Unsound, Window,
 };
-use retraction::{Entry, Moved, Plan, Refusal, LEADING_WORDS, NONE, TRACK_WORDS};
-use sample_plan::{begun, plan, SOCIETY, WORDS};
+use retraction::{Entry, Limit, Moved, Plan, Refusal, LEADING_WORDS, NONE};
+use sample_plan::{begun, plan, SOCIETY, TRACKS};
+
+/// The options of a call at the main program's limit, and the words that a ledger of plan P has at it.
+const MAIN: u32 = Limit::Main.options();
+const WORDS: usize = Limit::Main.ledger_words(TRACKS);
 
 /// Where plan P's rights record starts, and where its end record does.
 const RIGHTS: usize = 3 * 6 + 8 * 10 + 5 * 14;
@@ -54,14 +58,14 @@ fn divided() -> Vec<u8> {
 
 /// A ledger begun under a plan of two roots.
 fn begun_roots(plan: &[u8]) -> Vec<u16> {
-    let mut ledger = vec![7; LEADING_WORDS + 2 * TRACK_WORDS];
-    assert_eq!(begin(plan, &mut ledger), Ok(()));
+    let mut ledger = vec![7; Limit::Main.ledger_words(2)];
+    assert_eq!(begin(plan, &mut ledger, MAIN), Ok(()));
     ledger
 }
 
 /// The modes of both roots.
 fn modes(ledger: &[u16]) -> [u16; 2] {
-    [0, 1].map(|track| ledger[LEADING_WORDS + track * TRACK_WORDS])
+    [0, 1].map(|track| ledger[Limit::Main.ledger_words(track)])
 }
 
 fn moved(moved: u16) -> Result<Moved, Refusal> {
@@ -91,9 +95,9 @@ fn a_rights_record_that_does_not_fit_is_27() {
     ] {
         let plan = held(rights);
         assert_eq!(read(&plan), Err(Rights), "{rights:?}");
-        assert_eq!(begin(&plan, &mut []), Err(Rights), "{rights:?}");
+        assert_eq!(begin(&plan, &mut [], MAIN), Err(Rights), "{rights:?}");
     }
-    assert_eq!(begin(&held(&[]), &mut []), Err(FewWords));
+    assert_eq!(begin(&held(&[]), &mut [], MAIN), Err(FewWords));
 }
 
 /// 64 societies over one root, of all numbers; one more is the 65th record, whoever it is.
@@ -131,22 +135,22 @@ fn rights_stand_between_the_windows_and_the_end() {
 fn after_25_and_before_17() {
     let window = bytes(&[14, 5, 5, 0, 0, 0, 0]);
     let mut plan = held(&[(1, 9, 7)]);
-    assert_eq!(begin(&plan, &mut []), Err(Rights));
+    assert_eq!(begin(&plan, &mut [], MAIN), Err(Rights));
     plan.splice(RIGHTS..RIGHTS, window);
-    assert_eq!(begin(&plan, &mut []), Err(Window));
+    assert_eq!(begin(&plan, &mut [], MAIN), Err(Window));
 }
 
 /// The record is part of the plan's length and sum.
 #[test]
 fn a_ledger_of_other_rights_is_24() {
-    let (own, ledger) = begun();
+    let (own, ledger) = begun(Limit::Main);
     for other in [held(&[]), held(&[(2, 0, 7)]), held(&[(1, 0, 7), (2, 0, 1)])] {
         let mut lent = ledger.clone();
-        assert_eq!(signal(&other, &mut lent, SOCIETY), Err(OtherPlan));
-        assert_eq!(ready(&other, &mut lent), Err(OtherPlan));
+        assert_eq!(signal(&other, &mut lent, SOCIETY, MAIN), Err(OtherPlan));
+        assert_eq!(ready(&other, &mut lent, MAIN), Err(OtherPlan));
         assert_eq!(lent, ledger);
     }
-    assert_eq!(signal(&own, &mut ledger.clone(), SOCIETY), Ok(1));
+    assert_eq!(signal(&own, &mut ledger.clone(), SOCIETY, MAIN), Ok(1));
 }
 
 /// Society 0 holds the roots of plan P, which no other one does.
@@ -154,40 +158,43 @@ fn a_ledger_of_other_rights_is_24() {
 fn the_right_reaches_every_track_under_its_root() {
     let plan = held(&[(0, 0, 7)]);
     let mut ledger = vec![7; WORDS];
-    assert_eq!(begin(&plan, &mut ledger), Ok(()));
-    assert_eq!(event(&plan, &mut ledger, 10, 0, SOCIETY), Err(NoRight));
-    assert_eq!(event(&plan, &mut ledger, 10, 0, 0), moved(1));
-    assert_eq!(event(&plan, &mut ledger, 11, 0, 0), moved(1));
-    assert_eq!(signal(&plan, &mut ledger, 0), Ok(3));
-    assert_eq!(fire(&plan, &mut ledger, 1, SOCIETY), Err(NoRight));
-    assert_eq!(fire(&plan, &mut ledger, 1, 0), fired(51));
+    assert_eq!(begin(&plan, &mut ledger, MAIN), Ok(()));
+    assert_eq!(
+        event(&plan, &mut ledger, 10, 0, SOCIETY, MAIN),
+        Err(NoRight)
+    );
+    assert_eq!(event(&plan, &mut ledger, 10, 0, 0, MAIN), moved(1));
+    assert_eq!(event(&plan, &mut ledger, 11, 0, 0, MAIN), moved(1));
+    assert_eq!(signal(&plan, &mut ledger, 0, MAIN), Ok(3));
+    assert_eq!(fire(&plan, &mut ledger, 1, SOCIETY, MAIN), Err(NoRight));
+    assert_eq!(fire(&plan, &mut ledger, 1, 0, MAIN), fired(51));
 }
 
 #[test]
 fn a_call_strikes_the_roots_of_its_society() {
     let plan = divided();
     let mut ledger = begun_roots(&plan);
-    assert_eq!(event(&plan, &mut ledger, 1, 0, 1), moved(1));
-    assert_eq!(entries(&plan, &ledger, 0), [50, NONE]);
-    assert_eq!(entries(&plan, &ledger, 1), []);
-    assert_eq!(event(&plan, &mut ledger, 1, 0, 2), moved(1));
-    assert_eq!(entries(&plan, &ledger, 1), [60, NONE]);
-    assert_eq!(signal(&plan, &mut ledger, 2), Ok(1));
+    assert_eq!(event(&plan, &mut ledger, 1, 0, 1, MAIN), moved(1));
+    assert_eq!(entries(&plan, &ledger, 0, MAIN), [50, NONE]);
+    assert_eq!(entries(&plan, &ledger, 1, MAIN), []);
+    assert_eq!(event(&plan, &mut ledger, 1, 0, 2, MAIN), moved(1));
+    assert_eq!(entries(&plan, &ledger, 1, MAIN), [60, NONE]);
+    assert_eq!(signal(&plan, &mut ledger, 2, MAIN), Ok(1));
     assert_eq!(modes(&ledger), [1, 2]);
-    assert_eq!(signal(&plan, &mut ledger, 2), Ok(0));
-    assert_eq!(event(&plan, &mut ledger, 1, 0, 2), moved(0));
-    assert_eq!(ready(&plan, &mut ledger), Ok(0b10));
-    assert_eq!(fire(&plan, &mut ledger, 1, 1), Err(NoRight));
-    assert_eq!(fire(&plan, &mut ledger, 1, 2), fired(60));
-    assert_eq!(event(&plan, &mut ledger, 1, 0, 1), moved(1));
-    assert_eq!(entries(&plan, &ledger, 0), [50, NONE, 50, NONE]);
+    assert_eq!(signal(&plan, &mut ledger, 2, MAIN), Ok(0));
+    assert_eq!(event(&plan, &mut ledger, 1, 0, 2, MAIN), moved(0));
+    assert_eq!(ready(&plan, &mut ledger, MAIN), Ok(0b10));
+    assert_eq!(fire(&plan, &mut ledger, 1, 1, MAIN), Err(NoRight));
+    assert_eq!(fire(&plan, &mut ledger, 1, 2, MAIN), fired(60));
+    assert_eq!(event(&plan, &mut ledger, 1, 0, 1, MAIN), moved(1));
+    assert_eq!(entries(&plan, &ledger, 0, MAIN), [50, NONE, 50, NONE]);
 }
 
 /// Root 0 has ended and is society 1's; society 2 takes back root 1, which holds nothing. The next call is 20, before 28.
 #[test]
 fn a_partial_signal_may_end_the_ledger() -> Result<(), Refusal> {
     let plan = Plan::read(divided())?;
-    let mut ledger = plan.begin();
+    let mut ledger = plan.begin(Limit::Main);
     assert_eq!(ledger.event(1, 0, 1), moved(1));
     assert_eq!(ledger.event(2, 0, 1), moved(1));
     assert!(!ledger.is_over());
@@ -213,17 +220,17 @@ fn each_right_is_for_one_call() {
         };
         let mut ledger = begun_roots(&plan);
         assert_eq!(
-            event(&plan, &mut ledger.clone(), 1, 0, 1).map(|_| ()),
+            event(&plan, &mut ledger.clone(), 1, 0, 1, MAIN).map(|_| ()),
             answers(1)
         );
-        assert_eq!(event(&plan, &mut ledger, 1, 0, 2), moved(2));
+        assert_eq!(event(&plan, &mut ledger, 1, 0, 2, MAIN), moved(2));
         assert_eq!(
-            signal(&plan, &mut ledger.clone(), 1).map(|_| ()),
+            signal(&plan, &mut ledger.clone(), 1, MAIN).map(|_| ()),
             answers(2)
         );
-        assert_eq!(signal(&plan, &mut ledger, 2), Ok(2));
+        assert_eq!(signal(&plan, &mut ledger, 2, MAIN), Ok(2));
         let before = ledger.clone();
-        let fires = fire(&plan, &mut ledger, 0, 1).map(|_| ());
+        let fires = fire(&plan, &mut ledger, 0, 1, MAIN).map(|_| ());
         assert_eq!(fires, answers(4));
         assert_eq!(ledger == before, fires.is_err());
     }
@@ -234,12 +241,15 @@ fn each_right_is_for_one_call() {
 fn a_right_somewhere_is_enough_but_for_a_firing() {
     let plan = roots(&[(1, 0, 7), (2, 1, 7)]);
     let mut ledger = begun_roots(&plan);
-    assert_eq!(event(&plan, &mut ledger, 99, 0, 1), moved(0));
-    assert_eq!(fire(&plan, &mut ledger, 1, 1), Err(NoRight));
-    assert_eq!(fire(&plan, &mut ledger, 0, 1), Err(NotReady));
+    assert_eq!(event(&plan, &mut ledger, 99, 0, 1, MAIN), moved(0));
+    assert_eq!(fire(&plan, &mut ledger, 1, 1, MAIN), Err(NoRight));
+    assert_eq!(fire(&plan, &mut ledger, 0, 1, MAIN), Err(NotReady));
     for society in [1, 2, 9] {
         for track in [2, 32, NONE] {
-            assert_eq!(fire(&plan, &mut ledger, track, society), Err(NotReady));
+            assert_eq!(
+                fire(&plan, &mut ledger, track, society, MAIN),
+                Err(NotReady)
+            );
         }
     }
 }
@@ -250,19 +260,19 @@ fn after_20_and_before_21_and_22() {
     let plan = divided();
     let mut ledger = begun_roots(&plan);
     for _ in 0..32 {
-        assert_eq!(event(&plan, &mut ledger, 1, 5, 1), moved(1));
+        assert_eq!(event(&plan, &mut ledger, 1, 5, 1, MAIN), moved(1));
     }
     let before = ledger.clone();
-    assert_eq!(event(&plan, &mut ledger, 0, 5, 9), Err(EventZero));
-    assert_eq!(event(&plan, &mut ledger, 1, 4, 9), Err(Day));
-    assert_eq!(event(&plan, &mut ledger, 1, 5, 9), Err(NoRight));
-    assert_eq!(event(&plan, &mut ledger, 1, 5, 1), Err(Full));
-    assert_eq!(fire(&plan, &mut ledger, 0, 9), Err(NoRight));
-    assert_eq!(fire(&plan, &mut ledger, 0, 1), Err(NotReady));
-    assert_eq!(signal(&plan, &mut ledger, 9), Err(NoRight));
+    assert_eq!(event(&plan, &mut ledger, 0, 5, 9, MAIN), Err(EventZero));
+    assert_eq!(event(&plan, &mut ledger, 1, 4, 9, MAIN), Err(Day));
+    assert_eq!(event(&plan, &mut ledger, 1, 5, 9, MAIN), Err(NoRight));
+    assert_eq!(event(&plan, &mut ledger, 1, 5, 1, MAIN), Err(Full));
+    assert_eq!(fire(&plan, &mut ledger, 0, 9, MAIN), Err(NoRight));
+    assert_eq!(fire(&plan, &mut ledger, 0, 1, MAIN), Err(NotReady));
+    assert_eq!(signal(&plan, &mut ledger, 9, MAIN), Err(NoRight));
     assert_eq!(ledger, before);
     ledger[LEADING_WORDS] = 3;
-    assert_eq!(signal(&plan, &mut ledger, 9), Err(Unsound));
+    assert_eq!(signal(&plan, &mut ledger, 9, MAIN), Err(Unsound));
 }
 
 /// A full track of another society asks for no room.
@@ -271,9 +281,9 @@ fn a_full_track_of_another_society_is_no_obstacle() {
     let plan = divided();
     let mut ledger = begun_roots(&plan);
     for _ in 0..32 {
-        assert_eq!(event(&plan, &mut ledger, 1, 0, 1), moved(1));
+        assert_eq!(event(&plan, &mut ledger, 1, 0, 1, MAIN), moved(1));
     }
-    assert_eq!(event(&plan, &mut ledger, 1, 0, 2), moved(1));
+    assert_eq!(event(&plan, &mut ledger, 1, 0, 2, MAIN), moved(1));
 }
 
 /// The ledger has one day for all societies; a refused event leaves it.
@@ -281,10 +291,10 @@ fn a_full_track_of_another_society_is_no_obstacle() {
 fn the_day_is_everybodys() {
     let plan = divided();
     let mut ledger = begun_roots(&plan);
-    assert_eq!(event(&plan, &mut ledger, 1, 40, 9), Err(NoRight));
-    assert_eq!(event(&plan, &mut ledger, 1, 30, 1), moved(1));
-    assert_eq!(event(&plan, &mut ledger, 1, 29, 2), Err(Day));
-    assert_eq!(event(&plan, &mut ledger, 1, 30, 2), moved(1));
+    assert_eq!(event(&plan, &mut ledger, 1, 40, 9, MAIN), Err(NoRight));
+    assert_eq!(event(&plan, &mut ledger, 1, 30, 1, MAIN), moved(1));
+    assert_eq!(event(&plan, &mut ledger, 1, 29, 2, MAIN), Err(Day));
+    assert_eq!(event(&plan, &mut ledger, 1, 30, 2, MAIN), moved(1));
 }
 
 /// Without a record the plan is accepted and begun, and every other call but ready and entries is 28.
@@ -292,11 +302,14 @@ fn the_day_is_everybodys() {
 fn without_a_record_nobody_has_a_right() {
     let plan = held(&[]);
     let mut ledger = vec![7; WORDS];
-    assert_eq!(begin(&plan, &mut ledger), Ok(()));
+    assert_eq!(begin(&plan, &mut ledger, MAIN), Ok(()));
     for society in [0, 1, NONE] {
-        assert_eq!(event(&plan, &mut ledger, 10, 0, society), Err(NoRight));
-        assert_eq!(signal(&plan, &mut ledger, society), Err(NoRight));
-        assert_eq!(fire(&plan, &mut ledger, 0, society), Err(NoRight));
+        assert_eq!(
+            event(&plan, &mut ledger, 10, 0, society, MAIN),
+            Err(NoRight)
+        );
+        assert_eq!(signal(&plan, &mut ledger, society, MAIN), Err(NoRight));
+        assert_eq!(fire(&plan, &mut ledger, 0, society, MAIN), Err(NoRight));
     }
-    assert_eq!(ready(&plan, &mut ledger), Ok(0));
+    assert_eq!(ready(&plan, &mut ledger, MAIN), Ok(0));
 }

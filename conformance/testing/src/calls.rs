@@ -12,6 +12,7 @@ use crate::samples::{
 use crate::vectors;
 use second::days::{Date, Term};
 use second::ledger::{track_words_mut, words_needed};
+use second::limit::Limit;
 use second::manager;
 use second::plan::{self, Records, Rights, Transition, NONE};
 use second::record;
@@ -92,7 +93,7 @@ fn by(society: u16, call: Call) -> Call {
 fn stored(shows: &str, plan: &[u8], words: &[u16], call: Call) -> Stored {
     Stored {
         shows: shows.to_string(),
-        line: vectors::call_line(plan, words, call),
+        line: vectors::call_line(Limit::MAIN, plan, words, call),
     }
 }
 
@@ -119,9 +120,9 @@ const UNBEGUN: [u16; 206] = [0xA5A5; 206];
 /// The words that a begin and then events leave.
 fn begun(plan: &[u8], events: &[u16]) -> Vec<u16> {
     let mut words = UNBEGUN.to_vec();
-    manager::begin(plan, &mut words);
+    manager::begin(Limit::MAIN, plan, &mut words);
     for &event in events {
-        manager::event(plan, &mut words, event, 0, SOCIETY);
+        manager::event(Limit::MAIN, plan, &mut words, event, 0, SOCIETY);
     }
     words
 }
@@ -129,7 +130,7 @@ fn begun(plan: &[u8], events: &[u16]) -> Vec<u16> {
 /// P's ledger after events 10, 11, 12 and a signal: tracks 1 and 2 may fire.
 fn withdrawn() -> Vec<u16> {
     let mut words = begun(&sample(), &[10, 11, 12]);
-    manager::signal(&sample(), &mut words, SOCIETY);
+    manager::signal(Limit::MAIN, &sample(), &mut words, SOCIETY);
     words
 }
 
@@ -144,7 +145,7 @@ fn with(mut words: Vec<u16>, changes: &[(usize, u16)]) -> Vec<u16> {
 fn begins() -> Vec<Stored> {
     let begin = |shows: &str, words: &[u16]| Stored {
         shows: shows.to_string(),
-        line: vectors::begin_line(&sample(), words),
+        line: vectors::begin_line(Limit::MAIN, &sample(), words),
     };
     let neighbours = begun(&longer(), &[10, 11]);
     vec![
@@ -259,7 +260,7 @@ fn alike() -> Vec<Stored> {
     let opened = begun(&sample(), &[10]);
     let (roots, moved) = (two_roots([0, 0, 1, 1]), two_roots([0, 1, 0, 1]));
     let mut words = vec![0; 138];
-    manager::begin(&roots, &mut words);
+    manager::begin(Limit::MAIN, &roots, &mut words);
     let sound = "P's ledger under a plan alike in both words, two codes exchanged";
     let unsound = "plans alike in both words, two states exchanged";
     vec![
@@ -272,11 +273,11 @@ fn alike() -> Vec<Stored> {
 
 /// The words that a begin and then calls leave, one more than the plan needs.
 fn worked(plan: &[u8], calls: &[Call]) -> Vec<u16> {
-    let needed = plan::read(plan).map_or(0, |plan| words_needed(&plan));
+    let needed = plan::read(plan).map_or(0, |plan| words_needed(Limit::MAIN, &plan));
     let mut words = vec![0xA5A5; needed + 1];
-    manager::begin(plan, &mut words);
+    manager::begin(Limit::MAIN, plan, &mut words);
     for &call in calls {
-        vectors::answer(plan, &mut words, call);
+        vectors::answer(Limit::MAIN, plan, &mut words, call);
     }
     words
 }
@@ -288,7 +289,7 @@ fn entry_left(plan: &[u8]) -> Vec<u16> {
 
 /// The words with the start of a track's words changed.
 fn with_track(mut words: Vec<u16>, track: usize, own: &[u16]) -> Vec<u16> {
-    track_words_mut(&mut words, track)[..own.len()].copy_from_slice(own);
+    track_words_mut(Limit::MAIN, &mut words, track)[..own.len()].copy_from_slice(own);
     words
 }
 
@@ -325,7 +326,7 @@ fn finish_left() -> Vec<Stored> {
     let exchanged = with_track(with_track(spent.clone(), 0, &[2, 1]), 1, &[1, 5]);
     let begin = Stored {
         shows: "a begin takes a ledger with the finish left to do".to_string(),
-        line: vectors::begin_line(&plan, &spent),
+        line: vectors::begin_line(Limit::MAIN, &plan, &spent),
     };
     let left = |shows: &str, words: &[u16]| stored(shows, &plan, words, Ready);
     let mut calls = by_each_call("one root ended, one taken back, 18", &plan, &spent);
@@ -356,7 +357,7 @@ fn tails() -> Vec<Stored> {
     let six = looping_by(1, 65_459);
     let begin = |shows: &str, plan: &[u8]| Stored {
         shows: format!("a plan of {} bytes begun: {shows}", plan.len()),
-        line: vectors::begin_line(plan, &UNBEGUN[..72]),
+        line: vectors::begin_line(Limit::MAIN, plan, &UNBEGUN[..72]),
     };
     let without = |last: usize, plan: &[u8]| {
         let length = plan.len();
@@ -389,7 +390,7 @@ fn windows() -> Vec<Stored> {
     let on = |shows: &str, day| stored(shows, &plan, &words, event_on(10, day));
     let begin = Stored {
         shows: "P with a window begun: length 196".to_string(),
-        line: vectors::begin_line(&plan, &UNBEGUN),
+        line: vectors::begin_line(Limit::MAIN, &plan, &UNBEGUN),
     };
     let repeated = changed(|p| p.windows = vec![window(0, 5, 6); 2]);
     let refused = "P with a window twice and no word: 25";
@@ -495,7 +496,7 @@ fn after_the_range() -> Vec<Stored> {
     let other = format!("{shows}, under another plan: 24");
     let begin = Stored {
         shows: "a begin takes a ledger whose day is out of range".to_string(),
-        line: vectors::begin_line(&sample(), &words),
+        line: vectors::begin_line(Limit::MAIN, &sample(), &words),
     };
     let mut calls = by_each_call(&format!("{shows}, 18"), &sample(), &words);
     calls.push(stored(&other, &other_code(), &words, Ready));
@@ -627,7 +628,7 @@ fn unfit_rights() -> Vec<Stored> {
     });
     let begin = |shows: &str, plan: &[u8]| Stored {
         shows: shows.to_string(),
-        line: vectors::begin_line(plan, &UNBEGUN),
+        line: vectors::begin_line(Limit::MAIN, plan, &UNBEGUN),
     };
     let twice = held(&[rights(1, 0, 7), rights(1, 0, 1)]);
     vec![

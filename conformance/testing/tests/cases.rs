@@ -4,10 +4,14 @@ use std::fs;
 use std::path::PathBuf;
 
 use second::journal::{self, Record, Records};
+use second::limit::Limit;
 use second::plan;
 use second::rules;
 use testing::calls;
 use testing::cases::{self, Case};
+
+/// The main program's limit.
+const MAIN: Limit = Limit::MAIN;
 
 /// The repository's root.
 fn root() -> PathBuf {
@@ -385,7 +389,7 @@ fn held_before_signal(name: &str) -> usize {
     let case = cases::all().into_iter().find(|c| c.folder == folder);
     let case = case.expect("stored");
     let plan = plan::read(&case.plan.expect("a plan")).expect("accepted");
-    let mut ledger = rules::begin(&plan);
+    let mut ledger = rules::begin(MAIN, &plan);
     for record in Records::new(&case.journal) {
         let record = record.expect("a whole record");
         if matches!(record, Record::Signal(_)) {

@@ -1,13 +1,13 @@
 //! The paper's sample plan P, and a ledger begun under it.
 
 use retraction::raw::begin;
-use retraction::{LEADING_WORDS, NONE, TRACK_WORDS};
+use retraction::{Limit, NONE};
 
 /// The society that has every right under plan P, and the only one.
 pub const SOCIETY: u16 = 1;
 
-/// The words that a ledger of plan P has.
-pub const WORDS: usize = LEADING_WORDS + 3 * TRACK_WORDS;
+/// The tracks of plan P.
+pub const TRACKS: usize = 3;
 
 /// The records of plan P: length, kind, fields.
 const RECORDS: &[&[u16]] = &[
@@ -36,11 +36,11 @@ pub fn plan() -> Vec<u8> {
     words.flat_map(|word| word.to_le_bytes()).collect()
 }
 
-/// Plan P begun, with words beyond that stay as they are.
-pub fn begun() -> (Vec<u8>, Vec<u16>) {
-    let plan = plan();
-    let mut ledger = vec![7; WORDS + 5];
-    assert_eq!(begin(&plan, &mut ledger), Ok(()));
-    assert_eq!(ledger[WORDS..], [7; 5]);
+/// Plan P begun at a limit, with words beyond that stay as they are.
+pub fn begun(limit: Limit) -> (Vec<u8>, Vec<u16>) {
+    let (plan, words) = (plan(), limit.ledger_words(TRACKS));
+    let mut ledger = vec![7; words + 5];
+    assert_eq!(begin(&plan, &mut ledger, limit.options()), Ok(()));
+    assert_eq!(ledger[words..], [7; 5]);
     (plan, ledger)
 }
