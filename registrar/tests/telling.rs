@@ -12,7 +12,7 @@ use registrar::records::Records;
 use registrar::run::{fits, Answer, Done, Run};
 use registrar::standing::{self, Mode, Standing};
 use registrar::tell::{self, Told};
-use retraction::{Entry, Plan, Refusal};
+use retraction::{Entry, Limit, Plan, Refusal};
 use std::collections::BTreeSet;
 use std::fs::{self, File};
 use std::path::{Path, PathBuf};
@@ -67,7 +67,7 @@ fn told_of(case: &Case, look: impl Fn(&Draft, &Run<'_>, &[Told])) -> Vec<Told> {
     let records = Records::decode(&case.plan).expect("an accepted plan");
     let draft = Draft::of_records(records);
     let (calls, broken) = journal::decode(&case.journal);
-    let run = Run::of(&plan, &calls, broken);
+    let run = Run::of(&plan, Limit::Main, &calls, broken);
     let lines: Vec<usize> = (0..calls.len()).map(|n| n + 2).collect();
     let told = tell::tell(&draft, &run, &lines);
     look(&draft, &run, &told);
@@ -274,7 +274,7 @@ fn the_first_column_is_what_the_program_prints() {
 /// The meanings of the brothers' run.
 fn brothers_told(calls: &[Call]) -> Vec<Told> {
     let plan = Plan::read(BROTHERS).expect("an accepted plan");
-    let run = Run::of(&plan, calls, None);
+    let run = Run::of(&plan, Limit::Main, calls, None);
     tell::tell(&brothers(), &run, &[])
 }
 
