@@ -3,6 +3,7 @@
 use std::io::Write;
 
 use crate::ledger::{Entry, Ledger};
+use crate::limit::Limit;
 use crate::plan::{self, Plan, MAX_TRACKS, NONE};
 use crate::record::{self, Header};
 use crate::refusal::{demand, Refusal};
@@ -128,11 +129,16 @@ pub fn lowest_ready(plan: &Plan, ledger: &Ledger, society: u16) -> u16 {
     rules::lowest_ready(plan, ledger, society).unwrap_or(MAX_TRACKS) as u16
 }
 
-/// The whole output of `unwind`.
+/// The whole output of `unwind`, whose limit is the main program's.
 pub fn unwind(plan: &[u8], journal: &[u8]) -> Vec<u8> {
+    unwind_at(Limit::MAIN, plan, journal)
+}
+
+/// What the same journal's calls would print at another limit.
+pub fn unwind_at(limit: Limit, plan: &[u8], journal: &[u8]) -> Vec<u8> {
     let mut text = Vec::new();
     match open(plan, journal) {
-        Ok(plan) => run(&plan, journal, &mut text),
+        Ok(plan) => run(limit, &plan, journal, &mut text),
         Err(refusal) => print_refusal(&mut text, refusal),
     }
     text
@@ -146,8 +152,8 @@ pub fn open(plan: &[u8], journal: &[u8]) -> Result<Plan, Refusal> {
 }
 
 /// Begins, then does the records in order.
-fn run(plan: &Plan, journal: &[u8], text: &mut Vec<u8>) {
-    let mut ledger = rules::begin(plan);
+fn run(limit: Limit, plan: &Plan, journal: &[u8], text: &mut Vec<u8>) {
+    let mut ledger = rules::begin(limit, plan);
     let mut firings = 0;
     print_plan(text, plan);
     for record in Records::new(journal) {

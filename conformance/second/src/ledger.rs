@@ -1,8 +1,9 @@
 //! The ledger: two leading words, by which it is known to be the plan's, two
-//! more for the last accepted day, then 67 words for each track; and what makes
-//! it sound.
+//! more for the last accepted day, then 3 + 2 * limit words for each track; and
+//! what makes it sound. The limit is that of the call.
 
 use crate::days::Term;
+use crate::limit::Limit;
 use crate::plan::{members, Plan, NONE};
 use crate::record;
 
@@ -10,10 +11,6 @@ use crate::record;
 pub const PLAN_WORDS: usize = 2;
 /// Words before those of the tracks: the plan's and the day's.
 pub const LEADING_WORDS: usize = 4;
-/// Words for each track: mode, state, count, and 32 pairs.
-pub const TRACK_WORDS: usize = 67;
-/// Entries that a track can hold.
-pub const CAPACITY: usize = 32;
 /// Where a track's pairs start among its words.
 pub const PAIRS: usize = 3;
 
@@ -51,23 +48,18 @@ pub struct Entry {
 }
 
 /// A track's words, decoded.
-#[derive(Clone, Copy, Debug, PartialEq, Eq)]
+#[derive(Clone, Debug, PartialEq, Eq)]
 pub struct Track {
     pub mode: Mode,
     pub state: u16,
-    held: usize,
-    pairs: [Entry; CAPACITY],
+    entries: Vec<Entry>,
 }
 
 impl Track {
     pub const ASLEEP: Track = Track {
         mode: Mode::Asleep,
         state: 0,
-        held: 0,
-        pairs: [Entry {
-            code: 0,
-            deviation: 0,
-        }; CAPACITY],
+        entries: Vec::new(),
     };
 
     /// A track awake in a state and holding nothing.
@@ -85,30 +77,27 @@ impl Track {
 
     /// How many entries it holds.
     pub fn held(&self) -> usize {
-        self.held
+        self.entries.len()
     }
 
     /// The entries held, oldest first.
     pub fn entries(&self) -> &[Entry] {
-        &self.pairs[..self.held]
+        &self.entries
     }
 
-    pub fn is_full(&self) -> bool {
-        self.held == CAPACITY
+    /// Full: holds as many entries as the limit allows.
+    pub fn is_full(&self, limit: Limit) -> bool {
+        self.held() == limit.entries()
     }
 
     /// Installs the newest entry; the track must not be full.
     pub fn install(&mut self, entry: Entry) {
-        self.pairs[self.held] = entry;
-        self.held += 1;
+        self.entries.push(entry);
     }
 
     /// Removes the newest entry, if any.
     pub fn remove(&mut self) -> Option<Entry> {
-        let newest = *self.entries().last()?;
-        self.held -= 1;
-        self.pairs[self.held] = Entry::default();
-        Some(newest)
+        self.entries.pop()
     }
 
     /// Decodes the words of a track of a sound ledger.
@@ -123,20 +112,24 @@ impl Track {
         track
     }
 
+    /// Writes all the words of the track; unused pairs are zero.
     fn encode(&self, words: &mut [u16]) {
+        words.fill(0);
         words[0] = self.mode.word();
         words[1] = self.state;
-        words[2] = self.held as u16;
-        for (pair, entry) in words[PAIRS..].chunks_exact_mut(2).zip(&self.pairs) {
+        words[2] = self.held() as u16;
+        for (pair, entry) in words[PAIRS..].chunks_exact_mut(2).zip(&self.entries) {
             pair[0] = entry.code;
             pair[1] = entry.deviation;
         }
     }
 }
 
-/// A sound ledger, decoded.
+/// A sound ledger, decoded at a call's limit.
 #[derive(Clone, Debug, PartialEq, Eq)]
 pub struct Ledger {
+    /// The limit of the call; no word has it.
+    pub limit: Limit,
     plan: [u16; PLAN_WORDS],
     /// The last accepted day; before the first one, the range's first.
     pub day: i32,
@@ -145,8 +138,9 @@ pub struct Ledger {
 
 impl Ledger {
     /// The plan's own, with no accepted day and every track asleep.
-    pub fn asleep(plan: &Plan) -> Ledger {
+    pub fn asleep(limit: Limit, plan: &Plan) -> Ledger {
         Ledger {
+            limit,
             plan: plan_words(plan),
             day: Term::RANGE.first,
             tracks: vec![Track::ASLEEP; plan.track_count()],
@@ -154,9 +148,10 @@ impl Ledger {
     }
 
     /// Decodes the words of the plan's own and sound ledger.
-    pub fn decode(plan: &Plan, words: &[u16]) -> Ledger {
-        let own = |track| Track::decode(track_words(words, track));
+    pub fn decode(limit: Limit, plan: &Plan, words: &[u16]) -> Ledger {
+        let own = |track| Track::decode(track_words(limit, words, track));
         Ledger {
+            limit,
             plan: plan_words(plan),
             day: day_of(words),
             tracks: (0..plan.track_count()).map(own).collect(),
@@ -168,13 +163,13 @@ impl Ledger {
         words[..PLAN_WORDS].copy_from_slice(&self.plan);
         words[PLAN_WORDS..LEADING_WORDS].copy_from_slice(&record::words_of(self.day));
         for (number, track) in self.tracks.iter().enumerate() {
-            track.encode(track_words_mut(words, number));
+            track.encode(track_words_mut(self.limit, words, number));
         }
     }
 
     /// The words alone, none beyond.
     pub fn words(&self) -> Vec<u16> {
-        let mut words = vec![0; track_start(self.tracks.len())];
+        let mut words = vec![0; self.limit.track_start(self.tracks.len())];
         self.encode(&mut words);
         words
     }
@@ -217,24 +212,19 @@ pub fn day_of(words: &[u16]) -> i32 {
     record::of_words([words[PLAN_WORDS], words[PLAN_WORDS + 1]])
 }
 
-/// Where a track's words start.
-pub fn track_start(track: usize) -> usize {
-    LEADING_WORDS + track * TRACK_WORDS
-}
-
 /// The words that a plan's ledger needs.
-pub fn words_needed(plan: &Plan) -> usize {
-    track_start(plan.track_count())
+pub fn words_needed(limit: Limit, plan: &Plan) -> usize {
+    limit.track_start(plan.track_count())
 }
 
 /// The words of one track.
-pub fn track_words(words: &[u16], track: usize) -> &[u16] {
-    &words[track_start(track)..][..TRACK_WORDS]
+pub fn track_words(limit: Limit, words: &[u16], track: usize) -> &[u16] {
+    &words[limit.track_start(track)..][..limit.track_words()]
 }
 
 /// The words of one track, to be written.
-pub fn track_words_mut(words: &mut [u16], track: usize) -> &mut [u16] {
-    &mut words[track_start(track)..][..TRACK_WORDS]
+pub fn track_words_mut(limit: Limit, words: &mut [u16], track: usize) -> &mut [u16] {
+    &mut words[limit.track_start(track)..][..limit.track_words()]
 }
 
 /// Finish: every root has ended, forward in a final state, or is spent, undoing
@@ -329,16 +319,17 @@ impl Clause {
     }
 }
 
-/// Whether the ledger is sound under the plan; it must have enough words.
-pub fn is_sound(plan: &Plan, words: &[u16]) -> bool {
-    let view = View { plan, words };
+/// Whether the ledger is sound under the plan and at the limit; it must have
+/// enough words.
+pub fn is_sound(limit: Limit, plan: &Plan, words: &[u16]) -> bool {
+    let view = View { limit, plan, words };
     Clause::DESCRIBED.iter().all(|c| c.holds(&view))
         && (view.all_asleep() || Clause::AWAKE.iter().all(|c| c.holds(&view)))
 }
 
 /// The clauses that the words violate, in the order of the enum.
-pub fn violated(plan: &Plan, words: &[u16]) -> Vec<Clause> {
-    let view = View { plan, words };
+pub fn violated(limit: Limit, plan: &Plan, words: &[u16]) -> Vec<Clause> {
+    let view = View { limit, plan, words };
     let over = view.all_asleep();
     let binding = |c: &Clause| !over || Clause::DESCRIBED.contains(c);
     Clause::all()
@@ -347,29 +338,35 @@ pub fn violated(plan: &Plan, words: &[u16]) -> Vec<Clause> {
         .collect()
 }
 
-/// Words read under a plan, sound or not.
+/// Words read under a plan and at a limit, sound or not.
 struct View<'a> {
+    limit: Limit,
     plan: &'a Plan,
     words: &'a [u16],
 }
 
 impl<'a> View<'a> {
+    /// All words of a track.
+    fn own(&self, track: usize) -> &'a [u16] {
+        track_words(self.limit, self.words, track)
+    }
+
     fn mode(&self, track: usize) -> u16 {
-        track_words(self.words, track)[0]
+        self.own(track)[0]
     }
 
     fn state(&self, track: usize) -> u16 {
-        track_words(self.words, track)[1]
+        self.own(track)[1]
     }
 
     fn count(&self, track: usize) -> usize {
-        usize::from(track_words(self.words, track)[2])
+        usize::from(self.own(track)[2])
     }
 
     /// The track's pairs split into those held and those unused.
     fn pairs(&self, track: usize) -> (&'a [u16], &'a [u16]) {
-        let held = self.count(track).min(CAPACITY);
-        track_words(self.words, track)[PAIRS..].split_at(2 * held)
+        let held = self.count(track).min(self.limit.entries());
+        self.own(track)[PAIRS..].split_at(2 * held)
     }
 
     /// Code and deviation of each entry held.
@@ -430,9 +427,9 @@ impl<'a> View<'a> {
         self.tracks().all(|t| self.mode(t) <= 2)
     }
 
-    /// The count of entries held is 0 to 32.
+    /// The count of entries held is 0 to the limit.
     fn counts_in_range(&self) -> bool {
-        self.tracks().all(|t| self.count(t) <= CAPACITY)
+        self.tracks().all(|t| self.count(t) <= self.limit.entries())
     }
 
     /// Unused pairs are zero.
@@ -443,7 +440,7 @@ impl<'a> View<'a> {
 
     /// An asleep track is all zeros.
     fn asleep_tracks_zero(&self) -> bool {
-        let zero = |t| track_words(self.words, t).iter().all(|&w| w == 0);
+        let zero = |t| self.own(t).iter().all(|&w| w == 0);
         self.tracks().all(|t| self.is_awake(t) || zero(t))
     }
 

@@ -46,7 +46,7 @@ pub enum Refusal {
     EventZero = 19,
     /// The ledger is over.
     Over = 20,
-    /// A track that the event gives an entry holds 32.
+    /// A track that the event gives an entry holds as many as the limit.
     Full = 21,
     /// The track may not be fired, or does not exist.
     NotReady = 22,

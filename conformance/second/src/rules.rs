@@ -5,6 +5,7 @@
 
 use crate::days::Term;
 use crate::ledger::{self, Entry, Ledger, Mode, Track};
+use crate::limit::Limit;
 use crate::plan::{members, Plan, Right, Transition, NONE};
 use crate::refusal::{demand, Refusal};
 
@@ -17,8 +18,8 @@ pub struct Moved {
 
 /// Begin: roots forward in their first states, others asleep, and the range's
 /// first day as the last accepted one.
-pub fn begin(plan: &Plan) -> Ledger {
-    let mut ledger = Ledger::asleep(plan);
+pub fn begin(limit: Limit, plan: &Plan) -> Ledger {
+    let mut ledger = Ledger::asleep(limit, plan);
     for root in plan.roots() {
         wake(plan, &mut ledger, root);
     }
@@ -104,19 +105,19 @@ pub fn may_move(plan: &Plan, ledger: &Ledger, track: usize) -> bool {
 
 /// One move: installs its entry and enters the destination.
 fn take(plan: &Plan, ledger: &mut Ledger, track: usize, x: &Transition) -> Result<(), Refusal> {
-    install(&mut ledger.tracks[track], x.code, x.deviation)?;
+    install(ledger, track, x.code, x.deviation)?;
     ledger.tracks[track].state = x.destination;
     open_scope(plan, ledger, x.destination);
     Ok(())
 }
 
-/// Installs a code other than 0; 21 where the track holds 32.
-fn install(track: &mut Track, code: u16, deviation: u16) -> Result<(), Refusal> {
+/// Installs a code other than 0; 21 where the track holds as many as the limit.
+fn install(ledger: &mut Ledger, track: usize, code: u16, deviation: u16) -> Result<(), Refusal> {
     if code == 0 {
         return Ok(());
     }
-    demand(!track.is_full(), Refusal::Full)?;
-    track.install(Entry { code, deviation });
+    demand(!ledger.tracks[track].is_full(ledger.limit), Refusal::Full)?;
+    ledger.tracks[track].install(Entry { code, deviation });
     Ok(())
 }
 
@@ -125,8 +126,8 @@ fn close(plan: &Plan, ledger: &mut Ledger) -> Result<u16, Refusal> {
     let mut closed = 0;
     while let Some(hosting) = plan.hosting_states().find(|&s| closes(plan, ledger, s)) {
         sleep(ledger, plan.scope(hosting));
-        let host = &mut ledger.tracks[plan.track_of(hosting)];
-        install(host, plan.replacement(hosting), NONE)?;
+        let host = plan.track_of(hosting);
+        install(ledger, host, plan.replacement(hosting), NONE)?;
         closed += 1;
     }
     Ok(closed)

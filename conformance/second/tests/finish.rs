@@ -21,36 +21,36 @@ impl Desk {
     fn begun(plan: &Records) -> Desk {
         let plan = plan.encode();
         let tracks = plan::read(&plan).expect("accepted").track_count();
-        let mut words = vec![0xABCD; ledger::track_start(tracks) + 3];
-        assert_eq!(manager::begin(&plan, &mut words), Answer::Done(()));
+        let mut words = vec![0xABCD; MAIN.track_start(tracks) + 3];
+        assert_eq!(manager::begin(MAIN, &plan, &mut words), Answer::Done(()));
         Desk { plan, words }
     }
 
     /// An event that moves and closes so many.
     fn event(&mut self, event: u16, moved: u16, closed: u16) {
-        let answer = manager::event(&self.plan, &mut self.words, event, 0, 1);
+        let answer = manager::event(MAIN, &self.plan, &mut self.words, event, 0, 1);
         assert_eq!(answer, Answer::Done(Moved { moved, closed }));
     }
 
     fn signal(&mut self, turned: u16) {
-        let answer = manager::signal(&self.plan, &mut self.words, 1);
+        let answer = manager::signal(MAIN, &self.plan, &mut self.words, 1);
         assert_eq!(answer, Answer::Done(turned));
     }
 
     /// A firing that answers this code and deviation.
     fn fire(&mut self, track: u16, code: u16, deviation: u16) {
-        let answer = manager::fire(&self.plan, &mut self.words, track, 1);
+        let answer = manager::fire(MAIN, &self.plan, &mut self.words, track, 1);
         assert_eq!(answer, Answer::Done(Entry { code, deviation }));
     }
 
     fn ready(&self, bits: u32) {
-        let answer = manager::ready(&self.plan, &self.words);
+        let answer = manager::ready(MAIN, &self.plan, &self.words);
         assert_eq!(answer, Answer::Done(bits));
     }
 
     /// Mode, state and count of a track.
     fn track(&self, track: usize) -> [u16; 3] {
-        let own = track_words(&self.words, track);
+        let own = track_words(MAIN, &self.words, track);
         [own[0], own[1], own[2]]
     }
 
@@ -58,12 +58,12 @@ impl Desk {
     fn refused(&mut self, refusal: Refusal) {
         let before = self.words.clone();
         let number = refusal.number();
-        let event = manager::event(&self.plan, &mut self.words, 1, 0, 1);
+        let event = manager::event(MAIN, &self.plan, &mut self.words, 1, 0, 1);
         assert_eq!(event, Answer::Refused(refusal), "event: {number}");
-        let signal = manager::signal(&self.plan, &mut self.words, 1);
+        let signal = manager::signal(MAIN, &self.plan, &mut self.words, 1);
         assert_eq!(signal, Answer::Refused(refusal), "signal: {number}");
         for track in [0, 1, 99] {
-            let fire = manager::fire(&self.plan, &mut self.words, track, 1);
+            let fire = manager::fire(MAIN, &self.plan, &mut self.words, track, 1);
             assert_eq!(fire, Answer::Refused(refusal), "fire: {number}");
         }
         assert_eq!(self.words, before);
@@ -72,7 +72,7 @@ impl Desk {
     /// All asleep behind the plan's leading words, and refused as 20.
     fn over(&mut self) {
         let plan = plan::read(&self.plan).expect("accepted");
-        let needed = ledger::words_needed(&plan);
+        let needed = ledger::words_needed(MAIN, &plan);
         assert_eq!(self.words[..2], [plan.length(), plan.sum()]);
         assert!(self.words[4..needed].iter().all(|&w| w == 0));
         assert_eq!(self.words[needed..], [0xABCD; 3]);
@@ -151,7 +151,7 @@ fn all_roots_taken_back_is_not_over() {
     desk.event(1, 0, 0);
     desk.signal(0);
     for track in [0, 1, 2] {
-        let answer = manager::fire(&desk.plan, &mut desk.words, track, 1);
+        let answer = manager::fire(MAIN, &desk.plan, &mut desk.words, track, 1);
         assert_eq!(answer, Answer::Refused(Refusal::NotReady));
     }
     assert_eq!([desk.track(0), desk.track(1)], [[2, 0, 0], [2, 3, 0]]);
@@ -313,7 +313,7 @@ fn an_entry_that_finish_would_drop_still_needs_room() {
     }
     assert_eq!([desk.track(0), desk.track(1)], [[1, 0, 32], [2, 2, 0]]);
     let before = desk.words.clone();
-    let answer = manager::event(&desk.plan, &mut desk.words, 2, 0, 1);
+    let answer = manager::event(MAIN, &desk.plan, &mut desk.words, 2, 0, 1);
     assert_eq!(answer, Answer::Refused(Refusal::Full));
     assert_eq!(desk.words, before);
     desk.event(3, 1, 0);
@@ -376,10 +376,10 @@ fn stand(words: &mut [u16], root: usize, standing: Standing) {
         Standing::Holding => vec![2, first, 1, 7, first],
         Standing::Forward => vec![1, first, 0],
     };
-    track_words_mut(words, root)[..own.len()].copy_from_slice(&own);
+    track_words_mut(MAIN, words, root)[..own.len()].copy_from_slice(&own);
     if standing == Standing::ScopeOpen {
         let hosted = [2, 6 + root as u16, 1, 8, NONE];
-        track_words_mut(words, 3 + root)[..5].copy_from_slice(&hosted);
+        track_words_mut(MAIN, words, 3 + root)[..5].copy_from_slice(&hosted);
     }
 }
 
@@ -390,8 +390,8 @@ fn soundness_asks_that_finish_is_not_left_to_do() {
     let (mut left, mut sound) = (0, 0);
     for code in 0..216 {
         let standings = [code / 36, code / 6 % 6, code % 6].map(|n| STANDINGS[n]);
-        let mut words = vec![0; ledger::words_needed(&plan)];
-        manager::begin(&bytes, &mut words);
+        let mut words = vec![0; ledger::words_needed(MAIN, &plan)];
+        manager::begin(MAIN, &bytes, &mut words);
         words[4..].fill(0);
         for (root, &standing) in standings.iter().enumerate() {
             stand(&mut words, root, standing);
@@ -399,8 +399,8 @@ fn soundness_asks_that_finish_is_not_left_to_do() {
         let ended = |s: &Standing| matches!(s, Standing::Ended | Standing::EndedHolding);
         let spent = standings.iter().filter(|&s| *s == Standing::Spent).count();
         let ended = standings.iter().filter(|s| ended(s)).count();
-        let violated = ledger::violated(&plan, &words);
-        let ready = manager::ready(&bytes, &words);
+        let violated = ledger::violated(MAIN, &plan, &words);
+        let ready = manager::ready(MAIN, &bytes, &words);
         if ended > 0 && ended + spent == 3 {
             assert_eq!(violated, [Clause::NoFinishLeft], "{standings:?}");
             assert_eq!(ready, Answer::Refused(Refusal::Unsound));
@@ -420,13 +420,13 @@ fn a_ledger_with_the_finish_left_to_do_is_18_and_begun_anew() {
     let mut desk = deviated();
     desk.event(3, 1, 0);
     // Root 1 gives up its entry without a firing.
-    track_words_mut(&mut desk.words, 1)[2..5].fill(0);
+    track_words_mut(MAIN, &mut desk.words, 1)[2..5].fill(0);
     desk.refused(Refusal::Unsound);
-    let ready = manager::ready(&desk.plan, &desk.words);
+    let ready = manager::ready(MAIN, &desk.plan, &desk.words);
     assert_eq!(ready, Answer::Refused(Refusal::Unsound));
-    assert!(manager::entries(&desk.plan, &desk.words, 0).is_empty());
+    assert!(manager::entries(MAIN, &desk.plan, &desk.words, 0).is_empty());
     assert_eq!(
-        manager::begin(&desk.plan, &mut desk.words),
+        manager::begin(MAIN, &desk.plan, &mut desk.words),
         Answer::Done(())
     );
     assert_eq!([desk.track(0), desk.track(1)], [[1, 0, 0], [1, 3, 0]]);
@@ -442,7 +442,7 @@ fn a_firing_of_the_last_entry_ends_it_whichever_root_it_is() {
             stand(&mut desk.words, other, Standing::EndedHolding);
         }
         let own = [2, 2 * root, 1, 9, NONE];
-        track_words_mut(&mut desk.words, usize::from(root))[..5].copy_from_slice(&own);
+        track_words_mut(MAIN, &mut desk.words, usize::from(root))[..5].copy_from_slice(&own);
         desk.fire(root, 9, NONE);
         desk.over();
     }

@@ -5,7 +5,7 @@ mod common;
 
 use common::*;
 use second::journal::{self, Record};
-use second::ledger::{Ledger, Mode, CAPACITY};
+use second::ledger::{Ledger, Mode};
 use second::plan::{self, members, Plan, Records, Right};
 use second::rules;
 
@@ -15,7 +15,7 @@ type Held = (Plan, Ledger);
 /// The ledger that a history leaves under a plan.
 fn after(plan: &Records, records: &[Record]) -> Held {
     let plan = plan::read(&plan.encode()).expect("accepted");
-    let mut ledger = rules::begin(&plan);
+    let mut ledger = rules::begin(MAIN, &plan);
     for &record in records {
         journal::perform(&plan, &mut ledger, record);
     }
@@ -202,7 +202,7 @@ fn from_a_later_point_there_are_as_many_firings_as_entries_then_held() {
 fn two_full_roots_have_64_firings() {
     let mut plan = looping_link();
     plan.transitions.push(step(2, 1, 9, 2));
-    let (plan, mut ledger) = after(&plan, &then(&[1; CAPACITY], &[signal()]));
+    let (plan, mut ledger) = after(&plan, &then(&[1; 32], &[signal()]));
     assert_eq!(ledger.total_held(), 64);
     let mut firings = 0;
     // From one root and from the other by turns.

@@ -37,9 +37,9 @@ fn alike() -> Vec<u8> {
 /// The words that a begin and then events leave, each event moving a track.
 fn worked(plan: &[u8], events: &[u16]) -> Vec<u16> {
     let mut words = vec![0xABCD; 206];
-    assert_eq!(manager::begin(plan, &mut words), Answer::Done(()));
+    assert_eq!(manager::begin(MAIN, plan, &mut words), Answer::Done(()));
     for &event in events {
-        let answer = manager::event(plan, &mut words, event, 0, 1);
+        let answer = manager::event(MAIN, plan, &mut words, event, 0, 1);
         assert!(matches!(answer, Answer::Done(m) if m.moved == 1));
     }
     words
@@ -64,16 +64,19 @@ fn refused(plan: &[u8], words: &[u16], refusal: u8) {
     let mut lent = words.to_vec();
     for event in [0, 10, 13] {
         assert_eq!(
-            number(manager::event(plan, &mut lent, event, 0, 1)),
+            number(manager::event(MAIN, plan, &mut lent, event, 0, 1)),
             refusal
         );
     }
-    assert_eq!(number(manager::signal(plan, &mut lent, 1)), refusal);
+    assert_eq!(number(manager::signal(MAIN, plan, &mut lent, 1)), refusal);
     for track in [0, 1, 99] {
-        assert_eq!(number(manager::fire(plan, &mut lent, track, 1)), refusal);
-        assert!(manager::entries(plan, &lent, track).is_empty());
+        assert_eq!(
+            number(manager::fire(MAIN, plan, &mut lent, track, 1)),
+            refusal
+        );
+        assert!(manager::entries(MAIN, plan, &lent, track).is_empty());
     }
-    assert_eq!(number(manager::ready(plan, &lent)), refusal);
+    assert_eq!(number(manager::ready(MAIN, plan, &lent)), refusal);
     assert_eq!(lent, words);
 }
 
@@ -89,18 +92,27 @@ fn the_sample_has_length_182_and_sum_633() {
 fn begin_writes_both_words_over_any_others() {
     for lent in [0, 633, 0xABCD, 65535] {
         let mut words = vec![lent; 206];
-        assert_eq!(manager::begin(&sample(), &mut words), Answer::Done(()));
+        assert_eq!(
+            manager::begin(MAIN, &sample(), &mut words),
+            Answer::Done(())
+        );
         assert_eq!(words[..7], [182, 633, 21_499, 65_534, 1, 0, 0]);
         assert_eq!(words[205], lent);
     }
     let plan = plan::read(&sample()).expect("accepted");
-    assert_eq!(rules::begin(&plan).words(), worked(&sample(), &[])[..205]);
+    assert_eq!(
+        rules::begin(MAIN, &plan).words(),
+        worked(&sample(), &[])[..205]
+    );
 }
 
 #[test]
 fn begin_takes_a_neighbours_ledger() {
     let mut words = worked(&longer(), &[10, 11]);
-    assert_eq!(manager::begin(&sample(), &mut words), Answer::Done(()));
+    assert_eq!(
+        manager::begin(MAIN, &sample(), &mut words),
+        Answer::Done(())
+    );
     assert_eq!(words, worked(&sample(), &[]));
 }
 
@@ -109,8 +121,8 @@ fn calls_keep_both_words() {
     let plan = sample();
     let mut words = worked(&plan, &[10, 11, 12]);
     assert_eq!(words[..2], [182, 633]);
-    assert_eq!(manager::signal(&plan, &mut words, 1), Answer::Done(3));
-    assert_eq!(number(manager::fire(&plan, &mut words, 1, 1)), 0);
+    assert_eq!(manager::signal(MAIN, &plan, &mut words, 1), Answer::Done(3));
+    assert_eq!(number(manager::fire(MAIN, &plan, &mut words, 1, 1)), 0);
     assert_eq!(words[..2], [182, 633]);
 }
 
@@ -252,7 +264,7 @@ fn a_sum_without_the_last_bytes_is_24() {
             let leading = [words[0], plain_sum(kept)];
             refused(&plan, &led_by(leading, &words), 24);
         }
-        assert_eq!(number(manager::ready(&plan, &words)), 0);
+        assert_eq!(number(manager::ready(MAIN, &plan, &words)), 0);
     }
 }
 
@@ -266,7 +278,7 @@ fn either_word_alone_is_24() {
         refused(&sample(), &led_by([182, sum], &words), 24);
     }
     refused(&sample(), &led_by([633, 182], &words), 24);
-    assert_eq!(number(manager::ready(&sample(), &words)), 0);
+    assert_eq!(number(manager::ready(MAIN, &sample(), &words)), 0);
 }
 
 #[test]
@@ -284,8 +296,8 @@ fn a_ledger_begun_under_a_neighbours_plan_is_24() {
 #[test]
 fn entries_of_a_neighbours_ledger_are_the_empty_part() {
     let words = worked(&sample(), &[10, 11]);
-    assert_eq!(manager::entries(&sample(), &words, 1), [51, NONE]);
-    assert!(manager::entries(&neighbour(), &words, 1).is_empty());
+    assert_eq!(manager::entries(MAIN, &sample(), &words, 1), [51, NONE]);
+    assert!(manager::entries(MAIN, &neighbour(), &words, 1).is_empty());
 }
 
 #[test]
@@ -293,8 +305,8 @@ fn zeros_are_24_and_over_with_the_words() {
     let zeros = [0; 205];
     refused(&sample(), &zeros, 24);
     let mut over = led_by([182, 633], &zeros);
-    assert_eq!(number(manager::signal(&sample(), &mut over, 1)), 20);
-    assert_eq!(manager::ready(&sample(), &over), Answer::Done(0));
+    assert_eq!(number(manager::signal(MAIN, &sample(), &mut over, 1)), 20);
+    assert_eq!(manager::ready(MAIN, &sample(), &over), Answer::Done(0));
 }
 
 #[test]
@@ -302,7 +314,10 @@ fn an_over_ledger_keeps_the_words_and_is_24_under_another_plan() {
     let over = worked(&sample(), &[10, 11, 12, 14, 13]);
     assert_eq!(over[..2], [182, 633]);
     assert_eq!(over[4..205], [0; 201]);
-    assert_eq!(number(manager::signal(&sample(), &mut over.clone(), 1)), 20);
+    assert_eq!(
+        number(manager::signal(MAIN, &sample(), &mut over.clone(), 1)),
+        20
+    );
     refused(&neighbour(), &over, 24);
     refused(&longer(), &over, 24);
 }
@@ -322,7 +337,7 @@ fn too_few_words_are_17_and_not_24() {
         for kept in [0, 1, 2, 3, 4, 5, 66, 67, 70, 71, 201, 203, 204] {
             refused(&sample(), &words[..kept], 17);
             let mut lent = words[..kept].to_vec();
-            assert_eq!(number(manager::begin(&sample(), &mut lent)), 17);
+            assert_eq!(number(manager::begin(MAIN, &sample(), &mut lent)), 17);
             assert_eq!(lent, words[..kept]);
         }
     }
@@ -338,11 +353,11 @@ fn plans_alike_in_both_words_pass_for_each_other() {
     assert_ne!(sample(), alike());
     let mut words = worked(&sample(), &[10]);
     assert_eq!(words[..2], worked(&alike(), &[])[..2]);
-    let moved = manager::event(&alike(), &mut words, 11, 0, 1);
+    let moved = manager::event(MAIN, &alike(), &mut words, 11, 0, 1);
     let one = Moved {
         moved: 1,
         closed: 0,
     };
     assert_eq!(moved, Answer::Done(one));
-    assert_eq!(manager::entries(&sample(), &words, 1), [52, NONE]);
+    assert_eq!(manager::entries(MAIN, &sample(), &words, 1), [52, NONE]);
 }

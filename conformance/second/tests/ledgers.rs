@@ -13,9 +13,9 @@ use testing::generate::plans;
 fn working() -> Vec<u16> {
     let plan = sample();
     let mut words = vec![0; 205];
-    manager::begin(&plan, &mut words);
+    manager::begin(MAIN, &plan, &mut words);
     for event in [10, 11, 12] {
-        manager::event(&plan, &mut words, event, 0, 1);
+        manager::event(MAIN, &plan, &mut words, event, 0, 1);
     }
     words
 }
@@ -28,8 +28,8 @@ fn violated(changes: &[(usize, u16)]) -> Vec<Clause> {
         words[LEADING_WORDS + at] = word;
     }
     let plan = plan::read(&sample()).expect("accepted");
-    let clauses = ledger::violated(&plan, &words);
-    assert_eq!(ledger::is_sound(&plan, &words), clauses.is_empty());
+    let clauses = ledger::violated(MAIN, &plan, &words);
+    assert_eq!(ledger::is_sound(MAIN, &plan, &words), clauses.is_empty());
     clauses
 }
 
@@ -59,21 +59,30 @@ fn a_count_above_32_is_unsound_though_all_pairs_are_good() {
     }
     let plan = plan::read(&sample()).expect("accepted");
     words[6] = 32;
-    assert!(ledger::is_sound(&plan, &words));
+    assert!(ledger::is_sound(MAIN, &plan, &words));
     words[6] = 33;
-    assert_eq!(ledger::violated(&plan, &words), [Clause::CountsInRange]);
+    assert_eq!(
+        ledger::violated(MAIN, &plan, &words),
+        [Clause::CountsInRange]
+    );
 }
 
 #[test]
 fn an_asleep_track_is_all_zeros() {
     let plan = plan::read(&sample()).expect("accepted");
     let mut words = vec![0; 205];
-    assert!(ledger::is_sound(&plan, &words));
+    assert!(ledger::is_sound(MAIN, &plan, &words));
     words[204] = 1;
-    assert_eq!(ledger::violated(&plan, &words), [Clause::AsleepTracksZero]);
+    assert_eq!(
+        ledger::violated(MAIN, &plan, &words),
+        [Clause::AsleepTracksZero]
+    );
     words[204] = 0;
     words[5] = 1;
-    assert_eq!(ledger::violated(&plan, &words), [Clause::AsleepTracksZero]);
+    assert_eq!(
+        ledger::violated(MAIN, &plan, &words),
+        [Clause::AsleepTracksZero]
+    );
 }
 
 #[test]
@@ -103,10 +112,10 @@ fn scopes_and_hosts() {
 fn a_host_in_the_middle_must_be_awake() {
     let plan = plan::read(&plans::chain(3).encode()).expect("accepted");
     let mut words = vec![0; 205];
-    manager::begin(&plans::chain(3).encode(), &mut words);
-    assert!(ledger::is_sound(&plan, &words));
+    manager::begin(MAIN, &plans::chain(3).encode(), &mut words);
+    assert!(ledger::is_sound(MAIN, &plan, &words));
     words[71..138].fill(0);
-    assert_eq!(ledger::violated(&plan, &words), [Clause::HostsAwake]);
+    assert_eq!(ledger::violated(MAIN, &plan, &words), [Clause::HostsAwake]);
 }
 
 #[test]
@@ -117,9 +126,9 @@ fn every_root_is_awake() {
     let plan = plan::read(&records.encode()).expect("accepted");
     let mut words = vec![0; 138];
     words[4..6].copy_from_slice(&[1, 0]);
-    assert_eq!(ledger::violated(&plan, &words), [Clause::RootsAwake]);
+    assert_eq!(ledger::violated(MAIN, &plan, &words), [Clause::RootsAwake]);
     words[71..73].copy_from_slice(&[2, 2]);
-    assert_eq!(ledger::violated(&plan, &words), []);
+    assert_eq!(ledger::violated(MAIN, &plan, &words), []);
 }
 
 #[test]
@@ -128,15 +137,21 @@ fn no_settling_is_left() {
     let mut finished = vec![0; 205];
     finished[4..6].copy_from_slice(&[1, 2]);
     let plan = plan::read(&sample()).expect("accepted");
-    assert_eq!(ledger::violated(&plan, &finished), [Clause::NoFinishLeft]);
+    assert_eq!(
+        ledger::violated(MAIN, &plan, &finished),
+        [Clause::NoFinishLeft]
+    );
     let mut spent = vec![0; 205];
     for (track, state) in [(0, 1), (1, 4), (2, 6)] {
-        track_words_mut(&mut spent, track)[..2].copy_from_slice(&[2, state]);
+        track_words_mut(MAIN, &mut spent, track)[..2].copy_from_slice(&[2, state]);
     }
-    assert_eq!(ledger::violated(&plan, &spent), [Clause::NoAbandoningLeft]);
+    assert_eq!(
+        ledger::violated(MAIN, &plan, &spent),
+        [Clause::NoAbandoningLeft]
+    );
     // One root undoing in its final state is no settling left.
     finished[4] = 2;
-    assert_eq!(ledger::violated(&plan, &finished), []);
+    assert_eq!(ledger::violated(MAIN, &plan, &finished), []);
 }
 
 #[test]
@@ -147,19 +162,22 @@ fn a_damaged_ledger_is_refused_and_not_touched() {
     let before = words.clone();
     let unsound = Refusal::Unsound;
     assert_eq!(
-        manager::event(&plan, &mut words, 11, 0, 1),
+        manager::event(MAIN, &plan, &mut words, 11, 0, 1),
         Answer::Refused(unsound)
     );
     assert_eq!(
-        manager::signal(&plan, &mut words, 1),
+        manager::signal(MAIN, &plan, &mut words, 1),
         Answer::Refused(unsound)
     );
     assert_eq!(
-        manager::fire(&plan, &mut words, 1, 1),
+        manager::fire(MAIN, &plan, &mut words, 1, 1),
         Answer::Refused(unsound)
     );
-    assert_eq!(manager::ready(&plan, &words), Answer::Refused(unsound));
-    assert!(manager::entries(&plan, &words, 1).is_empty());
+    assert_eq!(
+        manager::ready(MAIN, &plan, &words),
+        Answer::Refused(unsound)
+    );
+    assert!(manager::entries(MAIN, &plan, &words, 1).is_empty());
     assert_eq!(words, before);
 }
 
@@ -167,8 +185,8 @@ fn a_damaged_ledger_is_refused_and_not_touched() {
 fn entries_are_the_callers_own_words() {
     let plan = sample();
     let words = working();
-    let part = manager::entries(&plan, &words, 1);
+    let part = manager::entries(MAIN, &plan, &words, 1);
     assert_eq!(part, [51, NONE]);
     assert_eq!(part.as_ptr(), words[74..].as_ptr());
-    assert!(manager::entries(&plan, &words, 3).is_empty());
+    assert!(manager::entries(MAIN, &plan, &words, 3).is_empty());
 }

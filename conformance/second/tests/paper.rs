@@ -14,7 +14,7 @@ use testing::generate::plans;
 fn begun(plan: &[u8]) -> Vec<u16> {
     let tracks = plan::read(plan).expect("accepted").track_count();
     let mut words = vec![0xABCD; 4 + 67 * tracks + 3];
-    assert_eq!(manager::begin(plan, &mut words), Answer::Done(()));
+    assert_eq!(manager::begin(MAIN, plan, &mut words), Answer::Done(()));
     assert_eq!(words[4 + 67 * tracks..], [0xABCD; 3]);
     words
 }
@@ -33,7 +33,7 @@ fn fired(code: u16) -> Answer<Entry> {
 /// Sends events to the sample plan.
 fn send(words: &mut [u16], events: &[u16]) -> Vec<Answer<Moved>> {
     let plan = sample();
-    let send = |&event| manager::event(&plan, words, event, 0, 1);
+    let send = |&event| manager::event(MAIN, &plan, words, event, 0, 1);
     events.iter().map(send).collect()
 }
 
@@ -109,7 +109,10 @@ fn last_event_closes_and_replaces() {
         answers,
         [moved(1, 0), moved(1, 0), moved(1, 0), moved(1, 1)]
     );
-    assert_eq!(manager::entries(&sample(), &words, 0), [50, NONE, 90, NONE]);
+    assert_eq!(
+        manager::entries(MAIN, &sample(), &words, 0),
+        [50, NONE, 90, NONE]
+    );
     assert_eq!(words[4..7], [1, 1, 2]);
     assert_eq!(words[71..205], [0; 134]);
 }
@@ -119,12 +122,12 @@ fn signal_then_fires_90_and_50() {
     let plan = sample();
     let mut words = begun(&plan);
     send(&mut words, &[10, 11, 12, 14]);
-    assert_eq!(manager::signal(&plan, &mut words, 1), Answer::Done(1));
-    assert_eq!(manager::ready(&plan, &words), Answer::Done(1));
-    assert_eq!(manager::fire(&plan, &mut words, 0, 1), fired(90));
-    assert_eq!(manager::fire(&plan, &mut words, 0, 1), fired(50));
+    assert_eq!(manager::signal(MAIN, &plan, &mut words, 1), Answer::Done(1));
+    assert_eq!(manager::ready(MAIN, &plan, &words), Answer::Done(1));
+    assert_eq!(manager::fire(MAIN, &plan, &mut words, 0, 1), fired(90));
+    assert_eq!(manager::fire(MAIN, &plan, &mut words, 0, 1), fired(50));
     assert_eq!(words[4..7], [2, 1, 0]);
-    assert_eq!(manager::ready(&plan, &words), Answer::Done(0));
+    assert_eq!(manager::ready(MAIN, &plan, &words), Answer::Done(0));
 }
 
 #[test]
@@ -136,20 +139,20 @@ fn event_13_instead_of_the_signal_is_over() {
     assert_eq!(words[..4], [182, 633, 0, 0]);
     assert_eq!(words[4..205], [0; 201]);
     assert_eq!(
-        manager::signal(&plan, &mut words, 1),
+        manager::signal(MAIN, &plan, &mut words, 1),
         Answer::Refused(Refusal::Over)
     );
-    assert_eq!(manager::ready(&plan, &words), Answer::Done(0));
+    assert_eq!(manager::ready(MAIN, &plan, &words), Answer::Done(0));
 }
 
 #[test]
 fn signal_after_begin_turns_1_and_is_not_over() {
     let plan = sample();
     let mut words = begun(&plan);
-    assert_eq!(manager::signal(&plan, &mut words, 1), Answer::Done(1));
-    assert_eq!(manager::ready(&plan, &words), Answer::Done(0));
+    assert_eq!(manager::signal(MAIN, &plan, &mut words, 1), Answer::Done(1));
+    assert_eq!(manager::ready(MAIN, &plan, &words), Answer::Done(0));
     assert_eq!(words[4..7], [2, 0, 0]);
-    assert_eq!(manager::signal(&plan, &mut words, 1), Answer::Done(0));
+    assert_eq!(manager::signal(MAIN, &plan, &mut words, 1), Answer::Done(0));
 }
 
 #[test]
@@ -157,9 +160,9 @@ fn signal_after_10_turns_3_and_abandons() {
     let plan = sample();
     let mut words = begun(&plan);
     send(&mut words, &[10]);
-    assert_eq!(manager::signal(&plan, &mut words, 1), Answer::Done(3));
+    assert_eq!(manager::signal(MAIN, &plan, &mut words, 1), Answer::Done(3));
     assert_eq!(words[71..205], [0; 134]);
-    assert_eq!(manager::ready(&plan, &words), Answer::Done(1));
+    assert_eq!(manager::ready(MAIN, &plan, &words), Answer::Done(1));
 }
 
 #[test]
@@ -167,10 +170,10 @@ fn firing_track_0_while_1_holds_an_entry_is_22() {
     let plan = sample();
     let mut words = begun(&plan);
     send(&mut words, &[10, 11]);
-    manager::signal(&plan, &mut words, 1);
+    manager::signal(MAIN, &plan, &mut words, 1);
     let before = words.clone();
     assert_eq!(
-        manager::fire(&plan, &mut words, 0, 1),
+        manager::fire(MAIN, &plan, &mut words, 0, 1),
         Answer::Refused(Refusal::NotReady)
     );
     assert_eq!(words, before);
@@ -249,7 +252,10 @@ fn signal_turns_every_track() {
     let plan = sample();
     let mut words = begun(&plan);
     send(&mut words, &[10, 11, 12]);
-    assert_eq!(manager::signal(&plan, &mut words, 1), Answer::Done(3));
-    assert_eq!([0, 1, 2].map(|t| track_words(&words, t)[0]), [2, 2, 2]);
-    assert_eq!(manager::ready(&plan, &words), Answer::Done(0b110));
+    assert_eq!(manager::signal(MAIN, &plan, &mut words, 1), Answer::Done(3));
+    assert_eq!(
+        [0, 1, 2].map(|t| track_words(MAIN, &words, t)[0]),
+        [2, 2, 2]
+    );
+    assert_eq!(manager::ready(MAIN, &plan, &words), Answer::Done(0b110));
 }

@@ -292,8 +292,8 @@ fn no_other_call_is_refused_as_29() {
     assert_eq!(refusal(&plan), 29);
     assert!(plan::read(&plan).is_ok());
     let mut words = vec![0; 71];
-    assert_eq!(manager::begin(&plan, &mut words), Answer::Done(()));
-    let moved = manager::event(&plan, &mut words, 1, 0, 1);
+    assert_eq!(manager::begin(MAIN, &plan, &mut words), Answer::Done(()));
+    let moved = manager::event(MAIN, &plan, &mut words, 1, 0, 1);
     assert!(matches!(moved, Answer::Done(m) if m.moved == 1));
     let printed = journal::unwind(&plan, &[]);
     assert_eq!(printed, b"PLAN 1 2 3\nH 0 0\n");

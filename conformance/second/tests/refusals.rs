@@ -204,15 +204,24 @@ fn too_few_words_are_17() {
     let plan = sample();
     let mut words = vec![5; 204];
     let few = Refusal::FewWords;
-    assert_eq!(manager::begin(&plan, &mut words), Answer::Refused(few));
     assert_eq!(
-        manager::event(&plan, &mut words, 0, 0, 1),
+        manager::begin(MAIN, &plan, &mut words),
         Answer::Refused(few)
     );
-    assert_eq!(manager::signal(&plan, &mut words, 1), Answer::Refused(few));
-    assert_eq!(manager::fire(&plan, &mut words, 0, 1), Answer::Refused(few));
-    assert_eq!(manager::ready(&plan, &words), Answer::Refused(few));
-    assert!(manager::entries(&plan, &words, 0).is_empty());
+    assert_eq!(
+        manager::event(MAIN, &plan, &mut words, 0, 0, 1),
+        Answer::Refused(few)
+    );
+    assert_eq!(
+        manager::signal(MAIN, &plan, &mut words, 1),
+        Answer::Refused(few)
+    );
+    assert_eq!(
+        manager::fire(MAIN, &plan, &mut words, 0, 1),
+        Answer::Refused(few)
+    );
+    assert_eq!(manager::ready(MAIN, &plan, &words), Answer::Refused(few));
+    assert!(manager::entries(MAIN, &plan, &words, 0).is_empty());
     assert_eq!(words, [5; 204]);
 }
 
@@ -224,21 +233,24 @@ fn an_unsound_ledger_is_18_and_begin_takes_it() {
     let before = words.clone();
     let unsound = Refusal::Unsound;
     assert_eq!(
-        manager::event(&plan, &mut words, 0, 0, 1),
+        manager::event(MAIN, &plan, &mut words, 0, 0, 1),
         Answer::Refused(unsound)
     );
     assert_eq!(
-        manager::signal(&plan, &mut words, 1),
+        manager::signal(MAIN, &plan, &mut words, 1),
         Answer::Refused(unsound)
     );
     assert_eq!(
-        manager::fire(&plan, &mut words, 9, 1),
+        manager::fire(MAIN, &plan, &mut words, 9, 1),
         Answer::Refused(unsound)
     );
-    assert_eq!(manager::ready(&plan, &words), Answer::Refused(unsound));
-    assert!(manager::entries(&plan, &words, 0).is_empty());
+    assert_eq!(
+        manager::ready(MAIN, &plan, &words),
+        Answer::Refused(unsound)
+    );
+    assert!(manager::entries(MAIN, &plan, &words, 0).is_empty());
     assert_eq!(words, before);
-    assert_eq!(manager::begin(&plan, &mut words), Answer::Done(()));
+    assert_eq!(manager::begin(MAIN, &plan, &mut words), Answer::Done(()));
     assert_eq!(words[..5], [182, 633, 21_499, 65_534, 1]);
     assert_eq!(words[5..], [0; 200]);
 }
@@ -248,25 +260,25 @@ fn event_0_is_19_before_20() {
     let plan = sample();
     let mut over = vec![0; 205];
     over[..2].copy_from_slice(&[182, 633]);
-    let event = |words: &mut [u16], e| manager::event(&sample(), words, e, 0, 1);
+    let event = |words: &mut [u16], e| manager::event(MAIN, &sample(), words, e, 0, 1);
     assert_eq!(event(&mut over, 0), Answer::Refused(Refusal::EventZero));
     assert_eq!(event(&mut over, 1), Answer::Refused(Refusal::Over));
     assert_eq!(
-        manager::fire(&plan, &mut over, 9, 1),
+        manager::fire(MAIN, &plan, &mut over, 9, 1),
         Answer::Refused(Refusal::Over)
     );
-    assert_eq!(manager::ready(&plan, &over), Answer::Done(0));
-    assert!(manager::entries(&plan, &over, 0).is_empty());
+    assert_eq!(manager::ready(MAIN, &plan, &over), Answer::Done(0));
+    assert!(manager::entries(MAIN, &plan, &over, 0).is_empty());
 }
 
 #[test]
 fn a_firing_that_may_not_be_is_22() {
     let plan = sample();
     let mut words = vec![0; 205];
-    manager::begin(&plan, &mut words);
+    manager::begin(MAIN, &plan, &mut words);
     for track in [0, 1, 2, 3, 32, 65535] {
         assert_eq!(
-            manager::fire(&plan, &mut words, track, 1),
+            manager::fire(MAIN, &plan, &mut words, track, 1),
             Answer::Refused(Refusal::NotReady)
         );
     }
@@ -277,18 +289,24 @@ fn each_call_gives_the_plans_refusal() {
     let plan = [4, 0, 4, 0];
     let mut words = [7; 4];
     let none = Refusal::NoTrack;
-    assert_eq!(manager::begin(&plan, &mut words), Answer::Refused(none));
     assert_eq!(
-        manager::event(&plan, &mut words, 0, 0, 1),
+        manager::begin(MAIN, &plan, &mut words),
         Answer::Refused(none)
     );
-    assert_eq!(manager::signal(&plan, &mut words, 1), Answer::Refused(none));
     assert_eq!(
-        manager::fire(&plan, &mut words, 0, 1),
+        manager::event(MAIN, &plan, &mut words, 0, 0, 1),
         Answer::Refused(none)
     );
-    assert_eq!(manager::ready(&plan, &words), Answer::Refused(none));
-    assert!(manager::entries(&plan, &words, 0).is_empty());
+    assert_eq!(
+        manager::signal(MAIN, &plan, &mut words, 1),
+        Answer::Refused(none)
+    );
+    assert_eq!(
+        manager::fire(MAIN, &plan, &mut words, 0, 1),
+        Answer::Refused(none)
+    );
+    assert_eq!(manager::ready(MAIN, &plan, &words), Answer::Refused(none));
+    assert!(manager::entries(MAIN, &plan, &words, 0).is_empty());
     assert_eq!(words, [7; 4]);
 }
 

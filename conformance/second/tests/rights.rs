@@ -4,7 +4,7 @@ mod common;
 
 use common::*;
 use second::journal::Record;
-use second::ledger::{self, track_words, Entry};
+use second::ledger::{track_words, Entry};
 use second::manager::{self, Answer};
 use second::plan::{self, Records, Right, Rights, NONE};
 use second::refusal::Refusal;
@@ -37,14 +37,14 @@ fn divided() -> Vec<u8> {
 
 fn begun(plan: &[u8]) -> Vec<u16> {
     let tracks = plan::read(plan).expect("accepted").track_count();
-    let mut words = vec![0xABCD; ledger::track_start(tracks) + 1];
-    assert_eq!(manager::begin(plan, &mut words), Answer::Done(()));
+    let mut words = vec![0xABCD; MAIN.track_start(tracks) + 1];
+    assert_eq!(manager::begin(MAIN, plan, &mut words), Answer::Done(()));
     words
 }
 
 /// The modes of both tracks.
 fn modes(words: &[u16]) -> [u16; 2] {
-    [0, 1].map(|t| track_words(words, t)[0])
+    [0, 1].map(|t| track_words(MAIN, words, t)[0])
 }
 
 fn moved(moved: u16) -> Answer<Moved> {
@@ -162,15 +162,21 @@ fn refused_rights_print_their_line_alone_and_come_before_17() {
     assert_eq!(unwind(&plan, &[1]), ["R 27"]);
     assert_eq!(run(&plan, &[event(10), signal()]), ["R 27"]);
     let unfit = Refusal::Rights;
-    assert_eq!(manager::begin(&plan, &mut []), Answer::Refused(unfit));
+    assert_eq!(manager::begin(MAIN, &plan, &mut []), Answer::Refused(unfit));
     assert_eq!(
-        manager::event(&plan, &mut [], 0, i32::MIN, 9),
+        manager::event(MAIN, &plan, &mut [], 0, i32::MIN, 9),
         Answer::Refused(unfit)
     );
-    assert_eq!(manager::signal(&plan, &mut [], 9), Answer::Refused(unfit));
-    assert_eq!(manager::fire(&plan, &mut [], 9, 9), Answer::Refused(unfit));
-    assert_eq!(manager::ready(&plan, &[]), Answer::Refused(unfit));
-    assert!(manager::entries(&plan, &[], 0).is_empty());
+    assert_eq!(
+        manager::signal(MAIN, &plan, &mut [], 9),
+        Answer::Refused(unfit)
+    );
+    assert_eq!(
+        manager::fire(MAIN, &plan, &mut [], 9, 9),
+        Answer::Refused(unfit)
+    );
+    assert_eq!(manager::ready(MAIN, &plan, &[]), Answer::Refused(unfit));
+    assert!(manager::entries(MAIN, &plan, &[], 0).is_empty());
 }
 
 #[test]
@@ -205,10 +211,10 @@ fn rights_hold_over_a_root_and_everything_under_it() {
 fn an_event_moves_the_society_s_tracks_alone() {
     let plan = divided();
     let mut words = begun(&plan);
-    assert_eq!(manager::event(&plan, &mut words, 1, 0, 1), moved(1));
+    assert_eq!(manager::event(MAIN, &plan, &mut words, 1, 0, 1), moved(1));
     assert_eq!([words[5], words[72]], [1, 3]);
-    assert_eq!(manager::event(&plan, &mut words, 1, 0, 1), moved(0));
-    assert_eq!(manager::event(&plan, &mut words, 1, 0, 2), moved(1));
+    assert_eq!(manager::event(MAIN, &plan, &mut words, 1, 0, 1), moved(0));
+    assert_eq!(manager::event(MAIN, &plan, &mut words, 1, 0, 2), moved(1));
     assert_eq!([words[5], words[72]], [1, 4]);
 }
 
@@ -216,11 +222,11 @@ fn an_event_moves_the_society_s_tracks_alone() {
 fn the_day_is_every_society_s() {
     let plan = divided();
     let mut words = begun(&plan);
-    assert_eq!(manager::event(&plan, &mut words, 99, 5, 1), moved(0));
+    assert_eq!(manager::event(MAIN, &plan, &mut words, 99, 5, 1), moved(0));
     assert_eq!(words[2..4], [5, 0]);
-    let refused = manager::event(&plan, &mut words, 1, 4, 2);
+    let refused = manager::event(MAIN, &plan, &mut words, 1, 4, 2);
     assert_eq!(refused, Answer::Refused(Refusal::Day));
-    assert_eq!(manager::event(&plan, &mut words, 1, 5, 2), moved(1));
+    assert_eq!(manager::event(MAIN, &plan, &mut words, 1, 5, 2), moved(1));
 }
 
 #[test]
@@ -232,13 +238,13 @@ fn a_full_track_of_another_is_no_matter() {
     let plan = plan.encode();
     let mut words = begun(&plan);
     for _ in 0..32 {
-        assert_eq!(manager::event(&plan, &mut words, 1, 0, 1), moved(1));
+        assert_eq!(manager::event(MAIN, &plan, &mut words, 1, 0, 1), moved(1));
     }
     let full = Answer::Refused(Refusal::Full);
-    assert_eq!(manager::event(&plan, &mut words, 1, 0, 1), full);
-    assert_eq!(manager::event(&plan, &mut words, 1, 0, 3), full);
-    assert_eq!(manager::event(&plan, &mut words, 1, 0, 2), moved(1));
-    let stranger = manager::event(&plan, &mut words, 1, 0, 4);
+    assert_eq!(manager::event(MAIN, &plan, &mut words, 1, 0, 1), full);
+    assert_eq!(manager::event(MAIN, &plan, &mut words, 1, 0, 3), full);
+    assert_eq!(manager::event(MAIN, &plan, &mut words, 1, 0, 2), moved(1));
+    let stranger = manager::event(MAIN, &plan, &mut words, 1, 0, 4);
     assert_eq!(stranger, Answer::Refused(Refusal::NoRight));
 }
 
@@ -246,11 +252,11 @@ fn a_full_track_of_another_is_no_matter() {
 fn a_signal_turns_the_society_s_tracks_alone() {
     let plan = divided();
     let mut words = begun(&plan);
-    assert_eq!(manager::signal(&plan, &mut words, 2), Answer::Done(1));
+    assert_eq!(manager::signal(MAIN, &plan, &mut words, 2), Answer::Done(1));
     assert_eq!(modes(&words), [1, 2]);
-    assert_eq!(manager::signal(&plan, &mut words, 2), Answer::Done(0));
+    assert_eq!(manager::signal(MAIN, &plan, &mut words, 2), Answer::Done(0));
     assert_eq!(modes(&words), [1, 2]);
-    assert_eq!(manager::signal(&plan, &mut words, 1), Answer::Done(1));
+    assert_eq!(manager::signal(MAIN, &plan, &mut words, 1), Answer::Done(1));
     assert_eq!(modes(&words), [2, 2]);
 }
 
@@ -258,12 +264,12 @@ fn a_signal_turns_the_society_s_tracks_alone() {
 fn a_signal_may_be_the_end_beside_a_root_that_has_ended() {
     let plan = divided();
     let mut words = begun(&plan);
-    assert_eq!(manager::event(&plan, &mut words, 3, 0, 1), moved(1));
+    assert_eq!(manager::event(MAIN, &plan, &mut words, 3, 0, 1), moved(1));
     assert_eq!(modes(&words), [1, 1]);
-    assert_eq!(manager::signal(&plan, &mut words, 2), Answer::Done(1));
+    assert_eq!(manager::signal(MAIN, &plan, &mut words, 2), Answer::Done(1));
     assert!(words[4..138].iter().all(|&word| word == 0));
     for society in [1, 2, 3] {
-        let signal = manager::signal(&plan, &mut words, society);
+        let signal = manager::signal(MAIN, &plan, &mut words, society);
         assert_eq!(signal, Answer::Refused(Refusal::Over));
     }
 }
@@ -272,11 +278,11 @@ fn a_signal_may_be_the_end_beside_a_root_that_has_ended() {
 fn a_signal_is_not_the_end_while_an_entry_is_held() {
     let plan = divided();
     let mut words = begun(&plan);
-    manager::event(&plan, &mut words, 1, 0, 2);
-    manager::event(&plan, &mut words, 3, 0, 1);
-    assert_eq!(manager::signal(&plan, &mut words, 2), Answer::Done(1));
+    manager::event(MAIN, &plan, &mut words, 1, 0, 2);
+    manager::event(MAIN, &plan, &mut words, 3, 0, 1);
+    assert_eq!(manager::signal(MAIN, &plan, &mut words, 2), Answer::Done(1));
     assert_eq!(modes(&words), [1, 2]);
-    let last = manager::fire(&plan, &mut words, 1, 2);
+    let last = manager::fire(MAIN, &plan, &mut words, 1, 2);
     assert_eq!(last, fired(60, NONE));
     assert_eq!(modes(&words), [0, 0]);
 }
@@ -287,13 +293,13 @@ fn each_right_is_asked_for_by_its_own_call() {
         let plan = held(&[rights(1, 0, sum), rights(2, 0, 7)]).encode();
         let mut words = begun(&plan);
         let refused = |sum: u16, right: u16| sum & right == 0;
-        let event = manager::event(&plan, &mut words, 10, 0, 1);
+        let event = manager::event(MAIN, &plan, &mut words, 10, 0, 1);
         assert_eq!(event == Answer::Refused(Refusal::NoRight), refused(sum, 1));
-        manager::event(&plan, &mut words, 10, 0, 2);
-        let signal = manager::signal(&plan, &mut words, 1);
+        manager::event(MAIN, &plan, &mut words, 10, 0, 2);
+        let signal = manager::signal(MAIN, &plan, &mut words, 1);
         assert_eq!(signal == Answer::Refused(Refusal::NoRight), refused(sum, 2));
-        manager::signal(&plan, &mut words, 2);
-        let fire = manager::fire(&plan, &mut words, 0, 1);
+        manager::signal(MAIN, &plan, &mut words, 2);
+        let fire = manager::fire(MAIN, &plan, &mut words, 0, 1);
         assert_eq!(fire == Answer::Refused(Refusal::NoRight), refused(sum, 4));
         assert_eq!(fire == fired(50, NONE), !refused(sum, 4));
     }
@@ -303,24 +309,24 @@ fn each_right_is_asked_for_by_its_own_call() {
 fn refused_calls_of_a_society_without_rights_change_no_word() {
     let plan = sample();
     let mut words = begun(&plan);
-    manager::event(&plan, &mut words, 10, 3, 1);
+    manager::event(MAIN, &plan, &mut words, 10, 3, 1);
     let before = words.clone();
     let refused = Refusal::NoRight;
     for society in [0, 2, 256, 65_535] {
         assert_eq!(
-            manager::event(&plan, &mut words, 11, 9, society),
+            manager::event(MAIN, &plan, &mut words, 11, 9, society),
             Answer::Refused(refused)
         );
         assert_eq!(
-            manager::signal(&plan, &mut words, society),
+            manager::signal(MAIN, &plan, &mut words, society),
             Answer::Refused(refused)
         );
         for track in 0..3 {
-            let fire = manager::fire(&plan, &mut words, track, society);
+            let fire = manager::fire(MAIN, &plan, &mut words, track, society);
             assert_eq!(fire, Answer::Refused(refused));
         }
         for track in [3, 32, NONE] {
-            let fire = manager::fire(&plan, &mut words, track, society);
+            let fire = manager::fire(MAIN, &plan, &mut words, track, society);
             assert_eq!(fire, Answer::Refused(Refusal::NotReady));
         }
     }
@@ -332,7 +338,8 @@ fn an_event_is_judged_19_26_20_28_21() {
     let plan = sample();
     let mut words = begun(&plan);
     let number =
-        |words: &mut [u16], event, day| match manager::event(&sample(), words, event, day, 2) {
+        |words: &mut [u16], event, day| match manager::event(MAIN, &sample(), words, event, day, 2)
+        {
             Answer::Refused(refusal) => refusal.number(),
             Answer::Done(_) => 0,
         };
@@ -340,13 +347,13 @@ fn an_event_is_judged_19_26_20_28_21() {
     assert_eq!(number(&mut words, 10, i32::MAX), 26);
     assert_eq!(number(&mut words, 10, 0), 28);
     for event in [10, 11, 12, 14, 13] {
-        manager::event(&plan, &mut words, event, 0, 1);
+        manager::event(MAIN, &plan, &mut words, event, 0, 1);
     }
     assert_eq!(number(&mut words, 0, i32::MAX), 19);
     assert_eq!(number(&mut words, 10, -1), 26);
     assert_eq!(number(&mut words, 10, 0), 20);
     assert_eq!(
-        manager::fire(&plan, &mut words, 0, 2),
+        manager::fire(MAIN, &plan, &mut words, 0, 2),
         Answer::Refused(Refusal::Over)
     );
 }
@@ -356,12 +363,12 @@ fn ready_and_entries_leave_rights_aside() {
     let plan = divided();
     let mut words = begun(&plan);
     for society in [1, 2] {
-        manager::event(&plan, &mut words, 1, 0, society);
-        manager::signal(&plan, &mut words, society);
+        manager::event(MAIN, &plan, &mut words, 1, 0, society);
+        manager::signal(MAIN, &plan, &mut words, society);
     }
-    assert_eq!(manager::ready(&plan, &words), Answer::Done(0b11));
-    assert_eq!(manager::entries(&plan, &words, 0), [50, 0]);
-    assert_eq!(manager::entries(&plan, &words, 1), [60, NONE]);
+    assert_eq!(manager::ready(MAIN, &plan, &words), Answer::Done(0b11));
+    assert_eq!(manager::entries(MAIN, &plan, &words, 0), [50, 0]);
+    assert_eq!(manager::entries(MAIN, &plan, &words, 1), [60, NONE]);
 }
 
 #[test]

@@ -35,14 +35,14 @@ fn of_windows(windows: &[Window]) -> u8 {
 /// A plan's ledger just begun.
 fn begun(plan: &[u8]) -> Vec<u16> {
     let tracks = plan::read(plan).expect("accepted").track_count();
-    let mut words = vec![0xABCD; ledger::track_start(tracks) + 1];
-    assert_eq!(manager::begin(plan, &mut words), Answer::Done(()));
+    let mut words = vec![0xABCD; MAIN.track_start(tracks) + 1];
+    assert_eq!(manager::begin(MAIN, plan, &mut words), Answer::Done(()));
     words
 }
 
 /// What an event on a day moves, or its refusal.
 fn moved(plan: &[u8], words: &mut [u16], event: u16, day: i32) -> Result<u16, u8> {
-    match manager::event(plan, words, event, day, 1) {
+    match manager::event(MAIN, plan, words, event, day, 1) {
         Answer::Done(m) => Ok(m.moved),
         Answer::Refused(refusal) => Err(refusal.number()),
     }
@@ -274,9 +274,9 @@ fn the_day_is_kept_by_an_event_that_moves_none_and_by_no_other_call() {
     assert_eq!(words[2..4], [40, 0]);
     assert_eq!(moved(&plan, &mut words, 10, 39), Err(26));
     assert_eq!(moved(&plan, &mut words, 10, 40), Ok(1));
-    assert_eq!(manager::signal(&plan, &mut words, 1), Answer::Done(3));
+    assert_eq!(manager::signal(MAIN, &plan, &mut words, 1), Answer::Done(3));
     assert!(matches!(
-        manager::fire(&plan, &mut words, 0, 1),
+        manager::fire(MAIN, &plan, &mut words, 0, 1),
         Answer::Done(_)
     ));
     assert_eq!(words[2..4], [40, 0]);
@@ -346,26 +346,29 @@ fn a_day_out_of_range_is_18_on_an_over_ledger_too() {
             let mut words = words.clone();
             words[2..4].copy_from_slice(&record::words_of(day));
             let before = words.clone();
-            assert_eq!(ledger::violated(&plan, &words), [Clause::DayInRange]);
-            let ready = manager::ready(&sample(), &words);
+            assert_eq!(ledger::violated(MAIN, &plan, &words), [Clause::DayInRange]);
+            let ready = manager::ready(MAIN, &sample(), &words);
             assert_eq!(ready, Answer::Refused(Refusal::Unsound));
             for event in [0, 10] {
                 assert_eq!(moved(&sample(), &mut words, event, 0), Err(18));
                 assert_eq!(moved(&sample(), &mut words, event, day), Err(18));
             }
-            let signal = manager::signal(&sample(), &mut words, 1);
+            let signal = manager::signal(MAIN, &sample(), &mut words, 1);
             assert_eq!(signal, Answer::Refused(Refusal::Unsound));
-            let fire = manager::fire(&sample(), &mut words, 0, 1);
+            let fire = manager::fire(MAIN, &sample(), &mut words, 0, 1);
             assert_eq!(fire, Answer::Refused(Refusal::Unsound));
-            assert!(manager::entries(&sample(), &words, 0).is_empty());
+            assert!(manager::entries(MAIN, &sample(), &words, 0).is_empty());
             assert_eq!(words, before);
-            assert_eq!(manager::begin(&sample(), &mut words), Answer::Done(()));
+            assert_eq!(
+                manager::begin(MAIN, &sample(), &mut words),
+                Answer::Done(())
+            );
             assert_eq!(words[2..4], [0x53FB, 0xFFFE]);
         }
         for day in [FIRST, LAST] {
             let mut words = words.clone();
             words[2..4].copy_from_slice(&record::words_of(day));
-            assert_eq!(ledger::violated(&plan, &words), []);
+            assert_eq!(ledger::violated(MAIN, &plan, &words), []);
         }
     }
 }
@@ -412,7 +415,7 @@ fn moves_are_judged_by_the_call_s_own_day_alone() {
         moved: 0,
         closed: 0,
     };
-    let again = manager::event(&plan, &mut words, 11, 7, 1);
+    let again = manager::event(MAIN, &plan, &mut words, 11, 7, 1);
     assert_eq!(again, Answer::Done(none));
 }
 

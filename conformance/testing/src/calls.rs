@@ -2,7 +2,7 @@
 //! its answer and the words afterwards. They show what no run of `unwind` can
 //! show, since it begins its own ledger and keeps it sound: the leading words,
 //! and what soundness makes of a finish left to do or of a day out of range;
-//! the largest number of entries; and conversions.
+//! the largest number of entries; conversions; and the reading rooms' limit.
 
 use crate::generate::singles::Call::{self, DateOfDay, DayOfDate, Entries, Ready};
 use crate::samples::{
@@ -12,6 +12,7 @@ use crate::samples::{
 use crate::vectors;
 use second::days::{Date, Term};
 use second::ledger::{track_words_mut, words_needed};
+use second::limit::Limit;
 use second::manager;
 use second::plan::{self, Records, Rights, Transition, NONE};
 use second::record;
@@ -56,6 +57,12 @@ pub fn all() -> Vec<Stored> {
         largest(),
         unbounded(),
         conversions(),
+        begins_at_8(),
+        work_at_8(),
+        room(Limit::READING_ROOM),
+        room(Limit::MAIN),
+        counts(),
+        words_at_8(),
     ];
     parts.into_iter().flatten().collect()
 }
@@ -92,7 +99,7 @@ fn by(society: u16, call: Call) -> Call {
 fn stored(shows: &str, plan: &[u8], words: &[u16], call: Call) -> Stored {
     Stored {
         shows: shows.to_string(),
-        line: vectors::call_line(plan, words, call),
+        line: vectors::call_line(Limit::MAIN, plan, words, call),
     }
 }
 
@@ -119,9 +126,9 @@ const UNBEGUN: [u16; 206] = [0xA5A5; 206];
 /// The words that a begin and then events leave.
 fn begun(plan: &[u8], events: &[u16]) -> Vec<u16> {
     let mut words = UNBEGUN.to_vec();
-    manager::begin(plan, &mut words);
+    manager::begin(Limit::MAIN, plan, &mut words);
     for &event in events {
-        manager::event(plan, &mut words, event, 0, SOCIETY);
+        manager::event(Limit::MAIN, plan, &mut words, event, 0, SOCIETY);
     }
     words
 }
@@ -129,7 +136,7 @@ fn begun(plan: &[u8], events: &[u16]) -> Vec<u16> {
 /// P's ledger after events 10, 11, 12 and a signal: tracks 1 and 2 may fire.
 fn withdrawn() -> Vec<u16> {
     let mut words = begun(&sample(), &[10, 11, 12]);
-    manager::signal(&sample(), &mut words, SOCIETY);
+    manager::signal(Limit::MAIN, &sample(), &mut words, SOCIETY);
     words
 }
 
@@ -144,7 +151,7 @@ fn with(mut words: Vec<u16>, changes: &[(usize, u16)]) -> Vec<u16> {
 fn begins() -> Vec<Stored> {
     let begin = |shows: &str, words: &[u16]| Stored {
         shows: shows.to_string(),
-        line: vectors::begin_line(&sample(), words),
+        line: vectors::begin_line(Limit::MAIN, &sample(), words),
     };
     let neighbours = begun(&longer(), &[10, 11]);
     vec![
@@ -259,7 +266,7 @@ fn alike() -> Vec<Stored> {
     let opened = begun(&sample(), &[10]);
     let (roots, moved) = (two_roots([0, 0, 1, 1]), two_roots([0, 1, 0, 1]));
     let mut words = vec![0; 138];
-    manager::begin(&roots, &mut words);
+    manager::begin(Limit::MAIN, &roots, &mut words);
     let sound = "P's ledger under a plan alike in both words, two codes exchanged";
     let unsound = "plans alike in both words, two states exchanged";
     vec![
@@ -272,11 +279,11 @@ fn alike() -> Vec<Stored> {
 
 /// The words that a begin and then calls leave, one more than the plan needs.
 fn worked(plan: &[u8], calls: &[Call]) -> Vec<u16> {
-    let needed = plan::read(plan).map_or(0, |plan| words_needed(&plan));
+    let needed = plan::read(plan).map_or(0, |plan| words_needed(Limit::MAIN, &plan));
     let mut words = vec![0xA5A5; needed + 1];
-    manager::begin(plan, &mut words);
+    manager::begin(Limit::MAIN, plan, &mut words);
     for &call in calls {
-        vectors::answer(plan, &mut words, call);
+        vectors::answer(Limit::MAIN, plan, &mut words, call);
     }
     words
 }
@@ -288,7 +295,7 @@ fn entry_left(plan: &[u8]) -> Vec<u16> {
 
 /// The words with the start of a track's words changed.
 fn with_track(mut words: Vec<u16>, track: usize, own: &[u16]) -> Vec<u16> {
-    track_words_mut(&mut words, track)[..own.len()].copy_from_slice(own);
+    track_words_mut(Limit::MAIN, &mut words, track)[..own.len()].copy_from_slice(own);
     words
 }
 
@@ -325,7 +332,7 @@ fn finish_left() -> Vec<Stored> {
     let exchanged = with_track(with_track(spent.clone(), 0, &[2, 1]), 1, &[1, 5]);
     let begin = Stored {
         shows: "a begin takes a ledger with the finish left to do".to_string(),
-        line: vectors::begin_line(&plan, &spent),
+        line: vectors::begin_line(Limit::MAIN, &plan, &spent),
     };
     let left = |shows: &str, words: &[u16]| stored(shows, &plan, words, Ready);
     let mut calls = by_each_call("one root ended, one taken back, 18", &plan, &spent);
@@ -356,7 +363,7 @@ fn tails() -> Vec<Stored> {
     let six = looping_by(1, 65_459);
     let begin = |shows: &str, plan: &[u8]| Stored {
         shows: format!("a plan of {} bytes begun: {shows}", plan.len()),
-        line: vectors::begin_line(plan, &UNBEGUN[..72]),
+        line: vectors::begin_line(Limit::MAIN, plan, &UNBEGUN[..72]),
     };
     let without = |last: usize, plan: &[u8]| {
         let length = plan.len();
@@ -389,7 +396,7 @@ fn windows() -> Vec<Stored> {
     let on = |shows: &str, day| stored(shows, &plan, &words, event_on(10, day));
     let begin = Stored {
         shows: "P with a window begun: length 196".to_string(),
-        line: vectors::begin_line(&plan, &UNBEGUN),
+        line: vectors::begin_line(Limit::MAIN, &plan, &UNBEGUN),
     };
     let repeated = changed(|p| p.windows = vec![window(0, 5, 6); 2]);
     let refused = "P with a window twice and no word: 25";
@@ -495,7 +502,7 @@ fn after_the_range() -> Vec<Stored> {
     let other = format!("{shows}, under another plan: 24");
     let begin = Stored {
         shows: "a begin takes a ledger whose day is out of range".to_string(),
-        line: vectors::begin_line(&sample(), &words),
+        line: vectors::begin_line(Limit::MAIN, &sample(), &words),
     };
     let mut calls = by_each_call(&format!("{shows}, 18"), &sample(), &words);
     calls.push(stored(&other, &other_code(), &words, Ready));
@@ -627,7 +634,7 @@ fn unfit_rights() -> Vec<Stored> {
     });
     let begin = |shows: &str, plan: &[u8]| Stored {
         shows: shows.to_string(),
-        line: vectors::begin_line(plan, &UNBEGUN),
+        line: vectors::begin_line(Limit::MAIN, plan, &UNBEGUN),
     };
     let twice = held(&[rights(1, 0, 7), rights(1, 0, 1)]);
     vec![
@@ -795,4 +802,178 @@ fn conversions() -> Vec<Stored> {
     calls.extend(dates.map(|d| date("", d)));
     calls.extend(none.map(|d| date(": 26", d)));
     calls
+}
+
+const READING_ROOM: Limit = Limit::READING_ROOM;
+
+/// A call at a limit.
+fn at(limit: Limit, shows: &str, plan: &[u8], words: &[u16], call: Call) -> Stored {
+    Stored {
+        shows: shows.to_string(),
+        line: vectors::call_line(limit, plan, words, call),
+    }
+}
+
+/// The words that a begin and then calls leave at a limit, with so many beyond.
+fn worked_at(limit: Limit, plan: &[u8], calls: &[Call], beyond: usize) -> Vec<u16> {
+    let needed = plan::read(plan).map_or(0, |plan| words_needed(limit, &plan));
+    let mut words = vec![0xA5A5; needed + beyond];
+    manager::begin(limit, plan, &mut words);
+    for &call in calls {
+        vectors::answer(limit, plan, &mut words, call);
+    }
+    words
+}
+
+fn begins_at_8() -> Vec<Stored> {
+    let begin = |shows: &str, words: &[u16]| Stored {
+        shows: format!("at limit 8, {shows}"),
+        line: vectors::begin_line(READING_ROOM, &sample(), words),
+    };
+    vec![
+        begin("P begun with 61 words", &UNBEGUN[..61]),
+        begin("P begun, words beyond as they were", &UNBEGUN[..64]),
+        begin("P begun with as many words as at 32", &UNBEGUN),
+        begin("a begin takes a ledger of limit 32", &withdrawn()),
+        begin("a begin with one word too few: 17", &UNBEGUN[..60]),
+    ]
+}
+
+/// P's ledger at 8 and the calls on it.
+fn work_at_8() -> Vec<Stored> {
+    let after = |calls: &[Call]| worked_at(READING_ROOM, &sample(), calls, 3);
+    let turned = after(&[event(10), event(11), event(12), signal()]);
+    let closed = after(&[10, 11, 12, 14].map(event));
+    let on = |shows: &str, words: &[u16], call| {
+        let shows = format!("P at limit 8, {shows}");
+        at(READING_ROOM, &shows, &sample(), words, call)
+    };
+    vec![
+        on("an event", &after(&[event(10)]), event(11)),
+        on("a closing", &after(&[10, 11, 12].map(event)), event(14)),
+        on("a finish", &closed, event(13)),
+        on("a signal", &after(&[10, 11, 12].map(event)), signal()),
+        on("a signal that abandons", &after(&[event(10)]), signal()),
+        on("ready", &turned, Ready),
+        on("a firing", &turned, fire(1)),
+        on("a firing of a host that waits: 22", &turned, fire(0)),
+        on("entries of track 0", &closed, Entries(0)),
+        on("entries of track 1", &turned, Entries(1)),
+        on("entries of track 2", &turned, Entries(2)),
+        on("entries of no track", &turned, Entries(3)),
+        on(
+            "over: 20",
+            &after(&[10, 11, 12, 14, 13].map(event)),
+            signal(),
+        ),
+    ]
+}
+
+/// `looping` with a hosting state, entered by event 4, whose branch ends by
+/// event 5 and which then has replacement 90.
+fn looping_host() -> Vec<u8> {
+    let mut plan = looping();
+    plan.tracks.push(track(2));
+    plan.states.push(state(0, 0, 90));
+    plan.states.extend([state(1, 0, 0), state(1, 1, 0)]);
+    plan.transitions.push(step(0, 4, 0, 2));
+    plan.transitions.push(step(3, 5, 0, 4));
+    plan.encode()
+}
+
+/// A track that holds one entry fewer than the limit allows, and as many.
+fn room(limit: Limit) -> Vec<Stored> {
+    let (plan, host) = (looping().encode(), looping_host());
+    let most = limit.entries();
+    let holding = |held: usize| worked_at(limit, &plan, &vec![event(1); held], 2);
+    let hosting = |held: usize| {
+        let calls = [&vec![event(1); held][..], &[event(4)]].concat();
+        worked_at(limit, &host, &calls, 2)
+    };
+    let turned = worked_at(
+        limit,
+        &plan,
+        &[&vec![event(1); most][..], &[signal()]].concat(),
+        2,
+    );
+    let on = |shows: &str, plan: &[u8], words: &[u16], call| {
+        let shows = format!("room at limit {most}, {shows}");
+        at(limit, &shows, plan, words, call)
+    };
+    let (nearly, full) = (holding(most - 1), holding(most));
+    vec![
+        on("the last entry installs", &plan, &nearly, event(1)),
+        on("one entry more: 21", &plan, &full, event(1)),
+        on("an entry that the finish drops: 21", &plan, &full, event(2)),
+        on(
+            "the last entry is dropped by the finish",
+            &plan,
+            &nearly,
+            event(2),
+        ),
+        on("a full track moves without a code", &plan, &full, event(3)),
+        on(
+            "the last entry is a replacement",
+            &host,
+            &hosting(most - 1),
+            event(5),
+        ),
+        on("a replacement more: 21", &host, &hosting(most), event(5)),
+        on("a full track turns", &plan, &full, signal()),
+        on("a full track is ready", &plan, &turned, Ready),
+        on("a full track fires", &plan, &turned, fire(0)),
+        on("entries of a full track", &plan, &full, Entries(0)),
+        on("entries of a track nearly full", &plan, &nearly, Entries(0)),
+    ]
+}
+
+/// Counts at both limits, with a good pair wherever one may stand.
+fn counts() -> Vec<Stored> {
+    let counted = |limit: Limit, count: u16, shows: &str, call| {
+        let plan = looping().encode();
+        let mut words = worked_at(limit, &plan, &[], 50);
+        words[7..]
+            .chunks_exact_mut(2)
+            .for_each(|pair| pair.copy_from_slice(&[7, NONE]));
+        words[6] = count;
+        let shows = format!("a count of {count} at limit {}{shows}", limit.0);
+        at(limit, &shows, &plan, &words, call)
+    };
+    vec![
+        counted(READING_ROOM, 8, "", Ready),
+        counted(READING_ROOM, 9, ": 18", Ready),
+        counted(READING_ROOM, 9, ", event: 18", event(3)),
+        counted(READING_ROOM, 9, ", signal: 18", signal()),
+        counted(READING_ROOM, 9, ", firing: 18", fire(0)),
+        counted(READING_ROOM, 9, ", entries", Entries(0)),
+        counted(READING_ROOM, 32, ": 18", Ready),
+        counted(READING_ROOM, 33, ": 18", Ready),
+        counted(Limit::MAIN, 32, "", Ready),
+        counted(Limit::MAIN, 33, ": 18", Ready),
+    ]
+}
+
+/// Words too few, unused or beyond at limit 8.
+fn words_at_8() -> Vec<Stored> {
+    let words = worked_at(READING_ROOM, &sample(), &[event(10), event(11)], 150);
+    let on = |shows: &str, words: &[u16], call| {
+        let shows = format!("at limit 8, {shows}");
+        at(READING_ROOM, &shows, &sample(), words, call)
+    };
+    let soiled = |place: usize| with(words.clone(), &[(place, 1)]);
+    vec![
+        on("as many words as needed", &words[..61], event(12)),
+        on("one word too few: 17", &words[..60], event(12)),
+        on("one word too few, ready: 17", &words[..60], Ready),
+        on("one word too few, entries", &words[..60], Entries(0)),
+        on("words beyond as they were", &words, event(12)),
+        on("track 0's last unused word: 18", &soiled(22), Ready),
+        on("track 2's last unused word: 18", &soiled(60), Ready),
+        on("a word beyond is not judged", &soiled(61), Ready),
+        on(
+            "another plan's ledger: 24",
+            &with(words.clone(), &[(1, 0)]),
+            Ready,
+        ),
+    ]
 }

@@ -1,6 +1,7 @@
 //! Counts what happened over a generated batch, and holds it to floors.
 
 mod days;
+mod limits;
 mod paths;
 mod rights;
 mod withdrawals;
@@ -13,9 +14,8 @@ use crate::generate::paths as bounds;
 use crate::generate::rng::Rng;
 use crate::generate::singles::{self, Call, Single};
 use second::journal::{self, Outcome, Record, Records};
-use second::ledger::{
-    self, track_words, words_needed, Clause, Ledger, Mode, CAPACITY, LEADING_WORDS,
-};
+use second::ledger::{self, track_words, words_needed, Clause, Ledger, Mode, LEADING_WORDS};
+use second::limit::Limit;
 use second::manager::{self, Answer};
 use second::plan::{self, members, Plan, MAX_TRACKS, NONE};
 use second::refusal::Refusal;
@@ -198,9 +198,26 @@ pub enum Happening {
     WithdrawalDeviation,
     WithdrawnWhole,
     NoneReadyHeld,
+    At8,
+    ReadyAt8,
+    EntriesAt8,
+    FewWordsAt8,
+    OneWordTooFewAt8,
+    UnsoundAt8,
+    CountAbove8,
+    FullTrackAt8,
+    Entry8Installed,
+    FullAt8,
+    FiringAt8,
+    FiringOf8,
+    WithdrawalAt8,
+    Of32At8,
+    Of32At8Accepted,
+    Of8At32,
+    Of8At32Accepted,
 }
 
-const HAPPENINGS: usize = 165;
+const HAPPENINGS: usize = 182;
 
 /// Refusals 1 to 29.
 const REFUSALS: usize = 29;
@@ -863,6 +880,55 @@ const HAPPENING_FLOORS: [(Happening, &str, u64); HAPPENINGS] = [
         "firing that leaves none ready, entries held",
         1_700,
     ),
+    (Happening::At8, "call at limit 8", 65_000),
+    (Happening::ReadyAt8, "ready at limit 8", 7_500),
+    (Happening::EntriesAt8, "entries at limit 8", 4_000),
+    (Happening::FewWordsAt8, "17 at limit 8", 2_200),
+    (
+        Happening::OneWordTooFewAt8,
+        "17 at limit 8, one word too few",
+        900,
+    ),
+    (Happening::UnsoundAt8, "18 at limit 8", 12_500),
+    (
+        Happening::CountAbove8,
+        "18 at limit 8, a count of 9 to 32",
+        500,
+    ),
+    (
+        Happening::FullTrackAt8,
+        "sound ledger with a full track at limit 8",
+        7_500,
+    ),
+    (
+        Happening::Entry8Installed,
+        "8th entry installed at limit 8",
+        230,
+    ),
+    (Happening::FullAt8, "21 at limit 8", 1_250),
+    (Happening::FiringAt8, "firing at limit 8", 1_800),
+    (
+        Happening::FiringOf8,
+        "firing of a full track at limit 8",
+        330,
+    ),
+    (
+        Happening::WithdrawalAt8,
+        "last forward tracks turned at limit 8",
+        1_150,
+    ),
+    (Happening::Of32At8, "ledger of limit 32 read at 8", 1_500),
+    (
+        Happening::Of32At8Accepted,
+        "ledger of limit 32 read at 8, accepted",
+        0,
+    ),
+    (Happening::Of8At32, "ledger of limit 8 read at 32", 2_900),
+    (
+        Happening::Of8At32Accepted,
+        "ledger of limit 8 read at 32, accepted",
+        0,
+    ),
 ];
 
 /// Floor of each clause violated alone for the default batch.
@@ -1028,7 +1094,7 @@ impl Coverage {
 
     fn history(&mut self, plan: &Plan, journal: &[u8]) {
         self.accepted(plan);
-        let mut ledger = rules::begin(plan);
+        let mut ledger = rules::begin(Limit::MAIN, plan);
         let mut past = Past::new(plan, &ledger);
         let mut nested = false;
         let mut reopened = false;
@@ -1093,6 +1159,7 @@ impl Coverage {
 
     fn outcome(&mut self, change: &Change, record: Record, outcome: Outcome) {
         self.rights_met(change, record, outcome);
+        self.outcome_at_8(change, outcome);
         match (outcome, record) {
             (Outcome::Event(_, m), Record::Event(event, day, _)) => {
                 self.event_day(change, event, day, m.moved);
@@ -1123,7 +1190,8 @@ impl Coverage {
             self.count_if(none, Happening::ClosingWithoutReplacement);
         }
         self.count_if(closed.len() > 1, Happening::ClosingTwoAtOnce);
-        self.count_if(change.fills(), Happening::Entry32Installed);
+        let main = change.before.limit == Limit::MAIN;
+        self.count_if(main && change.fills(), Happening::Entry32Installed);
     }
 
     fn finish_by_event(&mut self, change: &Change) {
@@ -1219,7 +1287,8 @@ impl Coverage {
     fn full(&mut self, plan: &Plan, before: &Ledger, call: (u16, i32, u16)) {
         let (event, day, society) = call;
         let mut eased = before.clone();
-        for track in eased.tracks.iter_mut().filter(|t| t.is_full()) {
+        let limit = before.limit;
+        for track in eased.tracks.iter_mut().filter(|t| t.is_full(limit)) {
             track.remove();
         }
         let moves = rules::chosen_moves(plan, &eased, event, day, society);
@@ -1227,7 +1296,7 @@ impl Coverage {
         if rules::event(plan, &mut after, event, day, society).is_err() {
             return;
         }
-        let full = |t: usize| before.tracks[t].is_full();
+        let full = |t: usize| before.tracks[t].is_full(limit);
         let dropped = moves
             .iter()
             .any(|&(t, x)| full(t) && x.code != 0 && !after.tracks[t].is_awake());
@@ -1248,6 +1317,7 @@ impl Coverage {
 
     /// Counts a single call.
     pub fn single(&mut self, single: &Single) {
+        self.limits(single);
         let plan = match plan::read(&single.plan) {
             Ok(plan) => plan,
             Err(refusal) => {
@@ -1256,8 +1326,9 @@ impl Coverage {
             }
         };
         self.accepted(&plan);
-        if single.words.len() < words_needed(&plan) {
-            self.few_words(&plan, single.words.len());
+        let needed = words_needed(single.limit, &plan);
+        if single.words.len() < needed {
+            self.few_words(needed, single.words.len());
             return self.answer(single, None);
         }
         self.tail(&plan);
@@ -1265,7 +1336,7 @@ impl Coverage {
             self.other_plan(&plan, single);
             return self.answer(single, None);
         }
-        let violated = ledger::violated(&plan, &single.words);
+        let violated = ledger::violated(single.limit, &plan, &single.words);
         self.alike(single, violated.is_empty());
         self.ledger_day(&plan, single, &violated);
         if let [clause] = violated[..] {
@@ -1279,16 +1350,16 @@ impl Coverage {
     fn finish_left(&mut self, plan: &Plan, single: &Single, clause: Clause) {
         let numbered = !matches!(single.call, Call::Entries(_));
         if clause == Clause::NoFinishLeft && numbered {
-            let mode = |t| track_words(&single.words, t)[0];
+            let mode = |t| track_words(single.limit, &single.words, t)[0];
             let spent = plan.roots().any(|t| mode(t) == 2);
             self.count_if(!spent, Happening::FinishLeftForward);
             self.count_if(spent, Happening::FinishLeftBesideSpent);
         }
     }
 
-    fn few_words(&mut self, plan: &Plan, words: usize) {
+    fn few_words(&mut self, needed: usize, words: usize) {
         self.count_if(words < LEADING_WORDS, Happening::FewerThanLeading);
-        let next = words + 1 == words_needed(plan);
+        let next = words + 1 == needed;
         self.count_if(next, Happening::OneWordTooFew);
     }
 
@@ -1306,27 +1377,27 @@ impl Coverage {
 
     /// Counts a call that is refused as 24.
     fn other_plan(&mut self, plan: &Plan, single: &Single) {
-        let words = &single.words[..words_needed(plan)];
+        let words = &single.words[..words_needed(single.limit, plan)];
         let (length, sum) = (words[0] != plan.length(), words[1] != plan.sum());
         self.count_if(length && !sum, Happening::OtherLength);
         self.count_if(sum && !length, Happening::OtherSum);
         self.count_if(length && sum, Happening::OtherLengthAndSum);
         self.count_if(words.iter().all(|&w| w == 0), Happening::OtherZeros);
-        let sound = ledger::is_sound(plan, words);
+        let sound = ledger::is_sound(single.limit, plan, words);
         self.count_if(!sound, Happening::OtherUnsound);
         if single.begun_under.is_some() {
-            self.neighbours(words, single.call);
+            self.neighbours(single.limit, words, single.call);
         }
     }
 
     /// Counts a call on a ledger that was begun under a neighbour's plan.
-    fn neighbours(&mut self, words: &[u16], call: Call) {
+    fn neighbours(&mut self, limit: Limit, words: &[u16], call: Call) {
         let by = match call {
             Call::Event(..) => Happening::NeighboursByEvent,
             Call::Signal(_) => Happening::NeighboursBySignal,
             Call::Fire(..) => Happening::NeighboursByFire,
             Call::Ready => Happening::NeighboursByReady,
-            Call::Entries(track) if track_words(words, usize::from(track))[2] > 0 => {
+            Call::Entries(track) if track_words(limit, words, usize::from(track))[2] > 0 => {
                 Happening::NeighboursByEntries
             }
             Call::Entries(_) | Call::DateOfDay(_) | Call::DayOfDate(_) => return,
@@ -1351,7 +1422,7 @@ impl Coverage {
     fn answer(&mut self, single: &Single, plan: Option<&Plan>) {
         match (plan, single.call.record()) {
             (Some(plan), Some(record)) => {
-                let before = Ledger::decode(plan, &single.words);
+                let before = Ledger::decode(single.limit, plan, &single.words);
                 let mut after = before.clone();
                 let outcome = journal::perform(plan, &mut after, record);
                 let change = Change {
@@ -1370,7 +1441,7 @@ impl Coverage {
     /// gives.
     fn refused_before(&mut self, single: &Single) {
         let numbered = single.call == Call::Ready || single.call.record().is_some();
-        match manager::ready(&single.plan, &single.words) {
+        match manager::ready(single.limit, &single.plan, &single.words) {
             Answer::Refused(refusal) if numbered => self.refused(refusal),
             Answer::Refused(_) => {}
             Answer::Done(_) => unreachable!("a call answered that is to be refused"),
@@ -1404,12 +1475,11 @@ impl Change<'_> {
             .collect()
     }
 
-    /// Whether a track's 32nd entry was installed.
+    /// Whether a track was given the last entry that the limit allows.
     fn fills(&self) -> bool {
-        let pairs = self.before.tracks.iter().zip(&self.after.tracks);
-        pairs
-            .into_iter()
-            .any(|(b, a)| b.held() == CAPACITY - 1 && a.is_full())
+        let limit = self.before.limit;
+        let mut pairs = self.before.tracks.iter().zip(&self.after.tracks);
+        pairs.any(|(b, a)| b.held() < a.held() && a.is_full(limit))
     }
 
     /// The longest run of scopes abandoned one around the other.

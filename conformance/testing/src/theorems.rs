@@ -1,40 +1,55 @@
 //! Cases as theorems for antt: the lines of `vectors`, said of the
 //! definitions of the rules in the words of `agreement/Statements.antt`.
 
+use crate::vectors::letter_and_limit;
+use second::limit::Limit;
+
+/// A limit as the terms that the definitions take.
+fn terms(limit: Limit) -> String {
+    match limit {
+        Limit::MAIN => "mainTerms".to_string(),
+        Limit::READING_ROOM => "readingRoomTerms".to_string(),
+        Limit(entries) => format!("(termsOf {entries})"),
+    }
+}
+
 /// What the theorem of a case says.
 pub fn statement(fields: &[&str]) -> Option<String> {
-    Some(match *fields {
-        ["H", plan, lent, calls, answers, after] => {
-            let given = format!("{} {}", bytes(plan)?, words(lent)?);
+    let (first, rest) = fields.split_first()?;
+    let (letter, limit) = letter_and_limit(first)?;
+    let terms = terms(limit);
+    Some(match (letter, rest) {
+        ("H", &[plan, lent, calls, answers, after]) => {
+            let given = format!("{terms} {} {}", bytes(plan)?, words(lent)?);
             let calls = list(parts(calls, ',').map(call))?;
             let answers = list(parts(answers, '|').map(answer))?;
             format!("HistoryAgrees {given} {calls} {answers} {}", words(after)?)
         }
-        ["P", plan, answer] => format!("PlanAgrees {} ({})", bytes(plan)?, reading(answer)?),
-        ["L", plan, "", called, answered, ""] if called.starts_with('M') => {
+        ("P", &[plan, answer]) => format!("PlanAgrees {} ({})", bytes(plan)?, reading(answer)?),
+        ("L", &[plan, "", called, answered, ""]) if called.starts_with('M') => {
             largest(&bytes(plan)?, called, answered)?
         }
-        ["L", plan, before, called, answered, after] => {
-            let given = format!("{} {}", bytes(plan)?, words(before)?);
+        ("L", &[plan, before, called, answered, after]) => {
+            let given = format!("{terms} {} {}", bytes(plan)?, words(before)?);
             single(&given, called, answered, &words(after)?)?
         }
-        ["U", plan, journal, output] => {
-            let given = format!("{} {}", bytes(plan)?, bytes(journal)?);
+        ("U", &[plan, journal, output]) => {
+            let given = format!("{terms} {} {}", bytes(plan)?, bytes(journal)?);
             format!("RunAgrees {given} {}", bytes(output)?)
         }
-        ["W", plan, counts, before, society, tests, held] => {
-            let given = read(plan, counts, before)?;
+        ("W", &[plan, counts, before, society, tests, held]) => {
+            let given = read(&terms, plan, counts, before)?;
             format!(
                 "WithdrawalAgrees {given} {society} {} {held}",
                 truths(tests)?
             )
         }
-        ["O", plan, counts, before, tracks, "no"] => {
-            let given = read(plan, counts, before)?;
+        ("O", &[plan, counts, before, tracks, "no"]) => {
+            let given = read(&terms, plan, counts, before)?;
             format!("NoOrder {given} {}", numbers(tracks)?)
         }
-        ["O", plan, counts, before, tracks, left] => {
-            let given = read(plan, counts, before)?;
+        ("O", &[plan, counts, before, tracks, left]) => {
+            let given = read(&terms, plan, counts, before)?;
             let left = left.strip_prefix('D')?.replace(',', " ");
             format!("OrderAgrees {given} {} {left}", numbers(tracks)?)
         }
@@ -42,11 +57,11 @@ pub fn statement(fields: &[&str]) -> Option<String> {
     })
 }
 
-/// A plan, its counts and the words of a ledger.
-fn read(plan: &str, counts: &str, before: &str) -> Option<String> {
+/// Terms, a plan, its counts and the words of a ledger.
+fn read(terms: &str, plan: &str, counts: &str, before: &str) -> Option<String> {
     let counts = counts.strip_prefix('A')?.replace(',', " ");
     let (plan, before) = (bytes(plan)?, words(before)?);
-    Some(format!("{plan} (countsOf {counts}) {before}"))
+    Some(format!("{terms} {plan} (countsOf {counts}) {before}"))
 }
 
 /// 1 is true, 0 is false.
@@ -60,8 +75,8 @@ fn truths(text: &str) -> Option<String> {
     Some(truths?.join(" "))
 }
 
-/// The same for a single call, with the plan and the ledger it was given; a
-/// conversion is given neither.
+/// The same for a single call, with the terms, the plan and the ledger it was
+/// given; a conversion is given none of them.
 fn single(given: &str, called: &str, answered: &str, after: &str) -> Option<String> {
     Some(match first_letter(called)? {
         ("D", day) => date_of_day(&integer(day)?, answered)?,

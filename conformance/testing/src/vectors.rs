@@ -1,5 +1,6 @@
 //! Cases as lines of text, for comparison with another implementation.
-//! Fields are separated by `;`; words are 4 hex digits each.
+//! Fields are separated by `;`; words are 4 hex digits each. The first field is a
+//! letter and the caller's limit; without a number it is the main program's.
 
 use std::fmt::Write;
 
@@ -16,6 +17,7 @@ use crate::samples;
 use second::days::Date;
 use second::journal::{self, Record};
 use second::ledger::{Entry, Ledger, Mode, Track};
+use second::limit::Limit;
 use second::manager::{self, Answer};
 use second::paths::Largest;
 use second::plan::{self, Plan, Right, NONE};
@@ -24,25 +26,52 @@ use second::rules::{self, Moved};
 /// Percent of histories and runs that are short and end half withdrawn.
 const HALF_WITHDRAWN: usize = 6;
 
-/// `H;plan;lent words;calls;answers;words after`: a history from begin, now and
-/// then a short one that ends half withdrawn.
-pub fn history_line(rng: &mut Rng, limit: usize) -> String {
+/// The first field of a line: a letter, and the limit where that is not the main
+/// program's.
+pub fn mark(letter: &str, limit: Limit) -> String {
+    match limit {
+        Limit::MAIN => letter.to_string(),
+        Limit(entries) => format!("{letter}{entries}"),
+    }
+}
+
+/// The letter and the limit of a first field.
+pub fn letter_and_limit(field: &str) -> Option<(&str, Limit)> {
+    match (field.get(..1)?, field.get(1..)?) {
+        (letter, "") => Some((letter, Limit::MAIN)),
+        (letter, entries) => Some((letter, Limit(entries.parse().ok()?))),
+    }
+}
+
+/// One of the two settings, and now and then another limit.
+fn any_limit(rng: &mut Rng) -> Limit {
+    match rng.below(100) {
+        0..=44 => Limit::MAIN,
+        45..=84 => Limit::READING_ROOM,
+        _ => Limit(rng.pick(&[0, 1, 2, 3, 5, 13]).unwrap_or(3)),
+    }
+}
+
+/// `H;plan;lent words;calls;answers;words after`: a history from begin at a
+/// limit, now and then a short one that ends half withdrawn.
+pub fn history_line(rng: &mut Rng, most_tracks: usize) -> String {
+    let limit = any_limit(rng);
     let (bytes, records) = if rng.chance(HALF_WITHDRAWN) {
-        journals::half_withdrawn(rng, limit)
+        journals::half_withdrawn(rng, limit, most_tracks)
     } else {
-        any_history(rng, limit)
+        any_history(rng, limit, most_tracks)
     };
     let plan = plan::read(&bytes).expect("a good plan is accepted");
-    let lent = ledgers::garbage(rng, &plan);
+    let lent = ledgers::garbage(rng, limit, &plan);
     let mut words = lent.clone();
-    let mut answers = vec![begin(&bytes, &mut words)];
-    let calls = named_calls(&plan, &records);
+    let mut answers = vec![begin(limit, &bytes, &mut words)];
+    let calls = named_calls(limit, &plan, &records);
     for &call in &calls {
-        answers.push(answer(&bytes, &mut words, call));
+        answers.push(answer(limit, &bytes, &mut words, call));
     }
     let calls: Vec<String> = calls.into_iter().map(call_text).collect();
     let fields = [
-        "H".to_string(),
+        mark("H", limit),
         byte_hex(&bytes),
         word_hex(&lent),
         calls.join(","),
@@ -53,8 +82,8 @@ pub fn history_line(rng: &mut Rng, limit: usize) -> String {
 }
 
 /// `P;plan;answer`: the plan reader on a good or damaged plan.
-pub fn plan_line(rng: &mut Rng, limit: usize) -> String {
-    let bytes = damage::any_plan(rng, limit);
+pub fn plan_line(rng: &mut Rng, most_tracks: usize) -> String {
+    let bytes = damage::any_plan(rng, most_tracks);
     let answer = match plan::read(&bytes) {
         Ok(plan) => accepted_text(&plan),
         Err(refusal) => refusal.number().to_string(),
@@ -63,31 +92,32 @@ pub fn plan_line(rng: &mut Rng, limit: usize) -> String {
 }
 
 /// The line of a single call.
-pub fn single_line(rng: &mut Rng, limit: usize) -> String {
-    let single = singles::single(rng, limit);
-    call_line(&single.plan, &single.words, single.call)
+pub fn single_line(rng: &mut Rng, most_tracks: usize) -> String {
+    let limit = any_limit(rng);
+    let single = singles::single_at(rng, limit, most_tracks);
+    call_line(limit, &single.plan, &single.words, single.call)
 }
 
 /// The line of a conversion, which is given no plan and no words.
 pub fn conversion_line(rng: &mut Rng) -> String {
-    call_line(&[], &[], singles::conversion(rng))
+    call_line(Limit::MAIN, &[], &[], singles::conversion(rng))
 }
 
-/// `L;plan;words;call;answer;words after`: a call on lent words.
-pub fn call_line(plan: &[u8], lent: &[u16], call: Call) -> String {
+/// `L;plan;words;call;answer;words after`: a call on lent words at a limit.
+pub fn call_line(limit: Limit, plan: &[u8], lent: &[u16], call: Call) -> String {
     let mut words = lent.to_vec();
-    let answer = answer(plan, &mut words, call);
-    let (plan, lent) = (byte_hex(plan), word_hex(lent));
+    let answer = answer(limit, plan, &mut words, call);
+    let (mark, plan, lent) = (mark("L", limit), byte_hex(plan), word_hex(lent));
     let (call, words) = (call_text(call), word_hex(&words));
-    format!("L;{plan};{lent};{call};{answer};{words}")
+    format!("{mark};{plan};{lent};{call};{answer};{words}")
 }
 
 /// The same of a begin, whose letter is `B`.
-pub fn begin_line(plan: &[u8], lent: &[u16]) -> String {
+pub fn begin_line(limit: Limit, plan: &[u8], lent: &[u16]) -> String {
     let mut words = lent.to_vec();
-    let answer = begin(plan, &mut words);
-    let (plan, lent) = (byte_hex(plan), word_hex(lent));
-    format!("L;{plan};{lent};B;{answer};{}", word_hex(&words))
+    let answer = begin(limit, plan, &mut words);
+    let (mark, plan, lent) = (mark("L", limit), byte_hex(plan), word_hex(lent));
+    format!("{mark};{plan};{lent};B;{answer};{}", word_hex(&words))
 }
 
 /// The same of the largest number of entries of a track, whose letter is `M`; it
@@ -114,26 +144,32 @@ pub fn small_largest_line(rng: &mut Rng) -> String {
     largest_line(&plan, track as u16)
 }
 
-/// `U;plan;journal;output`: a whole run of `unwind`, now and then a short one
-/// that ends half withdrawn.
-pub fn unwind_line(rng: &mut Rng, limit: usize) -> String {
+/// `U;plan;journal;output`: a whole run of `unwind`, or what the same calls would
+/// print at another limit; now and then a short one that ends half withdrawn.
+pub fn unwind_line(rng: &mut Rng, most_tracks: usize) -> String {
+    let limit = any_limit(rng);
     let case = if rng.chance(HALF_WITHDRAWN) {
-        let (plan, records) = journals::half_withdrawn(rng, limit);
+        let (plan, records) = journals::half_withdrawn(rng, limit, most_tracks);
         let journal = samples::journal(&records);
         Case { plan, journal }
     } else {
-        journals::case(rng, limit)
+        journals::case(rng, most_tracks)
     };
-    let output = journal::unwind(&case.plan, &case.journal);
+    let output = journal::unwind_at(limit, &case.plan, &case.journal);
     let (plan, journal) = (byte_hex(&case.plan), byte_hex(&case.journal));
-    format!("U;{plan};{journal};{}", byte_hex(&output))
+    format!(
+        "{};{plan};{journal};{}",
+        mark("U", limit),
+        byte_hex(&output)
+    )
 }
 
 /// `W;plan;counts;words;society;tests;held`: of a sound ledger whether no entry
 /// held carries a deviation, whether no track is forward, whether the society may
 /// turn every forward one, and how many entries are held.
-pub fn withdrawal_line(rng: &mut Rng, limit: usize) -> String {
-    let (bytes, ledger) = withdrawals::small(rng, limit);
+pub fn withdrawal_line(rng: &mut Rng, most_tracks: usize) -> String {
+    let limit = any_limit(rng);
+    let (bytes, ledger) = withdrawals::small(rng, limit, most_tracks);
     let plan = plan::read(&bytes).expect("a good plan is accepted");
     let society = if rng.chance(80) {
         societies::any(rng, &plan)
@@ -143,8 +179,8 @@ pub fn withdrawal_line(rng: &mut Rng, limit: usize) -> String {
     let words = word_hex(&ledgers::lend(rng, &ledger));
     let tests = tests_text(&plan, &ledger, society);
     let (bytes, counts) = (byte_hex(&bytes), accepted_text(&plan));
-    let held = ledger.total_held();
-    format!("W;{bytes};{counts};{words};{society};{tests};{held}")
+    let (mark, held) = (mark("W", limit), ledger.total_held());
+    format!("{mark};{bytes};{counts};{words};{society};{tests};{held}")
 }
 
 /// The three tests, 1 where it is so and 0 where not.
@@ -161,15 +197,17 @@ fn tests_text(plan: &Plan, ledger: &Ledger, society: u16) -> String {
 /// `O;plan;counts;words;tracks;answer`: whether the tracks can be fired one after
 /// the other, rights aside: ready's number and the entries held after that, or
 /// `no`.
-pub fn order_line(rng: &mut Rng, limit: usize) -> String {
-    let (bytes, ledger) = withdrawals::small(rng, limit);
+pub fn order_line(rng: &mut Rng, most_tracks: usize) -> String {
+    let limit = any_limit(rng);
+    let (bytes, ledger) = withdrawals::small(rng, limit, most_tracks);
     let plan = plan::read(&bytes).expect("a good plan is accepted");
     let tracks = withdrawals::order(rng, &plan, &ledger);
     let words = word_hex(&ledgers::lend(rng, &ledger));
     let answer = order_text(&plan, ledger, &tracks);
     let (bytes, counts) = (byte_hex(&bytes), accepted_text(&plan));
     let tracks: Vec<String> = tracks.iter().map(u16::to_string).collect();
-    format!("O;{bytes};{counts};{words};{};{answer}", tracks.join(","))
+    let (mark, tracks) = (mark("O", limit), tracks.join(","));
+    format!("{mark};{bytes};{counts};{words};{tracks};{answer}")
 }
 
 /// What firing the tracks leaves.
@@ -183,24 +221,24 @@ fn order_text(plan: &Plan, mut ledger: Ledger, tracks: &[u16]) -> String {
     format!("D{ready},{}", ledger.total_held())
 }
 
-fn begin(plan: &[u8], words: &mut [u16]) -> String {
-    match manager::begin(plan, words) {
+fn begin(limit: Limit, plan: &[u8], words: &mut [u16]) -> String {
+    match manager::begin(limit, plan, words) {
         Answer::Done(()) => "begun".to_string(),
         Answer::Refused(refusal) => format!("R{}", refusal.number()),
     }
 }
 
 /// Any plan and a history steered through it.
-fn any_history(rng: &mut Rng, limit: usize) -> (Vec<u8>, Vec<Record>) {
-    let bytes = plans::bytes(rng, limit);
+fn any_history(rng: &mut Rng, limit: Limit, most_tracks: usize) -> (Vec<u8>, Vec<Record>) {
+    let bytes = plans::bytes(rng, most_tracks);
     let plan = plan::read(&bytes).expect("a good plan is accepted");
-    let records = journals::history(rng, &plan).0;
+    let records = journals::history(rng, limit, &plan).0;
     (bytes, records)
 }
 
 /// A history with each firing under the name of its track.
-fn named_calls(plan: &Plan, records: &[Record]) -> Vec<Call> {
-    let mut ledger = second::rules::begin(plan);
+fn named_calls(limit: Limit, plan: &Plan, records: &[Record]) -> Vec<Call> {
+    let mut ledger = rules::begin(limit, plan);
     let mut calls = Vec::new();
     for &record in records {
         calls.push(named_call(plan, &ledger, record));
@@ -221,16 +259,16 @@ fn named_call(plan: &Plan, ledger: &Ledger, record: Record) -> Call {
     }
 }
 
-/// Makes a call; its answer as text.
-pub fn answer(plan: &[u8], words: &mut [u16], call: Call) -> String {
+/// Makes a call at a limit; its answer as text.
+pub fn answer(limit: Limit, plan: &[u8], words: &mut [u16], call: Call) -> String {
     match call {
         Call::Event(event, day, society) => {
-            moved_text(manager::event(plan, words, event, day, society))
+            moved_text(manager::event(limit, plan, words, event, day, society))
         }
-        Call::Signal(society) => number_text(manager::signal(plan, words, society)),
-        Call::Fire(track, society) => fired_text(manager::fire(plan, words, track, society)),
-        Call::Ready => number_text(manager::ready(plan, words)),
-        Call::Entries(track) => word_hex(manager::entries(plan, words, track)),
+        Call::Signal(society) => number_text(manager::signal(limit, plan, words, society)),
+        Call::Fire(track, society) => fired_text(manager::fire(limit, plan, words, track, society)),
+        Call::Ready => number_text(manager::ready(limit, plan, words)),
+        Call::Entries(track) => word_hex(manager::entries(limit, plan, words, track)),
         Call::DateOfDay(day) => date_text(manager::date_of_day(day)),
         Call::DayOfDate(date) => number_text(manager::day_of_date(date)),
     }

@@ -2,7 +2,8 @@
 //! no deviation held, there are as many firings as entries held, in any order.
 
 use second::journal::{self, Outcome, Record};
-use second::ledger::{Ledger, Mode, Track, CAPACITY};
+use second::ledger::{Ledger, Mode, Track};
+use second::limit::Limit;
 use second::manager::{self, Answer};
 use second::plan::{self, members, Plan, Right, NONE};
 use second::refusal::Refusal;
@@ -11,6 +12,9 @@ use testing::generate::rng::Rng;
 use testing::generate::withdrawals::{self, Withdrawal};
 use testing::generate::{journals, ledgers, societies};
 use testing::samples;
+
+/// The main program's limit.
+const MAIN: Limit = Limit::MAIN;
 
 /// How the next track is chosen among those that are ready.
 #[derive(Clone, Copy)]
@@ -48,7 +52,7 @@ struct Turned {
 fn turned(withdrawal: &Withdrawal) -> Turned {
     let plan = plan::read(&withdrawal.plan).expect("accepted");
     let (&last, others) = withdrawal.records.split_last().expect("a signal");
-    let mut before = rules::begin(&plan);
+    let mut before = rules::begin(MAIN, &plan);
     let (mut partial, mut fired) = (None, 0);
     for &record in others {
         let outcome = journal::perform(&plan, &mut before, record);
@@ -124,7 +128,7 @@ fn fire_all(rng: &mut Rng, plan: &Plan, start: &Ledger, order: Order) -> Run {
         assert!(matches!(outcome, Outcome::Fire(t, _) if usize::from(t) == track));
         records.push(record);
         passed.push(ledger.clone());
-        assert!(records.len() <= CAPACITY * plan.track_count());
+        assert!(records.len() <= start.limit.entries() * plan.track_count());
     }
     Run { records, passed }
 }
@@ -187,7 +191,7 @@ impl Seen {
         self.turning += u32::from(turned.turns && held > 0);
         self.five_entries += u32::from(held >= 5);
         self.forty_entries += u32::from(held >= 40);
-        let full = |&t: &usize| after.tracks[t].held() == CAPACITY;
+        let full = |&t: &usize| after.tracks[t].is_full(after.limit);
         self.full_track += u32::from(holding.iter().any(full));
         let hosted = |&t: &usize| !plan.is_root(t);
         self.hosted += u32::from(holding.iter().any(hosted));
@@ -255,7 +259,7 @@ fn every_order_has_as_many_firings_as_entries_held() {
     let mut seen = Seen::default();
     for index in 0..10_000 {
         let mut rng = Rng::for_case(9, 1, index);
-        let turned = turned(&withdrawals::withdrawal(&mut rng));
+        let turned = turned(&withdrawals::withdrawal(&mut rng, MAIN));
         if !is_in_withdrawal(&turned.after) {
             continue;
         }
@@ -278,7 +282,7 @@ fn any_sound_ledger_may_be_withdrawn_so() {
         let mut rng = Rng::for_case(9, 2, index);
         let bytes = withdrawals::records(&mut rng).encode();
         let plan = plan::read(&bytes).expect("accepted");
-        let mut ledger = ledgers::sound(&mut rng, &plan);
+        let mut ledger = ledgers::sound(&mut rng, MAIN, &plan);
         let held = ledger.total_held();
         for society in societies::named(&plan) {
             // Refused where it has no right, or the ledger is over.
@@ -353,7 +357,7 @@ fn other_calls_between_the_firings_change_no_entry() {
     let mut calls = Calls::default();
     for index in 0..5_000 {
         let mut rng = Rng::for_case(9, 3, index);
-        let Turned { plan, after, .. } = turned(&withdrawals::withdrawal(&mut rng));
+        let Turned { plan, after, .. } = turned(&withdrawals::withdrawal(&mut rng, MAIN));
         if !is_in_withdrawal(&after) {
             continue;
         }
@@ -383,7 +387,7 @@ fn other_calls_between_the_firings_change_no_entry() {
 /// The entries held by all tracks together, by the manager.
 fn entries_held(bytes: &[u8], words: &[u16]) -> usize {
     let tracks = plan::read(bytes).expect("accepted").track_count();
-    let held = |t| manager::entries(bytes, words, t).len() / 2;
+    let held = |t| manager::entries(MAIN, bytes, words, t).len() / 2;
     (0..tracks as u16).map(held).sum()
 }
 
@@ -391,23 +395,23 @@ fn entries_held(bytes: &[u8], words: &[u16]) -> usize {
 fn fire_by_calls(rng: &mut Rng, bytes: &[u8], turned: &Turned, signal: Record) {
     let mut words = turned.before.words();
     let held = entries_held(bytes, &words);
-    let signalled = manager::signal(bytes, &mut words, society(signal));
+    let signalled = manager::signal(MAIN, bytes, &mut words, society(signal));
     assert!(matches!(signalled, Answer::Done(_)));
     for fired in 0..=held {
         assert_eq!(entries_held(bytes, &words), held - fired);
-        let ready = match manager::ready(bytes, &words) {
+        let ready = match manager::ready(MAIN, bytes, &words) {
             Answer::Done(ready) => ready,
             Answer::Refused(refusal) => panic!("ready refused as {refusal:?}"),
         };
         assert_eq!(ready == 0, fired == held);
         if let Some(track) = Order::Random.choose(rng, ready) {
             let by = society(firing(rng, &turned.plan, track));
-            let done = manager::fire(bytes, &mut words, track as u16, by);
+            let done = manager::fire(MAIN, bytes, &mut words, track as u16, by);
             assert!(matches!(done, Answer::Done(entry) if entry.deviation == NONE));
         }
     }
     // Not over: a signal is accepted and turns none.
-    let again = manager::signal(bytes, &mut words, society(signal));
+    let again = manager::signal(MAIN, bytes, &mut words, society(signal));
     assert_eq!(again, Answer::Done(0));
 }
 
@@ -427,7 +431,7 @@ fn public_calls_and_the_program_count_as_many() {
     let (mut withdrawals, mut entries) = (0, 0);
     for index in 0..1_000 {
         let mut rng = Rng::for_case(9, 4, index);
-        let withdrawal = withdrawals::withdrawal(&mut rng);
+        let withdrawal = withdrawals::withdrawal(&mut rng, MAIN);
         let turned = turned(&withdrawal);
         if !is_in_withdrawal(&turned.after) {
             continue;
@@ -481,7 +485,7 @@ fn there_are_fewer_firings_with_a_forward_track_or_a_deviation() {
     let (mut deviating, mut fewer_deviating) = (0, 0);
     for index in 0..10_000 {
         let mut rng = Rng::for_case(9, 5, index);
-        let Turned { plan, after, .. } = turned(&withdrawals::withdrawal(&mut rng));
+        let Turned { plan, after, .. } = turned(&withdrawals::withdrawal(&mut rng, MAIN));
         if after.is_over() || is_in_withdrawal(&after) {
             continue;
         }

@@ -3,6 +3,7 @@
 
 use second::journal::{self, Record};
 use second::ledger::{self, Ledger};
+use second::limit::Limit;
 use second::manager::{self, Answer};
 use second::paths::{self, Largest};
 use second::plan::{self, Plan};
@@ -14,6 +15,9 @@ use testing::generate::rng::Rng;
 use testing::generate::singles::Call;
 use testing::generate::{journals, paths as bounds};
 use testing::vectors;
+
+/// The main program's limit.
+const MAIN: Limit = Limit::MAIN;
 
 fn bounded(rng: &mut Rng) -> Plan {
     let bytes = bounds::bounded(rng).encode();
@@ -127,17 +131,17 @@ fn numbers_of_states_and_transitions_have_no_say() {
 fn perform(bytes: &[u8], plan: &Plan, words: &mut [u16], record: Record) -> String {
     let call = match record {
         Record::FireLowest(society) => {
-            let ledger = Ledger::decode(plan, words);
+            let ledger = Ledger::decode(MAIN, plan, words);
             Call::Fire(journal::lowest_ready(plan, &ledger, society), society)
         }
         _ => Call::of(record).expect("a call"),
     };
-    vectors::answer(bytes, words, call)
+    vectors::answer(MAIN, bytes, words, call)
 }
 
 /// A long history of events that move tracks, as long as there is one.
 fn onwards(rng: &mut Rng, plan: &Plan) -> Vec<Record> {
-    let mut ledger = rules::begin(plan);
+    let mut ledger = rules::begin(MAIN, plan);
     let mut records = Vec::new();
     for _ in 0..200 {
         let events = journals::moving_events(plan, &ledger, |_| true);
@@ -153,7 +157,7 @@ fn onwards(rng: &mut Rng, plan: &Plan) -> Vec<Record> {
 
 /// The entries that a track holds, by the manager.
 fn held(bytes: &[u8], words: &[u16], track: usize) -> usize {
-    manager::entries(bytes, words, track as u16).len() / 2
+    manager::entries(MAIN, bytes, words, track as u16).len() / 2
 }
 
 #[test]
@@ -166,11 +170,11 @@ fn no_history_makes_a_track_hold_more() {
         let tracks = 0..plan.track_count();
         let figures: Vec<usize> = tracks.map(|t| usize::from(figure(&plan, t))).collect();
         let mut most = vec![0; plan.track_count()];
-        let mut words = vec![0; ledger::words_needed(&plan)];
-        assert_eq!(manager::begin(&bytes, &mut words), Answer::Done(()));
+        let mut words = vec![0; ledger::words_needed(MAIN, &plan)];
+        assert_eq!(manager::begin(MAIN, &bytes, &mut words), Answer::Done(()));
         let records = match index % 4 {
             0 => onwards(&mut rng, &plan),
-            _ => journals::history(&mut rng, &plan).0,
+            _ => journals::history(&mut rng, MAIN, &plan).0,
         };
         for record in records {
             let answer = perform(&bytes, &plan, &mut words, record);

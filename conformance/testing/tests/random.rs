@@ -5,6 +5,7 @@ use std::collections::BTreeMap;
 use second::days::Term;
 use second::journal::{self, Outcome, Record};
 use second::ledger::{self, Clause, Ledger, Mode, Track};
+use second::limit::Limit;
 use second::manager::{self, Answer};
 use second::plan::{self, Plan, Records, Right, Rights, MAX_TRACKS, NONE};
 use second::refusal::Refusal;
@@ -15,14 +16,19 @@ use testing::generate::singles::{self, Call, Single};
 use testing::generate::{damage, journals, ledgers, neighbours, plans, societies, withdrawals};
 use testing::vectors;
 
+/// Either limit in turn.
+fn setting(index: u64) -> Limit {
+    Limit::SETTINGS[index as usize % 2]
+}
+
 #[test]
 fn generated_plans_are_accepted() {
     for index in 0..2_000 {
         let mut rng = Rng::for_case(7, 1, index);
-        let limit = rng.between(1, MAX_TRACKS);
-        let records = plans::records(&mut rng, limit);
+        let most_tracks = rng.between(1, MAX_TRACKS);
+        let records = plans::records(&mut rng, most_tracks);
         let plan = plan::read(&records.encode()).expect("accepted");
-        assert!(plan.track_count() <= limit);
+        assert!(plan.track_count() <= most_tracks);
         assert_eq!(*plan.records(), records);
     }
 }
@@ -43,16 +49,17 @@ fn damaged_plans_get_the_wanted_number() {
 fn ledgers_are_sound_or_violate_one_clause() {
     let mut seen = [0; Clause::COUNT];
     for index in 0..6_000 {
+        let limit = setting(index);
         let mut rng = Rng::for_case(7, 3, index);
         let plan = plan::read(&plans::bytes(&mut rng, 12)).expect("accepted");
-        let sound = ledgers::sound(&mut rng, &plan);
+        let sound = ledgers::sound(&mut rng, limit, &plan);
         assert!(ledger::is_of(&plan, &sound.words()));
-        assert!(ledger::is_sound(&plan, &sound.words()));
-        assert_eq!(Ledger::decode(&plan, &sound.words()), sound);
+        assert!(ledger::is_sound(limit, &plan, &sound.words()));
+        assert_eq!(Ledger::decode(limit, &plan, &sound.words()), sound);
         for clause in Clause::all() {
-            if let Some(words) = ledgers::violate(&mut rng, &plan, clause) {
+            if let Some(words) = ledgers::violate(&mut rng, limit, &plan, clause) {
                 assert!(ledger::is_of(&plan, &words));
-                assert!(!ledger::is_sound(&plan, &words));
+                assert!(!ledger::is_sound(limit, &plan, &words));
                 seen[clause as usize] += 1;
             }
         }
@@ -62,14 +69,14 @@ fn ledgers_are_sound_or_violate_one_clause() {
 
 /// Tries the ready tracks from the lowest on, until one is not refused for want
 /// of the right; with none, a track that there is not.
-fn lowest(plan: &[u8], words: &mut [u16], society: u16) -> Outcome {
-    let ready = match manager::ready(plan, words) {
+fn lowest(limit: Limit, plan: &[u8], words: &mut [u16], society: u16) -> Outcome {
+    let ready = match manager::ready(limit, plan, words) {
         Answer::Done(ready) => ready,
         Answer::Refused(refusal) => return Outcome::Refused(refusal),
     };
     let tracks = plan::members(ready).chain([MAX_TRACKS]);
     for track in tracks {
-        let outcome = perform(plan, words, Record::Fire(track as u16, society));
+        let outcome = perform(limit, plan, words, Record::Fire(track as u16, society));
         if outcome != Outcome::Refused(Refusal::NoRight) {
             return outcome;
         }
@@ -78,43 +85,44 @@ fn lowest(plan: &[u8], words: &mut [u16], society: u16) -> Outcome {
 }
 
 /// Does a record by the public call; its outcome as the journal's.
-fn perform(plan: &[u8], words: &mut [u16], record: Record) -> Outcome {
+fn perform(limit: Limit, plan: &[u8], words: &mut [u16], record: Record) -> Outcome {
     let refused = Outcome::Refused;
     match record {
-        Record::Event(event, day, by) => match manager::event(plan, words, event, day, by) {
+        Record::Event(event, day, by) => match manager::event(limit, plan, words, event, day, by) {
             Answer::Done(m) => Outcome::Event(event, m),
             Answer::Refused(refusal) => refused(refusal),
         },
-        Record::Signal(society) => match manager::signal(plan, words, society) {
+        Record::Signal(society) => match manager::signal(limit, plan, words, society) {
             Answer::Done(turned) => Outcome::Signal(turned),
             Answer::Refused(refusal) => refused(refusal),
         },
-        Record::Fire(track, society) => match manager::fire(plan, words, track, society) {
+        Record::Fire(track, society) => match manager::fire(limit, plan, words, track, society) {
             Answer::Done(entry) => Outcome::Fire(track, entry),
             Answer::Refused(refusal) => refused(refusal),
         },
-        Record::FireLowest(society) => lowest(plan, words, society),
+        Record::FireLowest(society) => lowest(limit, plan, words, society),
     }
 }
 
 #[test]
 fn public_calls_and_rules_agree_and_keep_the_ledger_sound() {
     for index in 0..400 {
+        let limit = setting(index);
         let mut rng = Rng::for_case(7, 4, index);
         let bytes = plans::bytes(&mut rng, MAX_TRACKS);
         let plan = plan::read(&bytes).expect("accepted");
-        let mut words = ledgers::garbage(&mut rng, &plan);
-        let needed = ledger::words_needed(&plan);
+        let mut words = ledgers::garbage(&mut rng, limit, &plan);
+        let needed = ledger::words_needed(limit, &plan);
         let beyond = words[needed..].to_vec();
-        let mut inner = rules::begin(&plan);
-        assert_eq!(manager::begin(&bytes, &mut words), Answer::Done(()));
-        for record in journals::history(&mut rng, &plan).0 {
+        let mut inner = rules::begin(limit, &plan);
+        assert_eq!(manager::begin(limit, &bytes, &mut words), Answer::Done(()));
+        for record in journals::history(&mut rng, limit, &plan).0 {
             let before = words.clone();
-            let outcome = perform(&bytes, &mut words, record);
+            let outcome = perform(limit, &bytes, &mut words, record);
             assert_eq!(outcome, journal::perform(&plan, &mut inner, record));
             assert_eq!(words[..needed], inner.words());
             assert_eq!(words[needed..], beyond);
-            assert!(ledger::is_of(&plan, &words) && ledger::is_sound(&plan, &words));
+            assert!(ledger::is_of(&plan, &words) && ledger::is_sound(limit, &plan, &words));
             let refused = matches!(outcome, Outcome::Refused(_));
             assert!(!refused || words == before);
         }
@@ -131,12 +139,14 @@ fn single_calls_leave_sound_ledgers_sound_and_others_alone() {
             Some(record) => record,
             None => continue,
         };
-        match perform(&single.plan, &mut words, record) {
+        match perform(single.limit, &single.plan, &mut words, record) {
             Outcome::Refused(_) => assert_eq!(words, single.words),
             _ => {
                 let plan = plan::read(&single.plan).expect("accepted");
-                let needed = ledger::words_needed(&plan);
-                assert!(ledger::is_of(&plan, &words) && ledger::is_sound(&plan, &words));
+                let needed = ledger::words_needed(single.limit, &plan);
+                assert!(
+                    ledger::is_of(&plan, &words) && ledger::is_sound(single.limit, &plan, &words)
+                );
                 assert_eq!(words[needed..], single.words[needed..]);
             }
         }
@@ -146,10 +156,12 @@ fn single_calls_leave_sound_ledgers_sound_and_others_alone() {
 /// The call's refusal, if it gives one; entries gives none.
 fn refusal(single: &Single) -> Option<Refusal> {
     let (plan, mut words) = (&single.plan[..], single.words.clone());
-    if let (Call::Ready, Answer::Refused(refusal)) = (single.call, manager::ready(plan, &words)) {
+    if let (Call::Ready, Answer::Refused(refusal)) =
+        (single.call, manager::ready(single.limit, plan, &words))
+    {
         return Some(refusal);
     }
-    match perform(plan, &mut words, single.call.record()?) {
+    match perform(single.limit, plan, &mut words, single.call.record()?) {
         Outcome::Refused(refusal) => Some(refusal),
         _ => None,
     }
@@ -174,12 +186,17 @@ fn a_ledger_begun_under_another_plan_is_24_unless_alike_in_both_words() {
     for (single, plan, other) in on_other_ledgers() {
         assert_ne!(plan, other);
         assert_eq!(plan.track_count(), other.track_count());
-        assert!(ledger::is_of(&other, &single.words) && ledger::is_sound(&other, &single.words));
+        assert!(
+            ledger::is_of(&other, &single.words)
+                && ledger::is_sound(single.limit, &other, &single.words)
+        );
         let same = ledger::plan_words(&plan) == ledger::plan_words(&other);
         let refusal = refusal(&single);
         match single.call {
             Call::Entries(track) if !same => {
-                assert!(manager::entries(&single.plan, &single.words, track).is_empty())
+                assert!(
+                    manager::entries(single.limit, &single.plan, &single.words, track).is_empty()
+                )
             }
             Call::Entries(_) => {}
             _ => assert_eq!(refusal == Some(Refusal::OtherPlan), !same),
@@ -194,9 +211,12 @@ fn a_ledger_begun_under_another_plan_is_24_unless_alike_in_both_words() {
 fn a_ledger_begun_under_another_plan_is_begun_anew() {
     for (single, plan, _) in on_other_ledgers().take(400) {
         let mut words = single.words.clone();
-        assert_eq!(manager::begin(&single.plan, &mut words), Answer::Done(()));
-        let needed = ledger::words_needed(&plan);
-        assert_eq!(words[..needed], rules::begin(&plan).words());
+        assert_eq!(
+            manager::begin(single.limit, &single.plan, &mut words),
+            Answer::Done(())
+        );
+        let needed = ledger::words_needed(single.limit, &plan);
+        assert_eq!(words[..needed], rules::begin(single.limit, &plan).words());
         assert_eq!(words[needed..], single.words[needed..]);
     }
 }
@@ -220,9 +240,10 @@ fn plans_alike_have_other_bytes_and_the_same_leading_words() {
 fn some_firing_is_allowed_while_an_undoing_track_holds_an_entry() {
     let mut undoing = 0;
     for index in 0..3_000 {
+        let limit = setting(index);
         let mut rng = Rng::for_case(7, 6, index);
         let plan = plan::read(&plans::bytes(&mut rng, MAX_TRACKS)).expect("accepted");
-        let mut ledger = ledgers::sound(&mut rng, &plan);
+        let mut ledger = ledgers::sound(&mut rng, limit, &plan);
         let society = societies::any(&mut rng, &plan);
         let done = rules::signal(&plan, &mut ledger, society).is_ok();
         let holds = |t: &Track| t.mode == Mode::Undoing && t.held() > 0;
@@ -286,11 +307,12 @@ fn finish_is_allowed(plan: &Plan, before: &Ledger, outcome: Outcome) {
 fn a_finish_comes_once_all_else_is_spent() {
     let (mut by_event, mut by_firing, mut by_signal) = (0, 0, 0);
     for index in 0..4_000 {
+        let limit = setting(index);
         let mut rng = Rng::for_case(7, 10, index);
         let plan = plans::linked_records(&mut rng, MAX_TRACKS).encode();
         let plan = plan::read(&plan).expect("accepted");
-        let mut ledger = rules::begin(&plan);
-        for record in journals::history(&mut rng, &plan).0 {
+        let mut ledger = rules::begin(limit, &plan);
+        for record in journals::history(&mut rng, limit, &plan).0 {
             let before = ledger.clone();
             let outcome = journal::perform(&plan, &mut ledger, record);
             if ledger.is_over() && !before.is_over() {
@@ -309,11 +331,12 @@ fn a_finish_comes_once_all_else_is_spent() {
 fn ledgers_near_their_finish_are_sound_and_often_a_call_away() {
     let (mut away, mut spent) = (0, 0);
     for index in 0..2_000 {
+        let limit = setting(index);
         let mut rng = Rng::for_case(7, 11, index);
         let plan = plans::linked_records(&mut rng, MAX_TRACKS).encode();
         let plan = plan::read(&plan).expect("accepted");
-        let near = ledgers::near_finish(&mut rng, &plan);
-        assert!(!near.is_over() && ledger::is_sound(&plan, &near.words()));
+        let near = ledgers::near_finish(&mut rng, limit, &plan);
+        assert!(!near.is_over() && ledger::is_sound(limit, &plan, &near.words()));
         let events = journals::moving_events(&plan, &near, |_| true);
         let on_day = |e| journals::event_of(&mut rng, &plan, &near, e);
         let mut records: Vec<Record> = events.into_iter().map(on_day).collect();
@@ -337,11 +360,12 @@ fn ledgers_near_their_finish_are_sound_and_often_a_call_away() {
 fn short_histories_end_half_withdrawn_by_each_sort_of_call() {
     let (mut by_event, mut by_firing, mut by_signal) = (0, 0, 0);
     for index in 0..200 {
+        let limit = setting(index);
         let mut rng = Rng::for_case(7, 12, index);
-        let (bytes, records) = journals::half_withdrawn(&mut rng, 3);
+        let (bytes, records) = journals::half_withdrawn(&mut rng, limit, 3);
         let plan = plan::read(&bytes).expect("accepted");
         assert!(plan.track_count() <= 3 && records.len() <= 8);
-        let mut ledger = rules::begin(&plan);
+        let mut ledger = rules::begin(limit, &plan);
         for record in records {
             let undoing = plan.roots().any(|t| ledger.tracks[t].mode == Mode::Undoing);
             let over = ledger.is_over();
@@ -378,14 +402,15 @@ fn open_on(plan: &Plan, day: i32) -> Records {
 fn an_event_does_what_it_does_without_the_steps_that_the_day_forbids() {
     let (mut moving, mut shut) = (0, 0);
     for index in 0..4_000 {
+        let limit = setting(index);
         let mut rng = Rng::for_case(7, 13, index);
         let plan = plan::read(&plans::bytes(&mut rng, 8)).expect("accepted");
-        let mut ledger = ledgers::sound(&mut rng, &plan);
+        let mut ledger = ledgers::sound(&mut rng, limit, &plan);
         let event = journals::any_event(&mut rng, &plan);
         let day = journals::event_day(&mut rng, &plan, &ledger, event);
         let society = journals::mover(&mut rng, &plan, &ledger, event);
         let open = plan::read(&open_on(&plan, day).encode()).expect("accepted");
-        let mut other = rules::begin(&open);
+        let mut other = rules::begin(limit, &open);
         other.tracks = ledger.tracks.clone();
         if day < ledger.day || !Term::RANGE.contains(day) {
             let refused = rules::event(&plan, &mut ledger, event, day, society);
@@ -420,9 +445,10 @@ fn held_alone(plan: &Plan, right: Right, society: u16) -> Records {
 fn other_rights_and_other_societies_change_nothing_for_a_call() {
     let (mut events, mut signals) = (0, 0);
     for index in 0..3_000 {
+        let limit = setting(index);
         let mut rng = Rng::for_case(7, 16, index);
         let plan = plan::read(&plans::linked_records(&mut rng, 8).encode()).expect("accepted");
-        let ledger = ledgers::sound(&mut rng, &plan);
+        let ledger = ledgers::sound(&mut rng, limit, &plan);
         let society = societies::any(&mut rng, &plan);
         let event = journals::any_event(&mut rng, &plan);
         let calls = [
@@ -447,10 +473,11 @@ fn other_rights_and_other_societies_change_nothing_for_a_call() {
 fn calls_strike_no_track_under_another_root() {
     let (mut struck, mut refused) = (0, 0);
     for index in 0..1_000 {
+        let limit = setting(index);
         let mut rng = Rng::for_case(7, 17, index);
         let plan = plan::read(&plans::linked_records(&mut rng, 8).encode()).expect("accepted");
-        let mut ledger = rules::begin(&plan);
-        for record in journals::history(&mut rng, &plan).0 {
+        let mut ledger = rules::begin(limit, &plan);
+        for record in journals::history(&mut rng, limit, &plan).0 {
             let before = ledger.clone();
             let outcome = journal::perform(&plan, &mut ledger, record);
             let (right, society) = match record {
@@ -498,13 +525,14 @@ fn is_of(record: Record, own: u16) -> bool {
 fn a_society_that_shares_no_root_is_answered_alike_whatever_others_do() {
     let (mut compared, mut others) = (0, 0);
     for index in 0..3_000 {
+        let limit = setting(index);
         let mut rng = Rng::for_case(7, 18, index);
         let (plan, society) = match held_root(&mut rng) {
             Some(held) => held,
             None => continue,
         };
-        let (mut with, mut without) = (rules::begin(&plan), rules::begin(&plan));
-        for record in journals::history(&mut rng, &plan).0 {
+        let (mut with, mut without) = (rules::begin(limit, &plan), rules::begin(limit, &plan));
+        for record in journals::history(&mut rng, limit, &plan).0 {
             let outcome = journal::perform(&plan, &mut with, record);
             if is_of(record, society) {
                 let alone = journal::perform(&plan, &mut without, record);
@@ -536,11 +564,12 @@ fn a_society_that_shares_no_root_is_answered_alike_whatever_others_do() {
 fn accepted_days_never_fall_and_are_kept() {
     let (mut kept, mut refused) = (0, 0);
     for index in 0..1_000 {
+        let limit = setting(index);
         let mut rng = Rng::for_case(7, 14, index);
         let plan = plan::read(&plans::bytes(&mut rng, MAX_TRACKS)).expect("accepted");
-        let mut ledger = rules::begin(&plan);
+        let mut ledger = rules::begin(limit, &plan);
         assert_eq!(ledger.day, -109_573);
-        for record in journals::history(&mut rng, &plan).0 {
+        for record in journals::history(&mut rng, limit, &plan).0 {
             let before = ledger.day;
             let outcome = journal::perform(&plan, &mut ledger, record);
             match (record, outcome) {
@@ -661,12 +690,13 @@ fn obstacle(plan: &Plan, mut ledger: Ledger, tracks: &[u16]) -> Option<&'static 
 fn small_ledgers_are_sound_and_orders_fail_in_every_way() {
     let mut obstacles = BTreeMap::new();
     for index in 0..4_000 {
+        let limit = setting(index);
         let mut rng = Rng::for_case(7, 22, index);
-        let limit = rng.between(1, 4);
-        let (bytes, ledger) = withdrawals::small(&mut rng, limit);
+        let most_tracks = rng.between(1, 4);
+        let (bytes, ledger) = withdrawals::small(&mut rng, limit, most_tracks);
         let plan = plan::read(&bytes).expect("accepted");
-        assert!(plan.track_count() <= limit);
-        assert!(ledger::is_sound(&plan, &ledger.words()));
+        assert!(plan.track_count() <= most_tracks);
+        assert!(ledger::is_sound(limit, &plan, &ledger.words()));
         let tracks = withdrawals::order(&mut rng, &plan, &ledger);
         let obstacle = obstacle(&plan, ledger, &tracks);
         *obstacles.entry(obstacle).or_insert(0) += 1;
@@ -701,6 +731,6 @@ fn lines_are_made_again_from_the_same_seed() {
 fn a_small_batch_reaches_most_rows() {
     let rows = coverage::batch(3, 300).rows();
     let reached = rows.iter().filter(|row| row.count > 0).count();
-    assert_eq!(rows.len(), 212);
-    assert!(reached >= 203, "{reached}");
+    assert_eq!(rows.len(), 229);
+    assert!(reached >= 219, "{reached}");
 }

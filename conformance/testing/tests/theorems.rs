@@ -4,19 +4,28 @@ use std::fs;
 use std::io::Write;
 use std::process::{Command, Stdio};
 
+use second::limit::Limit;
 use second::manager;
 use testing::generate::singles::Call;
-use testing::samples::{rights, two_links, window};
+use testing::samples::{looping, rights, two_links, window};
 use testing::vectors;
+
+/// The main program's limit.
+const MAIN: Limit = Limit::MAIN;
 
 /// What the first file holds below its imports, of cases given as lines;
 /// nothing where a line is no case.
 fn theorems(name: &str, lines: &str) -> Option<String> {
+    theorems_of("1", name, lines)
+}
+
+/// The same of so many histories.
+fn theorems_of(histories: &str, name: &str, lines: &str) -> Option<String> {
     let folder = std::env::temp_dir().join(format!("theorems-{name}-{}", std::process::id()));
     fs::create_dir_all(&folder).expect("directory");
     let mut child = Command::new(env!("CARGO_BIN_EXE_theorems"))
         .arg(&folder)
-        .args(["1", "20", "10"])
+        .args([histories, "20", "10"])
         .stdin(Stdio::piped())
         .stdout(Stdio::null())
         .stderr(Stdio::null())
@@ -37,7 +46,7 @@ fn theorems(name: &str, lines: &str) -> Option<String> {
 #[test]
 fn a_history_is_its_answers_and_its_words() {
     let expected = "-- H;0400;00010002;E7@5:1,E8@-5:2,S:3,F1:4;begun|D1,0|R26|D2|R22;0003ffff\n\
-                    pub case-0 : HistoryAgrees (4 ∷ 0 ∷ []) (1 ∷ 2 ∷ []) \
+                    pub case-0 : HistoryAgrees mainTerms (4 ∷ 0 ∷ []) (1 ∷ 2 ∷ []) \
                     (e 7 (pos 5) 1 ∷ e 8 (negsuc 4) 2 ∷ s 3 ∷ f 1 4 ∷ []) \
                     (done [] ∷ done (1 ∷ 0 ∷ []) ∷ refusal 26 ∷ done (2 ∷ []) ∷ \
                     refusal 22 ∷ []) \
@@ -54,9 +63,59 @@ fn plans_and_single_calls_have_statements_of_their_own() {
     let says = |statement: &str| assert!(text.contains(statement), "{text}");
     says("case-0 : PlanAgrees ([]) (turnedBack 2)\n");
     says("case-1 : PlanAgrees (4 ∷ []) (acceptedWith 3 8 5 2 1)\n");
-    says("case-2 : ReadyAgrees ([]) (1 ∷ []) (refusal 18) (1 ∷ [])\n");
-    says("case-3 : EntriesAgree ([]) ([]) 3 ([])\n");
-    says("case-4 : CallAgrees ([]) ([]) (f 9 1) (refusal 17) ([])\n");
+    says("case-2 : ReadyAgrees mainTerms ([]) (1 ∷ []) (refusal 18) (1 ∷ [])\n");
+    says("case-3 : EntriesAgree mainTerms ([]) ([]) 3 ([])\n");
+    says("case-4 : CallAgrees mainTerms ([]) ([]) (f 9 1) (refusal 17) ([])\n");
+}
+
+#[test]
+fn a_line_s_limit_is_the_terms_of_its_statement() {
+    let lines = "H8;;;;begun;\nL3;;0001;Y;R17;0001\nL0;;;N3;;\nL8;;;S:1;R18;\nL32;;;F9:1;R22;\n\
+                 U8;;;52\nW8;;A1,1,0,0,0;;1;1,1,1;0\nO8;;A1,1,0,0,0;;;D0,0\nO3;;A1,1,0,0,0;;0;no\n";
+    let text = theorems("limits", lines).expect("theorems");
+    let says = |statement: &str| assert!(text.contains(statement), "{statement}\n{text}");
+    says("case-0 : HistoryAgrees readingRoomTerms ([]) ([]) ([]) (done [] ∷ []) ([])\n");
+    says("case-1 : ReadyAgrees (termsOf 3) ([]) (1 ∷ []) (refusal 17) (1 ∷ [])\n");
+    says("case-2 : EntriesAgree (termsOf 0) ([]) ([]) 3 ([])\n");
+    says("case-3 : CallAgrees readingRoomTerms ([]) ([]) (s 1) (refusal 18) ([])\n");
+    says("case-4 : CallAgrees mainTerms ([]) ([]) (f 9 1) (refusal 22) ([])\n");
+    says("case-6 : WithdrawalAgrees readingRoomTerms ([]) (countsOf 1 1 0 0 0) ([]) 1 ");
+    says("case-7 : OrderAgrees readingRoomTerms ([]) (countsOf 1 1 0 0 0) ([]) ([]) 0 0\n");
+    says("case-8 : NoOrder (termsOf 3) ([]) (countsOf 1 1 0 0 0) ([]) (0 ∷ [])\n");
+    let run = theorems_of("10", "runs", "U8;;;52\n").expect("theorems");
+    assert!(
+        run.contains("RunAgrees readingRoomTerms ([]) ([]) (82 ∷ [])"),
+        "{run}"
+    );
+    assert_eq!(theorems("no-limit", "Lx;;;Y;R17;\n"), None);
+    assert_eq!(theorems("no-word", "L65536;;;Y;R17;\n"), None);
+}
+
+#[test]
+fn events_that_fill_a_track_or_are_refused_as_21_are_a_sort_of_their_own() {
+    let plan = looping().encode();
+    let lines: String = [3, 8, 32]
+        .map(|entries| filling(&plan, Limit(entries)))
+        .concat();
+    let text = theorems("full", &lines).expect("theorems");
+    // Of the nine events two of this sort and two others are wanted.
+    assert_eq!(text.matches("pub case-").count(), 4, "{text}");
+    assert!(text.contains("CallAgrees (termsOf 3)"), "{text}");
+    assert!(text.contains("CallAgrees readingRoomTerms"), "{text}");
+}
+
+/// The events that give a track its last entry but one and its last at a limit,
+/// and the one that is refused as 21.
+fn filling(plan: &[u8], limit: Limit) -> String {
+    let mut words = vec![0; limit.track_start(1)];
+    manager::begin(limit, plan, &mut words);
+    let event = Call::Event(1, 0, 1);
+    let mut lines = Vec::new();
+    for _ in 0..=limit.0 {
+        lines.push(vectors::call_line(limit, plan, &words, event) + "\n");
+        vectors::answer(limit, plan, &mut words, event);
+    }
+    lines.split_off(lines.len() - 3).concat()
 }
 
 #[test]
@@ -76,14 +135,14 @@ fn calls_refused_as_24_are_a_sort_of_their_own() {
 fn calls_with_roots_in_both_modes_are_a_sort_of_their_own() {
     let plan = two_links().encode();
     let mut words = vec![0; 138];
-    manager::begin(&plan, &mut words);
+    manager::begin(MAIN, &plan, &mut words);
     let event = |event| Call::Event(event, -1, 1);
     for call in [event(1), Call::Signal(1), Call::Fire(0, 1), event(3)] {
-        vectors::answer(&plan, &mut words, call);
+        vectors::answer(MAIN, &plan, &mut words, call);
     }
     // Of two like firings and a signal, as many different ones as wanted.
     let calls = [Call::Fire(1, 1), Call::Fire(1, 1), Call::Signal(1)];
-    let line = |call| vectors::call_line(&plan, &words, call) + "\n";
+    let line = |call| vectors::call_line(MAIN, &plan, &words, call) + "\n";
     let text = theorems("parted", &calls.map(line).concat()).expect("theorems");
     assert_eq!(text.matches("pub case-").count(), 2);
     let zeros = "0 ∷ ".repeat(134);
@@ -100,10 +159,10 @@ fn events_that_meet_a_window_or_are_refused_as_26_are_a_sort_of_their_own() {
     plan.windows = vec![window(0, 5, 9)];
     let plan = plan.encode();
     let mut words = vec![0; 138];
-    manager::begin(&plan, &mut words);
+    manager::begin(MAIN, &plan, &mut words);
     // Of two like events before the window and one out of range, two wanted.
     let days = [4, 3, 200_000];
-    let line = |day| vectors::call_line(&plan, &words, Call::Event(1, day, 1)) + "\n";
+    let line = |day| vectors::call_line(MAIN, &plan, &words, Call::Event(1, day, 1)) + "\n";
     let text = theorems("dated", &days.map(line).concat()).expect("theorems");
     assert_eq!(text.matches("pub case-").count(), 2);
     assert!(
@@ -119,7 +178,7 @@ fn cases_that_rights_have_a_say_in_are_sorts_of_their_own() {
     plan.rights = vec![rights(1, 0, 7), rights(2, 1, 7)];
     let bytes = plan.encode();
     let mut words = vec![0; 138];
-    manager::begin(&bytes, &mut words);
+    manager::begin(MAIN, &bytes, &mut words);
     let calls = [
         Call::Signal(2),
         Call::Event(1, 0, 2),
@@ -128,7 +187,7 @@ fn cases_that_rights_have_a_say_in_are_sorts_of_their_own() {
     ];
     let mut lines: String = calls
         .iter()
-        .map(|&call| vectors::call_line(&bytes, &words, call) + "\n")
+        .map(|&call| vectors::call_line(MAIN, &bytes, &words, call) + "\n")
         .collect();
     plan.rights[1].sum = 8;
     let unfit: String = plan.encode().iter().map(|b| format!("{b:02x}")).collect();
@@ -166,7 +225,7 @@ fn withdrawals_are_three_tests_and_a_number() {
     let line = "W;0400;A2,6,5,0,2;00010002;65535;1,0,1;33\n";
     let expected = format!(
         "-- {line}\
-         pub case-0 : WithdrawalAgrees (4 ∷ 0 ∷ []) (countsOf 2 6 5 0 2) (1 ∷ 2 ∷ []) \
+         pub case-0 : WithdrawalAgrees mainTerms (4 ∷ 0 ∷ []) (countsOf 2 6 5 0 2) (1 ∷ 2 ∷ []) \
          65535 true false true 33\n\
          unfolding computing\ncase-0 = (refl, refl, refl, refl)\n"
     );
@@ -177,7 +236,7 @@ fn withdrawals_are_three_tests_and_a_number() {
 #[test]
 fn orders_of_firing_leave_two_numbers_or_are_none() {
     let given = "0400;A2,6,5,0,2;00010002";
-    let says = "(4 ∷ 0 ∷ []) (countsOf 2 6 5 0 2) (1 ∷ 2 ∷ [])";
+    let says = "mainTerms (4 ∷ 0 ∷ []) (countsOf 2 6 5 0 2) (1 ∷ 2 ∷ [])";
     let lines = format!("O;{given};1,0,1;D2,3\nO;{given};0,65535;no\n");
     let text = theorems("orders", &lines).expect("theorems");
     let order = format!("pub case-0 : OrderAgrees {says} (1 ∷ 0 ∷ 1 ∷ []) 2 3\n");

@@ -2,8 +2,12 @@
 #![allow(dead_code)]
 
 use second::journal::{self, Record};
+use second::limit::Limit;
 #[allow(unused_imports)]
 pub use testing::samples::*;
+
+/// The main program's limit.
+pub const MAIN: Limit = Limit::MAIN;
 
 /// The output of `unwind`, as lines.
 pub fn unwind(plan: &[u8], journal: &[u8]) -> Vec<String> {

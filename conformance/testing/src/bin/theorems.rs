@@ -6,8 +6,8 @@
 //! damaged ledgers, and fewer histories that end half withdrawn, whole runs,
 //! accepted plans, calls on sound ledgers, on those with roots in both modes
 //! and on those of other plans, events that windows or days have a say in, calls
-//! that rights have a say in, plans refused for their rights, largest numbers of
-//! entries, plans that have none, what is asked of withdrawals, orders of firing,
+//! that rights have a say in, calls that a limit has a say in, plans refused for
+//! their rights, largest numbers of entries, plans that have none, what is asked of withdrawals, orders of firing,
 //! lists of tracks that are none, and conversions: of each sort as many different
 //! ones as there are. Cases too large to be computed quickly are dropped.
 
@@ -20,12 +20,14 @@ use std::process::ExitCode;
 use second::days::Term;
 use second::journal::{self, Record, Records};
 use second::ledger::{self, track_words, Clause, Ledger, Mode};
+use second::limit::Limit;
 use second::paths::{self, Largest};
 use second::plan::{self, Plan, Right, NONE};
 use second::rules;
 use testing::faults::{self, RightsFault};
 use testing::generate::journals::windows_met;
 use testing::theorems::{parts, statement};
+use testing::vectors::letter_and_limit;
 
 /// Theorems to a file.
 const FILE: usize = 30;
@@ -39,8 +41,9 @@ use lib.IntN.{pos, negsuc}
 use Rattle.rules.specs.Acceptance.{turnedBack}
 use Rattle.rules.specs.Call.{refusal, done}
 use Rattle.rules.specs.Largest as bounds
+use Rattle.rules.specs.Setting.{mainTerms, readingRoomTerms}
 use Rattle.starred.specs.Computing.{computing}
-use Rattle.agreement.specs.Statements.{e, f, s, countsOf, acceptedWith, \
+use Rattle.agreement.specs.Statements.{e, f, s, termsOf, countsOf, acceptedWith, \
     HistoryAgrees, PlanAgrees, CallAgrees, ReadyAgrees, EntriesAgree, RunAgrees, \
     LargestAgrees, WithdrawalAgrees, OrderAgrees, NoOrder, DateIs, NoDate, DayIs, NoDay}
 ";
@@ -72,6 +75,9 @@ enum Sort {
     CrowdedRights,
     /// A call refused as 28.
     NoRight,
+    /// An event that is refused as 21, or gives a track the last entry that the
+    /// limit allows.
+    Full,
     /// A signal that turns some forward tracks and leaves others.
     Partial,
     /// An event that leaves tracks which would move by right of all, or a signal
@@ -104,15 +110,15 @@ struct Share {
     sort: Sort,
     name: &'static str,
     wanted: usize,
-    limit: usize,
+    most_size: usize,
 }
 
-fn shares(histories: usize, plans: usize, ledgers: usize) -> [Share; 24] {
-    let share = |sort, name, wanted, limit| Share {
+fn shares(histories: usize, plans: usize, ledgers: usize) -> [Share; 25] {
+    let share = |sort, name, wanted, most_size| Share {
         sort,
         name,
         wanted,
-        limit,
+        most_size,
     };
     [
         share(Sort::History, "histories", histories, 700),
@@ -148,6 +154,12 @@ fn shares(histories: usize, plans: usize, ledgers: usize) -> [Share; 24] {
             900,
         ),
         share(Sort::NoRight, "calls refused as 28", ledgers / 8, 240),
+        share(
+            Sort::Full,
+            "events that fill a track or are refused as 21",
+            ledgers / 5,
+            240,
+        ),
         share(
             Sort::Partial,
             "signals that leave some forward",
@@ -194,14 +206,22 @@ fn fields_of(line: &str) -> Vec<&str> {
     line.split(';').collect()
 }
 
+/// The limit of a line and its fields, the first one without it.
+fn limit_and_fields(line: &str) -> Option<(Limit, Vec<&str>)> {
+    let mut fields = fields_of(line);
+    let (letter, limit) = letter_and_limit(fields[0])?;
+    fields[0] = letter;
+    Some((limit, fields))
+}
+
 /// The sort of a case and its size: the bytes of the plan, read once for the
 /// begin and once for each call, and taken once more for each firing of an
 /// order; for the date of a day, the days before it.
-fn sort_of(fields: &[&str]) -> Option<(Sort, usize)> {
+fn sort_of(limit: Limit, fields: &[&str]) -> Option<(Sort, usize)> {
     let plan = fields.get(1)?.len() / 2;
     Some(match *fields {
         ["H", bytes, _, calls, _, _] => {
-            let sort = match ending(bytes, records(calls)) {
+            let sort = match ending(limit, bytes, records(calls)) {
                 Some((_, true)) => Sort::HalfWithdrawn,
                 _ => Sort::History,
             };
@@ -229,17 +249,25 @@ fn sort_of(fields: &[&str]) -> Option<(Sort, usize)> {
         }
         ["L", _, _, _, "R17" | "R18", _] => (Sort::Damaged, plan),
         ["L", _, _, _, "R28", _] => (Sort::NoRight, plan),
-        ["L", bytes, words, call, answer, _] if leaves(bytes, words, call, answer).is_some() => {
-            let partial = leaves(bytes, words, call, answer) == Some(true);
+        ["L", _, _, _, "R21", _] => (Sort::Full, plan),
+        ["L", bytes, words, _, answer, after]
+            if answer.starts_with('D') && fills(limit, bytes, [words, after]) =>
+        {
+            (Sort::Full, plan)
+        }
+        ["L", bytes, words, call, answer, _]
+            if leaves(limit, bytes, words, call, answer).is_some() =>
+        {
+            let partial = leaves(limit, bytes, words, call, answer) == Some(true);
             (if partial { Sort::Partial } else { Sort::Left }, plan)
         }
-        ["L", bytes, words, _, "R24" | "", _] if !differing(bytes, words).is_empty() => {
+        ["L", bytes, words, _, "R24" | "", _] if !differing(limit, bytes, words).is_empty() => {
             (Sort::OtherPlan, plan)
         }
-        ["L", bytes, words, call, answer, _] if is_dated(bytes, words, call, answer) => {
+        ["L", bytes, words, call, answer, _] if is_dated(limit, bytes, words, call, answer) => {
             (Sort::Dated, plan)
         }
-        ["L", bytes, words, call, answer, _] if is_parted(bytes, words, call, answer) => {
+        ["L", bytes, words, call, answer, _] if is_parted(limit, bytes, words, call, answer) => {
             (Sort::Parted, plan)
         }
         ["L", _, _, call, answer, _] if is_undoing(call, answer) => (Sort::Undoing, plan),
@@ -263,11 +291,11 @@ fn is_crowded(plan: &str) -> bool {
 
 /// Of an event or a signal that is done and leaves tracks for want of the right:
 /// whether it is a signal that turns some. None of another call.
-fn leaves(plan: &str, words: &str, call: &str, answer: &str) -> Option<bool> {
+fn leaves(limit: Limit, plan: &str, words: &str, call: &str, answer: &str) -> Option<bool> {
     let done: usize = answer.strip_prefix('D')?.split(',').next()?.parse().ok()?;
     let record = records(call).next()?;
     let plan = plan::read(&numbers(plan, 2)).ok()?;
-    let ledger = Ledger::decode(&plan, &numbers(words, 4));
+    let ledger = Ledger::decode(limit, &plan, &numbers(words, 4));
     match record {
         Record::Event(event, day, _) => {
             let possible = rules::possible_moves(&plan, &ledger, event, day);
@@ -281,6 +309,18 @@ fn leaves(plan: &str, words: &str, call: &str, answer: &str) -> Option<bool> {
     }
 }
 
+/// Whether a call gave a track the last entry that the limit allows.
+fn fills(limit: Limit, plan: &str, [before, after]: [&str; 2]) -> bool {
+    let plan = match plan::read(&numbers(plan, 2)) {
+        Ok(plan) => plan,
+        Err(_) => return false,
+    };
+    let (before, after): (Vec<u16>, Vec<u16>) = (numbers(before, 4), numbers(after, 4));
+    let held = |words: &[u16], t| usize::from(track_words(limit, words, t)[2]);
+    let mut tracks = 0..plan.track_count();
+    tracks.any(|t| held(&before, t) < held(&after, t) && held(&after, t) == limit.entries())
+}
+
 /// The days of the range before the day whose date is asked for; none of a day
 /// out of range or for a date.
 fn days_before(call: &str) -> usize {
@@ -290,17 +330,23 @@ fn days_before(call: &str) -> usize {
 }
 
 /// Whether an event meets a window, or is refused for its day.
-fn is_dated(plan: &str, words: &str, call: &str, answer: &str) -> bool {
-    answer == "R26" || !windows_of_call(plan, words, call, answer).is_empty()
+fn is_dated(limit: Limit, plan: &str, words: &str, call: &str, answer: &str) -> bool {
+    answer == "R26" || !windows_of_call(limit, plan, words, call, answer).is_empty()
 }
 
 /// How the windows that an event meets stand to its day; none of another call,
 /// or of one that is refused.
-fn windows_of_call(plan: &str, words: &str, call: &str, answer: &str) -> BTreeSet<&'static str> {
+fn windows_of_call(
+    limit: Limit,
+    plan: &str,
+    words: &str,
+    call: &str,
+    answer: &str,
+) -> BTreeSet<&'static str> {
     let plan = plan::read(&numbers(plan, 2)).ok();
     match (plan, records(call).next()) {
         (Some(plan), Some(record)) if answer.starts_with('D') => {
-            let ledger = Ledger::decode(&plan, &numbers(words, 4));
+            let ledger = Ledger::decode(limit, &plan, &numbers(words, 4));
             windows(&plan, &ledger, record)
         }
         _ => BTreeSet::new(),
@@ -326,12 +372,16 @@ fn windows(plan: &Plan, ledger: &Ledger, record: Record) -> BTreeSet<&'static st
 }
 
 /// The same for all records of a history.
-fn windows_of_history(plan: &str, records: impl Iterator<Item = Record>) -> BTreeSet<&'static str> {
+fn windows_of_history(
+    limit: Limit,
+    plan: &str,
+    records: impl Iterator<Item = Record>,
+) -> BTreeSet<&'static str> {
     let plan = match plan::read(&numbers(plan, 2)) {
         Ok(plan) => plan,
         Err(_) => return BTreeSet::new(),
     };
-    let mut ledger = rules::begin(&plan);
+    let mut ledger = rules::begin(limit, &plan);
     let met = records.flat_map(|record| {
         let met = windows(&plan, &ledger, record);
         journal::perform(&plan, &mut ledger, record);
@@ -345,25 +395,32 @@ fn is_undoing(call: &str, answer: &str) -> bool {
 }
 
 /// Whether an event, a signal or a firing is done with roots in both modes.
-fn is_parted(plan: &str, words: &str, call: &str, answer: &str) -> bool {
+fn is_parted(limit: Limit, plan: &str, words: &str, call: &str, answer: &str) -> bool {
     let done = call.starts_with(['E', 'S', 'F']) && answer.starts_with('D');
     let plan = plan::read(&numbers(plan, 2)).ok().filter(|_| done);
-    plan.map_or(false, |plan| parted(&plan, &numbers(words, 4)))
+    plan.map_or(false, |plan| parted(limit, &plan, &numbers(words, 4)))
 }
 
 /// Whether some root is forward and some root undoing.
-fn parted(plan: &Plan, words: &[u16]) -> bool {
-    let some = |mode| plan.roots().any(|t| track_words(words, t)[0] == mode);
+fn parted(limit: Limit, plan: &Plan, words: &[u16]) -> bool {
+    let some = |mode| {
+        plan.roots()
+            .any(|t| track_words(limit, words, t)[0] == mode)
+    };
     some(1) && some(2)
 }
 
 /// What put every track to sleep in a history: the letter of the record, and
 /// whether roots were in both modes before it.
-fn ending(plan: &str, mut records: impl Iterator<Item = Record>) -> Option<(char, bool)> {
+fn ending(
+    limit: Limit,
+    plan: &str,
+    mut records: impl Iterator<Item = Record>,
+) -> Option<(char, bool)> {
     let plan = plan::read(&numbers(plan, 2)).ok()?;
-    let mut ledger = rules::begin(&plan);
+    let mut ledger = rules::begin(limit, &plan);
     records.find_map(|record| {
-        let parted = parted(&plan, &ledger.words());
+        let parted = parted(limit, &plan, &ledger.words());
         journal::perform(&plan, &mut ledger, record);
         let letter = match record {
             Record::Event(..) => 'E',
@@ -400,10 +457,10 @@ fn run_records(journal: &[u8]) -> impl Iterator<Item = Record> + '_ {
 
 /// How the roots stand, in rising order: mode, whether in a final state, whether
 /// holding entries, whether with an open scope.
-fn standings(plan: &Plan, words: &[u16]) -> Vec<(u16, bool, bool, bool)> {
-    let awake = |t: usize| track_words(words, t)[0] != 0;
+fn standings(limit: Limit, plan: &Plan, words: &[u16]) -> Vec<(u16, bool, bool, bool)> {
+    let awake = |t: usize| track_words(limit, words, t)[0] != 0;
     let standing = |t: usize| {
-        let own = track_words(words, t);
+        let own = track_words(limit, words, t);
         let open = plan::members(plan.scope(own[1])).any(awake);
         (own[0], plan.is_final(own[1]), own[2] > 0, open)
     };
@@ -414,10 +471,10 @@ fn standings(plan: &Plan, words: &[u16]) -> Vec<(u16, bool, bool, bool)> {
 
 /// Which of the leading words is not the plan's; none where the plan is
 /// refused or the words are too few.
-fn differing(plan: &str, words: &str) -> Vec<&'static str> {
+fn differing(limit: Limit, plan: &str, words: &str) -> Vec<&'static str> {
     let words: Vec<u16> = numbers(words, 4);
     match plan::read(&numbers(plan, 2)) {
-        Ok(plan) if words.len() >= ledger::words_needed(&plan) => {
+        Ok(plan) if words.len() >= ledger::words_needed(limit, &plan) => {
             let pairs = ledger::plan_words(&plan).into_iter().zip(words);
             let named = ["length", "sum"].into_iter().zip(pairs);
             let differ = named.filter(|(_, (own, lent))| own != lent);
@@ -435,22 +492,22 @@ fn differing(plan: &str, words: &str) -> Vec<&'static str> {
 /// that are not the plan's, a largest number of entries its path or why there is
 /// none, a withdrawal its tests, how much is held and by whom, an order what its
 /// firings do or why it is none, a conversion what sort of day or date it is
-/// given.
-fn shows(fields: &[&str]) -> String {
+/// given. All but plans, largest numbers and conversions are read at a limit.
+fn shows(limit: Limit, fields: &[&str]) -> String {
     match *fields {
         ["H", plan, _, calls, answers, _] => {
             let made = parts(calls, ',').zip(parts(answers, '|').skip(1));
             let outcomes: BTreeSet<String> = made.map(|(c, a)| outcome(c, a)).collect();
-            let ending = ending(plan, records(calls));
-            let windows = windows_of_history(plan, records(calls));
+            let ending = ending(limit, plan, records(calls));
+            let windows = windows_of_history(limit, plan, records(calls));
             format!("{:?} {outcomes:?} {ending:?} {windows:?}", height(plan))
         }
         ["U", plan, journal, output] => {
             let output = String::from_utf8(numbers(output, 2)).unwrap_or_default();
             let firsts: BTreeSet<&str> = output.lines().filter_map(|l| l.get(..1)).collect();
             let journal = numbers(journal, 2);
-            let ending = ending(plan, run_records(&journal));
-            let windows = windows_of_history(plan, run_records(&journal));
+            let ending = ending(limit, plan, run_records(&journal));
+            let windows = windows_of_history(limit, plan, run_records(&journal));
             format!("{firsts:?} {ending:?} {windows:?}")
         }
         ["P", plan, "3"] => format!("3 {:?}", faults::fall(&numbers(plan, 2))),
@@ -469,32 +526,32 @@ fn shows(fields: &[&str]) -> String {
             largest(&numbers(plan, 2), call, answer)
         }
         ["L", plan, before, call, "R24" | "", _] => {
-            format!("{} {:?}", &call[..1], differing(plan, before))
+            format!("{} {:?}", &call[..1], differing(limit, plan, before))
         }
         ["L", plan, before, call, answer, after] => match plan::read(&numbers(plan, 2)) {
-            Ok(plan) if answer == "R18" => violations(&plan, &numbers(before, 4)),
+            Ok(plan) if answer == "R18" => violations(limit, &plan, &numbers(before, 4)),
             Ok(plan) if answer.starts_with('D') => {
                 let (before, after) = (numbers(before, 4), numbers(after, 4));
-                let roots = parted(&plan, &before).then(|| standings(&plan, &before));
-                let changes = changes(&plan, &before, &after);
-                let windows = windows_of_call(fields[1], fields[2], call, answer);
-                let left = leaves(fields[1], fields[2], call, answer);
+                let roots = parted(limit, &plan, &before).then(|| standings(limit, &plan, &before));
+                let changes = changes(limit, &plan, [&before, &after]);
+                let windows = windows_of_call(limit, fields[1], fields[2], call, answer);
+                let left = leaves(limit, fields[1], fields[2], call, answer);
                 let outcome = outcome(call, answer);
                 format!("{outcome} {changes} {roots:?} {windows:?} {left:?}")
             }
             Ok(_) if answer == "R26" => day_refused(&numbers(before, 4), call),
-            Ok(plan) if answer == "R28" => right_lacked(&plan, &numbers(before, 4), call),
+            Ok(plan) if answer == "R28" => right_lacked(limit, &plan, &numbers(before, 4), call),
             _ => outcome(call, answer),
         },
         ["W", plan, _, words, _, tests, _] => {
-            let read = read(plan, words);
+            let read = read(limit, plan, words);
             read.map_or(String::new(), |(plan, ledger)| {
                 format!("{tests} {}", holding(&plan, &ledger))
             })
         }
         ["O", plan, _, words, tracks, _] => {
             let tracks = parts(tracks, ',').filter_map(|t| t.parse().ok());
-            let read = read(plan, words);
+            let read = read(limit, plan, words);
             read.map_or(String::new(), |(plan, ledger)| {
                 firings(&plan, ledger, &tracks.collect::<Vec<usize>>())
             })
@@ -504,9 +561,9 @@ fn shows(fields: &[&str]) -> String {
 }
 
 /// A plan and a ledger of it.
-fn read(plan: &str, words: &str) -> Option<(Plan, Ledger)> {
+fn read(limit: Limit, plan: &str, words: &str) -> Option<(Plan, Ledger)> {
     let plan = plan::read(&numbers(plan, 2)).ok()?;
-    let ledger = Ledger::decode(&plan, &numbers(words, 4));
+    let ledger = Ledger::decode(limit, &plan, &numbers(words, 4));
     Some((plan, ledger))
 }
 
@@ -576,10 +633,10 @@ fn largest(plan: &[u8], call: &str, answer: &str) -> String {
 }
 
 /// The clauses violated, and for a finish left to do how the roots stand.
-fn violations(plan: &Plan, words: &[u16]) -> String {
-    let violated = ledger::violated(plan, words);
+fn violations(limit: Limit, plan: &Plan, words: &[u16]) -> String {
+    let violated = ledger::violated(limit, plan, words);
     let left = violated == [Clause::NoFinishLeft];
-    let roots = left.then(|| standings(plan, words));
+    let roots = left.then(|| standings(limit, plan, words));
     format!("{violated:?} {roots:?}")
 }
 
@@ -601,13 +658,13 @@ fn rights_faults(plan: &[u8]) -> String {
 
 /// Of a call refused as 28: its letter, the rights that the society has
 /// somewhere, and whether a track to be fired is ready and under a root.
-fn right_lacked(plan: &Plan, words: &[u16], call: &str) -> String {
+fn right_lacked(limit: Limit, plan: &Plan, words: &[u16], call: &str) -> String {
     let (society, track) = match records(call).next() {
         Some(Record::Event(_, _, society)) | Some(Record::Signal(society)) => (society, None),
         Some(Record::Fire(track, society)) => (society, Some(usize::from(track))),
         _ => return String::new(),
     };
-    let ledger = Ledger::decode(plan, words);
+    let ledger = Ledger::decode(limit, plan, words);
     let ready = track.map(|t| (rules::may_fire(plan, &ledger, t), plan.is_root(t)));
     let rights = [Right::Move, Right::Signal, Right::Fire];
     let has = rights.map(|right| plan.allows_somewhere(society, right));
@@ -665,8 +722,9 @@ fn outcome(call: &str, answer: &str) -> String {
 }
 
 /// The modes that changed, and whether a track fell asleep with its host.
-fn changes(plan: &Plan, before: &[u16], after: &[u16]) -> String {
-    let modes = |t: usize| (track_words(before, t)[0], track_words(after, t)[0]);
+fn changes(limit: Limit, plan: &Plan, [before, after]: [&[u16]; 2]) -> String {
+    let mode = |words, t: usize| track_words(limit, words, t)[0];
+    let modes = |t: usize| (mode(before, t), mode(after, t));
     let changed = |t: &usize| modes(*t).0 != modes(*t).1;
     let falls = |t: usize| changed(&t) && modes(t).1 == 0;
     let tracks = 0..plan.track_count();
@@ -696,9 +754,18 @@ struct Line {
 
 impl Line {
     fn of(text: String) -> Option<Line> {
-        let (sort, size) = sort_of(&fields_of(&text))?;
+        let (limit, fields) = limit_and_fields(&text)?;
+        let (sort, size) = sort_of(limit, &fields)?;
         Some(Line { text, sort, size })
     }
+}
+
+/// What a line shows, and at which limit.
+fn shown(line: &str) -> String {
+    let read = limit_and_fields(line);
+    read.map_or(String::new(), |(limit, fields)| {
+        format!("{} {}", limit.0, shows(limit, &fields))
+    })
 }
 
 /// The cases of a share, those that show something new first, and how many
@@ -711,11 +778,11 @@ fn choose(share: &Share, lines: &[Line]) -> (Vec<Case>, usize) {
         if line.sort != share.sort {
             continue;
         }
-        if line.size > share.limit {
+        if line.size > share.most_size {
             dropped += 1;
             continue;
         }
-        let before = seen.entry(shows(&fields_of(&line.text))).or_default();
+        let before = seen.entry(shown(&line.text)).or_default();
         let (line, rank) = (line.text.clone(), *before);
         cases.push(Case { number, line, rank });
         *before += 1;

@@ -30,27 +30,27 @@ fn print_all(numbers: &[u64]) -> io::Result<()> {
         [seed, histories, singles, damaged, tracks] => (seed, histories, singles, damaged, tracks),
         _ => return Err(io::ErrorKind::InvalidInput.into()),
     };
-    let limit = tracks as usize;
+    let most_tracks = tracks as usize;
     let mut out = BufWriter::new(io::stdout().lock());
     print_lines(&mut out, (seed, 11), histories, |r| {
-        vectors::history_line(r, limit)
+        vectors::history_line(r, most_tracks)
     })?;
     print_lines(&mut out, (seed, 12), damaged, |r| {
-        vectors::plan_line(r, limit)
+        vectors::plan_line(r, most_tracks)
     })?;
     print_lines(&mut out, (seed, 13), singles, |r| {
-        vectors::single_line(r, limit)
+        vectors::single_line(r, most_tracks)
     })?;
     print_lines(&mut out, (seed, 14), histories, |r| {
-        vectors::unwind_line(r, limit)
+        vectors::unwind_line(r, most_tracks)
     })?;
     print_lines(&mut out, (seed, 15), histories, vectors::conversion_line)?;
     print_lines(&mut out, (seed, 16), histories, vectors::small_largest_line)?;
     print_lines(&mut out, (seed, 17), histories, |r| {
-        vectors::withdrawal_line(r, limit)
+        vectors::withdrawal_line(r, most_tracks)
     })?;
     print_lines(&mut out, (seed, 18), histories, |r| {
-        vectors::order_line(r, limit)
+        vectors::order_line(r, most_tracks)
     })?;
     out.flush()
 }

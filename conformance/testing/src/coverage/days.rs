@@ -136,7 +136,7 @@ impl Coverage {
         }
         let numbered = !matches!(single.call, Call::Entries(_));
         if violated == [Clause::DayInRange] && numbered {
-            let tracks = &single.words[LEADING_WORDS..words_needed(plan)];
+            let tracks = &single.words[LEADING_WORDS..words_needed(single.limit, plan)];
             let over = tracks.iter().all(|&word| word == 0);
             self.count_if(over, Happening::DayUnsoundOver);
             self.count_if(!over, Happening::DayUnsoundAwake);

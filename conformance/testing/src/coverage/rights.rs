@@ -155,7 +155,7 @@ fn possible(change: &Change, record: Record) -> Vec<(bool, usize)> {
         _ => return Vec::new(),
     };
     let moves = rules::possible_moves(change.plan, change.before, event, day);
-    let full = |t: usize| change.before.tracks[t].is_full();
+    let full = |t: usize| change.before.tracks[t].is_full(change.before.limit);
     let moves = moves.into_iter();
     moves.map(|(t, x)| (full(t) && x.code != 0, t)).collect()
 }

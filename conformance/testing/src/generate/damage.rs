@@ -17,16 +17,16 @@ pub const NUMBERS: [u8; 17] = [2, 3, 4, 5, 6, 7, 8, 9, 10, 11, 12, 13, 14, 15, 1
 const HEIGHT: u8 = 16;
 
 /// A good plan, a damaged one, or bytes gone astray.
-pub fn any_plan(rng: &mut Rng, limit: usize) -> Vec<u8> {
+pub fn any_plan(rng: &mut Rng, most_tracks: usize) -> Vec<u8> {
     match rng.below(100) {
-        0..=14 => plans::bytes(rng, limit),
+        0..=14 => plans::bytes(rng, most_tracks),
         15..=64 => {
             let number = any_number(rng);
-            refused_as(rng, limit, number)
+            refused_as(rng, most_tracks, number)
         }
-        65..=79 => several_faults(rng, limit),
+        65..=79 => several_faults(rng, most_tracks),
         80..=81 => noise(rng),
-        _ => astray(rng, limit),
+        _ => astray(rng, most_tracks),
     }
 }
 
@@ -40,13 +40,13 @@ fn any_number(rng: &mut Rng) -> u8 {
 }
 
 /// A plan whose first refusal is `number`, now and then with a window's fault or
-/// one of rights behind it. A limit below 9 tracks leaves no height to exceed;
+/// one of rights behind it. Fewer than 9 tracks leave no height to exceed;
 /// such a plan is damaged in another way.
-pub fn refused_as(rng: &mut Rng, limit: usize, number: u8) -> Vec<u8> {
-    let room = number != HEIGHT || limit > MAX_HEIGHT as usize;
+pub fn refused_as(rng: &mut Rng, most_tracks: usize, number: u8) -> Vec<u8> {
+    let room = number != HEIGHT || most_tracks > MAX_HEIGHT as usize;
     for _ in 0..if room { 64 } else { 0 } {
-        let mut plan = plans::records(rng, limit);
-        spoil_records(rng, &mut plan, limit, number);
+        let mut plan = plans::records(rng, most_tracks);
+        spoil_records(rng, &mut plan, most_tracks, number);
         if rng.chance(15) {
             spoil_windows(rng, &mut plan);
         }
@@ -59,15 +59,15 @@ pub fn refused_as(rng: &mut Rng, limit: usize, number: u8) -> Vec<u8> {
             return bytes;
         }
     }
-    astray(rng, limit)
+    astray(rng, most_tracks)
 }
 
 /// Two to four faults in one plan.
-pub fn several_faults(rng: &mut Rng, limit: usize) -> Vec<u8> {
-    let mut plan = plans::records(rng, limit);
+pub fn several_faults(rng: &mut Rng, most_tracks: usize) -> Vec<u8> {
+    let mut plan = plans::records(rng, most_tracks);
     let faults: Vec<u8> = (0..rng.between(2, 4)).map(|_| any_number(rng)).collect();
     for &number in &faults {
-        spoil_records(rng, &mut plan, limit, number);
+        spoil_records(rng, &mut plan, most_tracks, number);
     }
     let mut bytes = plan.encode();
     for &number in &faults {
@@ -77,8 +77,8 @@ pub fn several_faults(rng: &mut Rng, limit: usize) -> Vec<u8> {
 }
 
 /// A plan with bytes flipped, cut off or added.
-pub fn astray(rng: &mut Rng, limit: usize) -> Vec<u8> {
-    let mut bytes = plans::bytes(rng, limit);
+pub fn astray(rng: &mut Rng, most_tracks: usize) -> Vec<u8> {
+    let mut bytes = plans::bytes(rng, most_tracks);
     match rng.below(10) {
         0..=5 => flip(rng, &mut bytes),
         6..=7 => bytes.truncate(rng.below(bytes.len())),
@@ -111,18 +111,18 @@ fn extend(rng: &mut Rng, bytes: &mut Vec<u8>) {
 }
 
 /// Faults that show in the records: 6, 8 to 16, 25 and 27.
-fn spoil_records(rng: &mut Rng, plan: &mut Records, limit: usize, number: u8) {
+fn spoil_records(rng: &mut Rng, plan: &mut Records, most_tracks: usize, number: u8) {
     match number {
-        6 => overfill(rng, plan, limit),
+        6 => overfill(rng, plan, most_tracks),
         8 => plan.tracks.clear(),
         9 => spoil_state(rng, plan),
         10 => spoil_host(rng, plan),
-        11 => spoil_first(rng, plan, limit),
+        11 => spoil_first(rng, plan, most_tracks),
         12 => spoil_hosting(rng, plan),
         13 => spoil_transition(rng, plan),
         14 => spoil_deviation(rng, plan),
         15 => add_twin(rng, plan),
-        16 => grow_high(rng, plan, limit),
+        16 => grow_high(rng, plan, most_tracks),
         25 => spoil_windows(rng, plan),
         27 => spoil_rights(rng, plan),
         _ => {}
@@ -130,13 +130,13 @@ fn spoil_records(rng: &mut Rng, plan: &mut Records, limit: usize, number: u8) {
 }
 
 /// One track, state or transition too many.
-fn overfill(rng: &mut Rng, plan: &mut Records, limit: usize) {
+fn overfill(rng: &mut Rng, plan: &mut Records, most_tracks: usize) {
     let state = match plan.states.first() {
         Some(&state) => state,
         None => return,
     };
     match rng.below(3) {
-        0 if limit >= MAX_TRACKS => plan.tracks.resize(MAX_TRACKS + 1, Track { host: NONE }),
+        0 if most_tracks >= MAX_TRACKS => plan.tracks.resize(MAX_TRACKS + 1, Track { host: NONE }),
         1 => plan.states.resize(MAX_STATES + 1, state),
         _ => {
             let x = plan.transitions.first().copied().unwrap_or(blank());
@@ -186,8 +186,8 @@ fn spoil_host(rng: &mut Rng, plan: &mut Records) {
 }
 
 /// 11: a track has no state, or its first state is final.
-fn spoil_first(rng: &mut Rng, plan: &mut Records, limit: usize) {
-    if rng.chance(40) && plan.tracks.len() < limit.min(MAX_TRACKS) {
+fn spoil_first(rng: &mut Rng, plan: &mut Records, most_tracks: usize) {
+    if rng.chance(40) && plan.tracks.len() < most_tracks.min(MAX_TRACKS) {
         plan.tracks.push(Track { host: NONE });
         return;
     }
@@ -274,15 +274,15 @@ fn add_twin(rng: &mut Rng, plan: &mut Records) {
 }
 
 /// 16: tracks under tracks, 9 or more.
-fn grow_high(rng: &mut Rng, plan: &mut Records, limit: usize) {
-    let most = limit.min(MAX_TRACKS);
+fn grow_high(rng: &mut Rng, plan: &mut Records, most_tracks: usize) {
+    let most = most_tracks.min(MAX_TRACKS);
     if most <= MAX_HEIGHT as usize {
         return;
     }
     *plan = if rng.chance(20) {
         plans::chain(rng.between(9, most))
     } else {
-        plans::tall_records(rng, limit)
+        plans::tall_records(rng, most_tracks)
     };
 }
 

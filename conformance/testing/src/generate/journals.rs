@@ -10,6 +10,7 @@ use super::societies;
 use second::days::Term;
 use second::journal::{self, Record, MAX_BYTES};
 use second::ledger::{Ledger, Mode};
+use second::limit::Limit;
 use second::plan::{self, members, Plan, Right};
 use second::record;
 use second::rules;
@@ -36,13 +37,14 @@ pub struct Case {
     pub journal: Vec<u8>,
 }
 
-/// A whole run of `unwind`: mostly a good plan with a steered journal.
-pub fn case(rng: &mut Rng, limit: usize) -> Case {
+/// A whole run of `unwind`, at its limit: mostly a good plan with a steered
+/// journal.
+pub fn case(rng: &mut Rng, most_tracks: usize) -> Case {
     let good = !rng.chance(6);
     let plan = if good {
-        plans::bytes(rng, limit)
+        plans::bytes(rng, most_tracks)
     } else {
-        damage::any_plan(rng, limit)
+        damage::any_plan(rng, most_tracks)
     };
     let journal = match plan::read(&plan) {
         Ok(plan) => journal(rng, &plan),
@@ -89,7 +91,7 @@ fn pad(rng: &mut Rng, journal: &mut Vec<u8>) {
 /// A journal steered through the plan, sometimes ending in a broken record.
 pub fn journal(rng: &mut Rng, plan: &Plan) -> Vec<u8> {
     let mut bytes = Vec::new();
-    for record in history(rng, plan).0 {
+    for record in history(rng, Limit::MAIN, plan).0 {
         record.encode(&mut bytes);
     }
     if rng.chance(15) {
@@ -148,15 +150,20 @@ fn cut_short(rng: &mut Rng, bytes: &mut Vec<u8>) {
     bytes.extend_from_slice(&whole[..kept]);
 }
 
-/// A steered history from begin, and the ledger it leaves.
-pub fn history(rng: &mut Rng, plan: &Plan) -> (Vec<Record>, Ledger) {
+/// A steered history from begin at a limit, and the ledger it leaves.
+pub fn history(rng: &mut Rng, limit: Limit, plan: &Plan) -> (Vec<Record>, Ledger) {
     let temper = temper(rng, plan);
     let length = history_length(rng);
-    steered(rng, &temper, plan, length)
+    steered(rng, &temper, (limit, plan), length)
 }
 
-fn steered(rng: &mut Rng, temper: &Temper, plan: &Plan, length: usize) -> (Vec<Record>, Ledger) {
-    let mut ledger = rules::begin(plan);
+fn steered(
+    rng: &mut Rng,
+    temper: &Temper,
+    (limit, plan): (Limit, &Plan),
+    length: usize,
+) -> (Vec<Record>, Ledger) {
+    let mut ledger = rules::begin(limit, plan);
     let mut records: Vec<Record> = Vec::new();
     let mut left = length;
     while left > 0 {
@@ -180,7 +187,7 @@ const TRIES: usize = 400;
 /// A small plan and a short history, most often one that is over at its end
 /// with some root taken back: by an event or by a firing, equally often, and
 /// more seldom by a signal.
-pub fn half_withdrawn(rng: &mut Rng, limit: usize) -> (Vec<u8>, Vec<Record>) {
+pub fn half_withdrawn(rng: &mut Rng, limit: Limit, most_tracks: usize) -> (Vec<u8>, Vec<Record>) {
     let way = rng.below(5);
     let wanted = |last| match last {
         Record::Event(..) => way < 2,
@@ -189,12 +196,12 @@ pub fn half_withdrawn(rng: &mut Rng, limit: usize) -> (Vec<u8>, Vec<Record>) {
     };
     let mut tries = TRIES;
     loop {
-        let bytes = plans::small_linked_records(rng, limit).encode();
+        let bytes = plans::small_linked_records(rng, most_tracks).encode();
         let plan = plan::read(&bytes).expect("a good plan is accepted");
         let temper = parting(rng);
-        let records = steered(rng, &temper, &plan, SHORT).0;
+        let records = steered(rng, &temper, (limit, &plan), SHORT).0;
         tries -= 1;
-        if tries == 0 || parted_end(&plan, &records).map_or(false, wanted) {
+        if tries == 0 || parted_end(limit, &plan, &records).map_or(false, wanted) {
             return (bytes, records);
         }
     }
@@ -202,8 +209,8 @@ pub fn half_withdrawn(rng: &mut Rng, limit: usize) -> (Vec<u8>, Vec<Record>) {
 
 /// The record that put every track to sleep, where it is a signal or roots were
 /// in both modes before it.
-fn parted_end(plan: &Plan, records: &[Record]) -> Option<Record> {
-    let mut ledger = rules::begin(plan);
+fn parted_end(limit: Limit, plan: &Plan, records: &[Record]) -> Option<Record> {
+    let mut ledger = rules::begin(limit, plan);
     for &record in records {
         let parted = is_parted(plan, &ledger);
         journal::perform(plan, &mut ledger, record);

@@ -1,58 +1,63 @@
-//! Sound ledgers, reached by histories or crafted, damaged ones, and ones
-//! whose leading words are not the plan's.
+//! Sound ledgers at a limit, reached by histories or crafted, damaged ones, and
+//! ones whose leading words are not the plan's.
 
 use super::days;
 use super::journals;
 use super::rng::Rng;
 use second::journal;
 use second::ledger::{
-    self, track_words, track_words_mut, words_needed, Clause, Entry, Ledger, Mode, Track, CAPACITY,
-    LEADING_WORDS, PAIRS, PLAN_WORDS, TRACK_WORDS,
+    self, track_words, track_words_mut, words_needed, Clause, Entry, Ledger, Mode, Track,
+    LEADING_WORDS, PAIRS, PLAN_WORDS,
 };
+use second::limit::Limit;
 use second::plan::{members, Plan, NONE};
 use second::record;
 use second::rules;
 
 /// A sound ledger.
-pub fn sound(rng: &mut Rng, plan: &Plan) -> Ledger {
+pub fn sound(rng: &mut Rng, limit: Limit, plan: &Plan) -> Ledger {
     match rng.below(100) {
-        0..=2 => asleep(rng, plan),
-        3..=5 => rules::begin(plan),
-        6..=45 => journals::history(rng, plan).1,
-        _ => crafted(rng, plan),
+        0..=2 => asleep(rng, limit, plan),
+        3..=5 => rules::begin(limit, plan),
+        6..=45 => journals::history(rng, limit, plan).1,
+        _ => crafted(rng, limit, plan),
     }
 }
 
 /// A ledger as begin leaves it, mostly worked by a part of a history, or over.
-pub fn begun(rng: &mut Rng, plan: &Plan) -> Ledger {
+pub fn begun(rng: &mut Rng, limit: Limit, plan: &Plan) -> Ledger {
     match rng.below(100) {
-        0..=14 => rules::begin(plan),
-        15..=24 => asleep(rng, plan),
-        _ => worked(rng, plan),
+        0..=14 => rules::begin(limit, plan),
+        15..=24 => asleep(rng, limit, plan),
+        _ => worked(rng, limit, plan),
     }
 }
 
 /// All asleep, on a day that is mostly near a window.
-fn asleep(rng: &mut Rng, plan: &Plan) -> Ledger {
-    let mut ledger = Ledger::asleep(plan);
+fn asleep(rng: &mut Rng, limit: Limit, plan: &Plan) -> Ledger {
+    let mut ledger = Ledger::asleep(limit, plan);
     ledger.day = journals::day_near_windows(rng, plan);
     ledger
 }
 
 /// What some of the records of a history leave.
-fn worked(rng: &mut Rng, plan: &Plan) -> Ledger {
-    let records = journals::history(rng, plan).0;
+fn worked(rng: &mut Rng, limit: Limit, plan: &Plan) -> Ledger {
+    let records = journals::history(rng, limit, plan).0;
     let done = rng.below(records.len() + 1);
-    let mut ledger = rules::begin(plan);
+    let mut ledger = rules::begin(limit, plan);
     for &record in &records[..done] {
         journal::perform(plan, &mut ledger, record);
     }
     ledger
 }
 
-/// A sound ledger put together by hand, mostly one no history reaches.
-pub fn crafted(rng: &mut Rng, plan: &Plan) -> Ledger {
-    let mut ledger = asleep(rng, plan);
+/// A sound ledger put together by hand, mostly one no history reaches; where no
+/// entry may be held, one of a history.
+pub fn crafted(rng: &mut Rng, limit: Limit, plan: &Plan) -> Ledger {
+    if limit.entries() == 0 {
+        return worked(rng, limit, plan);
+    }
+    let mut ledger = asleep(rng, limit, plan);
     let mode = any_mode(rng);
     for root in plan.roots() {
         let mode = if rng.chance(75) { mode } else { any_mode(rng) };
@@ -64,9 +69,12 @@ pub fn crafted(rng: &mut Rng, plan: &Plan) -> Ledger {
 
 /// A sound ledger that is often one call away from finish: all roots ended
 /// or spent but for one, which has an event to come, an entry or an open
-/// scope; or all roots spent.
-pub fn near_finish(rng: &mut Rng, plan: &Plan) -> Ledger {
-    let mut ledger = half_withdrawn(rng, plan);
+/// scope; or all roots spent. Where no entry may be held, any of a history.
+pub fn near_finish(rng: &mut Rng, limit: Limit, plan: &Plan) -> Ledger {
+    if limit.entries() == 0 {
+        return worked(rng, limit, plan);
+    }
+    let mut ledger = half_withdrawn(rng, limit, plan);
     let roots: Vec<usize> = plan.roots().collect();
     let root = rng.pick(&roots).unwrap_or(0);
     match rng.below(100) {
@@ -88,9 +96,26 @@ pub fn near_finish(rng: &mut Rng, plan: &Plan) -> Ledger {
     ledger
 }
 
+/// A sound ledger whose awake tracks mostly hold as many entries as the limit
+/// allows, or one fewer.
+pub fn brimming(rng: &mut Rng, limit: Limit, plan: &Plan) -> Ledger {
+    let mut ledger = sound(rng, limit, plan);
+    for track in 0..plan.track_count() {
+        if !ledger.tracks[track].is_awake() || rng.chance(20) {
+            continue;
+        }
+        let deviations = deviations(plan, track);
+        let most = limit.entries().saturating_sub(rng.below(2));
+        while ledger.tracks[track].held() < most {
+            ledger.tracks[track].install(any_entry(rng, &deviations));
+        }
+    }
+    ledger
+}
+
 /// Every root ended or spent, and no scope open: mostly finish is left to do.
-fn half_withdrawn(rng: &mut Rng, plan: &Plan) -> Ledger {
-    let mut ledger = asleep(rng, plan);
+fn half_withdrawn(rng: &mut Rng, limit: Limit, plan: &Plan) -> Ledger {
+    let mut ledger = asleep(rng, limit, plan);
     let percent = rng.pick(&[30, 60, 90]).unwrap_or(0);
     for root in plan.roots() {
         let last = final_state(rng, plan, root).filter(|_| rng.chance(percent));
@@ -123,8 +148,9 @@ fn before_end(rng: &mut Rng, plan: &Plan, ledger: &mut Ledger, track: usize) {
     let state = state.unwrap_or_else(|| plan.first_state(track));
     ledger.tracks[track] = Track::awake(Mode::Forward, state);
     let deviations = deviations(plan, track);
-    let held = rng.pick(&[0, 1, CAPACITY]).unwrap_or(0);
-    for _ in 0..held {
+    let most = ledger.limit.entries();
+    let held = rng.pick(&[0, 1, most]).unwrap_or(0);
+    for _ in 0..held.min(most) {
         ledger.tracks[track].install(any_entry(rng, &deviations));
     }
 }
@@ -133,7 +159,8 @@ fn before_end(rng: &mut Rng, plan: &Plan, ledger: &mut Ledger, track: usize) {
 fn hold(rng: &mut Rng, plan: &Plan, ledger: &mut Ledger, track: usize) {
     ledger.tracks[track] = spent(rng, plan, track);
     let deviations = deviations(plan, track);
-    for _ in 0..rng.pick(&[1, 1, 1, 2]).unwrap_or(1) {
+    let held = rng.pick(&[1, 1, 1, 2]).unwrap_or(1);
+    for _ in 0..held.min(ledger.limit.entries()) {
         ledger.tracks[track].install(any_entry(rng, &deviations));
     }
 }
@@ -185,17 +212,18 @@ fn rouse(rng: &mut Rng, plan: &Plan, ledger: &mut Ledger, track: usize, mode: Mo
     }
 }
 
-/// Gives a track entries: none, some, all but one, or all 32.
+/// Gives a track entries: none, some, all but one, or as many as the limit.
 fn fill(rng: &mut Rng, plan: &Plan, ledger: &mut Ledger, track: usize) {
+    let most = ledger.limit.entries();
     let held = match rng.below(100) {
         0..=34 => 0,
         35..=64 => rng.between(1, 3),
-        65..=74 => rng.below(CAPACITY),
-        75..=79 => CAPACITY - 1,
-        _ => CAPACITY,
+        65..=74 => rng.below(most + 1),
+        75..=79 => most.saturating_sub(1),
+        _ => most,
     };
     let deviations = deviations(plan, track);
-    for _ in 0..held {
+    for _ in 0..held.min(most) {
         ledger.tracks[track].install(any_entry(rng, &deviations));
     }
 }
@@ -279,34 +307,34 @@ pub fn lend(rng: &mut Rng, ledger: &Ledger) -> Vec<u16> {
 }
 
 /// Garbage words, a few more than the plan needs.
-pub fn garbage(rng: &mut Rng, plan: &Plan) -> Vec<u16> {
-    let count = words_needed(plan) + rng.between(1, 5);
+pub fn garbage(rng: &mut Rng, limit: Limit, plan: &Plan) -> Vec<u16> {
+    let count = words_needed(limit, plan) + rng.between(1, 5);
     (0..count).map(|_| rng.word()).collect()
 }
 
 /// A sound ledger damaged so that exactly one clause is violated, if the
 /// plan and the ledger allow it.
-pub fn violate(rng: &mut Rng, plan: &Plan, clause: Clause) -> Option<Vec<u16>> {
+pub fn violate(rng: &mut Rng, limit: Limit, plan: &Plan, clause: Clause) -> Option<Vec<u16>> {
     let sound = if clause == Clause::DayInRange && rng.chance(40) {
-        asleep(rng, plan)
+        asleep(rng, limit, plan)
     } else if rng.chance(25) {
-        journals::history(rng, plan).1
+        journals::history(rng, limit, plan).1
     } else {
-        crafted(rng, plan)
+        crafted(rng, limit, plan)
     };
     let mut words = lend(rng, &sound);
-    damage(rng, plan, &mut words, clause);
-    (ledger::violated(plan, &words) == [clause]).then_some(words)
+    damage(rng, (limit, plan), &mut words, clause);
+    (ledger::violated(limit, plan, &words) == [clause]).then_some(words)
 }
 
 /// Random words changed, so that most often the ledger is not sound.
-pub fn flip(rng: &mut Rng, plan: &Plan, words: &mut [u16]) {
+pub fn flip(rng: &mut Rng, limit: Limit, plan: &Plan, words: &mut [u16]) {
     for _ in 0..rng.between(1, 3) {
         if rng.chance(12) {
             let at = rng.between(PLAN_WORDS, LEADING_WORDS - 1);
             words[at] = flipped(rng, words[at]);
         } else {
-            let own = track_words_mut(words, rng.below(plan.track_count()));
+            let own = track_words_mut(limit, words, rng.below(plan.track_count()));
             let at = word_in_track(rng, own);
             own[at] = flipped(rng, own[at]);
         }
@@ -356,27 +384,28 @@ fn other_word(rng: &mut Rng, word: u16) -> u16 {
 
 /// Mode, state, count, a pair near the newest entry, or any word.
 fn word_in_track(rng: &mut Rng, own: &[u16]) -> usize {
-    let held = usize::from(own[2]).min(CAPACITY - 1);
+    let newest = PAIRS + 2 * usize::from(own[2]) + rng.below(2);
     match rng.below(5) {
         0..=2 => rng.below(PAIRS),
-        3 => PAIRS + 2 * held + rng.below(2),
-        _ => rng.below(TRACK_WORDS),
+        3 => newest.min(own.len() - 1),
+        _ => rng.below(own.len()),
     }
 }
 
 /// Damages one clause, where it can.
-fn damage(rng: &mut Rng, plan: &Plan, words: &mut [u16], clause: Clause) {
-    let track = any_track(rng, plan, words, clause);
-    let own = track_words_mut(words, track);
+fn damage(rng: &mut Rng, read: (Limit, &Plan), words: &mut [u16], clause: Clause) {
+    let (limit, plan) = read;
+    let track = any_track(rng, read, words, clause);
+    let own = track_words_mut(limit, words, track);
     match clause {
         Clause::DayInRange => {
             let day = record::words_of(days::outside(rng));
             words[PLAN_WORDS..LEADING_WORDS].copy_from_slice(&day);
         }
         Clause::ModesKnown => own[0] = rng.word().max(3),
-        Clause::CountsInRange => overcount(rng, own),
-        Clause::UnusedPairsZero => soil_unused(rng, own),
-        Clause::AsleepTracksZero => own[rng.between(1, TRACK_WORDS - 1)] = rng.word().max(1),
+        Clause::CountsInRange => overcount(rng, limit, own),
+        Clause::UnusedPairsZero => soil_unused(rng, limit, own),
+        Clause::AsleepTracksZero => own[rng.between(1, own.len() - 1)] = rng.word().max(1),
         Clause::RootsAwake => own.fill(0),
         Clause::StatesOwn => own[1] = foreign_state(rng, plan, track),
         Clause::CodesNotZero => set_pair(rng, own, Some(0), None),
@@ -393,19 +422,20 @@ fn damage(rng: &mut Rng, plan: &Plan, words: &mut [u16], clause: Clause) {
             set_pair(rng, own, None, last)
         }
         Clause::ScopesWhole => own.fill(0),
-        Clause::HostsAwake => sleep_middle(rng, plan, words),
+        Clause::HostsAwake => sleep_middle(rng, read, words),
         Clause::HostsInHostingState => own[1] = other_state(rng, plan, track, own[1]),
         Clause::ScopesInHostMode => own[0] = if own[0] == 1 { 2 } else { 1 },
-        Clause::NoClosingLeft => to_final(rng, plan, words, |p, t| !p.is_root(t)),
-        Clause::NoFinishLeft if rng.chance(60) => half_withdrawn(rng, plan).encode(words),
-        Clause::NoFinishLeft => to_final(rng, plan, words, Plan::is_root),
-        Clause::NoAbandoningLeft => spend(rng, plan, words),
+        Clause::NoClosingLeft => to_final(rng, read, words, |p, t| !p.is_root(t)),
+        Clause::NoFinishLeft if rng.chance(60) => half_withdrawn(rng, limit, plan).encode(words),
+        Clause::NoFinishLeft => to_final(rng, read, words, Plan::is_root),
+        Clause::NoAbandoningLeft => spend(rng, read, words),
     }
 }
 
 /// A track that the damage can strike: asleep, root, hosted or any awake one.
-fn any_track(rng: &mut Rng, plan: &Plan, words: &[u16], clause: Clause) -> usize {
-    let awake = |t: usize| track_words(words, t)[0] != 0;
+fn any_track(rng: &mut Rng, read: (Limit, &Plan), words: &[u16], clause: Clause) -> usize {
+    let (limit, plan) = read;
+    let awake = |t: usize| track_words(limit, words, t)[0] != 0;
     let fits = |&t: &usize| match clause {
         Clause::AsleepTracksZero => !awake(t),
         Clause::RootsAwake | Clause::DeviationsOwn | Clause::DeviationsNotFinal => plan.is_root(t),
@@ -416,22 +446,25 @@ fn any_track(rng: &mut Rng, plan: &Plan, words: &[u16], clause: Clause) -> usize
     rng.pick(&fitting).unwrap_or(0)
 }
 
-/// A count above 32, all pairs being held.
-fn overcount(rng: &mut Rng, own: &mut [u16]) {
-    own[2] = rng.pick(&[33, 34, 64, 65535]).unwrap_or(33);
+/// A count above the limit, all pairs being held.
+fn overcount(rng: &mut Rng, limit: Limit, own: &mut [u16]) {
+    let next = limit.0 + 1;
+    let counts = [next, next, next + 1, 2 * limit.0, 32, 33, 64, 65535];
+    let count = rng.pick(&counts).filter(|&count| count > limit.0);
+    own[2] = count.unwrap_or(next);
     for pair in own[PAIRS..].chunks_exact_mut(2).filter(|p| p[0] == 0) {
         pair.copy_from_slice(&[1, NONE]);
     }
 }
 
 /// Writes into a pair not held, most often the next one.
-fn soil_unused(rng: &mut Rng, own: &mut [u16]) {
+fn soil_unused(rng: &mut Rng, limit: Limit, own: &mut [u16]) {
     let held = usize::from(own[2]);
-    if held < CAPACITY {
+    if held < limit.entries() {
         let pair = if rng.chance(50) {
             held
         } else {
-            rng.between(held, CAPACITY - 1)
+            rng.between(held, limit.entries() - 1)
         };
         own[PAIRS + 2 * pair + rng.below(2)] = rng.pick(&[1, 50, NONE]).unwrap_or(1);
     }
@@ -472,24 +505,29 @@ fn other_state(rng: &mut Rng, plan: &Plan, track: usize, state: u16) -> u16 {
 }
 
 /// Puts a scope to sleep whose tracks have scopes open.
-fn sleep_middle(rng: &mut Rng, plan: &Plan, words: &mut [u16]) {
+fn sleep_middle(rng: &mut Rng, (limit, plan): (Limit, &Plan), words: &mut [u16]) {
     let hosting: Vec<u16> = plan.hosting_states().collect();
     if let Some(state) = rng.pick(&hosting) {
         for track in members(plan.scope(state)) {
-            track_words_mut(words, track).fill(0);
+            track_words_mut(limit, words, track).fill(0);
         }
     }
 }
 
 /// Puts awake tracks of the wanted sort into final states, closing nothing.
-fn to_final(rng: &mut Rng, plan: &Plan, words: &mut [u16], wanted: fn(&Plan, usize) -> bool) {
+fn to_final(
+    rng: &mut Rng,
+    (limit, plan): (Limit, &Plan),
+    words: &mut [u16],
+    wanted: fn(&Plan, usize) -> bool,
+) {
     let hosting: Vec<u16> = plan.hosting_states().collect();
     let scope = rng.pick(&hosting).map_or(0, |s| plan.scope(s));
     for track in 0..plan.track_count() {
         let chosen = plan.is_root(track) || scope & (1 << track) != 0;
         if chosen && wanted(plan, track) {
             if let Some(last) = final_state(rng, plan, track) {
-                let own = track_words_mut(words, track);
+                let own = track_words_mut(limit, words, track);
                 own[1] = last;
             }
         }
@@ -497,10 +535,10 @@ fn to_final(rng: &mut Rng, plan: &Plan, words: &mut [u16], wanted: fn(&Plan, usi
 }
 
 /// Takes all entries from the tracks of a scope.
-fn spend(rng: &mut Rng, plan: &Plan, words: &mut [u16]) {
+fn spend(rng: &mut Rng, (limit, plan): (Limit, &Plan), words: &mut [u16]) {
     let hosting: Vec<u16> = plan.hosting_states().collect();
     let scope = rng.pick(&hosting).map_or(0, |s| plan.scope(s));
     for track in members(scope) {
-        track_words_mut(words, track)[2..].fill(0);
+        track_words_mut(limit, words, track)[2..].fill(0);
     }
 }

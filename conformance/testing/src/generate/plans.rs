@@ -37,9 +37,9 @@ struct Taste {
     led: usize,
 }
 
-/// The records of an accepted plan of at most `limit` tracks.
-pub fn records(rng: &mut Rng, limit: usize) -> Records {
-    let taste = taste(rng, limit);
+/// The records of an accepted plan of at most `most_tracks` tracks.
+pub fn records(rng: &mut Rng, most_tracks: usize) -> Records {
+    let taste = taste(rng, most_tracks);
     sketch(rng, &taste)
 }
 
@@ -49,16 +49,16 @@ pub fn records_of(rng: &mut Rng, tracks: usize) -> Records {
     sketch(rng, &taste)
 }
 
-/// The records of an accepted plan of at most `limit` tracks, most often with
+/// The records of an accepted plan of at most `most_tracks` tracks, most often with
 /// several roots whose ways are short and deviate.
-pub fn linked_records(rng: &mut Rng, limit: usize) -> Records {
-    several_roots(rng, |rng| linked_taste(rng, limit))
+pub fn linked_records(rng: &mut Rng, most_tracks: usize) -> Records {
+    several_roots(rng, |rng| linked_taste(rng, most_tracks))
 }
 
 /// The same with two or three tracks of about two states each.
-pub fn small_linked_records(rng: &mut Rng, limit: usize) -> Records {
+pub fn small_linked_records(rng: &mut Rng, most_tracks: usize) -> Records {
     several_roots(rng, |rng| {
-        let mut taste = linked_taste(rng, limit.min(3));
+        let mut taste = linked_taste(rng, most_tracks.min(3));
         taste.states = 2 * taste.tracks;
         taste.transitions = rng.between(taste.tracks, 2 * taste.tracks);
         taste
@@ -80,10 +80,10 @@ fn several_roots(rng: &mut Rng, taste: impl Fn(&mut Rng) -> Taste) -> Records {
 }
 
 /// Records good but for the height of a track, which mostly exceeds 8 where
-/// the limit leaves room for it.
-pub fn tall_records(rng: &mut Rng, limit: usize) -> Records {
-    let mut taste = taste(rng, limit);
-    let most = limit.clamp(1, MAX_TRACKS);
+/// the tracks allowed leave room for it.
+pub fn tall_records(rng: &mut Rng, most_tracks: usize) -> Records {
+    let mut taste = taste(rng, most_tracks);
+    let most = most_tracks.clamp(1, MAX_TRACKS);
     taste.tracks = rng.between(most.min(9), most);
     taste.states = state_total(rng, taste.tracks, false);
     taste.roots = 3;
@@ -125,9 +125,9 @@ fn windows(rng: &mut Rng, taste: &Taste, transitions: usize) -> Vec<Window> {
     windows
 }
 
-/// The bytes of an accepted plan of at most `limit` tracks.
-pub fn bytes(rng: &mut Rng, limit: usize) -> Vec<u8> {
-    records(rng, limit).encode()
+/// The bytes of an accepted plan of at most `most_tracks` tracks.
+pub fn bytes(rng: &mut Rng, most_tracks: usize) -> Vec<u8> {
+    records(rng, most_tracks).encode()
 }
 
 /// A chain of tracks, each hosted by the first state of the one before: its
@@ -160,11 +160,11 @@ pub fn chain(tracks: usize) -> Records {
     }
 }
 
-fn taste(rng: &mut Rng, limit: usize) -> Taste {
+fn taste(rng: &mut Rng, most_tracks: usize) -> Taste {
     if rng.chance(15) {
-        return linked_taste(rng, limit);
+        return linked_taste(rng, most_tracks);
     }
-    let most = limit.clamp(1, MAX_TRACKS);
+    let most = most_tracks.clamp(1, MAX_TRACKS);
     let (low, high) = track_range(rng);
     let tracks = rng.between(low.min(most), high.min(most));
     taste_of(rng, tracks)
@@ -190,8 +190,8 @@ fn taste_of(rng: &mut Rng, tracks: usize) -> Taste {
 }
 
 /// Two to seven tracks, about half of them roots, with few states each.
-fn linked_taste(rng: &mut Rng, limit: usize) -> Taste {
-    let most = limit.clamp(1, MAX_TRACKS);
+fn linked_taste(rng: &mut Rng, most_tracks: usize) -> Taste {
+    let most = most_tracks.clamp(1, MAX_TRACKS);
     let tracks = rng.between(most.min(2), most.min(7));
     let extra: usize = (0..tracks).map(|_| rng.between(1, 2)).sum();
     Taste {

@@ -13,6 +13,7 @@ use super::societies;
 use second::days::Date;
 use second::journal::{self, Outcome, Record};
 use second::ledger::{self, Clause, Ledger, LEADING_WORDS, PLAN_WORDS};
+use second::limit::Limit;
 use second::plan::{self, members, Plan};
 use second::rules;
 
@@ -65,9 +66,13 @@ pub fn conversion(rng: &mut Rng) -> Call {
 /// A single call with what it is given.
 #[derive(Clone, Debug)]
 pub struct Single {
+    /// The caller's limit.
+    pub limit: Limit,
     pub plan: Vec<u8>,
     pub words: Vec<u16>,
     pub call: Call,
+    /// The limit that the ledger was made at, where that is another one.
+    pub made_at: Option<Limit>,
     /// The plan that the ledger was begun under, where that is another one
     /// with as many tracks.
     pub begun_under: Option<Vec<u8>>,
@@ -76,30 +81,50 @@ pub struct Single {
 /// Tries at a plan that allows the wanted damage.
 const TRIES: usize = 24;
 
-/// A single call: on a sound ledger, one whose scopes close at once, one with
+/// Percent of single calls at the reading rooms' limit.
+const READING_ROOM: usize = 35;
+
+/// A single call at either limit.
+pub fn single(rng: &mut Rng, most_tracks: usize) -> Single {
+    let limit = if rng.chance(READING_ROOM) {
+        Limit::READING_ROOM
+    } else {
+        Limit::MAIN
+    };
+    single_at(rng, limit, most_tracks)
+}
+
+/// A single call at a limit: on a sound ledger, one with tracks that are full or
+/// nearly so, one made at another limit, one whose scopes close at once, one with
 /// rights divided among societies, under a plan with unfit rights, on a ledger
 /// near its finish, a damaged one, too few words, a damaged plan, or a ledger of
 /// another plan.
-pub fn single(rng: &mut Rng, limit: usize) -> Single {
+pub fn single_at(rng: &mut Rng, limit: Limit, most_tracks: usize) -> Single {
+    let given = (limit, most_tracks);
     match rng.below(100) {
-        0..=36 => on_sound(rng, limit),
-        37 => on_closings(rng, limit),
-        38..=43 => on_divided(rng, limit),
-        44..=45 => on_unfit_rights(rng, limit),
-        46..=51 => on_near_finish(rng, limit),
-        52..=73 => on_violated(rng, limit),
-        74..=79 => on_flipped(rng, limit),
-        80..=83 => on_few_words(rng, limit),
-        84..=88 => on_any_plan(rng, limit),
-        89..=93 => on_misled(rng, limit),
-        94..=97 => on_neighbours(rng, limit),
-        _ => on_alike(rng, limit),
+        0..=30 => on_sound(rng, given),
+        31..=33 => on_brimming(rng, given),
+        34..=36 => on_other_limits(rng, given),
+        37 => on_closings(rng, given),
+        38..=43 => on_divided(rng, given),
+        44..=45 => on_unfit_rights(rng, given),
+        46..=51 => on_near_finish(rng, given),
+        52..=73 => on_violated(rng, given),
+        74..=79 => on_flipped(rng, given),
+        80..=83 => on_few_words(rng, given),
+        84..=88 => on_any_plan(rng, given),
+        89..=93 => on_misled(rng, given),
+        94..=97 => on_neighbours(rng, given),
+        _ => on_alike(rng, given),
     }
 }
 
-fn good_plan(rng: &mut Rng, limit: usize) -> (Vec<u8>, Plan) {
+/// The caller's limit, and the most tracks of a plan.
+type Given = (Limit, usize);
+
+fn good_plan(rng: &mut Rng, most_tracks: usize) -> (Vec<u8>, Plan) {
     loop {
-        let bytes = plans::bytes(rng, limit);
+        let bytes = plans::bytes(rng, most_tracks);
         if let Ok(plan) = plan::read(&bytes) {
             return (bytes, plan);
         }
@@ -107,16 +132,18 @@ fn good_plan(rng: &mut Rng, limit: usize) -> (Vec<u8>, Plan) {
 }
 
 /// A plan that most often has several roots.
-fn linked_plan(rng: &mut Rng, limit: usize) -> (Vec<u8>, Plan) {
-    let bytes = plans::linked_records(rng, limit).encode();
+fn linked_plan(rng: &mut Rng, most_tracks: usize) -> (Vec<u8>, Plan) {
+    let bytes = plans::linked_records(rng, most_tracks).encode();
     let plan = plan::read(&bytes).expect("a good plan is accepted");
     (bytes, plan)
 }
 
-fn on_sound(rng: &mut Rng, limit: usize) -> Single {
-    let (bytes, plan) = good_plan(rng, limit);
-    let ledger = ledgers::sound(rng, &plan);
+fn on_sound(rng: &mut Rng, (limit, most_tracks): Given) -> Single {
+    let (bytes, plan) = good_plan(rng, most_tracks);
+    let ledger = ledgers::sound(rng, limit, &plan);
     Single {
+        limit,
+        made_at: None,
         words: ledgers::lend(rng, &ledger),
         call: steered_call(rng, &plan, &ledger),
         plan: bytes,
@@ -124,11 +151,67 @@ fn on_sound(rng: &mut Rng, limit: usize) -> Single {
     }
 }
 
+/// Tracks that are full or nearly so, and mostly an event that moves or a firing.
+fn on_brimming(rng: &mut Rng, (limit, most_tracks): Given) -> Single {
+    let (bytes, plan) = good_plan(rng, most_tracks);
+    let ledger = ledgers::brimming(rng, limit, &plan);
+    let firing = steered_firing(rng, &plan, &ledger).filter(|_| rng.chance(40));
+    Single {
+        limit,
+        made_at: None,
+        words: ledgers::lend(rng, &ledger),
+        call: firing.unwrap_or_else(|| steered_event(rng, &plan, &ledger)),
+        plan: bytes,
+        begun_under: None,
+    }
+}
+
+/// A limit that is not this one: the other of the two settings.
+fn other_limit(limit: Limit) -> Limit {
+    match limit {
+        Limit::READING_ROOM => Limit::MAIN,
+        _ => Limit::READING_ROOM,
+    }
+}
+
+/// A ledger made at another limit, often of few tracks, and mostly with as many
+/// words as the caller's limit needs: zeros beyond its own, or any.
+fn on_other_limits(rng: &mut Rng, (limit, most_tracks): Given) -> Single {
+    let made_at = other_limit(limit);
+    let few = rng.pick(&[1, 2, 3, most_tracks]).unwrap_or(1);
+    let (bytes, plan) = good_plan(rng, few.min(most_tracks));
+    let ledger = if rng.chance(50) {
+        ledgers::begun(rng, made_at, &plan)
+    } else {
+        ledgers::sound(rng, made_at, &plan)
+    };
+    let mut words = ledgers::lend(rng, &ledger);
+    let needed = ledger::words_needed(limit, &plan);
+    if words.len() < needed && rng.chance(85) {
+        let zeros = rng.chance(70);
+        let beyond = needed + rng.below(3) - words.len();
+        words.extend((0..beyond).map(|_| if zeros { 0 } else { rng.word() }));
+    }
+    let call = if words.len() < needed {
+        any_call(rng, &plan)
+    } else {
+        fitting_call(rng, limit, &plan, &words)
+    };
+    Single {
+        limit,
+        made_at: Some(made_at),
+        plan: bytes,
+        words,
+        call,
+        begun_under: None,
+    }
+}
+
 /// A ledger on which an event closes several scopes, if a few tries find one.
-fn on_closings(rng: &mut Rng, limit: usize) -> Single {
+fn on_closings(rng: &mut Rng, (limit, most_tracks): Given) -> Single {
     for _ in 0..TRIES / 2 {
-        let (bytes, plan) = good_plan(rng, limit);
-        let ledger = ledgers::sound(rng, &plan);
+        let (bytes, plan) = good_plan(rng, most_tracks);
+        let ledger = ledgers::sound(rng, limit, &plan);
         let events = journals::moving_events(&plan, &ledger, |s| plan.is_final(s));
         let event = match journals::busiest(&plan, &ledger, &events) {
             Some(event) => journals::event_of(rng, &plan, &ledger, event),
@@ -137,6 +220,8 @@ fn on_closings(rng: &mut Rng, limit: usize) -> Single {
         let outcome = journal::perform(&plan, &mut ledger.clone(), event);
         if matches!(outcome, Outcome::Event(_, m) if m.closed > 1) {
             return Single {
+                limit,
+                made_at: None,
                 words: ledgers::lend(rng, &ledger),
                 call: Call::of(event).unwrap_or(Call::Ready),
                 plan: bytes,
@@ -144,25 +229,27 @@ fn on_closings(rng: &mut Rng, limit: usize) -> Single {
             };
         }
     }
-    on_sound(rng, limit)
+    on_sound(rng, (limit, most_tracks))
 }
 
 /// A ledger under a plan with several roots and, mostly, several societies, and
 /// a call that rights have a say in.
-fn on_divided(rng: &mut Rng, limit: usize) -> Single {
+fn on_divided(rng: &mut Rng, (limit, most_tracks): Given) -> Single {
     let (bytes, plan) = loop {
-        let (bytes, plan) = linked_plan(rng, limit);
+        let (bytes, plan) = linked_plan(rng, most_tracks);
         if societies::named(&plan).len() > 1 || rng.chance(20) {
             break (bytes, plan);
         }
     };
-    let ledger = ledgers::sound(rng, &plan);
+    let ledger = ledgers::sound(rng, limit, &plan);
     let call = match rng.below(100) {
         0..=62 => Call::Signal(journals::signaller(rng, &plan, &ledger)),
         63..=84 => steered_event(rng, &plan, &ledger),
         _ => any_firing(rng, &plan, &ledger),
     };
     Single {
+        limit,
+        made_at: None,
         words: ledgers::lend(rng, &ledger),
         call,
         plan: bytes,
@@ -178,18 +265,20 @@ fn any_firing(rng: &mut Rng, plan: &Plan, ledger: &Ledger) -> Call {
 }
 
 /// A plan whose rights records are unfit, with a ledger of another plan.
-fn on_unfit_rights(rng: &mut Rng, limit: usize) -> Single {
-    let mut single = on_sound(rng, limit);
-    single.plan = damage::refused_as(rng, limit, 27);
+fn on_unfit_rights(rng: &mut Rng, (limit, most_tracks): Given) -> Single {
+    let mut single = on_sound(rng, (limit, most_tracks));
+    single.plan = damage::refused_as(rng, most_tracks, 27);
     single
 }
 
 /// A ledger near its finish, and mostly a call that finishes.
-fn on_near_finish(rng: &mut Rng, limit: usize) -> Single {
-    let (bytes, plan) = linked_plan(rng, limit);
-    let ledger = ledgers::near_finish(rng, &plan);
+fn on_near_finish(rng: &mut Rng, (limit, most_tracks): Given) -> Single {
+    let (bytes, plan) = linked_plan(rng, most_tracks);
+    let ledger = ledgers::near_finish(rng, limit, &plan);
     let finishing = finishing_call(rng, &plan, &ledger).filter(|_| rng.chance(80));
     Single {
+        limit,
+        made_at: None,
         words: ledgers::lend(rng, &ledger),
         call: finishing.unwrap_or_else(|| steered_call(rng, &plan, &ledger)),
         plan: bytes,
@@ -221,19 +310,21 @@ fn finishing_call(rng: &mut Rng, plan: &Plan, ledger: &Ledger) -> Option<Call> {
 }
 
 /// One clause violated alone; where no plan allows it, words flipped.
-fn on_violated(rng: &mut Rng, limit: usize) -> Single {
+fn on_violated(rng: &mut Rng, (limit, most_tracks): Given) -> Single {
     let clauses: Vec<Clause> = Clause::all().collect();
     let clause = rng.pick(&clauses).unwrap_or(Clause::ModesKnown);
     for _ in 0..TRIES {
         let linked = clause == Clause::NoFinishLeft && rng.chance(50);
         let (bytes, plan) = if linked {
-            linked_plan(rng, limit)
+            linked_plan(rng, most_tracks)
         } else {
-            good_plan(rng, limit)
+            good_plan(rng, most_tracks)
         };
-        if let Some(words) = ledgers::violate(rng, &plan, clause) {
+        if let Some(words) = ledgers::violate(rng, limit, &plan, clause) {
             let call = any_call(rng, &plan);
             return Single {
+                limit,
+                made_at: None,
                 plan: bytes,
                 words,
                 call,
@@ -241,16 +332,18 @@ fn on_violated(rng: &mut Rng, limit: usize) -> Single {
             };
         }
     }
-    on_flipped(rng, limit)
+    on_flipped(rng, (limit, most_tracks))
 }
 
-fn on_flipped(rng: &mut Rng, limit: usize) -> Single {
-    let (bytes, plan) = good_plan(rng, limit);
-    let ledger = ledgers::sound(rng, &plan);
+fn on_flipped(rng: &mut Rng, (limit, most_tracks): Given) -> Single {
+    let (bytes, plan) = good_plan(rng, most_tracks);
+    let ledger = ledgers::sound(rng, limit, &plan);
     let mut words = ledgers::lend(rng, &ledger);
-    ledgers::flip(rng, &plan, &mut words);
+    ledgers::flip(rng, limit, &plan, &mut words);
     Single {
-        call: fitting_call(rng, &plan, &words),
+        limit,
+        made_at: None,
+        call: fitting_call(rng, limit, &plan, &words),
         plan: bytes,
         words,
         begun_under: None,
@@ -259,9 +352,9 @@ fn on_flipped(rng: &mut Rng, limit: usize) -> Single {
 
 /// One word too few, no room for the leading words or for the day, not even
 /// these, or any number fewer.
-fn on_few_words(rng: &mut Rng, limit: usize) -> Single {
-    let (bytes, plan) = good_plan(rng, limit);
-    let ledger = ledgers::sound(rng, &plan);
+fn on_few_words(rng: &mut Rng, (limit, most_tracks): Given) -> Single {
+    let (bytes, plan) = good_plan(rng, most_tracks);
+    let ledger = ledgers::sound(rng, limit, &plan);
     let mut words = ledger.words();
     let needed = words.len();
     words.truncate(match rng.below(100) {
@@ -272,6 +365,8 @@ fn on_few_words(rng: &mut Rng, limit: usize) -> Single {
         _ => rng.below(needed),
     });
     Single {
+        limit,
+        made_at: None,
         call: steered_call(rng, &plan, &ledger),
         plan: bytes,
         words,
@@ -280,15 +375,17 @@ fn on_few_words(rng: &mut Rng, limit: usize) -> Single {
 }
 
 /// Leading words that are not the plan's, before tracks that are mostly sound.
-fn on_misled(rng: &mut Rng, limit: usize) -> Single {
-    let (bytes, plan) = good_plan(rng, limit);
-    let ledger = ledgers::sound(rng, &plan);
+fn on_misled(rng: &mut Rng, (limit, most_tracks): Given) -> Single {
+    let (bytes, plan) = good_plan(rng, most_tracks);
+    let ledger = ledgers::sound(rng, limit, &plan);
     let mut words = ledgers::lend(rng, &ledger);
     if rng.chance(15) {
-        ledgers::flip(rng, &plan, &mut words);
+        ledgers::flip(rng, limit, &plan, &mut words);
     }
     ledgers::mislead(rng, &mut words);
     Single {
+        limit,
+        made_at: None,
         call: telling_call(rng, &plan, &ledger),
         plan: bytes,
         words,
@@ -297,11 +394,13 @@ fn on_misled(rng: &mut Rng, limit: usize) -> Single {
 }
 
 /// A ledger begun under a neighbour's plan with as many tracks.
-fn on_neighbours(rng: &mut Rng, limit: usize) -> Single {
-    let (bytes, plan) = good_plan(rng, limit);
+fn on_neighbours(rng: &mut Rng, (limit, most_tracks): Given) -> Single {
+    let (bytes, plan) = good_plan(rng, most_tracks);
     let neighbour = neighbours::neighbour(rng, &plan);
-    let ledger = ledgers::begun(rng, &neighbour);
+    let ledger = ledgers::begun(rng, limit, &neighbour);
     Single {
+        limit,
+        made_at: None,
         words: ledgers::lend(rng, &ledger),
         call: telling_call(rng, &neighbour, &ledger),
         plan: bytes,
@@ -311,43 +410,45 @@ fn on_neighbours(rng: &mut Rng, limit: usize) -> Single {
 
 /// A ledger begun under a plan alike in both leading words, now and then one
 /// that is not sound; where none is found, a neighbour's.
-fn on_alike(rng: &mut Rng, limit: usize) -> Single {
+fn on_alike(rng: &mut Rng, (limit, most_tracks): Given) -> Single {
     let unsound = rng.chance(25);
     for _ in 0..TRIES {
-        let (bytes, plan) = good_plan(rng, limit);
-        if let Some((alike, words)) = alike_ledger(rng, &plan) {
-            if unsound && ledger::is_sound(&plan, &words) {
+        let (bytes, plan) = good_plan(rng, most_tracks);
+        if let Some((alike, words)) = alike_ledger(rng, limit, &plan) {
+            if unsound && ledger::is_sound(limit, &plan, &words) {
                 continue;
             }
             return Single {
-                call: fitting_call(rng, &plan, &words),
+                limit,
+                made_at: None,
+                call: fitting_call(rng, limit, &plan, &words),
                 plan: bytes,
                 words,
                 begun_under: Some(alike.records().encode()),
             };
         }
     }
-    on_neighbours(rng, limit)
+    on_neighbours(rng, (limit, most_tracks))
 }
 
 /// A plan alike in both leading words, and a ledger begun under it.
-fn alike_ledger(rng: &mut Rng, plan: &Plan) -> Option<(Plan, Vec<u16>)> {
+fn alike_ledger(rng: &mut Rng, limit: Limit, plan: &Plan) -> Option<(Plan, Vec<u16>)> {
     let alike = neighbours::alike(rng, plan)?;
-    let ledger = ledgers::begun(rng, &alike);
+    let ledger = ledgers::begun(rng, limit, &alike);
     Some((alike, ledgers::lend(rng, &ledger)))
 }
 
 /// A plan that may be refused, with a ledger of another plan.
-fn on_any_plan(rng: &mut Rng, limit: usize) -> Single {
-    let mut single = on_sound(rng, limit);
-    single.plan = damage::any_plan(rng, limit);
+fn on_any_plan(rng: &mut Rng, (limit, most_tracks): Given) -> Single {
+    let mut single = on_sound(rng, (limit, most_tracks));
+    single.plan = damage::any_plan(rng, most_tracks);
     single
 }
 
 /// A call that mostly does something where the tracks are sound, else any.
-fn fitting_call(rng: &mut Rng, plan: &Plan, words: &[u16]) -> Call {
-    if ledger::is_sound(plan, words) {
-        steered_call(rng, plan, &Ledger::decode(plan, words))
+fn fitting_call(rng: &mut Rng, limit: Limit, plan: &Plan, words: &[u16]) -> Call {
+    if ledger::is_sound(limit, plan, words) {
+        steered_call(rng, plan, &Ledger::decode(limit, plan, words))
     } else {
         any_call(rng, plan)
     }

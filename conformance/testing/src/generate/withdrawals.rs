@@ -12,24 +12,25 @@ use super::societies;
 use crate::samples::{state, step, track};
 use second::journal::{self, Record};
 use second::ledger::{Ledger, Mode};
+use second::limit::Limit;
 use second::plan::{self, members, Plan, Records, Right, Rights, MAX_RIGHTS, MAX_TRACKS, NONE};
 use second::rules;
 
-/// A plan, and a history from its begin whose last record is a signal.
+/// A plan, and a history from its begin at a limit, whose last record is a signal.
 pub struct Withdrawal {
     pub plan: Vec<u8>,
     pub records: Vec<Record>,
 }
 
-pub fn withdrawal(rng: &mut Rng) -> Withdrawal {
+pub fn withdrawal(rng: &mut Rng, limit: Limit) -> Withdrawal {
     let records = records(rng);
-    withdrawal_of(rng, &records)
+    withdrawal_of(rng, limit, &records)
 }
 
-fn withdrawal_of(rng: &mut Rng, records: &Records) -> Withdrawal {
+fn withdrawal_of(rng: &mut Rng, limit: Limit, records: &Records) -> Withdrawal {
     let bytes = records.encode();
     let plan = plan::read(&bytes).expect("a good plan is accepted");
-    let mut ledger = rules::begin(&plan);
+    let mut ledger = rules::begin(limit, &plan);
     let mut records = history(rng, &plan, &mut ledger);
     records.extend(signals(rng, &plan, &mut ledger));
     Withdrawal {
@@ -62,27 +63,27 @@ fn share_out(rng: &mut Rng, plan: &mut Records) {
 
 /// A small plan and a sound ledger: one of a withdrawal, before its last signal
 /// or after it, or any, of a plan that may leave rights to nobody.
-pub fn small(rng: &mut Rng, limit: usize) -> (Vec<u8>, Ledger) {
+pub fn small(rng: &mut Rng, limit: Limit, most_tracks: usize) -> (Vec<u8>, Ledger) {
     let mut records = match rng.below(100) {
-        0..=29 if limit > 1 => nested(rng, limit),
-        30..=69 => plans::small_linked_records(rng, limit),
-        _ => plans::records(rng, limit),
+        0..=29 if most_tracks > 1 => nested(rng, most_tracks),
+        30..=69 => plans::small_linked_records(rng, most_tracks),
+        _ => plans::records(rng, most_tracks),
     };
     if rng.chance(25) {
         let bytes = records.encode();
         let plan = plan::read(&bytes).expect("a good plan is accepted");
-        let ledger = ledgers::sound(rng, &plan);
+        let ledger = ledgers::sound(rng, limit, &plan);
         return (bytes, ledger);
     }
     share_out(rng, &mut records);
-    let Withdrawal { plan, records } = withdrawal_of(rng, &records);
-    let ledger = ledger_of(rng, &plan, &records);
+    let Withdrawal { plan, records } = withdrawal_of(rng, limit, &records);
+    let ledger = ledger_of(rng, limit, &plan, &records);
     (plan, ledger)
 }
 
 /// The records of a plan with one root: event 1 takes it to a state that hosts
 /// one branch or two, the second now and then inside the first, and event 2 on.
-fn nested(rng: &mut Rng, limit: usize) -> Records {
+fn nested(rng: &mut Rng, most_tracks: usize) -> Records {
     let mut plan = Records {
         tracks: vec![track(NONE)],
         states: vec![state(0, 0, 0), state(0, 0, rng.code()), state(0, 1, 0)],
@@ -90,7 +91,7 @@ fn nested(rng: &mut Rng, limit: usize) -> Records {
         windows: vec![],
         rights: vec![],
     };
-    let branches = rng.between(1, 2).min(limit - 1);
+    let branches = rng.between(1, 2).min(most_tracks - 1);
     for number in 1..=branches {
         let inside = number == 2 && rng.chance(30);
         add_branch(rng, &mut plan, if inside { 3 } else { 1 });
@@ -114,10 +115,10 @@ fn add_branch(rng: &mut Rng, plan: &mut Records, host: u16) {
 }
 
 /// The ledger before the last signal, after it, or after some firings more.
-fn ledger_of(rng: &mut Rng, bytes: &[u8], records: &[Record]) -> Ledger {
+fn ledger_of(rng: &mut Rng, limit: Limit, bytes: &[u8], records: &[Record]) -> Ledger {
     let plan = plan::read(bytes).expect("a good plan is accepted");
     let before = usize::from(rng.chance(25));
-    let mut ledger = rules::begin(&plan);
+    let mut ledger = rules::begin(limit, &plan);
     for &record in &records[..records.len() - before] {
         journal::perform(&plan, &mut ledger, record);
     }
@@ -205,7 +206,7 @@ fn history(rng: &mut Rng, plan: &Plan, ledger: &mut Ledger) -> Vec<Record> {
     if rng.chance(65) {
         return onwards(rng, plan, ledger);
     }
-    let records = journals::history(rng, plan).0;
+    let records = journals::history(rng, ledger.limit, plan).0;
     let most = rng.between(1, records.len().max(1));
     let start = records.into_iter().take(most);
     start.take_while(|&r| goes_on(plan, ledger, r)).collect()
