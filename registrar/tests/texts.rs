@@ -71,7 +71,7 @@ fn every_history_is_read_back() {
         let bytes = plans::bytes(&mut rng, 32);
         let plan = second::plan::read(&bytes).expect("an accepted plan");
         let mut journal = Vec::new();
-        for record in journals::history(&mut rng, &plan).0 {
+        for record in journals::history(&mut rng, second::limit::Limit::MAIN, &plan).0 {
             record.encode(&mut journal);
         }
         let (calls, broken) = journal::decode(&journal);

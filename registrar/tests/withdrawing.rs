@@ -134,15 +134,16 @@ fn random_runs() {
         };
         let bytes = made.encode();
         let second = second::plan::read(&bytes).expect("an accepted plan");
-        let (mut history, _) = journals::history(&mut rng, &second);
-        history.truncate(rng.between(0, 40));
-        let (calls, _) = journal::decode(&samples::journal(&history));
-        let plan = Plan::read(bytes.clone()).expect("an accepted plan");
-        let draft = Draft::of_records(Records::decode(&bytes).expect("an accepted plan"));
         let limit = match index % 4 {
             0 => Limit::ReadingRoom,
             _ => Limit::Main,
         };
+        let at = second::limit::Limit(limit.entries());
+        let (mut history, _) = journals::history(&mut rng, at, &second);
+        history.truncate(rng.between(0, 40));
+        let (calls, _) = journal::decode(&samples::journal(&history));
+        let plan = Plan::read(bytes.clone()).expect("an accepted plan");
+        let draft = Draft::of_records(Records::decode(&bytes).expect("an accepted plan"));
         let run = Run::of(&plan, limit, &calls, None);
         let named = societies::named(&second);
         let society = rng.pick(&named).unwrap_or(1);
