@@ -110,7 +110,7 @@ fn again(programs: &Path, file: &str) -> io::Result<bool> {
     for again in fs::read_to_string(file)?.lines().filter_map(case::parse) {
         let verdict = match again {
             Again::Call(given) => comparison.single(&given)?,
-            Again::Journal(case) => comparison.journal(&case)?,
+            Again::Journal(limit, case) => comparison.journal(limit, &case)?,
         };
         if let Verdict::Differ(text) = verdict {
             print!("{text}");
