@@ -1,5 +1,6 @@
 //! The proved calls, the program `unwind` and the second program on the same
 //! random input, until a difference, or until as many cases as asked for agree.
+//! Single calls are at either limit, journals through the calls at both.
 //!
 //! `comparison PROGRAMS run SEED JOURNALS CALLS` compares so many, the largest
 //! numbers of entries of as many plans as journals, and all conversions, and
