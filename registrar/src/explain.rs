@@ -51,7 +51,7 @@ const BYTES: &str =
     "a text cannot come to it. Look whether the file was cut or changed, or build it anew from its text.";
 /// Of stored ledgers.
 const LEDGER: &str = "of a ledger that a program lends the library, after all that is wrong with its plan: 17, then 24, then 18. unwind and registrar begin their own, and never get it.";
-const KEEP: &str = "nothing in a text: the program that keeps the ledger must give the one that it stored, with the plan that it was begun under.";
+const KEEP: &str = "nothing in a text: the program that keeps the ledger must give the one that it stored, with the plan that it was begun under, and at the limit of its begin.";
 
 fn page(refusal: Refusal) -> Option<Page> {
     let (told, looked_at, mend, example): (_, _, _, &'static [&'static str]) = match refusal {
@@ -156,10 +156,15 @@ fn page(refusal: Refusal) -> Option<Page> {
         Refusal::Unbounded => (
             "of the figures 'holds at most' alone, after all that is wrong with a plan; every other command takes such a plan.",
             "along steps that lead back to where they began, and after a deviation, a track may take steps again and again: no figure bounds what it holds.",
-            "nothing, if the plan is to be so. A track then holds at most 32, and one more is refused as 21. Or write what comes round again as further states.",
+            "nothing, if the plan is to be so. A track then holds as many as the limit says, 32 or the reading rooms' 8, and one more is refused as 21. Or write what comes round again as further states.",
             &[],
         ),
-        Refusal::FewWords => (LEDGER, "a ledger has 4 words, and 67 for each track.", KEEP, &[]),
+        Refusal::FewWords => (
+            LEDGER,
+            "a ledger has 4 words, and for each track 3 and 2 for each entry that the limit allows: 67 at the limit of 32, 19 at the reading rooms' limit of 8.",
+            KEEP,
+            &[],
+        ),
         Refusal::OtherPlan => (
             LEDGER,
             "a ledger starts with the length and the sum of its plan. 'registrar list' tells both of a plan.",
@@ -168,7 +173,7 @@ fn page(refusal: Refusal) -> Option<Page> {
         ),
         Refusal::Unsound => (
             LEDGER,
-            "the words are such as the calls leave under this plan.",
+            "the words are such as the calls leave under this plan, at the limit that is given, 32 or 8. No word names the limit: at the other one a ledger may be refused, or be taken for something else.",
             KEEP,
             &[],
         ),
@@ -198,9 +203,9 @@ fn page(refusal: Refusal) -> Option<Page> {
         ),
         Refusal::Full => (
             "of an event, after all others.",
-            "a track holds at most 32 retractions; the event would give one to a track that holds 32. Nothing moves then, in no track.",
-            "let steps that repeat run in a track inside a state with 'when complete': one retraction stands for all of them. 'registrar list' tells what a track holds at most.",
-            &[],
+            "a track holds at most as many retractions as the limit says: 32, or 8 in a journal of the reading rooms. The event would give one to a track that holds so many. Nothing moves then, in no track.",
+            "let steps that repeat run in a track inside a state with 'when complete': one retraction stands for all of them. 'registrar list' tells what a track holds at most. Only a journal of the reading rooms is at limit 8.",
+            &["journal at limit 8    # the reading rooms'", "journal               # the main program's, 32"],
         ),
         Refusal::NotReady => (
             "of taking back, after 20 and 28.",

@@ -4,9 +4,11 @@ use crate::day;
 use crate::draft::Draft;
 use crate::fault::{suggestion, Fault};
 use crate::journal::Call;
+use crate::limit;
 use crate::lookup;
 use crate::plan_text::MOST_FAULTS;
 use crate::words::{self, Line, Word};
+use retraction::Limit;
 
 /// The calls of a journal's text.
 #[derive(Clone, Debug, Default, PartialEq, Eq)]
@@ -17,9 +19,11 @@ pub struct Journal {
     /// The day and the society in force at the end.
     pub day: Option<i32>,
     pub society: Option<u16>,
+    /// The limit that every call is made at.
+    pub limit: Limit,
 }
 
-const HEAD: &str = "journal [of NAME]";
+const HEAD: &str = "journal [of NAME] [at limit 8]";
 const FORM: &str = "[on DAY] [as SOCIETY] [CALL], where CALL is 'event EVENT', 'withdraw', \
                     'take back TRACK' or 'take back next'";
 const FIRST_WORDS: [&str; 6] = ["journal", "on", "as", "event", "withdraw", "take"];
@@ -73,8 +77,8 @@ fn beginning() -> String {
     format!("a journal begins with the line: {HEAD}")
 }
 
-/// The first line, behind its first word.
-fn head(line: &mut Line, draft: &Draft) -> Result<(), Fault> {
+/// The first line, behind its first word: the limit.
+fn head(line: &mut Line, draft: &Draft) -> Result<Limit, Fault> {
     if line.take_if("of") {
         let word = line.peek().cloned().unwrap_or_default();
         let name = lookup::meant(line, "the name of the plan")?;
@@ -84,7 +88,15 @@ fn head(line: &mut Line, draft: &Draft) -> Result<(), Fault> {
             return Err(word.fault(line.number, what));
         }
     }
-    line.end(&["of"], HEAD)
+    let limit = line.take_if("at").then(|| a_limit(line)).transpose()?;
+    line.end(&["of", "at"], HEAD)?;
+    Ok(limit.unwrap_or_default())
+}
+
+fn a_limit(line: &mut Line) -> Result<Limit, Fault> {
+    line.keyword("limit")?;
+    let word = lookup::meant(line, "the limit, 8 or 32,")?;
+    limit::parse(&word.text).map_err(|what| word.fault(line.number, what))
 }
 
 fn a_society(line: &mut Line, draft: &Draft) -> Result<u16, Fault> {
@@ -94,22 +106,24 @@ fn a_society(line: &mut Line, draft: &Draft) -> Result<u16, Fault> {
 }
 
 impl Journal {
-    /// The journal of calls that have no text: what the last of them have is in
-    /// force.
+    /// The journal of calls that have no text, at a limit: what the last of them
+    /// have is in force.
     #[must_use]
-    pub fn of_calls(calls: Vec<Call>) -> Journal {
+    pub fn of_calls(calls: Vec<Call>, limit: Limit) -> Journal {
         Journal {
             day: calls.iter().rev().find_map(|call| call.day()),
             society: calls.last().map(|call| call.society()),
             lines: Vec::new(),
             calls,
+            limit,
         }
     }
 
     /// A journal whose head is missing is read on, for the lines below.
     fn first_line(&mut self, line: &mut Line, draft: &Draft) -> Result<(), Fault> {
         if line.take_if("journal") {
-            return head(line, draft);
+            self.limit = head(line, draft)?;
+            return Ok(());
         }
         let word = line.peek().map_or("", |word| &word.text);
         let meant = suggestion(word, ["journal"]);
@@ -181,6 +195,8 @@ fn unknown(word: &Word) -> String {
     let meant = suggestion(text, FIRST_WORDS);
     if word.is("journal") {
         format!("the line '{HEAD}' stands at the top alone")
+    } else if word.is("at") || word.is("limit") {
+        format!("the limit stands on the first line: {HEAD}")
     } else if word.quoted || meant.is_empty() {
         format!("'{text}' does not fit here; the line is: {FORM}")
     } else {
@@ -188,13 +204,14 @@ fn unknown(word: &Word) -> String {
     }
 }
 
-/// The text of calls. Read again it gives the same calls.
+/// The text of calls at a limit. Read again it gives the same.
 #[must_use]
-pub fn write(calls: &[Call], draft: &Draft) -> String {
-    let mut text = match draft.names.plan.name.as_str() {
-        "" => "journal\n".to_string(),
-        name => format!("journal of {name}\n"),
+pub fn write(calls: &[Call], limit: Limit, draft: &Draft) -> String {
+    let plan = match draft.names.plan.name.as_str() {
+        "" => String::new(),
+        name => format!(" of {name}"),
     };
+    let mut text = format!("journal{plan}{}\n", limit::written(limit));
     let (mut day, mut society) = (None, None);
     for &call in calls {
         let mut changes = Vec::new();

@@ -12,6 +12,7 @@ pub mod explain;
 pub mod fault;
 pub mod journal;
 pub mod journal_text;
+pub mod limit;
 pub mod list;
 pub mod look;
 pub mod lookup;

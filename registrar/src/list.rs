@@ -5,7 +5,7 @@ use crate::day;
 use crate::draft::{Draft, Name};
 use crate::phrase;
 use crate::records::{Grant, Step};
-use retraction::Plan;
+use retraction::{Limit, Plan};
 
 /// A row of the list: what it is, the days of a step, and what is beside it.
 struct Row {
@@ -63,7 +63,7 @@ pub fn figures(draft: &Draft, plan: &Plan) -> String {
         (records.grants.len(), "rights record"),
     ];
     let counts = counts.map(|(number, one)| phrase::count(number, one));
-    let begun = plan.begin();
+    let begun = plan.begin(Limit::default());
     let (bytes, sum) = (begun.words()[0], begun.words()[1]);
     format!("{} ({bytes} bytes, sum {sum})", counts.join(", "))
 }
@@ -158,7 +158,7 @@ impl Rows<'_> {
             marks.push("root".to_string());
         }
         if let Some(figures) = &self.figures {
-            marks.push(format!("holds at most {}", figures[track]));
+            marks.push(most(figures[track]));
         }
         let mut what = format!("track {track} {}", titled(&self.draft.names.tracks[track]));
         if !marks.is_empty() {
@@ -214,6 +214,17 @@ impl Rows<'_> {
             words: words.to_string(),
         }
     }
+}
+
+/// The most that a track holds, and that the reading rooms hold less, where only
+/// they do.
+fn most(figure: u16) -> String {
+    let [rooms, main] = [Limit::ReadingRoom, Limit::Main].map(Limit::entries);
+    let above = match figure > rooms && figure <= main {
+        true => format!(", above the reading rooms' limit of {rooms}"),
+        false => String::new(),
+    };
+    format!("holds at most {figure}{above}")
 }
 
 /// The rows as lines, with what is beside them in straight columns.

@@ -3,7 +3,7 @@
 
 use crate::journal::{Broken, Call, MOST_BYTES};
 use crate::standing::{self, Standing};
-use retraction::{Entry, Ledger, Moved, Plan, Refusal};
+use retraction::{Entry, Ledger, Limit, Moved, Plan, Refusal};
 
 /// What a call was answered.
 #[derive(Clone, Copy, Debug, PartialEq, Eq)]
@@ -112,10 +112,10 @@ pub struct Run<'plan> {
 }
 
 impl<'plan> Run<'plan> {
-    /// Runs these calls, as far as the journal is not broken.
+    /// Runs these calls at a limit, as far as the journal is not broken.
     #[must_use]
-    pub fn of(plan: &'plan Plan, calls: &[Call], broken: Option<Broken>) -> Run<'plan> {
-        let mut ledger = plan.begin();
+    pub fn of(plan: &'plan Plan, limit: Limit, calls: &[Call], broken: Option<Broken>) -> Self {
+        let mut ledger = plan.begin(limit);
         let begun = standing::of(&ledger);
         let done = calls.iter().map(|&call| make(&mut ledger, call)).collect();
         Run {
@@ -135,7 +135,8 @@ impl<'plan> Run<'plan> {
         (standing::held(&standing::of(&self.ledger)), fired)
     }
 
-    /// All lines that `unwind` prints for this plan and journal.
+    /// All lines that `unwind` prints for this plan and journal, if it kept to this
+    /// limit. The program itself always keeps to the main one.
     #[must_use]
     pub fn lines(&self) -> Vec<String> {
         let counts = self.ledger.plan().counts();

@@ -1,6 +1,6 @@
 //! How tracks stand: a ledger's words, read for a person.
 
-use retraction::{Entry, Ledger, LEADING_WORDS, TRACK_WORDS};
+use retraction::{Entry, Ledger, LEADING_WORDS};
 
 #[derive(Clone, Copy, Debug, PartialEq, Eq)]
 pub enum Mode {
@@ -20,7 +20,8 @@ pub struct Standing {
 /// Each track of a ledger, in track order; `None` where it is asleep.
 #[must_use]
 pub fn of(ledger: &Ledger<'_>) -> Vec<Option<Standing>> {
-    let tracks = ledger.words()[LEADING_WORDS..].chunks_exact(TRACK_WORDS);
+    let each = ledger.limit().track_words();
+    let tracks = ledger.words()[LEADING_WORDS..].chunks_exact(each);
     let standing = |(track, words): (usize, &[u16])| {
         let mode = match words[0] {
             0 => return None,

@@ -9,11 +9,12 @@ mod signal;
 use crate::day;
 use crate::draft::Draft;
 use crate::journal::Call;
+use crate::limit;
 use crate::look::{self, Standings};
 use crate::phrase;
 use crate::run::{Answer, Done, Run};
 use crate::standing::{self, Standing};
-use retraction::{Entry, Refusal, FIRST_DAY};
+use retraction::{Entry, Limit, Refusal, FIRST_DAY};
 
 pub(crate) use signal::why_not_exact;
 
@@ -33,7 +34,7 @@ pub fn tell(draft: &Draft, run: &Run<'_>, lines: &[usize]) -> Vec<Told> {
     let mut meanings = vec![begun(draft, run)];
     let mut last = FIRST_DAY;
     for done in &run.done {
-        meanings.push(meaning(draft, done, last));
+        meanings.push(Scene::of(draft, run, done).meaning(last));
         last = accepted_day(done).unwrap_or(last);
     }
     if let Some(broken) = &run.broken {
@@ -60,7 +61,7 @@ pub fn told(draft: &Draft, run: &Run<'_>, call: usize) -> Told {
     Told {
         line: None,
         printed: done.line(),
-        meaning: meaning(draft, done, last_day(run, call)),
+        meaning: Scene::of(draft, run, done).meaning(last_day(run, call)),
     }
 }
 
@@ -113,25 +114,31 @@ fn accepted_day(done: &Done) -> Option<i32> {
     }
 }
 
-/// What a call did, or why it was refused; the last day that was accepted before
-/// it is for the refusal of an earlier one.
-fn meaning(draft: &Draft, done: &Done, last_day: i32) -> String {
-    let told = Scene { draft, done };
-    match done.answer {
-        Answer::Moved(figures) => event::told(&told, figures),
-        Answer::Turned(turned) => signal::told(&told, turned),
-        Answer::Fired { track, entry } => firing::told(&told, track, entry),
-        Answer::Refused(refusal) => refused::told(&told, refusal, last_day),
-    }
-}
-
 /// A call under its plan.
 struct Scene<'a> {
     draft: &'a Draft,
     done: &'a Done,
+    /// The limit that the call was made at.
+    limit: Limit,
 }
 
-impl Scene<'_> {
+impl<'a> Scene<'a> {
+    fn of(draft: &'a Draft, run: &Run<'_>, done: &'a Done) -> Scene<'a> {
+        let limit = run.ledger.limit();
+        Scene { draft, done, limit }
+    }
+
+    /// What the call did, or why it was refused; the last day that was accepted
+    /// before it is for the refusal of an earlier one.
+    fn meaning(&self, last_day: i32) -> String {
+        match self.done.answer {
+            Answer::Moved(figures) => event::told(self, figures),
+            Answer::Turned(turned) => signal::told(self, turned),
+            Answer::Fired { track, entry } => firing::told(self, track, entry),
+            Answer::Refused(refusal) => refused::told(self, refusal, last_day),
+        }
+    }
+
     fn before(&self, track: u16) -> Option<&Standing> {
         self.done.before.get(usize::from(track))?.as_ref()
     }
@@ -237,7 +244,12 @@ fn begun(draft: &Draft, run: &Run<'_>) -> String {
         phrase::count(counts.transitions.into(), "step"),
     ];
     let start = starts(draft, &run.begun, &awake).unwrap_or_default();
-    format!("The plan is taken: {}; {start}.", phrase::row(&counts))
+    let limit = limit::told(run.ledger.limit());
+    let limit = limit.map_or_else(String::new, |limit| format!(", {limit}"));
+    format!(
+        "The plan is taken{limit}: {}; {start}.",
+        phrase::row(&counts)
+    )
 }
 
 /// The last line: what is still held, and how many were fired.

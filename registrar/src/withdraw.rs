@@ -8,12 +8,14 @@ use crate::look;
 use crate::phrase;
 use crate::run::Run;
 use crate::standing::{self, Mode, Standing};
-use retraction::{Entry, Ledger, Refusal};
+use retraction::{Entry, Ledger, Limit, Refusal};
 
 /// A withdrawal as it would go.
 #[derive(Clone, Debug, PartialEq, Eq)]
 pub struct Withdrawal {
     pub society: u16,
+    /// The limit that the ledger is kept at.
+    pub limit: Limit,
     /// Whether no track is forward even now: then there is no signal.
     pub already: bool,
     /// How many entries are held now.
@@ -78,6 +80,7 @@ pub fn withdraw(draft: &Draft, run: &Run<'_>, society: u16) -> Result<Withdrawal
     let end = standing::of(&ledger);
     Ok(Withdrawal {
         society,
+        limit: ledger.limit(),
         already,
         held: standing::held(&now),
         rounds,

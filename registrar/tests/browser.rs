@@ -156,7 +156,8 @@ fn each_sample(mut then: impl FnMut(&str, &Draft, Vec<(String, Run)>)) {
         let run = |name: &String| {
             let text = read(&format!("{name}.txt"));
             let journal = journal_text::read(&text, &draft).expect("a good text");
-            (name.clone(), Run::of(&plan, &journal.calls, None))
+            let run = Run::of(&plan, journal.limit, &journal.calls, None);
+            (name.clone(), run)
         };
         let runs = sample.journals.iter().map(run).collect();
         let name = sample.folder.file_name().expect("a name");

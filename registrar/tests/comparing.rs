@@ -51,7 +51,7 @@ fn compared(one: &Path, other: &Path) -> Result<Comparison, String> {
     let draft = brothers();
     let plan = Plan::read(draft.records.encode()).expect("an accepted plan");
     let journal = journal_text::read(JOURNAL, &draft).expect("a journal's text");
-    let run = Run::of(&plan, &journal.calls, None);
+    let run = Run::of(&plan, journal.limit, &journal.calls, None);
     let told = tell::tell(&draft, &run, &journal.lines);
     let given = Given {
         draft: &draft,

@@ -1,9 +1,10 @@
 //! What `registrar explain` says of texts is so: a text that is refused, and the same
 //! mended as it is told.
 
+use registrar::explain::explain;
 use registrar::run::{Answer, Run};
 use registrar::{journal_text, plan_text};
-use retraction::{Plan, Refusal};
+use retraction::{Limit, Plan, Refusal};
 
 /// A plan's text by the proved reader.
 fn read(text: &str) -> Result<Plan, Refusal> {
@@ -94,14 +95,14 @@ track a
     on 2 go e undo 8
   state e final";
 
-/// The last answer of a journal's text.
-fn last(journal: &str) -> Answer {
+/// The last answer of a journal's text, which begins with this line.
+fn last(head: &str, journal: &str) -> Answer {
     let draft = plan_text::read(PLAN).expect("a plan's text");
     let plan = Plan::read(draft.records.encode()).expect("an accepted plan");
-    let text = format!("journal\non 0 as 1\n{journal}");
+    let text = format!("{head}\non 0 as 1\n{journal}");
     let read = journal_text::read(&text, &draft);
     let read = read.unwrap_or_else(|faults| panic!("{journal}: {faults:?}"));
-    let run = Run::of(&plan, &read.calls, None);
+    let run = Run::of(&plan, read.limit, &read.calls, None);
     run.done.last().expect("a call").answer
 }
 
@@ -131,9 +132,40 @@ fn journals() {
         ),
     ];
     for (number, wrong, mended) in cases {
-        let refused = last(wrong);
+        let refused = last("journal", wrong);
         let wanted = Refusal::from_number(number).expect("a refusal");
         assert_eq!(refused, Answer::Refused(wanted), "{wrong}");
-        assert!(!matches!(last(mended), Answer::Refused(_)), "{mended}");
+        let mended_answer = last("journal", mended);
+        assert!(!matches!(mended_answer, Answer::Refused(_)), "{mended}");
     }
+}
+
+/// A ninth retraction is refused in the reading rooms alone, and an eighth nowhere.
+#[test]
+fn limits() {
+    let full = Answer::Refused(Refusal::Full);
+    let times = |times: usize| "event 1\n".repeat(times);
+    assert_eq!(last("journal at limit 8", &times(9)), full);
+    assert_ne!(last("journal at limit 8", &times(8)), full);
+    for head in ["journal", "journal at limit 32"] {
+        assert_ne!(last(head, &times(32)), full);
+        assert_eq!(last(head, &times(33)), full);
+    }
+}
+
+/// What is explained of ledgers and of full tracks reads both limits.
+#[test]
+fn both_limits_are_explained() {
+    for (number, parts) in [
+        (17, ["67 at the limit of 32", "19 at the reading rooms'"]),
+        (18, ["at the limit that is given, 32 or 8", "No word names"]),
+        (21, ["32, or 8 in a journal", "journal at limit 8"]),
+        (29, ["32 or the reading", "refused as 21"]),
+    ] {
+        let text = explain(number).expect("a refusal");
+        let text = text.split_whitespace().collect::<Vec<_>>().join(" ");
+        assert!(parts.iter().all(|part| text.contains(part)), "{text}");
+    }
+    let words = |limit: Limit| limit.track_words();
+    assert_eq!([Limit::Main, Limit::ReadingRoom].map(words), [67, 19]);
 }

@@ -5,6 +5,7 @@ use registrar::draft::Draft;
 use registrar::fault::Fault;
 use registrar::journal_text::{self, Journal};
 use registrar::plan_text;
+use retraction::Limit;
 
 /// The stored cases, with an empty line between two. Lines that begin with `!` are
 /// told of the text above them: the line, the characters that are marked, none
@@ -97,7 +98,8 @@ fn one_line_more() {
     assert_eq!(journal_text::line_of(call, &plan()), "event asked");
     let call = read("on 7 as 4 event 0", &Journal::default()).expect("a call");
     let text = "journal of p\non 1900-01-08 as 4\n  event 0\n";
-    assert_eq!(journal_text::write(&[call], &plan()), text);
+    let written = journal_text::write(&[call], Limit::Main, &plan());
+    assert_eq!(written, text);
     let wanted = "a call is wanted here: 'event EVENT', 'withdraw' or 'take back ..'";
     for (line, marked, what) in [
         ("on 7", (4, 1), wanted),
@@ -106,6 +108,11 @@ fn one_line_more() {
             "event askd",
             (6, 4),
             "there is no event 'askd'; did you mean 'asked'?",
+        ),
+        (
+            "at limit 8",
+            (0, 2),
+            "the limit stands on the first line: journal [of NAME] [at limit 8]",
         ),
         (
             "withdraw \"",

@@ -6,6 +6,7 @@ mod common;
 use common::{brothers, BROTHERS};
 use registrar::draft::Draft;
 use registrar::list::list;
+use registrar::plan_text;
 use registrar::records::Records;
 use retraction::Plan;
 use testing::generate::{plans, rng::Rng};
@@ -86,4 +87,25 @@ fn why_there_is_no_figure() {
     silent.rights.clear();
     let listed = of_bytes(silent.encode());
     assert!(listed.contains("Nobody has a right"), "{listed}");
+}
+
+/// The list of a plan in which a track has so many steps, each with its retraction.
+fn of_steps(steps: usize) -> String {
+    let step = |n: usize| format!("state s{n}\non 1 go s{} undo 9\n", n + 1);
+    let text: String = (0..steps).map(step).collect();
+    let text = format!("plan p\ntrack a\n{text}state s{steps} final\n");
+    let draft = plan_text::read(&text).expect("a plan's text");
+    let plan = Plan::read(draft.records.encode()).expect("an accepted plan");
+    list(&draft, &plan)
+}
+
+/// What only the reading rooms cannot hold is told of a track.
+#[test]
+fn more_than_the_reading_rooms_hold() {
+    let above = ", above the reading rooms' limit of 8";
+    for (steps, said) in [(8, ""), (9, above), (32, above), (33, "")] {
+        let listed = of_steps(steps);
+        let track = format!("\ntrack 0 a (root, holds at most {steps}{said})\n");
+        assert!(listed.contains(&track), "{listed}");
+    }
 }

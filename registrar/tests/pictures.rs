@@ -363,7 +363,8 @@ fn samples_are_legible() {
             let file = sample.file(&format!("{journal}.txt"));
             let text = fs::read_to_string(file).expect("a journal");
             let journal = journal_text::read(&text, &draft).expect("a good text");
-            assert_timeline(&draft, &Run::of(&plan, &journal.calls, None));
+            let run = Run::of(&plan, journal.limit, &journal.calls, None);
+            assert_timeline(&draft, &run);
         }
     }
 }

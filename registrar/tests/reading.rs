@@ -5,6 +5,7 @@ use registrar::draft::Name;
 use registrar::journal::Call;
 use registrar::records::{Grant, State, Step, Track, Window};
 use registrar::{journal_text, plan_text};
+use retraction::Limit;
 use testing::generate::rng::Rng;
 
 const PLAN: &str = "\
@@ -163,7 +164,7 @@ as 4
   withdraw
   take back next
 ";
-    assert_eq!(journal_text::write(&calls, &draft), written);
+    assert_eq!(journal_text::write(&calls, Limit::Main, &draft), written);
 }
 
 /// A journal need not name its plan, and a plan need not have a name.
@@ -174,7 +175,35 @@ fn journals_of_plans_without_a_name() {
         let journal = journal_text::read(text, &draft).expect("a journal");
         assert_eq!(journal, journal_text::Journal::default());
     }
-    assert_eq!(journal_text::write(&[], &draft), "journal\n");
+    let written = |limit| journal_text::write(&[], limit, &draft);
+    assert_eq!(written(Limit::Main), "journal\n");
+    assert_eq!(written(Limit::ReadingRoom), "journal at limit 8\n");
+}
+
+/// The limit is the first line's, 32 where it says none, and a plan may be called as
+/// the words are that tell it.
+#[test]
+fn the_limit_of_a_journal() {
+    let plan = |name: &str| format!("plan {name}\ntrack a\nstate x");
+    for name in ["p", "at", "limit", "of", "journal"] {
+        let draft = plan_text::read(&plan(name)).expect("a plan");
+        for (end, limit) in [
+            ("", Limit::Main),
+            (" at limit 32", Limit::Main),
+            (" at limit 8", Limit::ReadingRoom),
+            ("\tat  limit 8 # the room's", Limit::ReadingRoom),
+        ] {
+            for text in [format!("journal{end}"), format!("journal of {name}{end}")] {
+                let text = format!("# at limit 9\n\n{text}\nas 1 withdraw");
+                let journal = journal_text::read(&text, &draft).expect(&text);
+                assert_eq!((journal.limit, journal.calls.len()), (limit, 1), "{text}");
+                let again = journal_text::write(&journal.calls, limit, &draft);
+                assert_eq!(again.contains("limit 8"), limit == Limit::ReadingRoom);
+                let again = journal_text::read(&again, &draft).expect(&text);
+                assert_eq!((again.limit, &again.calls), (limit, &journal.calls));
+            }
+        }
+    }
 }
 
 /// The words that texts are thrown together from, the likely ones several times.

@@ -109,8 +109,10 @@ fn journal_outcome(text: &str, draft: &Draft) -> Outcome {
         Ok(journal) => {
             let lines = text.lines().count();
             assert!(journal.lines.iter().all(|&line| line <= lines));
-            let again = journal_text::read(&journal_text::write(&journal.calls, draft), draft);
-            assert_eq!(again.expect(text).calls, journal.calls);
+            let again = journal_text::write(&journal.calls, journal.limit, draft);
+            let again = journal_text::read(&again, draft).expect(text);
+            assert_eq!(again.calls, journal.calls);
+            assert_eq!(again.limit, journal.limit);
             Outcome::Good
         }
         Err(faults) => {

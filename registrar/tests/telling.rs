@@ -12,7 +12,7 @@ use registrar::records::Records;
 use registrar::run::{fits, Answer, Done, Run};
 use registrar::standing::{self, Mode, Standing};
 use registrar::tell::{self, Told};
-use retraction::{Entry, Plan, Refusal};
+use retraction::{Entry, Limit, Plan, Refusal};
 use std::collections::BTreeSet;
 use std::fs::{self, File};
 use std::path::{Path, PathBuf};
@@ -57,9 +57,9 @@ fn accepted(case: &Case) -> Result<Plan, Refusal> {
     Plan::read(case.plan.clone())
 }
 
-/// The case told, with its calls numbered as if each stood on a line, and the
-/// run if there is one.
-fn told_of(case: &Case, look: impl Fn(&Draft, &Run<'_>, &[Told])) -> Vec<Told> {
+/// The case told at a limit, with its calls numbered as if each stood on a line, and
+/// the run if there is one.
+fn told_of(case: &Case, limit: Limit, look: impl Fn(&Draft, &Run<'_>, &[Told])) -> Vec<Told> {
     let plan = match accepted(case) {
         Ok(plan) => plan,
         Err(refusal) => return vec![tell::refused(refusal)],
@@ -67,7 +67,7 @@ fn told_of(case: &Case, look: impl Fn(&Draft, &Run<'_>, &[Told])) -> Vec<Told> {
     let records = Records::decode(&case.plan).expect("an accepted plan");
     let draft = Draft::of_records(records);
     let (calls, broken) = journal::decode(&case.journal);
-    let run = Run::of(&plan, &calls, broken);
+    let run = Run::of(&plan, limit, &calls, broken);
     let lines: Vec<usize> = (0..calls.len()).map(|n| n + 2).collect();
     let told = tell::tell(&draft, &run, &lines);
     look(&draft, &run, &told);
@@ -210,7 +210,7 @@ struct Seen {
 fn one_case(unwind: &Path, folder: &Path, index: u64, seen: &mut Seen) {
     let mut rng = Rng::for_case(7, 3, index);
     let case = journals::case(&mut rng, 32);
-    let told = told_of(&case, |draft, run, told| {
+    let told = told_of(&case, Limit::Main, |draft, run, told| {
         assert_eq!(told.len(), run.lines().len());
         for (place, done) in run.done.iter().enumerate() {
             assert_eq!(told[place + 1].line, Some(place + 2));
@@ -271,10 +271,33 @@ fn the_first_column_is_what_the_program_prints() {
     }
 }
 
+/// No program keeps to the reading rooms' limit. The first column is then what the
+/// second one's calls print at it.
+#[test]
+fn the_first_column_at_the_reading_rooms_limit() {
+    let (mut full, mut otherwise) = (0, 0);
+    for index in 0..6_000 {
+        let mut rng = Rng::for_case(7, 6, index);
+        let case = journals::case(&mut rng, 32);
+        let told = told_of(&case, Limit::ReadingRoom, |draft, run, told| {
+            for (done, told) in run.done.iter().zip(&told[1..]) {
+                meaning_fits(draft, done, told);
+            }
+        });
+        let printed = |limit| second::journal::unwind_at(limit, &case.plan, &case.journal);
+        let [main, rooms] = second::limit::Limit::SETTINGS.map(printed);
+        let wanted = String::from_utf8_lossy(&rooms);
+        assert_eq!(first_column(&tell::text(&told)), wanted, "case {index}");
+        full += usize::from(wanted.contains("\nR 21\n"));
+        otherwise += usize::from(main != rooms);
+    }
+    assert!(full > 300 && otherwise > 300, "{full}, {otherwise}");
+}
+
 /// The meanings of the brothers' run.
 fn brothers_told(calls: &[Call]) -> Vec<Told> {
     let plan = Plan::read(BROTHERS).expect("an accepted plan");
-    let run = Run::of(&plan, calls, None);
+    let run = Run::of(&plan, Limit::Main, calls, None);
     tell::tell(&brothers(), &run, &[])
 }
 

@@ -7,7 +7,7 @@ use registrar::draft::{Draft, Name};
 use registrar::journal::{self, Call};
 use registrar::records::Records;
 use registrar::{journal_text, plan_text};
-use retraction::Plan;
+use retraction::{Limit, Plan};
 use std::fs;
 use std::path::PathBuf;
 use testing::generate::rng::Rng;
@@ -65,23 +65,25 @@ fn every_accepted_plan_is_read_back() {
 
 #[test]
 fn every_history_is_read_back() {
-    let mut calls_read = 0;
+    let (mut calls_read, mut of_rooms) = (0, 0);
     for index in 0..3_000 {
         let mut rng = Rng::for_case(SEED, 2, index);
         let bytes = plans::bytes(&mut rng, 32);
         let plan = second::plan::read(&bytes).expect("an accepted plan");
         let mut journal = Vec::new();
-        for record in journals::history(&mut rng, &plan).0 {
+        for record in journals::history(&mut rng, second::limit::Limit::MAIN, &plan).0 {
             record.encode(&mut journal);
         }
         let (calls, broken) = journal::decode(&journal);
         assert_eq!(broken, None);
         let draft = draft_of(&bytes);
-        let text = journal_text::write(&calls, &draft);
+        let limit = any_limit(&mut rng);
+        let text = journal_text::write(&calls, limit, &draft);
         let again = journal_text::read(&text, &draft).expect("a journal");
         assert_eq!(again.calls, calls, "{text}");
+        assert_eq!(again.limit, limit, "{text}");
         assert_eq!(again.lines.len(), calls.len());
-        assert_eq!(journal_text::write(&again.calls, &draft), text);
+        assert_eq!(journal_text::write(&again.calls, limit, &draft), text);
         let days = calls.iter().rev().find_map(|call| match call {
             Call::Event { day, .. } => Some(*day),
             _ => None,
@@ -89,8 +91,18 @@ fn every_history_is_read_back() {
         assert_eq!(again.day, days);
         assert_eq!(again.society, calls.last().map(|call| call.society()));
         calls_read += calls.len();
+        of_rooms += usize::from(limit == Limit::ReadingRoom);
     }
     assert!(calls_read > 20_000, "{calls_read}");
+    assert!((500..1_500).contains(&of_rooms), "{of_rooms}");
+}
+
+/// The reading rooms' now and then.
+fn any_limit(rng: &mut Rng) -> Limit {
+    match rng.chance(30) {
+        true => Limit::ReadingRoom,
+        false => Limit::Main,
+    }
 }
 
 /// Each sample is an accepted plan. Where bytes stand beside a text, they are the
@@ -108,9 +120,11 @@ fn samples_are_plans_and_journals() {
         }
         for journal in &sample.journals {
             let text = read(sample.file(&format!("{journal}.txt")));
-            let calls = journal_text::read(&text, &draft).expect("a journal").calls;
-            let again = journal_text::read(&journal_text::write(&calls, &draft), &draft);
-            assert_eq!(again.expect("a journal").calls, calls);
+            let read = journal_text::read(&text, &draft).expect("a journal");
+            let calls = read.calls;
+            let again = journal_text::write(&calls, read.limit, &draft);
+            let again = journal_text::read(&again, &draft).expect("a journal");
+            assert_eq!((&again.calls, again.limit), (&calls, read.limit));
             if let Ok(stored) = fs::read(sample.file(&format!("{journal}.bin"))) {
                 assert_eq!(stored, journal::encode(&calls), "{:?}", sample.folder);
             }

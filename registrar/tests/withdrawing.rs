@@ -12,7 +12,7 @@ use registrar::records::Records;
 use registrar::run::Run;
 use registrar::standing::{self, Mode};
 use registrar::withdraw::{self, withdraw, Withdrawal};
-use retraction::{Ledger, Plan, Refusal};
+use retraction::{Ledger, Limit, Plan, Refusal};
 use testing::generate::rng::Rng;
 use testing::generate::{journals, plans, societies};
 use testing::samples;
@@ -134,16 +134,25 @@ fn random_runs() {
         };
         let bytes = made.encode();
         let second = second::plan::read(&bytes).expect("an accepted plan");
-        let (mut history, _) = journals::history(&mut rng, &second);
+        let limit = match index % 4 {
+            0 => Limit::ReadingRoom,
+            _ => Limit::Main,
+        };
+        let at = second::limit::Limit(limit.entries());
+        let (mut history, _) = journals::history(&mut rng, at, &second);
         history.truncate(rng.between(0, 40));
         let (calls, _) = journal::decode(&samples::journal(&history));
         let plan = Plan::read(bytes.clone()).expect("an accepted plan");
         let draft = Draft::of_records(Records::decode(&bytes).expect("an accepted plan"));
-        let run = Run::of(&plan, &calls, None);
+        let run = Run::of(&plan, limit, &calls, None);
         let named = societies::named(&second);
         let society = rng.pick(&named).unwrap_or(1);
         match fits(&draft, &run, society) {
-            Ok(told) => note(&mut seen, &told),
+            Ok(told) => {
+                let said = told.text(&draft).contains("reading rooms' limit of 8");
+                assert_eq!(said, limit == Limit::ReadingRoom);
+                note(&mut seen, &told);
+            }
             Err(refusal) => {
                 let answer = run.ledger.clone().signal(society);
                 assert_eq!(answer, Err(refusal));
@@ -180,7 +189,8 @@ fn note(seen: &mut Seen, told: &Withdrawal) {
 fn brothers_after(calls: usize) -> Result<String, Refusal> {
     let journal = include_bytes!("../../samples/brothers_and_sisters/journal.bin");
     let plan = Plan::read(BROTHERS).expect("an accepted plan");
-    let run = Run::of(&plan, &journal::decode(journal).0[..calls], None);
+    let calls = &journal::decode(journal).0[..calls];
+    let run = Run::of(&plan, Limit::Main, calls, None);
     let draft = brothers();
     Ok(fits(&draft, &run, 1)?.text(&draft))
 }

@@ -18,12 +18,13 @@ enum { BEGIN, EVENT, SIGNAL, FIRE, READY, ENTRIES, READ, DATE_OF_DAY, DAY_OF_DAT
 enum { GUARDS = 64, GUARD_BYTES = 2 * GUARDS };
 
 /* The argument is an event or a track, or of a date the year and, 16 bits up, the month; its day is the date's then. Of a step it is the
- * track and, 16 bits up, the index. */
+ * track and, 16 bits up, the index. Options are passed on as they are, bits that mean nothing included. */
 struct request {
     uint32_t call;
     uint32_t argument;
     int32_t day;
     uint32_t society;
+    uint32_t options;
     uint32_t plan_len;
     uint32_t ledger_len;
 };
@@ -80,12 +81,12 @@ static uint64_t answer(struct request r, const uint8_t *plan, uint16_t *ledger)
 {
     uint16_t society = (uint16_t)r.society;
     switch (r.call) {
-    case BEGIN: return retraction_begin(plan, r.plan_len, ledger, r.ledger_len);
-    case EVENT: return retraction_event(plan, r.plan_len, ledger, r.ledger_len, (uint16_t)r.argument, r.day, society);
-    case SIGNAL: return retraction_signal(plan, r.plan_len, ledger, r.ledger_len, society);
-    case FIRE: return retraction_fire(plan, r.plan_len, ledger, r.ledger_len, (uint16_t)r.argument, society);
-    case READY: return retraction_ready(plan, r.plan_len, ledger, r.ledger_len);
-    case ENTRIES: return retraction_entries(plan, r.plan_len, ledger, r.ledger_len, (uint16_t)r.argument);
+    case BEGIN: return retraction_begin(plan, r.plan_len, ledger, r.ledger_len, r.options);
+    case EVENT: return retraction_event(plan, r.plan_len, ledger, r.ledger_len, (uint16_t)r.argument, r.day, society, r.options);
+    case SIGNAL: return retraction_signal(plan, r.plan_len, ledger, r.ledger_len, society, r.options);
+    case FIRE: return retraction_fire(plan, r.plan_len, ledger, r.ledger_len, (uint16_t)r.argument, society, r.options);
+    case READY: return retraction_ready(plan, r.plan_len, ledger, r.ledger_len, r.options);
+    case ENTRIES: return retraction_entries(plan, r.plan_len, ledger, r.ledger_len, (uint16_t)r.argument, r.options);
     case READ: return retraction_read(plan, r.plan_len);
     case DATE_OF_DAY: return retraction_date_of_day(r.day);
     case DAY_OF_DATE: return retraction_day_of_date((uint16_t)r.argument, (uint16_t)(r.argument >> 16), (uint16_t)r.day);

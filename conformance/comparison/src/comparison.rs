@@ -6,6 +6,7 @@ use std::sync::mpsc::{sync_channel, SyncSender};
 use std::thread;
 
 use second::journal;
+use second::limit::Limit;
 use second::plan::MAX_TRACKS;
 use testing::coverage::{Coverage, JOURNALS};
 use testing::generate::journals::{self, Case};
@@ -51,26 +52,28 @@ impl Comparison {
         })
     }
 
-    /// So many journals.
+    /// So many journals, each at both limits.
     pub fn journals(&mut self, seed: u64, count: u64) -> io::Result<Verdict> {
         for index in 0..count {
             let case = journals::case(&mut Rng::for_case(seed, 1, index), MAX_TRACKS);
             self.coverage.journal(&case);
-            if let Verdict::Differ(text) = self.journal(&case)? {
-                return Ok(Verdict::Differ(text));
+            for limit in Limit::SETTINGS {
+                if let Verdict::Differ(text) = self.journal(limit, &case)? {
+                    return Ok(Verdict::Differ(text));
+                }
             }
         }
         Ok(Verdict::Agree)
     }
 
-    /// One journal, by the calls and by the program.
-    pub fn journal(&self, case: &Case) -> io::Result<Verdict> {
-        let second = journal::unwind(&case.plan, &case.journal);
-        for runner in &self.runners {
-            let first = runner.run(case)?;
+    /// One journal at a limit, by the calls, and at the program's by the program.
+    pub fn journal(&self, limit: Limit, case: &Case) -> io::Result<Verdict> {
+        let second = journal::unwind_at(limit, &case.plan, &case.journal);
+        for runner in self.runners.iter().filter(|r| r.takes(limit)) {
+            let first = runner.run(limit, case)?;
             if first != second {
                 let text = |bytes: &[u8]| String::from_utf8_lossy(bytes).into_owned();
-                let (line, name) = (case::journal_line(case), runner.name());
+                let (line, name) = (case::journal_line(limit, case), runner.name());
                 let (first, second) = (text(&first), text(&second));
                 return Ok(Verdict::Differ(format!(
                     "{line}\n-- {name}:\n{first}-- second program:\n{second}"

@@ -1,6 +1,7 @@
 //! What the second program answers, as the number that the calls for C give.
 
-use second::ledger::{self, PAIRS};
+use second::ledger::PAIRS;
+use second::limit::Limit;
 use second::manager::{self, Answer};
 use second::plan;
 use testing::generate::singles;
@@ -34,12 +35,12 @@ pub fn answer(given: &Given) -> Done {
     let mut words = given.words.clone();
     let answer = match given.call {
         Call::Read => read(plan),
-        Call::Begin => number(manager::begin(plan, &mut words), |()| 0),
+        Call::Begin => number(manager::begin(given.limit, plan, &mut words), |()| 0),
         Call::Largest(track) => {
             let shown = paths::shown(plan, track);
             return Done { words, ..shown };
         }
-        Call::Other(call) => other(plan, &mut words, call),
+        Call::Other(call) => other(given.limit, plan, &mut words, call),
     };
     Done {
         answer,
@@ -48,22 +49,27 @@ pub fn answer(given: &Given) -> Done {
     }
 }
 
-fn other(plan: &[u8], words: &mut [u16], call: singles::Call) -> u64 {
+fn other(limit: Limit, plan: &[u8], words: &mut [u16], call: singles::Call) -> u64 {
     match call {
         singles::Call::Event(event, day, society) => {
-            let answer = manager::event(plan, words, event, day, society);
+            let answer = manager::event(limit, plan, words, event, day, society);
             number(answer, |m| pair(m.moved, m.closed))
         }
         singles::Call::Signal(society) => {
-            let answer = manager::signal(plan, words, society);
+            let answer = manager::signal(limit, plan, words, society);
             number(answer, |turned| pair(turned, 0))
         }
         singles::Call::Fire(track, society) => {
-            let answer = manager::fire(plan, words, track, society);
+            let answer = manager::fire(limit, plan, words, track, society);
             number(answer, |entry| pair(entry.code, entry.deviation))
         }
-        singles::Call::Ready => number(manager::ready(plan, words), |bits| u64::from(bits) << 32),
-        singles::Call::Entries(track) => part(manager::entries(plan, words, track), track),
+        singles::Call::Ready => {
+            let answer = manager::ready(limit, plan, words);
+            number(answer, |bits| u64::from(bits) << 32)
+        }
+        singles::Call::Entries(track) => {
+            part(limit, manager::entries(limit, plan, words, track), track)
+        }
         singles::Call::DateOfDay(day) => number(manager::date_of_day(day), |date| {
             pair(date.year, date.month) | u64::from(date.day) << 48
         }),
@@ -98,8 +104,8 @@ pub fn pair(first: u16, second: u16) -> u64 {
 }
 
 /// Bits 0 to 15 the count of words, bits 16 to 47 the index of the first one.
-fn part(words: &[u16], track: u16) -> u64 {
-    let index = ledger::track_start(usize::from(track)) + PAIRS;
+fn part(limit: Limit, words: &[u16], track: u16) -> u64 {
+    let index = limit.track_start(usize::from(track)) + PAIRS;
     match words.len() as u64 {
         0 => 0,
         count => count | (index as u64) << 16,
@@ -113,19 +119,30 @@ mod tests {
     use testing::samples::{sample, sample_records};
 
     /// The sample plan's ledger after events 10 and 11.
-    fn worked() -> Vec<u16> {
+    fn worked_at(limit: Limit) -> Vec<u16> {
         let mut words = vec![0; 205];
-        manager::begin(&sample(), &mut words);
+        manager::begin(limit, &sample(), &mut words);
         for event in [10, 11] {
-            manager::event(&sample(), &mut words, event, 0, 1);
+            manager::event(limit, &sample(), &mut words, event, 0, 1);
         }
         words
     }
 
+    fn worked() -> Vec<u16> {
+        worked_at(Limit::MAIN)
+    }
+
+    fn answered_at(limit: Limit, plan: Vec<u8>, call: singles::Call) -> Done {
+        answer(&Given {
+            limit,
+            plan,
+            words: worked_at(limit),
+            call: Call::Other(call),
+        })
+    }
+
     fn answered(plan: Vec<u8>, call: singles::Call) -> Done {
-        let words = worked();
-        let call = Call::Other(call);
-        answer(&Given { plan, words, call })
+        answered_at(Limit::MAIN, plan, call)
     }
 
     #[test]
@@ -133,6 +150,10 @@ mod tests {
         let done = answered(sample(), singles::Call::Entries(1));
         assert_eq!(done.answer, 2 | (4 + 67 + 3) << 16);
         assert_eq!(done.words[74..76], [51, 65535]);
+        let limit = Limit::READING_ROOM;
+        let done = answered_at(limit, sample(), singles::Call::Entries(1));
+        assert_eq!(done.answer, 2 | (4 + 19 + 3) << 16);
+        assert_eq!(done.words[26..28], [51, 65535]);
     }
 
     #[test]

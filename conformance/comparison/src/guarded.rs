@@ -57,10 +57,11 @@ impl Requests {
             argument,
             day as u32,
             u32::from(society),
+            given.options(),
             given.plan.len() as u32,
             given.words.len() as u32,
         ];
-        let mut bytes = Vec::with_capacity(24 + given.plan.len() + 2 * given.words.len());
+        let mut bytes = Vec::with_capacity(28 + given.plan.len() + 2 * given.words.len());
         for number in numbers {
             bytes.extend(number.to_ne_bytes());
         }

@@ -1,5 +1,5 @@
-//! A journal through the proved calls, its text printed here, and through the
-//! proved program `unwind`.
+//! A journal through the proved calls at either limit, its text printed here, and
+//! through the proved program `unwind`, whose limit is the main one.
 
 use std::fs;
 use std::io::{self, Write};
@@ -9,7 +9,7 @@ use std::process::{Command, Stdio};
 use retraction::raw;
 use retraction::{Entry, Moved, Refusal};
 use second::journal::{Record, Records, MAX_BYTES};
-use second::ledger;
+use second::limit::Limit;
 use second::plan::MAX_TRACKS;
 use testing::generate::journals::Case;
 
@@ -38,10 +38,15 @@ impl Runner {
         }
     }
 
+    /// Whether it can be had at that limit: the program has one of its own.
+    pub fn takes(&self, limit: Limit) -> bool {
+        matches!(self, Runner::Calls) || limit == Limit::MAIN
+    }
+
     /// What it prints.
-    pub fn run(&self, case: &Case) -> io::Result<Vec<u8>> {
+    pub fn run(&self, limit: Limit, case: &Case) -> io::Result<Vec<u8>> {
         match self {
-            Runner::Calls => Ok(by_calls(case)),
+            Runner::Calls => Ok(by_calls(limit, case)),
             Runner::Program { path, folder } => by_program(path, folder, case),
         }
     }
@@ -63,33 +68,51 @@ fn by_program(path: &Path, folder: &Path, case: &Case) -> io::Result<Vec<u8>> {
     Ok(child.wait_with_output()?.stdout)
 }
 
+/// The limit as the library's callers name it.
+fn setting(limit: Limit) -> retraction::Limit {
+    match limit {
+        Limit::READING_ROOM => retraction::Limit::ReadingRoom,
+        _ => retraction::Limit::Main,
+    }
+}
+
+/// A plan and the limit that all calls of a journal are at.
+#[derive(Clone, Copy)]
+struct Desk<'a> {
+    plan: &'a [u8],
+    limit: retraction::Limit,
+}
+
 /// The text of a journal run by the calls.
-fn by_calls(case: &Case) -> Vec<u8> {
+fn by_calls(limit: Limit, case: &Case) -> Vec<u8> {
     if case.plan.len() > MAX_BYTES || case.journal.len() > MAX_BYTES {
         return b"R 1\n".to_vec();
     }
     // As many as the largest plan's ledger has.
-    let mut words = vec![0xA5A5; ledger::track_start(MAX_TRACKS)];
-    match raw::begin(&case.plan, &mut words) {
+    let mut words = vec![0xA5A5; limit.track_start(MAX_TRACKS)];
+    let desk = Desk {
+        plan: &case.plan,
+        limit: setting(limit),
+    };
+    match raw::begin(desk.plan, &mut words, desk.limit) {
         Err(refusal) => format!("{}\n", refusal_line(refusal)).into_bytes(),
-        Ok(()) => after_begin(case, &mut words).into_bytes(),
+        Ok(()) => after_begin(desk, &case.journal, &mut words).into_bytes(),
     }
 }
 
-fn after_begin(case: &Case, words: &mut [u16]) -> String {
-    let plan = &case.plan[..];
-    let mut text = counts(plan);
+fn after_begin(desk: Desk, journal: &[u8], words: &mut [u16]) -> String {
+    let mut text = counts(desk.plan);
     let mut firings = 0;
-    for record in Records::new(&case.journal) {
+    for record in Records::new(journal) {
         let line = match record {
-            Ok(record) => record_line(plan, words, record).unwrap_or_else(refusal_line),
+            Ok(record) => record_line(desk, words, record).unwrap_or_else(refusal_line),
             Err(_) => refusal_line(Refusal::BrokenRecord),
         };
         firings += u32::from(line.starts_with('F'));
         text.push_str(&line);
         text.push('\n');
     }
-    text + &format!("H {} {firings}\n", held(plan, words))
+    text + &format!("H {} {firings}\n", held(desk, words))
 }
 
 fn refusal_line(refusal: Refusal) -> String {
@@ -106,15 +129,16 @@ fn counts(plan: &[u8]) -> String {
     }
 }
 
-fn record_line(plan: &[u8], words: &mut [u16], record: Record) -> Result<String, Refusal> {
+fn record_line(desk: Desk, words: &mut [u16], record: Record) -> Result<String, Refusal> {
+    let Desk { plan, limit } = desk;
     Ok(match record {
         Record::Event(event, day, society) => {
-            let Moved { moved, closed } = raw::event(plan, words, event, day, society)?;
+            let Moved { moved, closed } = raw::event(plan, words, event, day, society, limit)?;
             format!("E {event} {moved} {closed}")
         }
-        Record::Signal(society) => format!("S {}", raw::signal(plan, words, society)?),
-        Record::Fire(track, society) => firing_line(plan, words, track, society)?,
-        Record::FireLowest(society) => lowest_line(plan, words, society)?,
+        Record::Signal(society) => format!("S {}", raw::signal(plan, words, society, limit)?),
+        Record::Fire(track, society) => firing_line(desk, words, track, society)?,
+        Record::FireLowest(society) => lowest_line(desk, words, society)?,
     })
 }
 
@@ -123,32 +147,27 @@ const NO_RIGHT: u16 = 28;
 
 /// The first ready track that is not refused for want of the right; where there
 /// is none, a track that no plan has.
-fn lowest_line(plan: &[u8], words: &mut [u16], society: u16) -> Result<String, Refusal> {
-    let ready = raw::ready(plan, words)?;
+fn lowest_line(desk: Desk, words: &mut [u16], society: u16) -> Result<String, Refusal> {
+    let ready = raw::ready(desk.plan, words, desk.limit)?;
     let ready = (0..MAX_TRACKS as u16).filter(|track| ready >> track & 1 == 1);
     for track in ready {
-        match firing_line(plan, words, track, society) {
+        match firing_line(desk, words, track, society) {
             Err(refusal) if refusal.number() == NO_RIGHT => {}
             line => return line,
         }
     }
-    firing_line(plan, words, MAX_TRACKS as u16, society)
+    firing_line(desk, words, MAX_TRACKS as u16, society)
 }
 
-fn firing_line(
-    plan: &[u8],
-    words: &mut [u16],
-    track: u16,
-    society: u16,
-) -> Result<String, Refusal> {
-    let Entry { code, deviation } = raw::fire(plan, words, track, society)?;
+fn firing_line(desk: Desk, words: &mut [u16], track: u16, society: u16) -> Result<String, Refusal> {
+    let Entry { code, deviation } = raw::fire(desk.plan, words, track, society, desk.limit)?;
     let deviation = deviation.map_or("-".to_string(), |state| state.to_string());
     Ok(format!("F {track} {code} {deviation}"))
 }
 
 /// The entries that all tracks hold.
-fn held(plan: &[u8], words: &[u16]) -> usize {
+fn held(desk: Desk, words: &[u16]) -> usize {
     let tracks = 0..MAX_TRACKS as u16;
-    let counts = tracks.map(|track| raw::entries(plan, words, track).len() / 2);
+    let counts = tracks.map(|track| raw::entries(desk.plan, words, track, desk.limit).len() / 2);
     counts.sum()
 }

@@ -1,5 +1,6 @@
 //! The proved calls, the program `unwind` and the second program on the same
 //! random input, until a difference, or until as many cases as asked for agree.
+//! Single calls are at either limit, journals through the calls at both.
 //!
 //! `comparison PROGRAMS run SEED JOURNALS CALLS` compares so many, the largest
 //! numbers of entries of as many plans as journals, and all conversions, and
@@ -110,7 +111,7 @@ fn again(programs: &Path, file: &str) -> io::Result<bool> {
     for again in fs::read_to_string(file)?.lines().filter_map(case::parse) {
         let verdict = match again {
             Again::Call(given) => comparison.single(&given)?,
-            Again::Journal(case) => comparison.journal(&case)?,
+            Again::Journal(limit, case) => comparison.journal(limit, &case)?,
         };
         if let Verdict::Differ(text) = verdict {
             print!("{text}");

@@ -2,7 +2,7 @@
 //! its answer and the words afterwards. They show what no run of `unwind` can
 //! show, since it begins its own ledger and keeps it sound: the leading words,
 //! and what soundness makes of a finish left to do or of a day out of range;
-//! the largest number of entries; and conversions.
+//! the largest number of entries; conversions; and the reading rooms' limit.
 
 use crate::generate::singles::Call::{self, DateOfDay, DayOfDate, Entries, Ready};
 use crate::samples::{
@@ -57,6 +57,12 @@ pub fn all() -> Vec<Stored> {
         largest(),
         unbounded(),
         conversions(),
+        begins_at_8(),
+        work_at_8(),
+        room(Limit::READING_ROOM),
+        room(Limit::MAIN),
+        counts(),
+        words_at_8(),
     ];
     parts.into_iter().flatten().collect()
 }
@@ -796,4 +802,178 @@ fn conversions() -> Vec<Stored> {
     calls.extend(dates.map(|d| date("", d)));
     calls.extend(none.map(|d| date(": 26", d)));
     calls
+}
+
+const READING_ROOM: Limit = Limit::READING_ROOM;
+
+/// A call at a limit.
+fn at(limit: Limit, shows: &str, plan: &[u8], words: &[u16], call: Call) -> Stored {
+    Stored {
+        shows: shows.to_string(),
+        line: vectors::call_line(limit, plan, words, call),
+    }
+}
+
+/// The words that a begin and then calls leave at a limit, with so many beyond.
+fn worked_at(limit: Limit, plan: &[u8], calls: &[Call], beyond: usize) -> Vec<u16> {
+    let needed = plan::read(plan).map_or(0, |plan| words_needed(limit, &plan));
+    let mut words = vec![0xA5A5; needed + beyond];
+    manager::begin(limit, plan, &mut words);
+    for &call in calls {
+        vectors::answer(limit, plan, &mut words, call);
+    }
+    words
+}
+
+fn begins_at_8() -> Vec<Stored> {
+    let begin = |shows: &str, words: &[u16]| Stored {
+        shows: format!("at limit 8, {shows}"),
+        line: vectors::begin_line(READING_ROOM, &sample(), words),
+    };
+    vec![
+        begin("P begun with 61 words", &UNBEGUN[..61]),
+        begin("P begun, words beyond as they were", &UNBEGUN[..64]),
+        begin("P begun with as many words as at 32", &UNBEGUN),
+        begin("a begin takes a ledger of limit 32", &withdrawn()),
+        begin("a begin with one word too few: 17", &UNBEGUN[..60]),
+    ]
+}
+
+/// P's ledger at 8 and the calls on it.
+fn work_at_8() -> Vec<Stored> {
+    let after = |calls: &[Call]| worked_at(READING_ROOM, &sample(), calls, 3);
+    let turned = after(&[event(10), event(11), event(12), signal()]);
+    let closed = after(&[10, 11, 12, 14].map(event));
+    let on = |shows: &str, words: &[u16], call| {
+        let shows = format!("P at limit 8, {shows}");
+        at(READING_ROOM, &shows, &sample(), words, call)
+    };
+    vec![
+        on("an event", &after(&[event(10)]), event(11)),
+        on("a closing", &after(&[10, 11, 12].map(event)), event(14)),
+        on("a finish", &closed, event(13)),
+        on("a signal", &after(&[10, 11, 12].map(event)), signal()),
+        on("a signal that abandons", &after(&[event(10)]), signal()),
+        on("ready", &turned, Ready),
+        on("a firing", &turned, fire(1)),
+        on("a firing of a host that waits: 22", &turned, fire(0)),
+        on("entries of track 0", &closed, Entries(0)),
+        on("entries of track 1", &turned, Entries(1)),
+        on("entries of track 2", &turned, Entries(2)),
+        on("entries of no track", &turned, Entries(3)),
+        on(
+            "over: 20",
+            &after(&[10, 11, 12, 14, 13].map(event)),
+            signal(),
+        ),
+    ]
+}
+
+/// `looping` with a hosting state, entered by event 4, whose branch ends by
+/// event 5 and which then has replacement 90.
+fn looping_host() -> Vec<u8> {
+    let mut plan = looping();
+    plan.tracks.push(track(2));
+    plan.states.push(state(0, 0, 90));
+    plan.states.extend([state(1, 0, 0), state(1, 1, 0)]);
+    plan.transitions.push(step(0, 4, 0, 2));
+    plan.transitions.push(step(3, 5, 0, 4));
+    plan.encode()
+}
+
+/// A track that holds one entry fewer than the limit allows, and as many.
+fn room(limit: Limit) -> Vec<Stored> {
+    let (plan, host) = (looping().encode(), looping_host());
+    let most = limit.entries();
+    let holding = |held: usize| worked_at(limit, &plan, &vec![event(1); held], 2);
+    let hosting = |held: usize| {
+        let calls = [&vec![event(1); held][..], &[event(4)]].concat();
+        worked_at(limit, &host, &calls, 2)
+    };
+    let turned = worked_at(
+        limit,
+        &plan,
+        &[&vec![event(1); most][..], &[signal()]].concat(),
+        2,
+    );
+    let on = |shows: &str, plan: &[u8], words: &[u16], call| {
+        let shows = format!("room at limit {most}, {shows}");
+        at(limit, &shows, plan, words, call)
+    };
+    let (nearly, full) = (holding(most - 1), holding(most));
+    vec![
+        on("the last entry installs", &plan, &nearly, event(1)),
+        on("one entry more: 21", &plan, &full, event(1)),
+        on("an entry that the finish drops: 21", &plan, &full, event(2)),
+        on(
+            "the last entry is dropped by the finish",
+            &plan,
+            &nearly,
+            event(2),
+        ),
+        on("a full track moves without a code", &plan, &full, event(3)),
+        on(
+            "the last entry is a replacement",
+            &host,
+            &hosting(most - 1),
+            event(5),
+        ),
+        on("a replacement more: 21", &host, &hosting(most), event(5)),
+        on("a full track turns", &plan, &full, signal()),
+        on("a full track is ready", &plan, &turned, Ready),
+        on("a full track fires", &plan, &turned, fire(0)),
+        on("entries of a full track", &plan, &full, Entries(0)),
+        on("entries of a track nearly full", &plan, &nearly, Entries(0)),
+    ]
+}
+
+/// Counts at both limits, with a good pair wherever one may stand.
+fn counts() -> Vec<Stored> {
+    let counted = |limit: Limit, count: u16, shows: &str, call| {
+        let plan = looping().encode();
+        let mut words = worked_at(limit, &plan, &[], 50);
+        words[7..]
+            .chunks_exact_mut(2)
+            .for_each(|pair| pair.copy_from_slice(&[7, NONE]));
+        words[6] = count;
+        let shows = format!("a count of {count} at limit {}{shows}", limit.0);
+        at(limit, &shows, &plan, &words, call)
+    };
+    vec![
+        counted(READING_ROOM, 8, "", Ready),
+        counted(READING_ROOM, 9, ": 18", Ready),
+        counted(READING_ROOM, 9, ", event: 18", event(3)),
+        counted(READING_ROOM, 9, ", signal: 18", signal()),
+        counted(READING_ROOM, 9, ", firing: 18", fire(0)),
+        counted(READING_ROOM, 9, ", entries", Entries(0)),
+        counted(READING_ROOM, 32, ": 18", Ready),
+        counted(READING_ROOM, 33, ": 18", Ready),
+        counted(Limit::MAIN, 32, "", Ready),
+        counted(Limit::MAIN, 33, ": 18", Ready),
+    ]
+}
+
+/// Words too few, unused or beyond at limit 8.
+fn words_at_8() -> Vec<Stored> {
+    let words = worked_at(READING_ROOM, &sample(), &[event(10), event(11)], 150);
+    let on = |shows: &str, words: &[u16], call| {
+        let shows = format!("at limit 8, {shows}");
+        at(READING_ROOM, &shows, &sample(), words, call)
+    };
+    let soiled = |place: usize| with(words.clone(), &[(place, 1)]);
+    vec![
+        on("as many words as needed", &words[..61], event(12)),
+        on("one word too few: 17", &words[..60], event(12)),
+        on("one word too few, ready: 17", &words[..60], Ready),
+        on("one word too few, entries", &words[..60], Entries(0)),
+        on("words beyond as they were", &words, event(12)),
+        on("track 0's last unused word: 18", &soiled(22), Ready),
+        on("track 2's last unused word: 18", &soiled(60), Ready),
+        on("a word beyond is not judged", &soiled(61), Ready),
+        on(
+            "another plan's ledger: 24",
+            &with(words.clone(), &[(1, 0)]),
+            Ready,
+        ),
+    ]
 }

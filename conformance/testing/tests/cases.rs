@@ -485,6 +485,50 @@ fn stored_calls_tell_the_largest_number_of_entries() {
 }
 
 #[test]
+fn stored_calls_at_either_limit_are_answered_as_they_say() {
+    for (limit, most) in [("8", 8), ("32", 32)] {
+        let held = |count: usize| "0007ffff".repeat(count);
+        let room = [
+            "D1,0", "R21", "R21", "D1,0", "D1,0", "D1,1", "R21", "D1", "D1", "D7,65535",
+        ];
+        let entries = [held(most), held(most - 1)];
+        let found = answers(&format!("room at limit {limit},"));
+        assert_eq!(found[..10], room);
+        assert_eq!(found[10..], entries);
+    }
+    let begun = ["begun", "begun", "begun"];
+    assert_eq!(answers("at limit 8, P begun"), begun);
+    assert_eq!(answers("at limit 8, words beyond"), ["D1,0"]);
+    let work = [
+        "D1,0",
+        "D1,1",
+        "D1,0",
+        "D3",
+        "D3",
+        "D6",
+        "D51,65535",
+        "R22",
+        "0032ffff005affff",
+        "0033ffff",
+        "0034ffff",
+        "",
+        "R20",
+    ];
+    assert_eq!(answers("P at limit 8, "), work);
+    assert_eq!(answers("a count of 8 at limit 8"), ["D0"]);
+    assert_eq!(answers("a count of 32 at limit 32"), ["D0"]);
+}
+
+#[test]
+fn stored_calls_at_8_are_marked_and_no_others() {
+    for call in calls::all() {
+        let marked = call.line.starts_with("L8;");
+        assert_eq!(marked, call.shows.contains("at limit 8"), "{}", call.shows);
+        assert!(marked || call.line.starts_with("L;"), "{}", call.shows);
+    }
+}
+
+#[test]
 fn stored_runs_of_refused_plans_print_the_number_of_their_name_alone() {
     let mut refused = 0;
     for case in cases::all() {
@@ -510,7 +554,7 @@ fn stored_calls_are_refused_with_the_number_that_they_name() {
             named += 1;
         }
     }
-    assert_eq!(named, 106);
+    assert_eq!(named, 127);
 }
 
 #[test]

@@ -2,6 +2,7 @@
 
 use super::answer::{Answer, Or};
 use super::files::{self, Given};
+use super::limits;
 use super::options::Options;
 use crate::{compare, tell};
 use std::path::Path;
@@ -12,12 +13,14 @@ pub fn compare(options: &Options) -> Or<Answer> {
         bytes,
         judged,
     } = files::given(options.word(0))?;
-    let journal = files::journal(options.word(1), &draft);
+    let path = options.word(1);
+    let journal = files::journal(path, None, &draft);
     // Of a plan that is refused the names may be lost, and that is the fault then.
     let journal = journal.map_err(|fault| match &judged {
         Err((_, told)) => told.clone(),
         Ok(_) => fault,
     })?;
+    limits::of_programs(path, journal.read.limit)?;
     let refusal = judged.as_ref().err().map(|(refusal, _)| *refusal);
     let refusal = refusal.or(journal.refused);
     let run = judged.as_ref().ok().map(|plan| journal.run(plan));

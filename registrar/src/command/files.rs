@@ -1,6 +1,7 @@
 //! Plans and journals out of files, as text or as bytes.
 
 use super::answer::{Answer, Or};
+use super::limits;
 use crate::draft::Draft;
 use crate::fault::Fault;
 use crate::journal::{self, Broken};
@@ -9,7 +10,7 @@ use crate::plan_text::MOST_FAULTS;
 use crate::records::Records;
 use crate::run::{self, Run};
 use crate::{journal_text, phrase, plan_text};
-use retraction::{Plan, Refusal};
+use retraction::{Limit, Plan, Refusal};
 use std::fmt::Write;
 use std::fs;
 
@@ -124,8 +125,8 @@ fn refused(path: &str, refusal: Refusal, place: &Place, text: Option<&str>) -> A
 
 /// A journal out of a file.
 pub struct Journal {
-    /// Its calls, their lines in a text, and the day and the society in force at
-    /// its end.
+    /// Its calls, their lines in a text, the day and the society in force at its
+    /// end, and the limit.
     pub read: journal_text::Journal,
     /// All of it, what is broken too.
     pub bytes: Vec<u8>,
@@ -136,10 +137,11 @@ pub struct Journal {
 }
 
 impl Journal {
-    /// Runs it by the proved calls.
+    /// Runs it by the proved calls, at its limit.
     #[must_use]
     pub fn run<'plan>(&self, plan: &'plan Plan) -> Run<'plan> {
-        Run::of(plan, &self.read.calls, self.broken.clone())
+        let journal_text::Journal { calls, limit, .. } = &self.read;
+        Run::of(plan, *limit, calls, self.broken.clone())
     }
 
     /// Ends the command where it is too long or broken.
@@ -168,15 +170,19 @@ pub fn broken_words(path: &str, broken: &Broken) -> String {
     format!("{path}: refused, {refusal}\n  record {record}, at byte {byte}: {what}\n")
 }
 
-/// The journal of a file under a plan.
-pub fn journal(path: &str, draft: &Draft) -> Or<Journal> {
+/// The journal of a file under a plan. Bytes are at the limit that is said, or else
+/// at the main one; a text tells its own, and no other may be said of it.
+pub fn journal(path: &str, said: Option<Limit>, draft: &Draft) -> Or<Journal> {
     let (read, bytes, broken) = if has_bytes(path) {
         let bytes = bytes_of(path)?;
         let (calls, broken) = journal::decode(&bytes);
-        (journal_text::Journal::of_calls(calls), bytes, broken)
+        let limit = said.unwrap_or_default();
+        let read = journal_text::Journal::of_calls(calls, limit);
+        (read, bytes, broken)
     } else {
         let text = text_of(path)?;
         let read = journal_text::read(&text, draft).map_err(|found| faults(path, &text, &found))?;
+        limits::agree(path, read.limit, said)?;
         let bytes = journal::encode(&read.calls);
         (read, bytes, None)
     };

@@ -17,6 +17,7 @@ pub fn overview() -> String {
     }
     text.push_str(
         "\nA plan or a journal is bytes where its name ends in .bin, and text otherwise.
+--limit 8 reads a journal's bytes at the reading rooms' limit; a text tells its own.
 'registrar help COMMAND' says more; registrar(1) has both texts' grammar.
 Exit status: 0 done, 1 refused or different, 2 usage or a file.\n",
     );

@@ -2,6 +2,7 @@
 
 use super::answer::{Answer, Or};
 use super::files::{self, Filed, Given, Journal};
+use super::limits;
 use super::options::Options;
 use super::output;
 use crate::draft::Draft;
@@ -12,8 +13,9 @@ use crate::{journal_text, lookup, phrase, picture, tell, withdraw};
 
 /// The plan and the journal that a command names first.
 fn both(options: &Options) -> Or<(Filed, Journal)> {
+    let limit = limits::said(options)?;
     let filed = files::plan(options.word(0))?;
-    let journal = files::journal(options.word(1), &filed.draft)?;
+    let journal = files::journal(options.word(1), limit, &filed.draft)?;
     Ok((filed, journal))
 }
 
@@ -21,18 +23,23 @@ pub fn journal(options: &Options) -> Or<Answer> {
     let (filed, journal) = both(options)?;
     let path = options.word(1);
     let journal = journal.whole(path)?;
+    let limit = journal.read.limit;
     if files::has_bytes(path) {
-        let text = journal_text::write(&journal.read.calls, &filed.draft);
+        let text = journal_text::write(&journal.read.calls, limit, &filed.draft);
         return output::text(options.value("-o"), text);
     }
     let unnamed = || Answer::unfit("a text becomes bytes: name their file with -o");
     let file = options.value("-o").ok_or_else(unnamed)?;
+    limits::known(path, limit, limits::said(options)?)?;
     let records = phrase::count(journal.read.calls.len(), "record");
-    let said = format!("{file}: {records}, {} bytes\n", journal.bytes.len());
+    let count = journal.bytes.len();
+    let how = limits::to_be_read(limit);
+    let said = format!("{file}: {records}, {count} bytes{how}\n");
     output::bytes(file, &journal.bytes, said)
 }
 
 pub fn tell(options: &Options) -> Or<Answer> {
+    let limit = limits::said(options)?;
     let Given { draft, judged, .. } = files::given(options.word(0))?;
     let refused = |refusal| tell::text(&[tell::refused(refusal)]);
     let plan = match judged {
@@ -42,7 +49,7 @@ pub fn tell(options: &Options) -> Or<Answer> {
         }
     };
     let path = options.word(1);
-    let journal = files::journal(path, &draft)?;
+    let journal = files::journal(path, limit, &draft)?;
     if let Some(refusal) = journal.refused {
         let said = files::too_long(path, refusal).said;
         return Ok(Answer::done(refused(refusal)).but_refused(said));

@@ -5,6 +5,7 @@ mod compare;
 mod files;
 mod help;
 mod journals;
+mod limits;
 mod options;
 mod output;
 mod page;
@@ -86,50 +87,52 @@ pub const COMMANDS: [Command; 14] = [
     },
     Command {
         name: "journal",
-        usage: "PLAN JOURNAL [-o FILE]",
+        usage: "PLAN JOURNAL [--limit 8] [-o FILE]",
         about: "a journal's text to bytes, or its bytes to text",
-        more: "A text becomes bytes, in the file that -o names. The bytes of a file whose name ends in .bin become text.",
+        more: "A text becomes bytes, in the file that -o names. The bytes of a file whose name ends in .bin become text. Bytes cannot tell the \
+               reading rooms' limit: of a text at limit 8 they are written only with --limit 8, and with it they are read as such.",
         words: (2, 2),
-        options: &["-o"],
+        options: &["--limit", "-o"],
         run: journals::journal,
     },
     Command {
         name: "tell",
-        usage: "PLAN JOURNAL",
+        usage: "PLAN JOURNAL [--limit 8]",
         about: "unwind's own lines, each with its meaning",
-        more: "The first column is what unwind prints for the same plan and journal; the second is the line of the journal's text.",
+        more: "The first column is what unwind prints for the same plan and journal; the second is the line of the journal's text. For a \
+               journal at limit 8 the first is what a reading room's unwind would print; unwind itself keeps to 32.",
         words: (2, 2),
-        options: &[],
+        options: &["--limit"],
         run: journals::tell,
     },
     Command {
         name: "add",
-        usage: "PLAN JOURNAL LINE",
+        usage: "PLAN JOURNAL [--limit 8] LINE",
         about: "tries one line on a journal, and appends it if it is accepted",
         more: "LINE is a line of a journal's text with a call in it, such as: event banns-read. It is tried after all that stands in the \
                journal, on the day and by the society in force there, unless it has its own. What is refused is told and not \
                written.",
         words: (3, MANY),
-        options: &[],
+        options: &["--limit"],
         run: journals::add,
     },
     Command {
         name: "withdraw",
-        usage: "PLAN JOURNAL [--as SOCIETY]",
+        usage: "PLAN JOURNAL [--limit 8] [--as SOCIETY]",
         about: "what would be taken back now, in which rounds",
         more: "How many letters would go out, which side by side, and what waits for what. Nothing is written. The society is the one \
                in force at the journal's end, or the only one that the plan's rights name, unless it is said.",
         words: (2, 2),
-        options: &["--as"],
+        options: &["--limit", "--as"],
         run: journals::withdraw,
     },
     Command {
         name: "timeline",
-        usage: "PLAN JOURNAL [-o FILE]",
+        usage: "PLAN JOURNAL [--limit 8] [-o FILE]",
         about: "a journal as a picture (SVG): a row for each track, a column for each call",
         more: "Each cell has the track's state and what it holds, the newest on top.",
         words: (2, 2),
-        options: &["-o"],
+        options: &["--limit", "-o"],
         run: journals::timeline,
     },
     Command {
@@ -137,19 +140,20 @@ pub const COMMANDS: [Command; 14] = [
         usage: "PLAN JOURNAL A B",
         about: "whether two programs print the same, or the first line that differs, in words",
         more: "A and B are programs that are run as unwind is: with plan.bin in the working folder and the journal on standard \
-               input. Each is run in a folder of its own, which is removed again.",
+               input. Each is run in a folder of its own, which is removed again. They keep to 32 entries for each track, so a journal at \
+               limit 8 is not taken.",
         words: (4, 4),
         options: &[],
         run: compare::compare,
     },
     Command {
         name: "page",
-        usage: "PLAN [JOURNAL] [--as SOCIETY] [-o FILE]",
+        usage: "PLAN [JOURNAL] [--limit 8] [--as SOCIETY] [-o FILE]",
         about: "all of it in one HTML file",
         more: "The listing, the picture, and with a journal its telling, its timeline and what would be taken back now. The page needs \
                no network and has no script.",
         words: (1, 2),
-        options: &["--as", "-o"],
+        options: &["--limit", "--as", "-o"],
         run: page::page,
     },
     Command {

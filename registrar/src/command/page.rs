@@ -3,6 +3,7 @@
 use super::answer::{Answer, Or};
 use super::files::{self, Filed, Journal};
 use super::journals;
+use super::limits;
 use super::options::Options;
 use super::output;
 use crate::page::{self, Page};
@@ -10,6 +11,7 @@ use crate::run::Run;
 use crate::{list, withdraw};
 
 pub fn page(options: &Options) -> Or<Answer> {
+    let limit = limits::said(options)?;
     let filed = files::plan(options.word(0))?;
     let listing = list::list(&filed.draft, &filed.plan);
     let mut parts = Page {
@@ -21,7 +23,7 @@ pub fn page(options: &Options) -> Or<Answer> {
         None => return output::text(options.value("-o"), page::page(&parts)),
         Some(path) => path,
     };
-    let journal = files::journal(path, &filed.draft)?.whole(path)?;
+    let journal = files::journal(path, limit, &filed.draft)?.whole(path)?;
     let run = journal.run(&filed.plan);
     let due = due(options, &filed, &journal, &run)?;
     parts.journal = Some(page::Journal::of(&filed.draft, &run, &due));

@@ -6,6 +6,7 @@ use super::marks::OVER;
 use super::svg::{CODE, EVENT, HEADING};
 use crate::draft::Draft;
 use crate::journal::Call;
+use crate::limit;
 use crate::run::{Answer, Done, Run};
 use retraction::Refusal;
 
@@ -33,10 +34,12 @@ impl Head {
 #[must_use]
 pub fn heads(draft: &Draft, run: &Run) -> Vec<Head> {
     let lines = run.lines();
+    let limit = run.ledger.limit();
+    let at = limit::told(limit).map_or_else(String::new, |at| format!(" {at}"));
     let begin = Head {
         printed: lines[0].clone(),
-        call: "begin".to_string(),
-        said: "The plan is taken, and the ledger begun".to_string(),
+        call: format!("begin{}", limit::written(limit)),
+        said: format!("The plan is taken, and the ledger begun{at}"),
         refused: false,
         ends: false,
     };

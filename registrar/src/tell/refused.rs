@@ -3,9 +3,10 @@
 use super::{event, Scene};
 use crate::day;
 use crate::journal::Call;
+use crate::limit;
 use crate::look;
 use crate::phrase;
-use crate::standing::{self, Mode};
+use crate::standing::{self, Mode, Standing};
 use retraction::{Refusal, FIRST_DAY, LAST_DAY};
 
 /// A call that was refused.
@@ -63,22 +64,21 @@ fn lacking(scene: &Scene<'_>) -> String {
     }
 }
 
-/// The most entries that a track can hold.
-const MOST: usize = 32;
-
-/// Which tracks are full: of those that hold 32 those that the event would give
-/// an entry as far as the records show, and else all.
+/// Which tracks are full: of those that hold as many as the limit those that the
+/// event would give an entry as far as the records show, and else all.
 fn full(scene: &Scene<'_>) -> String {
-    let holds_most = |&t: &u16| scene.before(t).map_or(false, |s| s.entries.len() >= MOST);
+    let most = scene.limit.entries();
+    let is_full = |standing: &Standing| standing.entries.len() >= usize::from(most);
+    let holds_most = |&t: &u16| scene.before(t).map_or(false, is_full);
     let full: Vec<u16> = scene.tracks().filter(holds_most).collect();
     let asked = full.iter().copied().filter(|&t| event::gives(scene, t));
     let asked: Vec<u16> = asked.collect();
     let named = if asked.is_empty() { full } else { asked };
     let verb = phrase::verb(named.len(), "holds", "hold");
-    format!(
-        "{} {verb} {MOST} already",
-        phrase::tracks(scene.draft, &named)
-    )
+    let whose = limit::whose(scene.limit);
+    let whose = whose.map_or_else(String::new, |whose| format!(", {whose}"));
+    let named = phrase::tracks(scene.draft, &named);
+    format!("{named} {verb} {most} already{whose}")
 }
 
 fn not_ready(scene: &Scene<'_>) -> String {

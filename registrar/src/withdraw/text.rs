@@ -2,6 +2,7 @@
 
 use super::{Branch, Round, Withdrawal};
 use crate::draft::Draft;
+use crate::limit;
 use crate::look;
 use crate::phrase;
 use crate::standing::{Mode, Standing};
@@ -15,7 +16,8 @@ impl Withdrawal {
     /// The withdrawal in words.
     #[must_use]
     pub fn text(&self, draft: &Draft) -> String {
-        let mut lines = vec![self.head(draft)];
+        let mut lines: Vec<String> = self.kept_at().into_iter().collect();
+        lines.push(self.head(draft));
         lines.extend(self.staying(draft));
         let branches = self.rounds.iter().flatten();
         let widths = branches.map(|branch| label(draft, branch).chars().count());
@@ -27,6 +29,12 @@ impl Withdrawal {
         lines.extend(self.hindered(draft));
         lines.extend(self.ending(draft));
         lines.join("\n") + "\n"
+    }
+
+    /// The limit, where it is not the main program's.
+    fn kept_at(&self) -> Option<String> {
+        let at = limit::told(self.limit)?;
+        Some(format!("The ledger is kept {at}."))
     }
 
     /// How many letters, and how sure that is.

@@ -7,7 +7,7 @@ use registrar::journal;
 use registrar::picture::svg::{Rect, STYLES};
 use registrar::records::Records;
 use registrar::run::Run;
-use retraction::Plan;
+use retraction::{Limit, Plan};
 use testing::generate::rng::Rng;
 use testing::generate::{journals, plans};
 
@@ -207,5 +207,5 @@ pub fn generated_run(seed: u64, limit: usize) -> (Draft, Vec<u8>) {
 pub fn with_run<T>(draft: &Draft, journal: &[u8], then: impl FnOnce(&Run) -> T) -> T {
     let plan = Plan::read(draft.records.encode()).expect("an accepted plan");
     let (calls, broken) = journal::decode(journal);
-    then(&Run::of(&plan, &calls, broken))
+    then(&Run::of(&plan, Limit::Main, &calls, broken))
 }

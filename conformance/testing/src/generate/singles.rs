@@ -1,6 +1,6 @@
-//! Single calls on sound ledgers, some of them near their finish or with rights
-//! divided among societies, on damaged ones, and on those of other plans; and
-//! conversions.
+//! Single calls at a limit, on sound ledgers, some of them near their finish, full
+//! or with rights divided among societies, on damaged ones, and on those of other
+//! plans and of other limits; and conversions.
 
 use super::damage;
 use super::days;
