@@ -68,19 +68,19 @@ fn by_program(path: &Path, folder: &Path, case: &Case) -> io::Result<Vec<u8>> {
     Ok(child.wait_with_output()?.stdout)
 }
 
-/// The limit as the library's callers name it.
-fn setting(limit: Limit) -> retraction::Limit {
+/// The options of the library's calls at a limit.
+fn options_at(limit: Limit) -> u32 {
     match limit {
-        Limit::READING_ROOM => retraction::Limit::ReadingRoom,
-        _ => retraction::Limit::Main,
+        Limit::READING_ROOM => retraction::Limit::ReadingRoom.options(),
+        _ => retraction::Limit::Main.options(),
     }
 }
 
-/// A plan and the limit that all calls of a journal are at.
+/// A plan and the options that all calls of a journal have.
 #[derive(Clone, Copy)]
 struct Desk<'a> {
     plan: &'a [u8],
-    limit: retraction::Limit,
+    options: u32,
 }
 
 /// The text of a journal run by the calls.
@@ -92,9 +92,9 @@ fn by_calls(limit: Limit, case: &Case) -> Vec<u8> {
     let mut words = vec![0xA5A5; limit.track_start(MAX_TRACKS)];
     let desk = Desk {
         plan: &case.plan,
-        limit: setting(limit),
+        options: options_at(limit),
     };
-    match raw::begin(desk.plan, &mut words, desk.limit) {
+    match raw::begin(desk.plan, &mut words, desk.options) {
         Err(refusal) => format!("{}\n", refusal_line(refusal)).into_bytes(),
         Ok(()) => after_begin(desk, &case.journal, &mut words).into_bytes(),
     }
@@ -130,13 +130,13 @@ fn counts(plan: &[u8]) -> String {
 }
 
 fn record_line(desk: Desk, words: &mut [u16], record: Record) -> Result<String, Refusal> {
-    let Desk { plan, limit } = desk;
+    let Desk { plan, options } = desk;
     Ok(match record {
         Record::Event(event, day, society) => {
-            let Moved { moved, closed } = raw::event(plan, words, event, day, society, limit)?;
+            let Moved { moved, closed } = raw::event(plan, words, event, day, society, options)?;
             format!("E {event} {moved} {closed}")
         }
-        Record::Signal(society) => format!("S {}", raw::signal(plan, words, society, limit)?),
+        Record::Signal(society) => format!("S {}", raw::signal(plan, words, society, options)?),
         Record::Fire(track, society) => firing_line(desk, words, track, society)?,
         Record::FireLowest(society) => lowest_line(desk, words, society)?,
     })
@@ -148,7 +148,7 @@ const NO_RIGHT: u16 = 28;
 /// The first ready track that is not refused for want of the right; where there
 /// is none, a track that no plan has.
 fn lowest_line(desk: Desk, words: &mut [u16], society: u16) -> Result<String, Refusal> {
-    let ready = raw::ready(desk.plan, words, desk.limit)?;
+    let ready = raw::ready(desk.plan, words, desk.options)?;
     let ready = (0..MAX_TRACKS as u16).filter(|track| ready >> track & 1 == 1);
     for track in ready {
         match firing_line(desk, words, track, society) {
@@ -160,7 +160,7 @@ fn lowest_line(desk: Desk, words: &mut [u16], society: u16) -> Result<String, Re
 }
 
 fn firing_line(desk: Desk, words: &mut [u16], track: u16, society: u16) -> Result<String, Refusal> {
-    let Entry { code, deviation } = raw::fire(desk.plan, words, track, society, desk.limit)?;
+    let Entry { code, deviation } = raw::fire(desk.plan, words, track, society, desk.options)?;
     let deviation = deviation.map_or("-".to_string(), |state| state.to_string());
     Ok(format!("F {track} {code} {deviation}"))
 }
@@ -168,6 +168,6 @@ fn firing_line(desk: Desk, words: &mut [u16], track: u16, society: u16) -> Resul
 /// The entries that all tracks hold.
 fn held(desk: Desk, words: &[u16]) -> usize {
     let tracks = 0..MAX_TRACKS as u16;
-    let counts = tracks.map(|track| raw::entries(desk.plan, words, track, desk.limit).len() / 2);
+    let counts = tracks.map(|track| raw::entries(desk.plan, words, track, desk.options).len() / 2);
     counts.sum()
 }
