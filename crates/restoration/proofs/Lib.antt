@@ -24,4 +24,6 @@ pub mod FiringsDue
 pub mod SampleTracks
 pub mod SampleBooks
 pub mod SampleRun
+pub mod ChainRuns
+pub mod ChainBooks
 pub mod Counterexamples
