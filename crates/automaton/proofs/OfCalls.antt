@@ -53,7 +53,8 @@ module _ (ρ : FailReading) (terms : Terms) (bs : List ℕ) (k : Counts) (read :
         refused-none = λ r e. words-refused ρ terms bs k read ws c r (sym (m .answered) ∙ e);
       }
 
--- The three calls, each at its arguments a, its answer r and what it left s: a .0 are the terms, a .1 .0 the plan, a .1 .1 .0 the ledger, s .1 .1 .0 the ledger afterwards.
+-- The three calls, each at its arguments a, its answer r and what it left s: a .0 are the terms, a .1 .0 the plan, a .1 .1 .0 the ledger,
+-- s .1 .1 .0 the ledger afterwards.
 pub event-exactly : (ρ : FailReading) (κs : Lfts 2) (a : ArgsD event.signature κs) (r : ResD event.signature κs)
     (s : AtExit (endedOf 2 event-kinds.ps event-kinds.r) κs) → event-reads.Post κs a r s
     → (k : Counts) (read : readPlan (now (a .1 .0)) ≡ accepted k)

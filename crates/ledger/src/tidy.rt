@@ -1,4 +1,5 @@
-// Whether a ledger's words are as the layout has them: modes 0 to 2, at most so many entries as the terms allow, unused pairs zero, an asleep track all zeros.
+// Whether a ledger's words are as the layout has them: modes 0 to 2, as many entries at most as the terms allow, unused pairs zero, an asleep
+// track all zeros.
 use crate::layout;
 use crate::layout::COUNT_WORD;
 use crate::layout::ENTRY_WIDTH;

@@ -17,7 +17,8 @@ use Rattle.property3.proofs.run_calls as run-calls
 use Rattle.property3.proofs.run_calls.Kinds as run-calls-kinds
 use Rattle.property3.proofs.run_calls.Reads as run-calls-reads
 
--- a .0 are the terms, a .1 .0 the plan, a .1 .1 .0 the ledger lent, a .1 .1 .1 .0 the calls; s .1 .1 .0 is the ledger afterwards, s .1 .1 .1 .1 .0 the answers.
+-- a .0 are the terms, a .1 .0 the plan, a .1 .1 .0 the ledger lent, a .1 .1 .1 .0 the calls; s .1 .1 .0 is the ledger afterwards,
+-- s .1 .1 .1 .1 .0 the answers.
 pub property3-of-run-calls : (κs : Lfts 4) (a : ArgsD run-calls.signature κs) (r : ResD run-calls.signature κs)
     (s : AtExit (endedOf 4 run-calls-kinds.ps run-calls-kinds.r) κs) → run-calls-reads.Post κs a r s → r ≡ Begun
     → (c : Counts) × (readPlan (now (a .1 .0)) ≡ accepted c)

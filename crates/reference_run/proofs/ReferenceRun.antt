@@ -107,7 +107,8 @@ ran-as-reference terms bs js lent out told ws out′ m n e c read short short′
     (as-reference terms bs js c lent read short short′ (w .room)))
 
 -- Where a run answered `Written n`, its plan is accepted and neither input is too long, the words that it leaves and its first n bytes are the
--- reference run's: a .0 are the terms, a .1 .0 the plan, a .1 .1 .0 the journal, a .1 .1 .1 .0 the lent ledger; s .1 .1 .1 .0 is the ledger afterwards, s .1 .1 .1 .1 .0 the output.
+-- reference run's: a .0 are the terms, a .1 .0 the plan, a .1 .1 .0 the journal, a .1 .1 .1 .0 the lent ledger;
+-- s .1 .1 .1 .0 is the ledger afterwards, s .1 .1 .1 .1 .0 the output.
 pub run-as-reference : (κs : Lfts 4) (a : ArgsD run.signature κs) (r : ResD run.signature κs) (s : AtExit (endedOf 4 run-kinds.ps run-kinds.r) κs)
     → run-reads.Post κs a r s → (n : ℕ) → r ≡ Written n
     → (c : Counts) → readPlan (now (a .1 .0)) ≡ accepted c → length (now (a .1 .0)) ≤ mostBytes → length (now (a .1 .1 .0)) ≤ mostBytes
