@@ -91,7 +91,7 @@ module _ (p : Plan) where
   unfoldable pub isReplaced : Ledger → TrackNumber → Bool
   isReplaced m t = closesScope m t && not (eqb (replacement p (m t .state)) 0)
 
-  -- 21 "A track that the event gives an entry, even one dropped in the same call, holds 32."
+  -- 21 "A track that the event gives an entry, even one dropped in the same call, holds 32."; "Refusal 21 .. read the caller's own limit"
   unfoldable pub isFull : Terms → Ledger → EventArguments → Bool
   isFull terms l a =
       someBelow (trackCount p)

@@ -89,7 +89,7 @@ module _ (terms : Terms) where
       modeWord (c .mode) ∷ c .state ∷ length (c .held)
       ∷ (heldWords (c .held) ++ replicate (entryWidth * (terms .limit - length (c .held))) 0)
 
-  -- "67 for each track, in track order"
+  -- "3 + 2 × limit words for each track", "in track order"
   unfoldable pub ledgerWords : ℕ → Ledger → Words
   ledgerWords zero l = []
   ledgerWords (suc n) l = ledgerWords n l ++ configurationWords (l n)

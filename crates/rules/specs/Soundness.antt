@@ -26,7 +26,7 @@ unfoldable pub goodMode : Words → Place → Bool
 goodMode ws at = leb (getD ws at 0) 2
 
 module _ (terms : Terms) (ws : Words) (at : Place) where
-  -- "count of entries held (0 to 32)"
+  -- "count of entries held (0 to 32)"; "the count .. read the caller's own limit"
   unfoldable pub goodCount : Bool
   goodCount = leb (getD ws (countPlace at) 0) (terms .limit)
 
