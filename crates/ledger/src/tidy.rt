@@ -4,6 +4,7 @@ use crate::layout;
 use crate::layout::COUNT_WORD;
 use crate::layout::ENTRY_WIDTH;
 use crate::layout::HEAD_WORDS;
+use crate::layout::LEADING_WORDS;
 use rules::Terms;
 ghost use mathlib.Core.Path.{_≡_};
 ghost use Prim.Native.Nat.{_+_, _≤_};
@@ -49,16 +50,19 @@ fn is_tidy(terms: Terms, ledger: &[u16], at: usize) -> bool
     are_zero(ledger, at + HEAD_WORDS + held, ENTRY_WIDTH * limit - held)
 }
 
-// Whether those of every track are.
+// Whether those of every track are. `at` is where the track looked at starts.
 pub fn are_tidy(terms: Terms, ledger: &[u16], tracks: usize) -> bool
     requires { ⌜ Room terms (now ledger) tracks ⌝ }
     ensures { λ r. ⌜ r ≡ areTidy terms (now (ledger .entry)) tracks ⌝ }
 {
+    let width = layout::track_width(terms);
     let mut all = true;
+    let mut at = LEADING_WORDS;
     let mut t: usize = 0;
     while t < tracks {
-        let tidy = is_tidy(terms, ledger, layout::track_place(terms, t));
+        let tidy = is_tidy(terms, ledger, at);
         all = all & tidy;
+        at += width;
         t += 1;
     }
     all

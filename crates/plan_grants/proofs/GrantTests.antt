@@ -15,7 +15,6 @@ use Rattle.rules.specs.Plan.{Plan, trackCount, grant, isRoot}
 use Rattle.rules.specs.Acceptance.{mostGrants, mostRights, namesNoRoot, repeatsPair, badGrant}
 use Rattle.rules.proofs.Tests.{look, and-not, and-both, or-right}
 use Rattle.rules.proofs.Folds.{some-at, some-same, some-more}
-use Rattle.plan.proofs.Searches.{none-more, none-all}
 use Rattle.plan_grants.specs.Pairs.{Pair, isAmong}
 
 -- the rights are no sum of 1 to 7
@@ -30,23 +29,18 @@ pub by-none : (rights : ℕ) → rights ≤ 7 → rightsBad rights ≡ eqb right
 unfolding rightsBad
 by-none rights l = rw (le-ltb 7 rights l) (or-false (eqb rights 0))
 
--- a search of the list
+-- a search of the list, r being whether the number is among those looked at
 module _ (l : List ℕ) (x : ℕ) where
-  pub among-none : isAmong l 0 x ≡ false
+  pub among-none : false ≡ isAmong l 0 x
   unfolding isAmong someBelow
   among-none = refl
 
-  pub among-at : (i n : ℕ) → i < n → getD l i 0 ≡ x → isAmong l n x ≡ true
+  pub among-more : (i : ℕ) {r : Bool} → r ≡ isAmong l i x → (r || eqb (getD l i 0) x) ≡ isAmong l (i + 1) x
   unfolding isAmong
-  among-at i n m e = some-at n (λ k. eqb (getD l k 0) x) i m (eq-eqb (getD l i 0) x e)
+  among-more i h = rw h (sym (some-more i (λ k. eqb (getD l k 0) x)))
 
-  pub among-more : (i : ℕ) → isAmong l i x ≡ false → (getD l i 0 ≡ x → ⊥) → isAmong l (i + 1) x ≡ false
-  unfolding isAmong
-  among-more i h n = none-more (λ k. eqb (getD l k 0) x) i h (ne-eqb (getD l i 0) x n)
-
-  pub among-all : (i n : ℕ) → i ≤ n → n ≤ i → isAmong l i x ≡ false → isAmong l n x ≡ false
-  unfolding isAmong
-  among-all i n a b h = none-all (λ k. eqb (getD l k 0) x) i n a b h
+  pub among-all : (i n : ℕ) {r : Bool} → i ≤ n → n ≤ i → r ≡ isAmong l i x → r ≡ isAmong l n x
+  among-all i n a b h = let e : i ≡ n = omega arith in rw e at h
 
 module _ (p : Plan) where
   -- the root

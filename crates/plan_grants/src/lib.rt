@@ -50,19 +50,18 @@ fn pair_of(plan: &[u8], c: Counts, g: usize) -> u32
     grant_society(plan, c, g) as u32 + 65536 * (grant_root(plan, c, g) as u32)
 }
 
-// Whether a pair is one of the first `count`.
+// Whether a pair is one of the first `count`. All are read, so that the processor takes many at a time.
 fn is_among(pairs: &[u32; 64], count: usize, pair: u32) -> bool
     requires { ⌜ count ≤ 64 ⌝ }
     ensures { λ r. ⌜ r ≡ isAmong (now (pairs .entry)) count pair ⌝ }
 {
+    let mut found = false;
     let mut i: usize = 0;
     while i < count {
-        if pairs[i] == pair {
-            return true;
-        }
+        found = found | (pairs[i] == pair);
         i += 1;
     }
-    false
+    found
 }
 
 // `pairs` has the pairs of the grants looked at.

@@ -4,8 +4,8 @@ use mathlib.Core.Path.{_≡_, refl, sym, _∙_}
 use mathlib.Core.Bool.{Bool, true, false, cond, _||_}
 use mathlib.Core.Logic.{⊎-elim}
 use mathlib.Core.List.{List}
-use Prim.Native.Nat.{ℕ, zero, suc, _+_, _*_, _<_, _≤_}
-use native.Mathlib.Nat.{eq-or-lt-of-le, not-suc-le-zero, mul-suc}
+use Prim.Native.Nat.{ℕ, zero, suc, _+_, _*_, _-_, _/_, _<_, _≤_}
+use native.Mathlib.Nat.{eq-or-lt-of-le, not-suc-le-zero, mul-suc, mul-le-mul-left, div-add-mod}
 use native.Mathlib.Omega.{arith}
 use lib.ListN.{length}
 use lib.Dec.{eqb, ltb}
@@ -75,6 +75,12 @@ with-grants c = more-counts _ _ _ _ _ _ _ _ _ _ (omega arith) (omega arith) (ome
 
 pub run-place : (size at n here : ℕ) → here ≡ at + size * n → here + size ≡ at + size * (n + 1)
 run-place size at n here e = let q = mul-suc size n in omega arith
+
+-- where more records have room from a place on, the next one ends within the bytes
+pub run-fits : (size at bytes room n here : ℕ) → at ≤ bytes → room ≤ (bytes - at) / size → n < room → here ≡ at + size * n → here + size ≤ bytes
+run-fits size at bytes room n here l r h e =
+    let q : size * (n + 1) ≤ size * ((bytes - at) / size) = mul-le-mul-left size (omega arith) in
+    omega (arith, div-add-mod (bytes - at) size, run-place size at n here e)
 
 pub head-parts : (a b s k : ℕ) → a < 65536 → s < 65536 → a + 65536 * b ≡ s + 65536 * k → (a ≡ s) × (b ≡ k)
 head-parts a b s k l m e = (omega arith, omega arith)

@@ -29,18 +29,22 @@ fn head_at(plan: &[u8], at: usize) -> usize
     head(word_at(plan, at) as usize, word_at(plan, at + 2))
 }
 
+fn smaller(a: usize, b: usize) -> usize
+    ensures { λ r. ⌜ (r ≤ a) × (r ≤ b) ⌝ }
+{
+    if a < b { a } else { b }
+}
+
 // How many records of a kind stand one after the other from a place on, at most so many.
 fn run_from(plan: &[u8], at: usize, size: usize, kind: u16, most: usize) -> usize
     requires { ⌜ (at ≤ length (now plan)) × (size ≡ lengthOf kind) × (4 ≤ size) × (size ≤ 65535) ⌝ }
     ensures { λ r. ⌜ (r ≤ most) × (at + size * r ≤ length (now (plan .entry))) × Run (now (plan .entry)) kind at r ⌝ }
 {
     let wanted = head(size, kind);
+    let room = smaller(most, (plan.len() - at) / size);
     let mut n: usize = 0;
     let mut here = at;
-    while n < most {
-        if plan.len() - here < size {
-            return n;
-        }
+    while n < room {
         if head_at(plan, here) != wanted {
             return n;
         }

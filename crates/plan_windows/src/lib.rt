@@ -26,12 +26,15 @@ fn bad_days(first: i32, last: i32) -> bool
     !is_day(last)
 }
 
-// One pass: `named` marks the transitions that the windows looked at name.
+// One pass: `named` marks the transitions that the windows looked at name. Most plans have no window, and then there is nothing to mark.
 pub fn some_bad_window(plan: &[u8], c: Counts) -> bool
     requires { ⌜ Holds (now plan) c ⌝ }
     ensures { λ r. ⌜ r ≡ someBelow (c .windows) (badWindow (planOf (now (plan .entry)) c)) ⌝ }
 {
     let windows = c.windows;
+    if windows == 0 {
+        return false;
+    }
     let mut named = [false; 256];
     let mut w: usize = 0;
     while w < windows {
