@@ -3,10 +3,10 @@ use plan::fields::is_root;
 use plan::passes::chain_states;
 use rules::Counts;
 ghost use mathlib.Core.Path.{_≡_};
-ghost use mathlib.Core.Bool.{false, _&&_};
+ghost use mathlib.Core.Bool.{false};
 ghost use Prim.Native.Nat.{_<_, max};
 ghost use Rattle.rules.specs.Fold.{someBelow};
-ghost use Rattle.rules.specs.Plan.{planOf, isIn, isRoot, heightTo, reachBy};
+ghost use Rattle.rules.specs.Plan.{planOf, isIn, heightTo, reachBy};
 ghost use Rattle.rules.specs.Acceptance.{badHost, tooHigh};
 ghost use Rattle.plan.specs.Holds.{Holds};
 ghost use Rattle.plan.specs.Passes.{Chains, Forest};
@@ -74,8 +74,8 @@ fn reach(
     best
 }
 
-// 16 of a root: its height exceeds 8. One level more than that shows it. Every host is a state of a lower-numbered track, as 10 has it.
-fn high_root(
+// 16 of a track: its height exceeds 8. One level more than that shows it. Every host is a state of a lower-numbered track, as 10 has it.
+fn too_high(
     plan: &[u8],
     c: Counts,
     scopes: &[u8; 128],
@@ -85,11 +85,8 @@ fn high_root(
     t: usize,
 ) -> bool
     requires { ⌜ Forest (now plan) c (now scopes) (now beside) (now hosts) (now earlier) × (t < c .tracks) ⌝ }
-    ensures { λ r. ⌜ r ≡ (isRoot (planOf (now (plan .entry)) c) t && tooHigh (planOf (now (plan .entry)) c) t) ⌝ }
+    ensures { λ r. ⌜ r ≡ tooHigh (planOf (now (plan .entry)) c) t ⌝ }
 {
-    if !is_root(plan, c, t) {
-        return false;
-    }
     MOST_HEIGHT < height(plan, c, scopes, beside, hosts, earlier, t, MOST_HEIGHT + 1)
 }
 
@@ -106,8 +103,10 @@ pub fn some_too_high(plan: &[u8], c: Counts, scopes: &[u8; 128], beside: &[u8; 3
     let count = c.tracks;
     let mut t: usize = 0;
     while t < count {
-        if high_root(plan, c, scopes, beside, &hosts, &earlier, t) {
-            return true;
+        if is_root(plan, c, t) {
+            if too_high(plan, c, scopes, beside, &hosts, &earlier, t) {
+                return true;
+            }
         }
         t += 1;
     }

@@ -1,9 +1,11 @@
 -- No root visited so far is too high. The measure is the tracks left. Assumes nothing.
 use mathlib.Core.Path.{_≡_, refl, sym, _∙_}
 use mathlib.Core.Bool.{false}
+use mathlib.Core.Logic.{inl, inr}
 use Prim.Native.Nat.{_≤_, _-_}
 use Rattle.rules.specs.Fold.{someBelow}
 use Rattle.rules.specs.Plan.{planOf}
+use Rattle.rules.proofs.Tests.{and-both}
 use Rattle.rules.proofs.Folds.{some-at}
 use Rattle.rules.proofs.Heights.{isHighRoot}
 use Rattle.plan.proofs.Searches.{none-more, none-all}
@@ -22,18 +24,28 @@ loop-holds : tie.Need-loop-holds Inv-loop μ-loop
 unfolding someBelow
 loop-holds c = (search needs, refl)
 
-high-root-requires : tie.Need-high-root-requires Inv-loop μ-loop
-high-root-requires c κs = (record { holds = search needs; hosted = search needs; tracks = search needs; states = search needs }, search needs)
+too-high-requires : tie.Need-too-high-requires Inv-loop μ-loop
+too-high-requires c κs = (record { holds = search needs; hosted = search needs; tracks = search needs; states = search needs }, search needs)
 
 returns : tie.Need-returns Inv-loop μ-loop
 unfolding isHighRoot
 returns c =
-    let pre = c .before .before .before .before .before .before .before .before .before .before .pre in
-    sym (sym (roots-enough _ _ (pre .0) (pre .1)) ∙ some-at _ _ (c .before .before .before .before .before .loop .t) (search needs) (sym (c .before .high-root .ensures) ∙ c .if1 .taken))
+    let pre = c .before .before .before .before .before .before .before .before .before .before .before .before .pre in
+    let root = sym (c .before .before .before .before .before .is-root .ensures) ∙ c .before .before .before .before .if1 .taken in
+    let high = sym (c .before .too-high .ensures) ∙ c .if2 .taken in
+    sym (sym (roots-enough _ _ (pre .0) (pre .1)) ∙ some-at _ _ (c .before .before .before .before .before .before .before .loop .t) (search needs) (and-both _ _ root high))
 
 loop-again : tie.Need-loop-again Inv-loop μ-loop
 unfolding isHighRoot
-loop-again c = (search needs, none-more _ _ (c .before .before .before .before .before .loop .inv .1) (sym (c .before .high-root .ensures) ∙ c .if1 .left))
+loop-again c =
+    let root = sym (c .before .is-root .ensures) in (
+      search needs,
+      none-more _ _ (c .before .before .before .loop .inv .1)
+          (elim (c .if1 .came) [
+            | inl w ↦ rw (root ∙ w .0 .taken, sym (w .3 .ensures) ∙ w .4 .left)
+            | inr w ↦ rw (root ∙ w .left)
+          ]),
+    )
 
 returns-2 : tie.Need-returns-2 Inv-loop μ-loop
 returns-2 c =
@@ -48,7 +60,8 @@ some-too-high-spec =
     μ-loop
     (λ c κs. search needs)
     loop-holds
-    high-root-requires
+    (λ c κs. search needs)
+    too-high-requires
     returns
     (λ c. search needs)
     (λ c. search needs)
