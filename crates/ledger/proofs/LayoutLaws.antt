@@ -1,4 +1,4 @@
--- Places are small: a track's words start below 2^23, whatever limit a word can count. Assumes nothing.
+-- Places of tracks: each starts where the one before it ends, and all are small, below 2^23, whatever limit a word can count. Assumes nothing.
 use mathlib.Core.Path.{_≡_}
 use Prim.Native.Nat.{ℕ, _+_, _*_, _<_, _≤_}
 use native.Mathlib.Nat.{mul-le-mul}

@@ -1,5 +1,5 @@
 -- The invariant: whether the number looked for is one of those looked at so far. The measure is the numbers left. Assumes nothing.
-use mathlib.Core.Path.{_≡_, refl}
+use mathlib.Core.Path.{_≡_}
 use Prim.Native.Nat.{_≤_, _-_}
 use Rattle.plan_grants.specs.Pairs.{isAmong}
 use Rattle.plan_grants.proofs.GrantTests.{among-none, among-more, among-all}

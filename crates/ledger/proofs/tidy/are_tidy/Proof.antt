@@ -1,6 +1,6 @@
 -- Whether the tracks visited are tidy, and where the next one starts; each has room where all have. Assumes nothing.
 use mathlib.Core.Path.{_≡_, refl, sym, ap, _∙_}
-use Prim.Native.Nat.{_+_, _-_, _≤_}
+use Prim.Native.Nat.{_-_, _≤_}
 use native.Mathlib.Omega.{arith}
 use Rattle.rules.specs.Fold.{everyBelow}
 use Rattle.rules.specs.Layout.{leadingWords, trackPlace}

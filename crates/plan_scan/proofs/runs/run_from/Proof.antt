@@ -2,7 +2,6 @@
 -- measure is those left to look for. Assumes nothing.
 use mathlib.Core.Path.{_≡_, sym, _∙_}
 use Prim.Native.Nat.{_+_, _*_, _-_, _≤_}
-use native.Mathlib.Omega.{arith}
 use lib.ListN.{length}
 use Rattle.plan_scan.specs.RecordRuns.{Run}
 use Rattle.plan_scan.proofs.RunLaws.{run-none, run-more, run-place, run-fits, head-parts}
