@@ -1,5 +1,7 @@
 // Reads plan P, runs the calls of the paper's sample through `run_calls`, and prints a line for each answer: its refusal, 0 where accepted, and
 // its two figures.
+#![tactic(auto)]
+
 ghost use Rattle.std.specs.Prelude.{◌<◌};
 
 use ledger::layout::LEADING_WORDS;

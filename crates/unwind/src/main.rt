@@ -1,5 +1,7 @@
 // Reads a plan and a journal, and prints what the journal's records did. A plan file that cannot be read, or output that cannot be written, is a
 // line on standard error; standard output is the paper's to the byte.
+#![tactic(auto)]
+
 ghost use Rattle.std.specs.Prelude.{◌≤◌};
 ghost use Rattle.io.specs.Counts.{IsPrefixLen};
 
