@@ -1,6 +1,8 @@
 // The types that every layer shares: a track as it is read out of its words, and one answer for each call.
 // No function stands here; the meaning of each type is in specs/.
 
+#![tactic(auto)]
+
 // A track's mode (asleep, forward, undoing).
 #[derive(Clone, Copy)]
 pub enum Mode {
