@@ -1,4 +1,5 @@
 use mathlib.Core.Path.{refl, sym, ◌∙◌}
+use mathlib.Core.Bool.{false}
 use Prim.Native.Nat.{◌-◌}
 use Rattle.rules.specs.Fold.{some_below}
 use Rattle.rules.proofs.Tests.{and_both}
@@ -31,8 +32,8 @@ loop-t-preserved c =
       search rules,
       none_more _ _ c.loop-t.invariant.1
           (elim c.if-is_root.branch [
-            | goal.then-is_root+else-too_high w ↦ rw (root ∙ w.if-is_root.true, sym w.3.ensures ∙ w.4.left)
-            | goal.else-is_root w ↦ rw (root ∙ w.left)
+            | goal.then-is_root+else-too_high w ↦ rw (root ∙ w.if-is_root.true, sym w.too_high.ensures ∙ w.if-too_high.false)
+            | goal.else-is_root w ↦ rw (root ∙ w.if-is_root.false)
           ]),
     )
 
