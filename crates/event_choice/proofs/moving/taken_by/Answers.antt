@@ -1,0 +1,39 @@
+use Prim.Native.Nat.{◌-◌}
+use native.Mathlib.Omega.{arith}
+use Rattle.rules.specs.Plan.{plan_of, no_state}
+use Rattle.ledger.specs.Ladder.{ledger_of}
+use Rattle.lookup.proofs.FiguresLaws.{numbers_none, number_none, number_one}
+use Rattle.event_choice.proofs.Visits.{word_small}
+use Rattle.event_choice.proofs.Takers.{found_none, found_more, found_all}
+use Rattle.event_choice.proofs.moving.taken_by.Goals as goal
+
+pub loop-x-init : goal.loop-x-init
+unfolding no_state
+loop-x-init c =
+    let a = c.args in
+    (omega arith, numbers_none c.requires.0.checked.lent.room.few (λ t. found_none (plan_of a.plan.now a.c) (ledger_of _ a.c a.ledger.now) _ t))
+
+pub bounds-taken-t : goal.bounds-taken-t
+unfolding no_state
+bounds-taken-t c =
+    let b = c.taker-t.ensures.low c.if-t.true in
+    let n = c.requires.0.checked.lent.room.few in
+    omega arith
+
+pub loop-x-preserved : goal.loop-x-preserved
+unfolding no_state
+loop-x-preserved c =
+    let g = c.requires.0 in
+    let k = c.requires.0.checked.lent.accepts.holds.transitions in
+    let m = c.loop-x.invariant.1 in
+    let b = c.loop-x-test.true in
+    let next = found_more _ _ _ _ g _ c.loop-x.x b in (
+      omega arith,
+      elim c.if-t.branch [
+        | goal.then-t w ↦ rw w.taken-is (number_one m g.checked.lent.room.few c.taker-t.ensures (word_small (omega arith)) _ (λ t d. next t) w.if-t.true)
+        | goal.else-t w ↦ rw w.taken-is (number_none m g.checked.lent.room.few c.taker-t.ensures (word_small (omega arith)) _ (λ t d. next t) w.if-t.false)
+      ],
+    )
+
+pub returns : goal.returns
+returns c = found_all _ _ _ _ c.requires.0 _ (omega arith) c.loop-x.invariant.1
