@@ -17,7 +17,7 @@ use Rattle.rules.proofs.Tests.{look, clash}
 use Rattle.rules.proofs.Acceptance.{Accepted}
 use Rattle.theory.proofs.Nesting.{Nested}
 use Rattle.automaton.specs.Configuration.{Direction, forward, backward, NConf, Basic, Nest, Conf, end, next, Vect, is_forwards}
-use Rattle.automaton.specs.Semantics.{FailReading, basic_alone, nested_too, Act, suc_at, fail_at, comp_at, dev_at, nestsuc_at, nestfail_at, nestcomp_at, SUC, FAIL, FAILNEST, COMP, DEV, NESTSUC, NESTFAIL, NESTCOMP, NEST, VStep, VECT, step}
+use Rattle.automaton.specs.Semantics.{FailReading, basic_alone, nested_too, Act, suc_at, fail_at, comp_at, dev_at, nestsuc_at, nestfail_at, nestcomp_at, SUC, FAIL, FAILNEST, COMP, DEV, NESTSUC, NESTFAIL, NESTCOMP, NEST, VStep, VECT}
 use Rattle.automaton.specs.View.{view, is_going, is_turning, turners}
 use Rattle.automaton.specs.CountedSteps.{is_turned_early}
 use Rattle.automaton.specs.StepTests.{is_fail, is_fail_for, number_of}

@@ -1,5 +1,7 @@
 // The Gregorian calendar from 1600 to 2399: the date of a day, and the day of a date. Neither call has a `requires`: any other day or date is turned
 // back as 26.
+#![tactic(auto)]
+
 mod counting;
 pub mod dates;
 mod naming;

@@ -22,7 +22,7 @@ const FOUR_YEARS: u32 = 1461;
 const FIVE_MONTHS: u32 = 153;
 
 // A century, a year of it or a month, by number, and the days into it.
-#[derive(Drop)]
+#[derive(Clone, Copy)]
 struct Place {
     unit: u32,
     days: u32,

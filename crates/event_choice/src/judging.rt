@@ -67,7 +67,7 @@ fn overfills(terms: Terms, plan: &[u8], c: Counts, ledger: &[u16], x: u16, t: us
 }
 
 // Of the moves: how many, whether one leads to a final state, and whether one gives an entry to a track that is full.
-#[derive(Drop)]
+#[derive(Clone, Copy)]
 pub struct Survey {
     pub moved: u16,
     pub ends: bool,
@@ -101,7 +101,7 @@ pub fn moves(terms: Terms, plan: &[u8], c: Counts, ledger: &[u16], taken: &[u16;
 }
 
 // Of an event: how many scopes close, and whether a track that it gives an entry is full.
-#[derive(Drop)]
+#[derive(Clone, Copy)]
 pub struct Verdict {
     pub closed: u16,
     pub full: bool,

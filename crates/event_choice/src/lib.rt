@@ -1,5 +1,7 @@
 // What an event will do, read off the ledger before a word is written: the moves, those of its day and its society, the scopes that close, 21 and
 // the figures.
+#![tactic(auto)]
+
 pub mod closing;
 pub mod indexed;
 pub mod judging;
@@ -20,7 +22,7 @@ use rules::{Counts, Terms};
 
 // For each track the transition that it takes, 65535 for none, and whether its open scope closes; how many do either; and whether a track
 // that it gives an entry is full.
-#[derive(Drop)]
+#[derive(Clone, Copy)]
 pub struct Choice {
     pub event: u16,
     pub day: i32,

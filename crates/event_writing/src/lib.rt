@@ -1,4 +1,6 @@
 // The writing of an event, as the rules have it: the movers install their entries, all enter their destinations, scopes close. Finish is apart.
+#![tactic(auto)]
+
 ghost use Rattle.std.specs.Prelude.{◌≡◌, true, false, ◌<◌, length, get_or};
 ghost use Rattle.rules.specs.Plan.{plan_of, no_state, optional, replacement, first_state};
 ghost use Rattle.rules.specs.Ledger.{written, is_awake};

@@ -1,5 +1,7 @@
 // The calls for C and Rust, under include/retraction.h. Each is a call of `manager`, the plan reader, `largest` or a conversion of `calendar`, its
 // answer packed into one number.
+#![tactic(auto)]
+
 ghost use Rattle.std.specs.Prelude.{◌≡◌, ◌+◌, ◌*◌, ◌<◌};
 ghost use Rattle.rules.specs.Setting.{terms_of};
 ghost use Rattle.rules.specs.Acceptance.{read_plan};

@@ -1,1 +1,3 @@
 // Isolation of societies, proved of the rules: proofs/. This crate has no code.
+
+#![tactic(auto)]

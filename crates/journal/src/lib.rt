@@ -1,4 +1,6 @@
 // The program's text in a lent buffer: the journal's records, the lines, the tally.
+#![tactic(auto)]
+
 pub mod held;
 pub mod lines;
 pub mod record;

@@ -34,7 +34,7 @@ const SIGNAL_LENGTH: usize = 6;
 const FIRE_LENGTH: usize = 8;
 
 // What stands at a place of the journal: its end, a broken record, or what is asked for, with its fields, of an event's day the low word first.
-#[derive(Drop)]
+#[derive(Clone, Copy)]
 pub enum Record {
     Ended,
     Broken,

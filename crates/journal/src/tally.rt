@@ -7,7 +7,7 @@ ghost use Rattle.journal.specs.Tallied.{tallied};
 
 use rules::FireAnswer;
 
-#[derive(Drop)]
+#[derive(Clone, Copy)]
 pub struct Tally {
     pub held: u32,
     pub fired: u32,

@@ -18,7 +18,7 @@ pub const UNKNOWN: u16 = 65535;
 const ENTERED: u16 = 65534;
 
 // The best transition so far of those that leave a state: how many entries lie behind it, and which it is. `ends` is false where one leads round.
-#[derive(Drop)]
+#[derive(Clone, Copy)]
 pub struct Best {
     pub ends: bool,
     pub entries: u16,

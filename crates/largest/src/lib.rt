@@ -1,5 +1,7 @@
 // How many entries a plan can ask for: for each track the largest number of entries along any path from its first state, with such a path. It is
 // given the plan alone, and takes any bytes.
+#![tactic(auto)]
+
 mod explore;
 mod outgoing;
 mod showing;

@@ -124,7 +124,7 @@ pub fn ready(terms: Terms, plan: &[u8], ledger: &mut [u16]) -> ReadyAnswer
 }
 
 // A part of the ledger, as numbers.
-#[derive(Drop)]
+#[derive(Clone, Copy)]
 struct Part {
     from: usize,
     to: usize,

@@ -1,5 +1,7 @@
 // The manager's calls. Each is given what the caller keeps to, the plan's bytes and the lent ledger; none has a `requires`. An answer is the
 // result with its figures or a refusal with its number, and a refused call changes no word.
+#![tactic(auto)]
+
 mod bits;
 pub mod calls;
 mod verify;

@@ -1,4 +1,6 @@
 // Refusal 27: a grant names no root, has rights outside 1 to 7, repeats a pair of society and root, or is the 65th.
+#![tactic(auto)]
+
 ghost use Rattle.std.specs.Prelude.{◌≡◌, ◌||◌, ◌<◌, ◌≤◌, eqb, ltb};
 ghost use Rattle.rules.specs.Fold.{some_below};
 ghost use Rattle.rules.specs.Plan.{plan_of, grant};

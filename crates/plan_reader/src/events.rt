@@ -20,7 +20,7 @@ const FEW: usize = 12;
 const MOST_COMPARISONS: usize = 512;
 
 // For each group the last transition of it, and from each transition the one before it of the same group.
-#[derive(Drop)]
+#[derive(Clone, Copy)]
 struct Groups {
     head: [u16; 2048],
     next: [u16; 256],

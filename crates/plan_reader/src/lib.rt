@@ -1,4 +1,6 @@
 // The plan reader: plan bytes to the counts of each kind of record, or to the refusal 2 to 16, 25 or 27. It takes any bytes.
+#![tactic(auto)]
+
 pub mod events;
 pub mod heights;
 pub mod refusals;

@@ -19,7 +19,7 @@ const GRANT_KIND: u16 = 6;
 const END_LENGTH: usize = 4;
 
 // Where the next record starts, the kind of the one before it, and what was counted before it.
-#[derive(Drop)]
+#[derive(Clone, Copy)]
 pub struct Cursor {
     pub at: usize,
     pub last: u16,
@@ -27,7 +27,7 @@ pub struct Cursor {
 }
 
 // A refusal 2 to 7, or how many records there are of each kind.
-#[derive(Drop)]
+#[derive(Clone, Copy)]
 pub enum Scanned {
     Counted(Counts),
     Refused(u8),

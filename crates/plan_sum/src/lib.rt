@@ -1,4 +1,6 @@
 // The sum of a plan's bytes, taken as little-endian 16-bit numbers, modulo 65,536: eight bytes a round, a last 2, 4 or 6 apart. It takes any bytes.
+#![tactic(auto)]
+
 ghost use Rattle.std.specs.Prelude.{◌≡◌, ◌+◌, ◌*◌, ◌<◌, ◌≤◌, length, drop};
 ghost use Rattle.rules.specs.Record.{word};
 ghost use Rattle.rules.specs.Leading.{numbers_total, plan_sum};

@@ -1,4 +1,6 @@
 // Refusal 25: a window names no transition, repeats one, ends before it begins, or leaves the range of days.
+#![tactic(auto)]
+
 ghost use Rattle.std.specs.Prelude.{◌≡◌, not, ◌||◌};
 ghost use Rattle.std.specs.Int.Signed.{lt_z};
 ghost use Rattle.rules.specs.Fold.{some_below};

@@ -1,5 +1,7 @@
 // Property 3 of the calls: a theorem about lists of them (proofs/Property3.antt, Calls.antt), and the contract of `run_calls`, which makes such a
 // list. A call is five words, its kind as in a journal, its argument, an event's day and the society; its answer is three.
+#![tactic(auto)]
+
 ghost use Rattle.std.specs.Prelude.{◌≡◌, ◌++◌, ◌+◌, ◌≤◌, length, take, drop};
 ghost use Rattle.rules.specs.Call.{call_outcome, event_outcome, signal_outcome, fire_outcome};
 ghost use Rattle.property3.specs.Encoding.{decoded_call, encoded_words, answer_room, CallMade};
@@ -20,7 +22,7 @@ pub const SIGNAL: u16 = 17;
 pub const FIRE: u16 = 18;
 
 // The begin was accepted and the calls were made; or the begin's refusal; or too few words for the answers, and nothing was done.
-#[derive(Drop)]
+#[derive(Clone, Copy)]
 pub enum CallsAnswer {
     Begun,
     Refused(u8),
@@ -28,7 +30,7 @@ pub enum CallsAnswer {
 }
 
 // A call's answer: the refusal's number, 0 where accepted, and two figures, 0 where there is none.
-#[derive(Drop)]
+#[derive(Clone, Copy)]
 struct EncodedAnswer {
     refusal: u16,
     first: u16,

@@ -16,7 +16,7 @@ use rules::{Counts, Terms};
 use signed::words::join;
 
 // How far a run has come: the place in the output, and the tally.
-#[derive(Drop)]
+#[derive(Clone, Copy)]
 pub struct Progress {
     pub place: usize,
     pub tally: Tally,

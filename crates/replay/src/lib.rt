@@ -1,4 +1,6 @@
 // Runs a journal under a plan, and writes the program's text into a lent output.
+#![tactic(auto)]
+
 pub mod carry_out;
 pub mod records;
 
@@ -31,7 +33,7 @@ const ROOM_BESIDE: usize = 72;
 pub const TEXT_BYTES: usize = ROOM_OF_BYTE * MOST_BYTES + ROOM_BESIDE;
 
 // How many bytes were written; or how many the output must have at least; or the ledger has not the words of 32 tracks.
-#[derive(Drop)]
+#[derive(Clone, Copy)]
 pub enum RunAnswer {
     Written(usize),
     TooSmall(usize),

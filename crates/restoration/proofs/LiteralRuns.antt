@@ -12,7 +12,7 @@ use Rattle.rules.specs.Rights.{signal_right, is_permitted}
 use Rattle.rules.specs.Ledger.{Ledger, is_forward}
 use Rattle.rules.specs.Scope.{is_open}
 use Rattle.rules.specs.Opening.{begun}
-use Rattle.rules.specs.Event.{EventArguments, moved, is_closing, closed}
+use Rattle.rules.specs.Event.{EventArguments, moved, is_closing}
 use Rattle.rules.specs.Call.{SignalArguments, FireArguments, Call, event, signal, fire, call_refusal, next, next_day}
 use Rattle.rules.specs.FinishedRun.{moves_of, Reached, Running, Finished}
 use Rattle.rules.specs.FinishedRun as run

@@ -1,4 +1,6 @@
 // Rights: the tracks that a society may move, turn or fire, and whether it has a right anywhere, from a plan's grants (the paper's rights records).
+#![tactic(auto)]
+
 ghost use Rattle.std.specs.Prelude.{◌≡◌, false, ◌<◌};
 ghost use Rattle.rules.specs.Plan.{plan_of};
 ghost use Rattle.rules.specs.Rights.{gives_to, holds, is_permitted, holds_somewhere};

@@ -1,8 +1,10 @@
 // The types that every layer shares: a track as it is read out of its words, and one answer for each call.
 // No function stands here; the meaning of each type is in specs/.
 
+#![tactic(auto)]
+
 // A track's mode (asleep, forward, undoing).
-#[derive(Drop)]
+#[derive(Clone, Copy)]
 pub enum Mode {
     Asleep,
     Forward,
@@ -10,7 +12,7 @@ pub enum Mode {
 }
 
 // A track without its entries: mode, state, and the count of entries held.
-#[derive(Drop)]
+#[derive(Clone, Copy)]
 pub struct Track {
     pub mode: Mode,
     pub state: u16,
@@ -18,26 +20,26 @@ pub struct Track {
 }
 
 // How many entries a track may hold: as in the main program, or as on the reading rooms' machine.
-#[derive(Drop)]
+#[derive(Clone, Copy)]
 pub enum Limit {
     Main,
     ReadingRoom,
 }
 
 // What a caller chooses on each call, and keeps to from a ledger's begin on. No ledger stores it.
-#[derive(Drop)]
+#[derive(Clone, Copy)]
 pub struct Setting {
     pub limit: Limit,
 }
 
 // What a setting comes to below the public calls, where any limit that a word can count will do.
-#[derive(Drop)]
+#[derive(Clone, Copy)]
 pub struct Terms {
     pub limit: u16,
 }
 
 // How many tracks, states, transitions, windows and rights records a plan has.
-#[derive(Drop)]
+#[derive(Clone, Copy)]
 pub struct Counts {
     pub tracks: usize,
     pub states: usize,
@@ -47,48 +49,48 @@ pub struct Counts {
 }
 
 // What the plan reader answers: the counts, or the refusal.
-#[derive(Drop)]
+#[derive(Clone, Copy)]
 pub enum PlanAnswer {
     Accepted(Counts),
     Refused(u8),
 }
 
-#[derive(Drop)]
+#[derive(Clone, Copy)]
 pub enum BeginAnswer {
     Begun,
     Refused(u8),
 }
 
 // Tracks moved and scopes closed.
-#[derive(Drop)]
+#[derive(Clone, Copy)]
 pub enum EventAnswer {
     Moved(u16, u16),
     Refused(u8),
 }
 
 // How many tracks turned.
-#[derive(Drop)]
+#[derive(Clone, Copy)]
 pub enum SignalAnswer {
     Turned(u16),
     Refused(u8),
 }
 
 // The code and the deviation of the entry that was fired.
-#[derive(Drop)]
+#[derive(Clone, Copy)]
 pub enum FireAnswer {
     Fired(u16, u16),
     Refused(u8),
 }
 
 // Bit n is set exactly if track n may be fired.
-#[derive(Drop)]
+#[derive(Clone, Copy)]
 pub enum ReadyAnswer {
     Ready(u32),
     Refused(u8),
 }
 
 // A date of the Gregorian calendar, January being month 1.
-#[derive(Drop)]
+#[derive(Clone, Copy)]
 pub struct Date {
     pub year: u16,
     pub month: u16,
@@ -96,28 +98,28 @@ pub struct Date {
 }
 
 // The date of a day.
-#[derive(Drop)]
+#[derive(Clone, Copy)]
 pub enum DateAnswer {
     On(Date),
     Refused(u8),
 }
 
 // The day of a date.
-#[derive(Drop)]
+#[derive(Clone, Copy)]
 pub enum DayAnswer {
     Day(i32),
     Refused(u8),
 }
 
 // Whether the largest numbers of entries are shown.
-#[derive(Drop)]
+#[derive(Clone, Copy)]
 pub enum LargestAnswer {
     Shown,
     Refused(u8),
 }
 
 // The largest number of entries of each track, how many transitions the path shown for it has, and these paths end to end. 65535 fills up.
-#[derive(Drop)]
+#[derive(Clone, Copy)]
 pub struct Largest {
     pub answer: LargestAnswer,
     pub figures: [u16; 32],

@@ -1,12 +1,14 @@
 // Reads plan P, runs the calls of the paper's sample through `run_calls`, and prints a line for each answer: its refusal, 0 where accepted, and
 // its two figures.
-ghost use Rattle.std.specs.Prelude.{◌<◌};
+#![tactic(auto)]
+
+ghost use Rattle.std.specs.Prelude.{◌≡◌, ◌<◌, ◌≤◌, IfOk, length, take};
 
 use ledger::layout::LEADING_WORDS;
 use ledger::setting::{MAIN_TRACK_WIDTH, terms_of};
-use libc::{STDIN_FILENO, STDOUT_FILENO};
 use property3::{ANSWER_WIDTH, CALL_WIDTH, CallsAnswer, EVENT, FIRE, SIGNAL};
 use rules::{Limit, Setting};
+use std::io::{self, Read};
 
 const COUNT: usize = 8;
 
@@ -19,28 +21,47 @@ const CALLS: [u16; CALL_WIDTH * COUNT] = [
 // The words of a ledger of 3 tracks.
 const LEDGER_WORDS: usize = LEADING_WORDS + MAIN_TRACK_WIDTH * 3;
 
-fn print_word(n: u16, end: &[u8]) {
-    io::print_decimal(STDOUT_FILENO, n as u64);
-    io::write_all(STDOUT_FILENO, end);
+// The bytes that are read of the plan, at most.
+const PLAN_BYTES: usize = 4096;
+
+// Reads until the buffer is full or the input ends; the bytes read stand at the buffer's start. A read that a signal interrupts fails too.
+fn read_full<R: Read>(reader: &mut R, buffer: &mut [u8]) -> io::Result<usize>
+    ensures within { IfOk result (λ n. n ≤ length buffer.new) }
+    ensures taken { IfOk result (λ n. n ≡ length (take n buffer.new)) }
+{
+    let mut done = 0;
+    while done < buffer.len() {
+        let n = reader.read(&mut buffer[done..])?;
+        if n == 0 {
+            break;
+        }
+        done += n;
+    }
+    Ok(done)
 }
 
-fn print_answer(answers: &[u16; ANSWER_WIDTH * COUNT], i: usize)
+fn print_word(rt: &impl Print, n: u16, end: &str) -> io::Result<()> {
+    print!(rt; "{n}{end}")
+}
+
+fn print_answer(rt: &impl Print, answers: &[u16; ANSWER_WIDTH * COUNT], i: usize) -> io::Result<()>
     requires { i < 8 }
 {
-    print_word(answers[ANSWER_WIDTH * i], b" ");
-    print_word(answers[ANSWER_WIDTH * i + 1], b" ");
-    print_word(answers[ANSWER_WIDTH * i + 2], b"\n");
+    print_word(rt, answers[ANSWER_WIDTH * i], " ")?;
+    print_word(rt, answers[ANSWER_WIDTH * i + 1], " ")?;
+    print_word(rt, answers[ANSWER_WIDTH * i + 2], "\n")
 }
 
-fn print_answers(answers: &[u16; ANSWER_WIDTH * COUNT]) {
+fn print_answers(rt: &impl Print, answers: &[u16; ANSWER_WIDTH * COUNT]) -> io::Result<()> {
     for i in 0..COUNT {
-        print_answer(answers, i);
+        print_answer(rt, answers, i)?;
     }
+    Ok(())
 }
 
-fn main() {
-    let mut plan = io::buffer();
-    let n = io::read_full(STDIN_FILENO, &mut plan);
+fn main(rt: HostRuntime) -> io::Result<()> {
+    let mut plan = [0u8; PLAN_BYTES];
+    let n = read_full(&mut rt.stdin(), &mut plan)?;
     let mut ledger = [0u16; LEDGER_WORDS];
     let mut answers = [0u16; ANSWER_WIDTH * COUNT];
     let answer = property3::run_calls(
@@ -51,8 +72,8 @@ fn main() {
         &mut answers,
     );
     match answer {
-        CallsAnswer::Begun => print_answers(&answers),
-        CallsAnswer::Refused(_) => {}
-        CallsAnswer::NoRoom => {}
+        CallsAnswer::Begun => print_answers(&rt, &answers),
+        CallsAnswer::Refused(_) => Ok(()),
+        CallsAnswer::NoRoom => Ok(()),
     }
 }

@@ -3,7 +3,7 @@ ghost use Rattle.std.specs.Prelude.{◌≡◌, pos, nat_abs, ◌<ℤ◌};
 ghost use Rattle.signed.specs.Floor.{times, rest};
 
 // How many times the divisor goes into a number, and what is left over.
-#[derive(Drop)]
+#[derive(Clone, Copy)]
 pub struct Parts {
     pub times: i32,
     pub rest: i32,

@@ -15,7 +15,7 @@ use plan::fields::NO_STATE;
 use rules::{Counts, Terms};
 
 // For each state whether some track in its scope is awake, asleep, not forward in a final state, not bare.
-#[derive(Drop)]
+#[derive(Clone, Copy)]
 pub struct ScopeMarks {
     pub awake: [bool; 128],
     pub asleep: [bool; 128],

@@ -96,7 +96,7 @@ module _ {σ : Seams} (ω : Laws σ) (p : Plan) (l : Ledger) (a : σ.Signal) whe
   module _ (ok : Accepted p) where
     pub turned_alike : (t h : ℕ) → host p t ≡ some h → (l (owner p h)).mode ≡ (l t).mode → (T (owner p h)).mode ≡ (T t).mode
     turned_alike t h e m =
-        let q = ω.Turned-up p ok a t h e in
+        let q = ω.turned_up p ok a t h e in
         elim (look (is_turned p a t)) [
           | inl i ↦
               ap (λ (c : Configuration). c.mode) (turns (owner p h) (sym q ∙ i)) ∙ turned_mode (l (owner p h)) (l t) m
@@ -111,7 +111,7 @@ module _ {σ : Seams} (ω : Laws σ) (p : Plan) (l : Ledger) (a : σ.Signal) whe
         strong (λ t. is_inside p s t ≡ true → is_turned p a t ≡ is_turned p a (owner p s))
         (λ t ih i.
         let (h, e, r) = inside_hosted p ok s t i in
-        let q = ω.Turned-up p ok a t h e in
+        let q = ω.turned_up p ok a t h e in
         elim r [
           | inl z ↦ q ∙ ap (λ x. is_turned p a (owner p x)) z
           | inr z ↦ q ∙ ih (owner p h) (ok.lower t h e) z

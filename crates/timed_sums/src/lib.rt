@@ -1,4 +1,6 @@
 // The sum alone, for the benchmark to time: eight bytes a round, as the calls form it, and two bytes a round, as they formed it before.
+#![tactic(auto)]
+
 ghost use Rattle.std.specs.Prelude.{◌≡◌};
 ghost use Rattle.rules.specs.Leading.{plan_sum};
 

@@ -1,5 +1,7 @@
 // The transition that a state has for an event, found without a pass over all of them: transitions are chained by a cell that source and event
 // give. In a chain a transition is told by one more than its number, and 0 is the end.
+#![tactic(auto)]
+
 ghost use Rattle.std.specs.Prelude.{◌≡◌, ◌<◌};
 ghost use Rattle.rules.specs.Plan.{plan_of, optional, transition_for};
 ghost use Rattle.plan.specs.Holds.{Holds};
@@ -13,7 +15,7 @@ use rules::Counts;
 const CELLS: usize = 256;
 
 // For each cell the last transition of it, and from each transition the one before it of the same cell.
-#[derive(Drop)]
+#[derive(Clone, Copy)]
 pub struct TransitionIndex {
     pub head: [u16; 256],
     pub next: [u16; 256],

@@ -17,7 +17,7 @@ use plan::fields::NO_STATE;
 use rules::{Counts, Terms};
 
 // For each track: whether it has an open scope, and how many busy tracks it hosts there.
-#[derive(Drop)]
+#[derive(Clone, Copy)]
 pub struct Scopes {
     pub opens: [bool; 32],
     pub busy: [u8; 32],

@@ -1,0 +1,12 @@
+-- The low half of the bits. Assumes nothing.
+use mathlib.Core.Path.{ap, ◌∙◌}
+use Prim.Native.Nat.{ℕ, ◌%◌}
+use mir.Syntax.{w32}
+use mir.ValLaws.{to_z-of_z}
+use Rattle.rules.specs.Signed.{bits_of, low_word}
+use Rattle.signed.proofs.words.low_word.Goals as goal
+
+pub returns : goal.returns
+unfolding low_word
+returns c =
+    ap (λ (n : ℕ). n % 65536) (c.bits_of.ensures ∙ ap bits_of (to_z-of_z w32 c.args.z c.ranges.z))
