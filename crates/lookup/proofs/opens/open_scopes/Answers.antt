@@ -32,10 +32,10 @@ next p l n u = or-last (is_inside p l u n) (some_inside p l n u) ∙ sym (some_m
     or-last false false = refl
 
 -- all tracks together
-all-inside : (bs : List ℕ) (c : Counts) (l : Ledger) {n : ℕ} {ms : List Bool} → n ≡ c.tracks → Figures false ms c.tracks (some_inside (plan_of bs c) l n)
+all_inside : (bs : List ℕ) (c : Counts) (l : Ledger) {n : ℕ} {ms : List Bool} → n ≡ c.tracks → Figures false ms c.tracks (some_inside (plan_of bs c) l n)
     → Figures false ms c.tracks (has_open_scope (plan_of bs c) l)
 unfolding has_open_scope
-all-inside bs c l e m = rw (e ∙ sym (track_count_lem bs c)) at m
+all_inside bs c l e m = rw (e ∙ sym (track_count_lem bs c)) at m
 
 pub loop-t-init : goal.loop-t-init
 unfolding some_below
@@ -63,4 +63,4 @@ loop-t-preserved c =
 pub returns : goal.returns
 returns c =
     let a = c.args in
-    all-inside a.plan.now a.c (ledger_of _ a.c a.ledger.now) (omega arith) c.loop-t.invariant.1
+    all_inside a.plan.now a.c (ledger_of _ a.c a.ledger.now) (omega arith) c.loop-t.invariant.1

@@ -31,10 +31,10 @@ next p l n u = or-last (is_inside p l u n) (some_inside p l n u) ∙ sym (some_m
     or-last false false = refl
 
 -- all tracks together
-all-inside : (bs : List ℕ) (c : Counts) (l : Ledger) {n : ℕ} {ms : List Bool} → n ≡ c.tracks → Figures false ms c.tracks (some_inside (plan_of bs c) l n)
+all_inside : (bs : List ℕ) (c : Counts) (l : Ledger) {n : ℕ} {ms : List Bool} → n ≡ c.tracks → Figures false ms c.tracks (some_inside (plan_of bs c) l n)
     → Figures false ms c.tracks (has_open_scope (plan_of bs c) l)
 unfolding has_open_scope
-all-inside bs c l e m = rw (e ∙ sym (track_count_lem bs c)) at m
+all_inside bs c l e m = rw (e ∙ sym (track_count_lem bs c)) at m
 
 abbrev pub invariant-loop-t : goal.invariant-loop-t
 invariant-loop-t l = (l.t ≤ l.c.tracks) × Figures false l.opens l.c.tracks (some_inside (plan_of l.plan l.c) (ledger_of l.terms l.c l.ledger) l.t)
