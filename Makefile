@@ -17,8 +17,7 @@ PC_PREFIX = $(PREFIX)
 all: program library registrar
 
 program:
-	@mkdir -p target
-	rt check unwind >target/unwind.log 2>&1 || { tail -n 5 target/unwind.log && exit 1; }
+	samples/build
 
 library:
 	bindings/build

@@ -25,7 +25,7 @@ fn unwind() -> PathBuf {
     let path = Path::new(env!("CARGO_MANIFEST_DIR")).join("../target/bin/unwind");
     assert!(
         path.exists(),
-        "there is no target/bin/unwind: run `rt check unwind`"
+        "there is no target/bin/unwind: run samples/build"
     );
     path.canonicalize().expect("a path")
 }

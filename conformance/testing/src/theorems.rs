@@ -7,9 +7,9 @@ use second::limit::Limit;
 /// A limit as the terms that the definitions take.
 fn terms(limit: Limit) -> String {
     match limit {
-        Limit::MAIN => "mainTerms".to_string(),
-        Limit::READING_ROOM => "readingRoomTerms".to_string(),
-        Limit(entries) => format!("(termsOf {entries})"),
+        Limit::MAIN => "main_terms".to_string(),
+        Limit::READING_ROOM => "reading_room_terms".to_string(),
+        Limit(entries) => format!("(terms_of {entries})"),
     }
 }
 
@@ -61,7 +61,7 @@ pub fn statement(fields: &[&str]) -> Option<String> {
 fn read(terms: &str, plan: &str, counts: &str, before: &str) -> Option<String> {
     let counts = counts.strip_prefix('A')?.replace(',', " ");
     let (plan, before) = (bytes(plan)?, words(before)?);
-    Some(format!("{terms} {plan} (countsOf {counts}) {before}"))
+    Some(format!("{terms} {plan} (counts_of {counts}) {before}"))
 }
 
 /// 1 is true, 0 is false.
@@ -159,8 +159,8 @@ fn answer(text: &str) -> Option<String> {
 
 fn reading(text: &str) -> Option<String> {
     Some(match text.strip_prefix('A') {
-        Some(counts) => format!("acceptedWith {}", counts.replace(',', " ")),
-        None => format!("turnedBack {text}"),
+        Some(counts) => format!("accepted_with {}", counts.replace(',', " ")),
+        None => format!("turned_back {text}"),
     })
 }
 

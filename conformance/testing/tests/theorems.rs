@@ -46,12 +46,12 @@ fn theorems_of(histories: &str, name: &str, lines: &str) -> Option<String> {
 #[test]
 fn a_history_is_its_answers_and_its_words() {
     let expected = "-- H;0400;00010002;E7@5:1,E8@-5:2,S:3,F1:4;begun|D1,0|R26|D2|R22;0003ffff\n\
-                    pub case-0 : HistoryAgrees mainTerms (4 ∷ 0 ∷ []) (1 ∷ 2 ∷ []) \
+                    pub case_0 : HistoryAgrees main_terms (4 ∷ 0 ∷ []) (1 ∷ 2 ∷ []) \
                     (e 7 (pos 5) 1 ∷ e 8 (negsuc 4) 2 ∷ s 3 ∷ f 1 4 ∷ []) \
                     (done [] ∷ done (1 ∷ 0 ∷ []) ∷ refusal 26 ∷ done (2 ∷ []) ∷ \
                     refusal 22 ∷ []) \
                     (3 ∷ 65535 ∷ [])\n\
-                    unfolding computing\ncase-0 = (refl, refl)\n";
+                    unfolding computing\ncase_0 = (refl, refl)\n";
     let line = "H;0400;00010002;E7@5:1,E8@-5:2,S:3,F1:4;begun|D1,0|R26|D2|R22;0003ffff\n";
     assert_eq!(theorems("history", line).as_deref(), Some(expected));
 }
@@ -61,11 +61,11 @@ fn plans_and_single_calls_have_statements_of_their_own() {
     let lines = "P;;2\nP;04;A3,8,5,2,1\nL;;0001;Y;R18;0001\nL;;;N3;;\nL;;;F9:1;R17;\n";
     let text = theorems("others", lines).expect("theorems");
     let says = |statement: &str| assert!(text.contains(statement), "{text}");
-    says("case-0 : PlanAgrees ([]) (turnedBack 2)\n");
-    says("case-1 : PlanAgrees (4 ∷ []) (acceptedWith 3 8 5 2 1)\n");
-    says("case-2 : ReadyAgrees mainTerms ([]) (1 ∷ []) (refusal 18) (1 ∷ [])\n");
-    says("case-3 : EntriesAgree mainTerms ([]) ([]) 3 ([])\n");
-    says("case-4 : CallAgrees mainTerms ([]) ([]) (f 9 1) (refusal 17) ([])\n");
+    says("case_0 : PlanAgrees ([]) (turned_back 2)\n");
+    says("case_1 : PlanAgrees (4 ∷ []) (accepted_with 3 8 5 2 1)\n");
+    says("case_2 : ReadyAgrees main_terms ([]) (1 ∷ []) (refusal 18) (1 ∷ [])\n");
+    says("case_3 : EntriesAgree main_terms ([]) ([]) 3 ([])\n");
+    says("case_4 : CallAgrees main_terms ([]) ([]) (f 9 1) (refusal 17) ([])\n");
 }
 
 #[test]
@@ -74,17 +74,17 @@ fn a_line_s_limit_is_the_terms_of_its_statement() {
                  U8;;;52\nW8;;A1,1,0,0,0;;1;1,1,1;0\nO8;;A1,1,0,0,0;;;D0,0\nO3;;A1,1,0,0,0;;0;no\n";
     let text = theorems("limits", lines).expect("theorems");
     let says = |statement: &str| assert!(text.contains(statement), "{statement}\n{text}");
-    says("case-0 : HistoryAgrees readingRoomTerms ([]) ([]) ([]) (done [] ∷ []) ([])\n");
-    says("case-1 : ReadyAgrees (termsOf 3) ([]) (1 ∷ []) (refusal 17) (1 ∷ [])\n");
-    says("case-2 : EntriesAgree (termsOf 0) ([]) ([]) 3 ([])\n");
-    says("case-3 : CallAgrees readingRoomTerms ([]) ([]) (s 1) (refusal 18) ([])\n");
-    says("case-4 : CallAgrees mainTerms ([]) ([]) (f 9 1) (refusal 22) ([])\n");
-    says("case-6 : WithdrawalAgrees readingRoomTerms ([]) (countsOf 1 1 0 0 0) ([]) 1 ");
-    says("case-7 : OrderAgrees readingRoomTerms ([]) (countsOf 1 1 0 0 0) ([]) ([]) 0 0\n");
-    says("case-8 : NoOrder (termsOf 3) ([]) (countsOf 1 1 0 0 0) ([]) (0 ∷ [])\n");
+    says("case_0 : HistoryAgrees reading_room_terms ([]) ([]) ([]) (done [] ∷ []) ([])\n");
+    says("case_1 : ReadyAgrees (terms_of 3) ([]) (1 ∷ []) (refusal 17) (1 ∷ [])\n");
+    says("case_2 : EntriesAgree (terms_of 0) ([]) ([]) 3 ([])\n");
+    says("case_3 : CallAgrees reading_room_terms ([]) ([]) (s 1) (refusal 18) ([])\n");
+    says("case_4 : CallAgrees main_terms ([]) ([]) (f 9 1) (refusal 22) ([])\n");
+    says("case_6 : WithdrawalAgrees reading_room_terms ([]) (counts_of 1 1 0 0 0) ([]) 1 ");
+    says("case_7 : OrderAgrees reading_room_terms ([]) (counts_of 1 1 0 0 0) ([]) ([]) 0 0\n");
+    says("case_8 : NoOrder (terms_of 3) ([]) (counts_of 1 1 0 0 0) ([]) (0 ∷ [])\n");
     let run = theorems_of("10", "runs", "U8;;;52\n").expect("theorems");
     assert!(
-        run.contains("RunAgrees readingRoomTerms ([]) ([]) (82 ∷ [])"),
+        run.contains("RunAgrees reading_room_terms ([]) ([]) (82 ∷ [])"),
         "{run}"
     );
     assert_eq!(theorems("no-limit", "Lx;;;Y;R17;\n"), None);
@@ -99,9 +99,9 @@ fn events_that_fill_a_track_or_are_refused_as_21_are_a_sort_of_their_own() {
         .concat();
     let text = theorems("full", &lines).expect("theorems");
     // Of the nine events two of this sort and two others are wanted.
-    assert_eq!(text.matches("pub case-").count(), 4, "{text}");
-    assert!(text.contains("CallAgrees (termsOf 3)"), "{text}");
-    assert!(text.contains("CallAgrees readingRoomTerms"), "{text}");
+    assert_eq!(text.matches("pub case_").count(), 4, "{text}");
+    assert!(text.contains("CallAgrees (terms_of 3)"), "{text}");
+    assert!(text.contains("CallAgrees reading_room_terms"), "{text}");
 }
 
 /// The events that give a track its last entry but one and its last at a limit,
@@ -126,9 +126,9 @@ fn calls_refused_as_24_are_a_sort_of_their_own() {
     let line = |call: &str, answer: &str| format!("L;{plan};{zeros};{call};{answer};{zeros}\n");
     let lines = line("S:1", "R24").repeat(2) + &line("N0", "");
     let text = theorems("other-plan", &lines).expect("theorems");
-    assert_eq!(text.matches("pub case-").count(), 2);
+    assert_eq!(text.matches("pub case_").count(), 2);
     assert!(text.contains("(s 1) (refusal 24) (0 ∷ 0 ∷"), "{text}");
-    assert!(text.contains("pub case-2 : EntriesAgree"), "{text}");
+    assert!(text.contains("pub case_2 : EntriesAgree"), "{text}");
 }
 
 #[test]
@@ -144,7 +144,7 @@ fn calls_with_roots_in_both_modes_are_a_sort_of_their_own() {
     let calls = [Call::Fire(1, 1), Call::Fire(1, 1), Call::Signal(1)];
     let line = |call| vectors::call_line(MAIN, &plan, &words, call) + "\n";
     let text = theorems("parted", &calls.map(line).concat()).expect("theorems");
-    assert_eq!(text.matches("pub case-").count(), 2);
+    assert_eq!(text.matches("pub case_").count(), 2);
     let zeros = "0 ∷ ".repeat(134);
     let sum = words[1];
     let leading = format!("166 ∷ {sum} ∷ 65535 ∷ 65535");
@@ -164,7 +164,7 @@ fn events_that_meet_a_window_or_are_refused_as_26_are_a_sort_of_their_own() {
     let days = [4, 3, 200_000];
     let line = |day| vectors::call_line(MAIN, &plan, &words, Call::Event(1, day, 1)) + "\n";
     let text = theorems("dated", &days.map(line).concat()).expect("theorems");
-    assert_eq!(text.matches("pub case-").count(), 2);
+    assert_eq!(text.matches("pub case_").count(), 2);
     assert!(
         text.contains("(e 1 (pos 4) 1) (done (1 ∷ 0 ∷ []))"),
         "{text}"
@@ -199,7 +199,7 @@ fn cases_that_rights_have_a_say_in_are_sorts_of_their_own() {
         "{text}"
     );
     assert!(text.contains("(s 3) (refusal 28)"), "{text}");
-    assert!(text.contains("(turnedBack 27)"), "{text}");
+    assert!(text.contains("(turned_back 27)"), "{text}");
     // Of two calls refused as 28, as many as wanted.
     assert!(!text.contains("(f 1 1) (refusal 28)"), "{text}");
 }
@@ -211,10 +211,10 @@ fn largest_numbers_of_entries_are_an_answer_and_a_figure() {
                  4 ∷ 0 ∷ 4 ∷ 0 ∷ []";
     let line = |call: &str, answer: &str| format!("L;{plan};;{call};{answer};\n");
     let taken = theorems("largest", &line("M0", "D0")).expect("theorems");
-    let says = format!("pub case-0 : LargestAgrees ({bytes}) 0 (done []) 0\n");
+    let says = format!("pub case_0 : LargestAgrees ({bytes}) 0 (done []) 0\n");
     assert!(taken.contains(&says), "{taken}");
-    assert!(taken.contains("\nunfolding computing bounds.ofTransition "));
-    assert!(taken.ends_with(" bounds.largestOf\ncase-0 = (refl, refl)\n"));
+    assert!(taken.contains("\nunfolding computing bounds.of_transition "));
+    assert!(taken.ends_with(" bounds.largest_of\ncase_0 = (refl, refl)\n"));
     let refused = theorems("unbounded", &line("M65535", "R29")).expect("theorems");
     let says = format!("LargestAgrees ({bytes}) 65535 (refusal 29) 0\n");
     assert!(refused.contains(&says), "{refused}");
@@ -225,9 +225,9 @@ fn withdrawals_are_three_tests_and_a_number() {
     let line = "W;0400;A2,6,5,0,2;00010002;65535;1,0,1;33\n";
     let expected = format!(
         "-- {line}\
-         pub case-0 : WithdrawalAgrees mainTerms (4 ∷ 0 ∷ []) (countsOf 2 6 5 0 2) (1 ∷ 2 ∷ []) \
+         pub case_0 : WithdrawalAgrees main_terms (4 ∷ 0 ∷ []) (counts_of 2 6 5 0 2) (1 ∷ 2 ∷ []) \
          65535 true false true 33\n\
-         unfolding computing\ncase-0 = (refl, refl, refl, refl)\n"
+         unfolding computing\ncase_0 = (refl, refl, refl, refl)\n"
     );
     assert_eq!(theorems("withdrawal", line), Some(expected));
     assert_eq!(theorems("no-test", "W;;A1,1,0,0,0;;1;1,2,1;0\n"), None);
@@ -236,15 +236,15 @@ fn withdrawals_are_three_tests_and_a_number() {
 #[test]
 fn orders_of_firing_leave_two_numbers_or_are_none() {
     let given = "0400;A2,6,5,0,2;00010002";
-    let says = "mainTerms (4 ∷ 0 ∷ []) (countsOf 2 6 5 0 2) (1 ∷ 2 ∷ [])";
+    let says = "main_terms (4 ∷ 0 ∷ []) (counts_of 2 6 5 0 2) (1 ∷ 2 ∷ [])";
     let lines = format!("O;{given};1,0,1;D2,3\nO;{given};0,65535;no\n");
     let text = theorems("orders", &lines).expect("theorems");
-    let order = format!("pub case-0 : OrderAgrees {says} (1 ∷ 0 ∷ 1 ∷ []) 2 3\n");
+    let order = format!("pub case_0 : OrderAgrees {says} (1 ∷ 0 ∷ 1 ∷ []) 2 3\n");
     assert!(text.contains(&order), "{text}");
-    assert!(text.contains("\ncase-0 = (refl, refl, refl)\n"), "{text}");
-    let none = format!("pub case-1 : NoOrder {says} (0 ∷ 65535 ∷ [])\n");
+    assert!(text.contains("\ncase_0 = (refl, refl, refl)\n"), "{text}");
+    let none = format!("pub case_1 : NoOrder {says} (0 ∷ 65535 ∷ [])\n");
     assert!(text.contains(&none), "{text}");
-    assert!(text.ends_with("\ncase-1 = refl\n"), "{text}");
+    assert!(text.ends_with("\ncase_1 = refl\n"), "{text}");
     let empty = theorems("empty-order", &format!("O;{given};;D0,0\n"));
     let says = format!("OrderAgrees {says} ([]) 0 0\n");
     assert!(empty.expect("theorems").contains(&says));
@@ -258,8 +258,8 @@ fn orders_with_many_firings_are_dropped() {
     let line = |tracks: &str| format!("O;{plan};A1,1,0,0,0;{zeros};{tracks};no\n");
     let many = ["0"; 50].join(",");
     let text = theorems("many", &(line(&many) + &line("0"))).expect("theorems");
-    assert_eq!(text.matches("pub case-").count(), 1);
-    assert!(text.contains("pub case-1 : NoOrder"), "{text}");
+    assert_eq!(text.matches("pub case_").count(), 1);
+    assert!(text.contains("pub case_1 : NoOrder"), "{text}");
 }
 
 /// The theorem of one conversion.
@@ -296,7 +296,7 @@ fn no_more_are_taken_than_wanted_and_none_too_large() {
     let large = format!("P;{};2\n", "00".repeat(301));
     let lines = "H;;;;begun;\n".repeat(2) + &large;
     let text = theorems("shares", &lines).expect("theorems");
-    assert_eq!(text.matches("pub case-").count(), 1);
+    assert_eq!(text.matches("pub case_").count(), 1);
 }
 
 #[test]

@@ -34,24 +34,21 @@ const FILE: usize = 30;
 
 /// The imports of each file.
 const IMPORTS: &str = "\
-use mathlib.Core.Path.{refl}
-use mathlib.Core.List.{[], _∷_}
-use mathlib.Core.Bool.{true, false}
-use lib.IntN.{pos, negsuc}
-use Rattle·rules.specs.Acceptance.{turnedBack}
-use Rattle·rules.specs.Call.{refusal, done}
-use Rattle·rules.specs.Largest as bounds
-use Rattle·rules.specs.Setting.{mainTerms, readingRoomTerms}
-use Rattle·starred.specs.Computing.{computing}
-use Rattle·agreement·specs.specs.Statements.{e, f, s, termsOf, countsOf, acceptedWith, \
-    HistoryAgrees, PlanAgrees, CallAgrees, ReadyAgrees, EntriesAgree, RunAgrees, \
-    LargestAgrees, WithdrawalAgrees, OrderAgrees, NoOrder, DateIs, NoDate, DayIs, NoDay}
+use Rattle.std.specs.Prelude.{refl, [], ◌∷◌, true, false, pos, negsuc}
+use Rattle.rules.specs.Acceptance.{turned_back}
+use Rattle.rules.specs.Call.{refusal, done}
+use Rattle.rules.specs.Largest as bounds
+use Rattle.rules.specs.Setting.{main_terms, reading_room_terms}
+use Rattle.starred.specs.Computing.{computing}
+use Rattle.agreement.specs.Statements.{e, f, s, terms_of, counts_of, accepted_with, HistoryAgrees, \
+    PlanAgrees, CallAgrees, ReadyAgrees, EntriesAgree, RunAgrees, LargestAgrees, \
+    WithdrawalAgrees, OrderAgrees, NoOrder, DateIs, NoDate, DayIs, NoDay}
 ";
 
 /// What is unfolded beside that where the largest number of entries is computed.
-const BOUNDS: &str = "bounds.ofTransition bounds.ofState bounds.leaves bounds.mostWithin \
-    bounds.largest bounds.hasDeviation bounds.goesOn bounds.hasCycle bounds.isUnbounded \
-    bounds.readBounded bounds.largestAnswer bounds.largestOf";
+const BOUNDS: &str = "bounds.of_transition bounds.of_state bounds.leaves bounds.most_within \
+    bounds.largest bounds.has_deviation bounds.goes_on bounds.has_cycle bounds.is_unbounded \
+    bounds.read_bounded bounds.largest_answer bounds.largest_of";
 
 /// The sorts of cases.
 #[derive(Clone, Copy, PartialEq)]
@@ -806,7 +803,7 @@ fn theorem(sort: Sort, case: &Case) -> Option<String> {
         Sort::Order => (String::new(), "(refl, refl, refl)"),
         _ => (String::new(), "refl"),
     };
-    let name = format!("case-{number}");
+    let name = format!("case_{number}");
     Some(format!(
         "-- {line}\npub {name} : {says}\nunfolding computing{unfolded}\n{name} = {proof}\n"
     ))
