@@ -1,9 +1,6 @@
 -- Each test that fails leaves the transition to none; the last leaves it to its own track. Assumes nothing.
-use Rattle.std.proofs.Common.{not}
-use Rattle.std.proofs.Common.{ap}
 use mathlib.Core.Path.{sym, ◌∙◌}
 use native.Mathlib.Omega.{arith}
-use borrow.Author.Tests.{not-true, not-false}
 use Rattle.rules.specs.Plan.{no_state}
 use Rattle.event_choice.proofs.Visits.{source_low, mover_low}
 use Rattle.event_choice.proofs.Takers.{other_event, open_takes_not, other_source, not_forward, takes}
@@ -51,7 +48,7 @@ returns-then-not-is_forward c =
     let a = c.requires in
     not_forward _ _ _ _ a.0 _ _ c.event_of.ensures c.if-event_of-event.false
     c.source_of-s.ensures c.track_of-u.ensures c.track-k.ensures
-    c.is_forward.ensures (not-true _ (ap not c.if-not-is_forward.true))
+    c.is_forward.ensures c.if-not-is_forward.true
 
 pub returns : goal.returns
 unfolding no_state
@@ -61,5 +58,5 @@ returns c =
     let own = c.track_of-u.ensures in
     let b = mover_low _ _ a.0.checked.lent.accepts a.1 src own in
     takes _ _ _ _ a.0 _ _ c.event_of.ensures c.if-event_of-event.false src own
-    c.track-k.ensures c.is_forward.ensures (not-false _ (ap not c.if-not-is_forward.false))
+    c.track-k.ensures c.is_forward.ensures c.if-not-is_forward.false
     (sym (a.2.at _ b) ∙ c.if-opens-t.false) c.if-s-k.false a.1

@@ -1,3 +1,5 @@
+use Rattle.std.proofs.Common.{not}
+use Rattle.std.proofs.Common.{ap}
 use Prim.Native.Nat.{◌-◌}
 use native.Mathlib.Omega.{arith}
 use Rattle.signed.proofs.Integers.{read_back}
@@ -15,8 +17,8 @@ loop-w-preserved c =
     let m = c.loop-w.invariant.1 in (
       omega (arith, c.loop-w-test.true),
       elim c.if-not-is_within.branch [
-        | goal.then-not-is_within v ↦ rw v.shut-is (shut_outside _ _ _ m c.is_within.ensures v.if-not-is_within.true v.window_transition-x.ensures (named_low _ _ c.requires c.loop-w-test.true v.window_transition-x.ensures))
-        | goal.else-not-is_within v ↦ rw v.shut-is (shut_within _ _ _ m c.is_within.ensures v.if-not-is_within.false)
+        | goal.then-not-is_within v ↦ rw v.shut-is (shut_outside _ _ _ m c.is_within.ensures (ap not v.if-not-is_within.true) v.window_transition-x.ensures (named_low _ _ c.requires c.loop-w-test.true v.window_transition-x.ensures))
+        | goal.else-not-is_within v ↦ rw v.shut-is (shut_within _ _ _ m c.is_within.ensures (ap not v.if-not-is_within.false))
       ],
     )
 

@@ -6,7 +6,7 @@ pub open_scopes-found-requires : goal.open_scopes-found-requires
 open_scopes-found-requires c = let a = c.requires in record { accepts = a.0; room = a.1.room }
 
 pub left_open-left-requires : goal.left_open-left-requires
-left_open-left-requires c = let a = c.requires in (a.0, a.1, a.2, c.open-scopes.ensures)
+left_open-left-requires c = let a = c.requires in (a.0, a.1, a.2, c.open_scopes-found.ensures)
 
 pub leave_all-requires : goal.leave_all-requires
 leave_all-requires c = let a = c.requires in (a.0, a.1, c.left_open-left.ensures)

@@ -22,49 +22,49 @@ returns-then-lacks_right c = fire_lacks _ c.requires.0 c.is_over.ensures _ _ c.i
 
 pub returns-then-not-may_fire : goal.returns-then-not-may_fire
 unfolding fire_told
-returns-then-not-may_fire c = fire_not _ c.requires.0 c.is-over.ensures _ _ c.if1.false c.lacks-right.ensures c.if2.false c.may_fire.ensures (ap not c.if-not-may_fire.true)
+returns-then-not-may_fire c = fire_not _ c.requires.0 c.is_over.ensures _ _ c.if-is_over.false c.lacks_right.ensures c.if-lacks_right.false c.may_fire.ensures (ap not c.if-not-may_fire.true)
 
 pub may_fire-requires : goal.may_fire-requires
-may_fire-requires c = let a = c.requires in (a.0.lent, a.1 (going_on _ a.0 c.is-over.ensures c.if1.false))
+may_fire-requires c = let a = c.requires in (a.0.lent, a.1 (going_on _ a.0 c.is_over.ensures c.if-is_over.false))
 
 pub track-k-requires : goal.track-k-requires
-track-k-requires c = (c.requires.0.lent.room, low _ (fireable _ c.requires.0 c.is-over.ensures _ _ c.if1.false c.lacks-right.ensures c.if2.false c.may_fire_lem.ensures c.if3.false))
+track-k-requires c = (c.requires.0.lent.room, low _ (fireable _ c.requires.0 c.is_over.ensures _ _ c.if-is_over.false c.lacks_right.ensures c.if-lacks_right.false c.may_fire.ensures (ap not c.if-not-may_fire.false)))
 
 pub overflow_sub-newest : goal.overflow_sub-newest
 overflow_sub-newest c =
-    let a = fireable _ c.requires.0 c.is-over.ensures _ _ c.if1.false c.lacks-right.ensures c.if2.false c.may_fire_lem.ensures c.if3.false in
+    let a = fireable _ c.requires.0 c.is_over.ensures _ _ c.if-is_over.false c.lacks_right.ensures c.if-lacks_right.false c.may_fire.ensures (ap not c.if-not-may_fire.false) in
     let n = counted _ a c.track-k.ensures in
     omega arith
 
 pub entry_code-code-requires : goal.entry_code-code-requires
 entry_code-code-requires c =
-    let a = fireable _ c.requires.0 c.is-over.ensures _ _ c.if1.false c.lacks-right.ensures c.if2.false c.may_fire_lem.ensures c.if3.false in
-    let n = counted _ a c.track.ensures in
+    let a = fireable _ c.requires.0 c.is_over.ensures _ _ c.if-is_over.false c.lacks_right.ensures c.if-lacks_right.false c.may_fire.ensures (ap not c.if-not-may_fire.false) in
+    let n = counted _ a c.track-k.ensures in
     (within_words _ a, omega arith)
 
 pub entry_deviation-deviation-requires : goal.entry_deviation-deviation-requires
 entry_deviation-deviation-requires c =
-    let a = fireable _ c.requires.0 c.is-over.ensures _ _ c.if1.false c.lacks-right.ensures c.if2.false c.may_fire_lem.ensures c.if3.false in
-    let n = counted _ a c.track.ensures in
+    let a = fireable _ c.requires.0 c.is_over.ensures _ _ c.if-is_over.false c.lacks_right.ensures c.if-lacks_right.false c.may_fire.ensures (ap not c.if-not-may_fire.false) in
+    let n = counted _ a c.track-k.ensures in
     (within_words _ a, omega arith)
 
 pub remove_newest-requires : goal.remove_newest-requires
 remove_newest-requires c =
-    let a = fireable _ c.requires.0 c.is-over.ensures _ _ c.if1.false c.lacks-right.ensures c.if2.false c.may_fire_lem.ensures c.if3.false in
+    let a = fireable _ c.requires.0 c.is_over.ensures _ _ c.if-is_over.false c.lacks_right.ensures c.if-lacks_right.false c.may_fire.ensures (ap not c.if-not-may_fire.false) in
     (within_words _ a, (removable _ a).0, (removable _ a).1)
 
 pub deviate-requires : goal.deviate-requires
 deviate-requires c =
-    let a = fireable _ c.requires.0 c.is-over.ensures _ _ c.if1.false c.lacks-right.ensures c.if2.false c.may_fire_lem.ensures c.if3.false in
-    let d = removed_words _ a c.track.ensures c.remove_newest.ensures in
-    let e = deviation_is _ a c.track.ensures c.entry_deviation-deviation.ensures in
+    let a = fireable _ c.requires.0 c.is_over.ensures _ _ c.if-is_over.false c.lacks_right.ensures c.if-lacks_right.false c.may_fire.ensures (ap not c.if-not-may_fire.false) in
+    let d = removed_words _ a c.track-k.ensures c.remove_newest.ensures in
+    let e = deviation_is _ a c.track-k.ensures c.entry_deviation-deviation.ensures in
     (c.requires.0.lent.accepts, removed_orderly _ a d e, low _ a, c.requires.2, sleepers _ a d e)
 
 pub abandon-left-requires : goal.abandon-left-requires
 abandon-left-requires c =
-    let a = fireable _ c.requires.0 c.is-over.ensures _ _ c.if1.false c.lacks-right.ensures c.if2.false c.may_fire_lem.ensures c.if3.false in
-    let d = removed_words _ a c.track.ensures c.remove_newest.ensures in
-    let e = deviation_is _ a c.track.ensures c.entry_deviation-deviation.ensures in
+    let a = fireable _ c.requires.0 c.is_over.ensures _ _ c.if-is_over.false c.lacks_right.ensures c.if-lacks_right.false c.may_fire.ensures (ap not c.if-not-may_fire.false) in
+    let d = removed_words _ a c.track-k.ensures c.remove_newest.ensures in
+    let e = deviation_is _ a c.track-k.ensures c.entry_deviation-deviation.ensures in
     (c.requires.0.lent.accepts, fired_orderly _ a d e c.deviate.ensures, fired_nested _ a d e c.deviate.ensures)
 
 pub finish-requires : goal.finish-requires
@@ -73,7 +73,7 @@ finish-requires c = let d = c.abandon-left.ensures in (c.requires.0.lent.accepts
 pub returns : goal.returns
 unfolding fire_told
 returns c =
-    let a = fireable _ c.requires.0 c.is-over.ensures _ _ c.if1.false c.lacks-right.ensures c.if2.false c.may_fire_lem.ensures c.if3.false in
-    let d = removed_words _ a c.track.ensures c.remove_newest.ensures in
-    let e = deviation_is _ a c.track.ensures c.entry_deviation-deviation.ensures in
-    fire_done _ a d e c.deviate.ensures (code_is _ a c.track.ensures c.entry_code_lem.ensures) (settled_words _ _ _ (fired_orderly _ a d e c.deviate.ensures) c.abandon-left.ensures.0 c.finish.ensures)
+    let a = fireable _ c.requires.0 c.is_over.ensures _ _ c.if-is_over.false c.lacks_right.ensures c.if-lacks_right.false c.may_fire.ensures (ap not c.if-not-may_fire.false) in
+    let d = removed_words _ a c.track-k.ensures c.remove_newest.ensures in
+    let e = deviation_is _ a c.track-k.ensures c.entry_deviation-deviation.ensures in
+    fire_done _ a d e c.deviate.ensures (code_is _ a c.track-k.ensures c.entry_code-code.ensures) (settled_words _ _ _ (fired_orderly _ a d e c.deviate.ensures) c.abandon-left.ensures.0 c.finish.ensures)

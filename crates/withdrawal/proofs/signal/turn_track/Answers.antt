@@ -11,13 +11,13 @@ returns-then-not-may c = let (n, w) = turn_barred _ _ _ c.requires.0 _ c.args.ma
 pub returns-then-not-is_forward : goal.returns-then-not-is_forward
 returns-then-not-is_forward c =
     let (n, w) =
-    turn_may _ _ _ c.requires.0 _ c.args.may c.if1.false
+    turn_may _ _ _ c.requires.0 _ c.args.may (ap not c.if-not-may.false)
     (turn_not _ _ _ c.requires.0 _ _ c.track-k.ensures c.is_forward.ensures (ap not c.if-not-is_forward.true)) in
     (n, w, omega arith)
 
 pub returns : goal.returns
 returns c =
     let (n, w) =
-    turn_may _ _ _ c.requires.0 _ c.args.may c.if1.false
+    turn_may _ _ _ c.requires.0 _ c.args.may (ap not c.if-not-may.false)
     (turn_done _ _ _ c.requires.0 _ _ c.track-k.ensures c.is_forward.ensures (ap not c.if-not-is_forward.false) c.put_mode.ensures) in
     (n, w, omega arith)
