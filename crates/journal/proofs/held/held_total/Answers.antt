@@ -3,7 +3,6 @@ use Rattle.ledger.proofs.ReadTracks.{count_as}
 use Rattle.journal.proofs.OfLedger.{summed}
 use borrow.Author.Rules.{rules}
 use mathlib.Core.Path.{◌≡◌, refl}
-use Prim.Native.Nat.{◌-◌}
 use native.Mathlib.Omega.{arith}
 use lib.ListN.{length}
 use Rattle.rules.specs.Fold.{sum_below}

@@ -14,15 +14,15 @@ put_head-second-requires c = omega (arith, digits_word c.args.track c.ranges.tra
 
 pub put_field-third-requires : goal.put_field-third-requires
 unfolding ascii
-put_field-third-requires c = omega (arith, digits_word c.args.code c.ranges.code.fits, digits_word c.args.track c.ranges.track.fits, c.put_head-second.ensures.place, length-head_lem (ascii "F") (decimal c.args.track), c.put_head-second.auto.0)
+put_field-third-requires c = omega (arith, digits_word c.args.code c.ranges.code.fits, digits_word c.args.track c.ranges.track.fits, c.put_head-second.ensures.place, length-head_lem (ascii "F") (decimal c.args.track), c.put_head-second.auto.out)
 
 pub put_deviation_field-end-requires : goal.put_deviation_field-end-requires
 unfolding ascii
-put_deviation_field-end-requires c = omega (arith, deviation_most c.args.deviation c.ranges.deviation.fits, digits_word c.args.code c.ranges.code.fits, digits_word c.args.track c.ranges.track.fits, c.put_field-third.ensures.place, length-field_lem (decimal c.args.code), c.put_field-third.auto.0, c.put_head-second.ensures.place, length-head_lem (ascii "F") (decimal c.args.track), c.put_head-second.auto.0)
+put_deviation_field-end-requires c = omega (arith, deviation_most c.args.deviation c.ranges.deviation.fits, digits_word c.args.code c.ranges.code.fits, digits_word c.args.track c.ranges.track.fits, c.put_field-third.ensures.place, length-field_lem (decimal c.args.code), c.put_field-third.auto.out, c.put_head-second.ensures.place, length-head_lem (ascii "F") (decimal c.args.track), c.put_head-second.auto.out)
 
 pub put_byte-requires : goal.put_byte-requires
 unfolding ascii
-put_byte-requires c = omega (arith, deviation_most c.args.deviation c.ranges.deviation.fits, digits_word c.args.code c.ranges.code.fits, digits_word c.args.track c.ranges.track.fits, c.put_deviation_field-end.ensures.place, length-field_lem (deviation_text c.args.deviation), c.put_deviation_field-end.auto.0, c.put_field-third.ensures.place, length-field_lem (decimal c.args.code), c.put_field-third.auto.0, c.put_head-second.ensures.place, length-head_lem (ascii "F") (decimal c.args.track), c.put_head-second.auto.0)
+put_byte-requires c = omega (arith, deviation_most c.args.deviation c.ranges.deviation.fits, digits_word c.args.code c.ranges.code.fits, digits_word c.args.track c.ranges.track.fits, c.put_deviation_field-end.ensures.place, length-field_lem (deviation_text c.args.deviation), c.put_deviation_field-end.auto.out, c.put_field-third.ensures.place, length-field_lem (decimal c.args.code), c.put_field-third.auto.out, c.put_head-second.ensures.place, length-head_lem (ascii "F") (decimal c.args.track), c.put_head-second.auto.out)
 
 pub returns : goal.returns
 unfolding done_line ascii

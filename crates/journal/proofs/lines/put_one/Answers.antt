@@ -7,7 +7,7 @@ use Rattle.journal.proofs.LineText.{line_one, length-head_lem}
 use Rattle.journal.proofs.lines.put_one.Goals as goal
 
 pub put_byte-requires : goal.put_byte-requires
-put_byte-requires c = omega (arith, c.put_head-end.ensures.place, length-head_lem c.args.name.now (decimal c.args.n), c.put_head-end.auto.0)
+put_byte-requires c = omega (arith, c.put_head-end.ensures.place, length-head_lem c.args.name.now (decimal c.args.n), c.put_head-end.auto.out)
 
 pub returns : goal.returns
 unfolding ascii

@@ -7,13 +7,13 @@ use Rattle.journal.proofs.LineText.{line_three, length-head_lem, length-field_le
 use Rattle.journal.proofs.lines.put_three.Goals as goal
 
 pub put_field-third-requires : goal.put_field-third-requires
-put_field-third-requires c = omega (arith, c.put_head-second.ensures.place, length-head_lem c.args.name.now (decimal c.args.n), c.put_head-second.auto.0)
+put_field-third-requires c = omega (arith, c.put_head-second.ensures.place, length-head_lem c.args.name.now (decimal c.args.n), c.put_head-second.auto.out)
 
 pub put_field-end-requires : goal.put_field-end-requires
-put_field-end-requires c = omega (arith, c.put_field-third.ensures.place, length-field_lem (decimal c.args.m), c.put_field-third.auto.0, c.put_head-second.ensures.place, length-head_lem c.args.name.now (decimal c.args.n), c.put_head-second.auto.0)
+put_field-end-requires c = omega (arith, c.put_field-third.ensures.place, length-field_lem (decimal c.args.m), c.put_field-third.auto.out, c.put_head-second.ensures.place, length-head_lem c.args.name.now (decimal c.args.n), c.put_head-second.auto.out)
 
 pub put_byte-requires : goal.put_byte-requires
-put_byte-requires c = omega (arith, c.put_field-end.ensures.place, length-field_lem (decimal c.args.k), c.put_field-end.auto.0, c.put_field-third.ensures.place, length-field_lem (decimal c.args.m), c.put_field-third.auto.0, c.put_head-second.ensures.place, length-head_lem c.args.name.now (decimal c.args.n), c.put_head-second.auto.0)
+put_byte-requires c = omega (arith, c.put_field-end.ensures.place, length-field_lem (decimal c.args.k), c.put_field-end.auto.out, c.put_field-third.ensures.place, length-field_lem (decimal c.args.m), c.put_field-third.auto.out, c.put_head-second.ensures.place, length-head_lem c.args.name.now (decimal c.args.n), c.put_head-second.auto.out)
 
 pub returns : goal.returns
 unfolding ascii

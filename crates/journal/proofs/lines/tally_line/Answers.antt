@@ -14,11 +14,11 @@ put_head-second-requires c = omega (arith, digits_long c.args.held c.ranges.held
 
 pub put_field-end-requires : goal.put_field-end-requires
 unfolding ascii
-put_field-end-requires c = omega (arith, digits_long c.args.fired c.ranges.fired.fits, digits_long c.args.held c.ranges.held.fits, c.put_head-second.ensures.place, length-head_lem (ascii "H") (decimal c.args.held), c.put_head-second.auto.0)
+put_field-end-requires c = omega (arith, digits_long c.args.fired c.ranges.fired.fits, digits_long c.args.held c.ranges.held.fits, c.put_head-second.ensures.place, length-head_lem (ascii "H") (decimal c.args.held), c.put_head-second.auto.out)
 
 pub put_byte-requires : goal.put_byte-requires
 unfolding ascii
-put_byte-requires c = omega (arith, digits_long c.args.fired c.ranges.fired.fits, digits_long c.args.held c.ranges.held.fits, c.put_field-end.ensures.place, length-field_lem (decimal c.args.fired), c.put_field-end.auto.0, c.put_head-second.ensures.place, length-head_lem (ascii "H") (decimal c.args.held), c.put_head-second.auto.0)
+put_byte-requires c = omega (arith, digits_long c.args.fired c.ranges.fired.fits, digits_long c.args.held c.ranges.held.fits, c.put_field-end.ensures.place, length-field_lem (decimal c.args.fired), c.put_field-end.auto.out, c.put_head-second.ensures.place, length-head_lem (ascii "H") (decimal c.args.held), c.put_head-second.auto.out)
 
 pub returns : goal.returns
 unfolding tally_line ascii

@@ -1,5 +1,4 @@
 use mathlib.Core.Path.{sym}
-use Prim.Native.Nat.{◌-◌}
 use borrow.Author.Rules.{rules}
 use Rattle.journal.proofs.Written.{written_none, written_more, wrote_word}
 use Rattle.journal.proofs.text.put_word.Goals as goal
