@@ -4,9 +4,8 @@ use mathlib.Core.Bool.{Bool, true, false}
 use mathlib.Core.Option.{none, some}
 use Prim.Native.Nat.{ℕ, ◌<◌, ◌≤◌}
 use lib.Dec.{eqb}
-use lib.ListN.{get_or-eq_default}
 use borrow.Author.Tests.{eq-eqb, ne_eqb, lt-ltb, le-ltb}
-use Rattle.rules.specs.Plan.{Plan, State, state_count, no_state, optional, host_word, host, state, owner, is_root, is_state_of, is_in}
+use Rattle.rules.specs.Plan.{Plan, state_count, no_state, optional, host_word, host, owner, is_root, is_state_of, is_in}
 
 module _ (p : Plan) where
   pub host_none : (t : ℕ) → host_word p t ≡ no_state → host p t ≡ none

@@ -2,7 +2,7 @@
 -- records below n. Assumes nothing.
 use mathlib.Core.Path.{◌≡◌, refl, sym, ap, ◌∙◌, subst}
 use mathlib.Core.Logic.{inl, inr}
-use mathlib.Core.Bool.{Bool, true, false, or-false}
+use mathlib.Core.Bool.{true, false}
 use mathlib.Core.List.{List}
 use mathlib.Core.Option.{Option, none, some}
 use Prim.Native.Nat.{ℕ, ◌+◌, ◌<◌}
@@ -11,12 +11,12 @@ use lib.Dec.{eqb}
 use lib.ListN.{get_or, set, length-set}
 use lib.Seq.{ext_get_or, get_or-set_same, get_or-set_other}
 use borrow.Author.Tests.{eqb-true, eqb-false, eq-eqb, ne_eqb}
-use Rattle.rules.specs.Fold.{some_below, first_below, tabulate}
-use Rattle.rules.specs.Plan.{Plan, track_count, state_count, no_state, host_word, owner, is_in, is_state_of, is_hosting}
-use Rattle.rules.proofs.Tests.{look, or_right}
-use Rattle.rules.proofs.Folds.{first_found, first_more_none, first_more_here, first_stays, some_more, length-tabulate_lem, get_d_tabulate}
+use Rattle.rules.specs.Fold.{first_below, tabulate}
+use Rattle.rules.specs.Plan.{Plan, state_count, no_state, owner, is_state_of}
+use Rattle.rules.proofs.Tests.{look}
+use Rattle.rules.proofs.Folds.{first_found, first_more_none, first_more_here, first_stays, length-tabulate_lem, get_d_tabulate}
 use Rattle.plan.specs.Passes.{slots, state_slots, first_among, first_marks}
-use Rattle.plan.proofs.Hosting.{in_root, in_hosted, within}
+use Rattle.plan.proofs.Hosting.{within}
 
 module _ {A : Type 0} (n : ℕ) (f g : ℕ → A) where
   pub figures_same : ((i : ℕ) → i < n → f i ≡ g i) → tabulate n f ≡ tabulate n g

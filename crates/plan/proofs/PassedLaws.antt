@@ -1,14 +1,14 @@
 -- What refusals 9 and 10 leave known where they passed, and the reader's figures in the words that the code reads. Assumes nothing.
 use mathlib.Core.Path.{◌≡◌, sym, ap, ◌∙◌}
-use mathlib.Core.Bool.{Bool, false}
+use mathlib.Core.Bool.{false}
 use mathlib.Core.List.{List}
 use mathlib.Core.Option.{some}
 use Prim.Native.Nat.{ℕ, ◌<◌}
 use native.Mathlib.Omega.{arith}
 use lib.ListN.{get_or}
 use Rattle.rules.specs.declared.Counts.{Counts}
-use Rattle.rules.specs.Fold.{some_below, tabulate}
-use Rattle.rules.specs.Plan.{Plan, plan_of, state_count, no_state, host_word, owner, is_hosting, first, first_state}
+use Rattle.rules.specs.Fold.{some_below}
+use Rattle.rules.specs.Plan.{Plan, plan_of, state_count, no_state, host_word, owner, first, first_state}
 use Rattle.rules.specs.Acceptance.{bad_state, bad_host}
 use Rattle.rules.proofs.Folds.{some_not, get_d_tabulate}
 use Rattle.rules.proofs.Heights.{host_facts}

@@ -10,7 +10,7 @@ use borrow.Author.Tests.{eqb-true, eqb-false, lt-ltb, le-ltb, ltb-true, ltb-fals
 use Rattle.rules.specs.declared.Terms.{Terms}
 use Rattle.rules.specs.Ledger.{Ledger, written}
 use Rattle.rules.proofs.Tests.{look}
-use Rattle.rules.proofs.Stored.{Fits, written_same}
+use Rattle.rules.proofs.Stored.{written_same}
 use Rattle.rules.proofs.Replaced.{updated, updated_here, updated_other}
 
 module _ (new old : Ledger) where

@@ -3,7 +3,7 @@
 use mathlib.Core.Path.{◌≡◌, refl, sym, ap, ◌∙◌}
 use mathlib.Core.Logic.{⊎_elim}
 use mathlib.Core.Bool.{Bool, true, false, not, ◌||◌}
-use Prim.Native.Nat.{ℕ, zero, suc, ◌+◌, ◌<◌, ◌≤◌}
+use Prim.Native.Nat.{ℕ, zero, suc, ◌<◌, ◌≤◌}
 use native.Mathlib.Omega.{arith}
 use lib.Dec.{eqb, ltb, leb}
 use lib.Signed.{lt_z}
@@ -15,7 +15,7 @@ use Rattle.rules.specs.Plan.{Plan, transition_count, window_count, window, is_wi
 use Rattle.rules.specs.Acceptance.{repeats_window, bad_window}
 use Rattle.rules.proofs.Tests.{look, clash, or_fails, same_test, implies, implied}
 use Rattle.rules.proofs.Folds.{some_at, some_not, every_at, every_of}
-use Rattle.rules.proofs.Counting.{Pairing, count_le}
+use Rattle.rules.proofs.Counting.{count_le}
 
 -- what 25 leaves of a plan's windows
 pub record FitWindows (p : Plan) : Type 0 where

@@ -1,5 +1,5 @@
 -- Isolation: what other societies do alters no answer that a society gets, and no entry or ready bit under its roots. Assumes nothing.
-use Rattle.std.specs.Prelude.{◌≡◌, Bool, true, false, cond, not, ◌&&◌, ◌||◌, List, [], ◌∷◌, ℕ, ◌/◌, ◌%◌, ◌^◌, get_or, eqb}
+use Rattle.std.specs.Prelude.{◌≡◌, Bool, true, false, cond, not, ◌&&◌, ◌||◌, List, [], ◌∷◌, ◌/◌, ◌%◌, ◌^◌, get_or, eqb}
 use Rattle.rules.specs.Names.{Bytes, Words, TrackNumber, Society}
 use Rattle.rules.specs.declared.Terms.{Terms}
 use Rattle.rules.specs.Plan.{Plan, track_count, root_of}

@@ -1,6 +1,6 @@
 -- The reference run (the paper's clerk): a ledger and books worked by the rules along a list of calls, from the begin's arguments and a
 -- copy of the ledger lent to it alone. Assumes nothing.
-use Rattle.std.specs.Prelude.{◌≡◌, true, false, List, [], ◌∷◌, ℕ, ◌<◌}
+use Rattle.std.specs.Prelude.{◌≡◌, true, false, List, [], ◌∷◌, ◌<◌}
 use Rattle.rules.specs.Names.{Bytes, Words, TrackNumber}
 use Rattle.rules.specs.declared.Mode.TheVariants.{Undoing}
 use Rattle.rules.specs.declared.Terms.{Terms}

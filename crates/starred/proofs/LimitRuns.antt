@@ -1,7 +1,7 @@
 -- Refusal 21 and the words read the caller's own limit, computed on one root that takes the same step again and again. Assumes nothing.
 use mathlib.Core.Path.{◌≡◌, refl}
 use mathlib.Core.List.{List, [], ◌∷◌, ◌++◌}
-use Prim.Native.Nat.{ℕ, ◌+◌}
+use Prim.Native.Nat.{ℕ}
 use lib.IntN.{pos}
 use lib.ListN.{length, drop, replicate}
 use Rattle.rules.specs.declared.Terms.{Terms}

@@ -1,4 +1,4 @@
-use Rattle.std.proofs.Common.{◌-◌, arith}
+use Rattle.std.proofs.Common.{arith}
 use Rattle.plan_sum.proofs.SumLaws.{adds_none, adds_round, adds_last}
 use Rattle.plan_sum.proofs.sum.Goals as goal
 

@@ -2,7 +2,6 @@ use Rattle.plan.proofs.ForestLaws.{chained_none, chained_pass, no_host, empty_sc
 use Rattle.plan.proofs.FieldLaws.{track_count_lem}
 use native.Mathlib.Omega.{arith}
 use mathlib.Core.Path.{◌≡◌, sym}
-use Prim.Native.Nat.{◌-◌}
 use borrow.Author.Rules.{rules}
 use Rattle.plan.proofs.passes.chain_states.Goals as goal
 

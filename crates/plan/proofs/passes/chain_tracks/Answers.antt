@@ -4,7 +4,6 @@ use Rattle.rules.proofs.Folds.{some_not}
 use Rattle.rules.specs.Plan.{no_state}
 use native.Mathlib.Omega.{arith}
 use mathlib.Core.Path.{◌≡◌}
-use Prim.Native.Nat.{◌-◌}
 use borrow.Author.Rules.{rules}
 use Rattle.plan.proofs.passes.chain_tracks.Goals as goal
 
