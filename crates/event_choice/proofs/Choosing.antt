@@ -14,7 +14,7 @@ use Rattle.rules.specs.declared.Counts.{Counts}
 use Rattle.rules.specs.Fold.{some_below, count_below}
 use Rattle.rules.specs.Plan.{Plan, plan_of, track_count, no_state, optional, transition, is_final}
 use Rattle.rules.specs.Ledger.{Configuration, Ledger, is_forward, sleeping}
-use Rattle.rules.specs.Event.{EventArguments, is_move, has_code, move, moves, moved, closed, closings}
+use Rattle.rules.specs.Event.{EventArguments, is_move, has_code, move, moves}
 use Rattle.rules.proofs.Tests.{look, clash}
 use Rattle.rules.proofs.Folds.{some_not, some_same, count_same}
 use Rattle.rules.proofs.Acceptance.{Accepted, transition_for_lem}

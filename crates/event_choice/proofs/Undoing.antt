@@ -6,7 +6,7 @@ use mathlib.Core.Bool.{true, false, ◌&&◌}
 use mathlib.Core.Option.{Option, none}
 use Prim.Native.Nat.{ℕ}
 use lib.Dec.{eqb}
-use Rattle.rules.specs.Plan.{Plan, host, owner, first_state}
+use Rattle.rules.specs.Plan.{Plan, owner, first_state}
 use Rattle.rules.specs.Ledger.{Configuration, Ledger, is_awake, is_forward, is_undoing, sleeping}
 use Rattle.rules.specs.Scope.{has_open_scope}
 use Rattle.rules.specs.Opening.{fresh, wakes}

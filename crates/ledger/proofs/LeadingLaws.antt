@@ -7,7 +7,6 @@ use native.Mathlib.Omega.{arith}
 use lib.ListN.{length, get_or, set}
 use lib.Dec.{eqb}
 use lib.IntN.{ℤ}
-use borrow.Author.Tests.{eq-eqb, ne_eqb}
 use Rattle.rules.specs.Layout.{leading_words, length_place, sum_place, low_day_place, high_day_place}
 use Rattle.rules.specs.Signed.{low_word, high_word}
 use Rattle.rules.specs.Day.{earliest_day}

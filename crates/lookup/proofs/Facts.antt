@@ -19,7 +19,7 @@ use Rattle.rules.specs.Scope.{is_over, has_open_scope}
 use Rattle.rules.specs.Fire.{may_fire}
 use Rattle.rules.specs.Soundness.{are_tidy, is_live}
 use Rattle.rules.specs.Call.{too_short}
-use Rattle.rules.proofs.Tests.{look, look_option, clash, and_holds, or_holds, same_test}
+use Rattle.rules.proofs.Tests.{look, look_option, clash, or_holds, same_test}
 use Rattle.rules.proofs.Folds.{every_at}
 use Rattle.rules.proofs.Acceptance.{Accepted, accepts}
 use Rattle.rules.proofs.Soundness.{Live, live_facts, sound_words}

@@ -13,7 +13,7 @@ use Rattle.rules.specs.declared.Track.{Track}
 use Rattle.rules.specs.declared.Terms.{Terms}
 use Rattle.rules.specs.Fold.{every_below}
 use Rattle.rules.specs.Layout.{head_words, entry_width, track_place, entries_place}
-use Rattle.rules.specs.Plan.{Plan, state, no_state, host_word, host, owner, is_root, is_state_of}
+use Rattle.rules.specs.Plan.{Plan, no_state, host_word, host, owner, is_root, is_state_of}
 use Rattle.rules.specs.Ledger.{Entry, Configuration, Ledger, is_awake, sleeping, entry_at, held_at, configuration_at, ledger_at}
 use Rattle.rules.specs.Soundness.{every_held, same_mode, good_deviation, is_hosted_well}
 use Rattle.rules.proofs.Tests.{look_option}

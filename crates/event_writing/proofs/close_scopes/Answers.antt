@@ -1,5 +1,4 @@
 use mathlib.Core.Path.{◌∙◌}
-use Prim.Native.Nat.{◌-◌}
 use native.Mathlib.Omega.{arith}
 use Rattle.lookup.proofs.OneTrackLaws.{pass_orderly, pass_length, pass_more, pass_end}
 use Rattle.event_writing.proofs.ClosingPass.{closing_start, closing_fits, closing_needs, closing_all}

@@ -1,4 +1,3 @@
-use Prim.Native.Nat.{◌-◌}
 use native.Mathlib.Omega.{arith}
 use Rattle.rules.specs.Plan.{no_state}
 use Rattle.lookup.proofs.FiguresLaws.{numbers_empty, number_more, numbers_all}

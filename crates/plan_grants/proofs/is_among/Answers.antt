@@ -1,4 +1,3 @@
-use Prim.Native.Nat.{◌-◌}
 use Rattle.plan_grants.proofs.GrantTests.{among_none, among_more, among_all}
 use borrow.Author.Rules.{rules}
 use Rattle.plan_grants.proofs.is_among.Goals as goal

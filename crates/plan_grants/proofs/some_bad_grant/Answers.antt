@@ -1,5 +1,4 @@
 use mathlib.Core.Path.{sym, ◌∙◌}
-use Prim.Native.Nat.{◌-◌}
 use Rattle.rules.proofs.Folds.{some_at}
 use Rattle.plan.proofs.Searches.{none_all}
 use Rattle.plan_grants.proofs.GrantTests.{rights_bad, seen_none, too_many, no_root, wrong_rights, met_before, seen_more}

@@ -1,5 +1,4 @@
 use mathlib.Core.Path.{refl, sym, ◌∙◌}
-use Prim.Native.Nat.{◌-◌}
 use Rattle.rules.specs.Fold.{some_below}
 use Rattle.rules.proofs.Folds.{some_at}
 use Rattle.plan.proofs.FieldLaws.{transition_count_lem}

@@ -1,9 +1,6 @@
 use mathlib.Core.Path.{refl, sym, ◌∙◌}
-use mathlib.Core.Bool.{false}
-use Prim.Native.Nat.{◌-◌}
 use native.Mathlib.Omega.{arith}
 use Rattle.rules.specs.Fold.{some_below}
-use Rattle.rules.specs.Rights.{gives_to}
 use Rattle.plan.proofs.FieldLaws.{grant_count_lem}
 use Rattle.rights.proofs.Held.{some_given, none_more, none_given}
 use Rattle.rights.proofs.holds_somewhere.Goals as goal

@@ -1,6 +1,4 @@
 use mathlib.Core.Path.{sym, ◌∙◌}
-use mathlib.Core.Bool.{false}
-use Prim.Native.Nat.{◌-◌}
 use native.Mathlib.Omega.{arith}
 use Rattle.plan.proofs.FieldLaws.{grant_count_lem}
 use Rattle.rights.proofs.Held.{held_none, held_same, held_more, held_all, root_low}

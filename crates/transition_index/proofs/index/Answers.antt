@@ -1,5 +1,4 @@
 use mathlib.Core.Path.{refl, ◌∙◌}
-use Prim.Native.Nat.{◌-◌}
 use Rattle.plan.proofs.ChainLaws.{heads_none, heads_more, heads_all}
 use Rattle.transition_index.proofs.Walks.{cell_told}
 use borrow.Author.Rules.{rules}

@@ -1,4 +1,3 @@
-use Prim.Native.Nat.{◌-◌}
 use native.Mathlib.Omega.{arith}
 use Rattle.lookup.proofs.FiguresLaws.{numbers_empty, numbers_all, number_more}
 use borrow.Author.Rules.{rules}

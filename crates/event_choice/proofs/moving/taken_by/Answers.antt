@@ -1,4 +1,3 @@
-use Prim.Native.Nat.{◌-◌}
 use native.Mathlib.Omega.{arith}
 use Rattle.rules.specs.Plan.{plan_of, no_state}
 use Rattle.ledger.specs.Ladder.{ledger_of}

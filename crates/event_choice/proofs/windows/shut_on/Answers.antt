@@ -1,6 +1,5 @@
 use Rattle.std.proofs.Common.{not}
 use Rattle.std.proofs.Common.{ap}
-use Prim.Native.Nat.{◌-◌}
 use native.Mathlib.Omega.{arith}
 use Rattle.signed.proofs.Integers.{read_back}
 use Rattle.event_choice.proofs.DayMoves.{shut_none, shut_within, shut_outside, named_low, shut_all}

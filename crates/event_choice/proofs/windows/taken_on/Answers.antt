@@ -1,4 +1,3 @@
-use Prim.Native.Nat.{◌-◌}
 use native.Mathlib.Omega.{arith}
 use Rattle.lookup.proofs.FiguresLaws.{numbers_empty, numbers_all, number_more}
 use Rattle.signed.proofs.Integers.{read_back}

@@ -1,6 +1,5 @@
 use mathlib.Core.Path.{refl, ap}
-use mathlib.Core.Bool.{true, not}
-use Prim.Native.Nat.{◌-◌}
+use mathlib.Core.Bool.{not}
 use native.Mathlib.Omega.{arith}
 use Rattle.rules.specs.Fold.{every_below, some_below}
 use Rattle.ledger.specs.Ladder.{ledger_of}

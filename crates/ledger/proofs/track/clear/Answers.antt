@@ -1,5 +1,4 @@
 use Rattle.ledger.proofs.Words.{cleared}
-use Prim.Native.Nat.{◌-◌}
 use native.Mathlib.Omega.{arith}
 use lib.ListN.{length-set}
 use borrow.Author.Fill.{fill_more}

@@ -1,7 +1,7 @@
 -- The invariant: the words passed are zero, the others as they were. The measure is what is left of the part. Assumes nothing.
 use mathlib.Core.Path.{◌≡◌}
 use mathlib.Core.List.{◌++◌}
-use Prim.Native.Nat.{◌+◌, ◌-◌, ◌≤◌}
+use Prim.Native.Nat.{◌-◌, ◌≤◌}
 use lib.ListN.{length, drop, replicate}
 use Rattle.ledger.proofs.track.clear.Given as goal
 

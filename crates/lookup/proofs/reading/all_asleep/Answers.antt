@@ -1,9 +1,7 @@
 use borrow.Author.Rules.{rules}
 use mathlib.Core.Path.{refl, ap}
-use mathlib.Core.Bool.{true, not}
-use Prim.Native.Nat.{◌-◌}
+use mathlib.Core.Bool.{not}
 use Rattle.rules.specs.Fold.{every_below}
-use Rattle.rules.specs.Ledger.{is_awake}
 use Rattle.ledger.proofs.Loops.{every_next, every_stops, every_ends}
 use Rattle.lookup.proofs.reading.all_asleep.Goals as goal
 

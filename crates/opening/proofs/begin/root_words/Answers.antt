@@ -1,4 +1,3 @@
-use Prim.Native.Nat.{◌-◌}
 use native.Mathlib.Omega.{arith}
 use Rattle.lookup.proofs.FiguresLaws.{numbers_empty, number_more, numbers_all}
 use Rattle.opening.proofs.begin.root_words.Goals as goal

@@ -1,4 +1,3 @@
-use Prim.Native.Nat.{◌-◌}
 use native.Mathlib.Omega.{arith}
 use Rattle.opening.proofs.EnteringLaws.{entering_start, entering_tidy, entering_length, entering_asleep, entering_more, entering_end}
 use borrow.Author.Rules.{rules}

@@ -1,4 +1,3 @@
-use Prim.Native.Nat.{◌-◌}
 use native.Mathlib.Omega.{arith}
 use Rattle.lookup.proofs.FiguresLaws.{figure_none, figure_more, figure_all}
 use Rattle.opening.proofs.waking.woken_by.Goals as goal

@@ -1,5 +1,4 @@
 use mathlib.Core.Path.{refl}
-use Prim.Native.Nat.{◌-◌}
 use Rattle.plan.proofs.RefusalTests.{source_within}
 use Rattle.plan.proofs.ChainLaws.{heads_none, heads_more, heads_all}
 use borrow.Author.Rules.{rules}

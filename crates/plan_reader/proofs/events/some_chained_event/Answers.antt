@@ -1,6 +1,4 @@
 use mathlib.Core.Path.{refl, sym}
-use mathlib.Core.Bool.{false}
-use Prim.Native.Nat.{◌-◌}
 use Rattle.rules.specs.Fold.{some_below}
 use Rattle.plan.proofs.Searches.{none_more, none_all}
 use Rattle.plan.proofs.ChainLaws.{head_from, head_most, heads_none, heads_more}

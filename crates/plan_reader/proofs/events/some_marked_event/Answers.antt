@@ -1,5 +1,4 @@
 use mathlib.Core.Path.{refl, sym}
-use Prim.Native.Nat.{◌-◌}
 use Rattle.plan_reader.proofs.MarkLaws.{place_at, done_none, mark_start, mark_found, mark_on, mark_end, done_all}
 use borrow.Author.Rules.{rules}
 use Rattle.plan_reader.proofs.events.some_marked_event.Goals as goal

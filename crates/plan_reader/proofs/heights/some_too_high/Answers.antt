@@ -1,6 +1,4 @@
 use mathlib.Core.Path.{refl, sym, ◌∙◌}
-use mathlib.Core.Bool.{false}
-use Prim.Native.Nat.{◌-◌}
 use Rattle.rules.specs.Fold.{some_below}
 use Rattle.rules.proofs.Tests.{and_both}
 use Rattle.rules.proofs.Folds.{some_at}

@@ -1,10 +1,7 @@
 use mathlib.Core.Path.{refl, sym, ◌∙◌}
-use mathlib.Core.Bool.{false}
-use Prim.Native.Nat.{◌-◌}
 use Rattle.rules.specs.Fold.{some_below}
 use Rattle.rules.proofs.Folds.{some_at}
 use Rattle.plan.proofs.Searches.{none_more, none_all}
-use Rattle.rules.specs.Acceptance.{bad_first}
 use Rattle.plan.proofs.PassedLaws.{first_read}
 use native.Mathlib.Omega.{arith}
 use borrow.Author.Rules.{rules}

@@ -1,8 +1,5 @@
 use mathlib.Core.Path.{refl, sym, ◌∙◌}
-use mathlib.Core.Bool.{true, false}
-use Prim.Native.Nat.{◌-◌}
 use Rattle.rules.specs.Fold.{some_below}
-use Rattle.rules.specs.Acceptance.{bad_hosting}
 use Rattle.rules.proofs.Folds.{some_at}
 use Rattle.plan.proofs.FieldLaws.{track_count_lem}
 use Rattle.plan.proofs.Searches.{none_more, none_all}

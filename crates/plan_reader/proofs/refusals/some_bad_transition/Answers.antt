@@ -1,10 +1,7 @@
 use mathlib.Core.Path.{refl, sym, ◌∙◌}
-use mathlib.Core.Bool.{false}
-use Prim.Native.Nat.{◌-◌}
 use Rattle.rules.specs.Fold.{some_below}
 use Rattle.rules.proofs.Folds.{some_at}
 use Rattle.plan.proofs.Searches.{none_more, none_all}
-use Rattle.rules.specs.Acceptance.{bad_transition}
 use borrow.Author.Rules.{rules}
 use Rattle.plan_reader.proofs.refusals.some_bad_transition.Goals as goal
 

@@ -1,5 +1,4 @@
 use mathlib.Core.Path.{sym, ◌∙◌}
-use Prim.Native.Nat.{◌-◌}
 use Rattle.rules.specs.Record.{no_counts, kind_at}
 use Rattle.plan_scan.specs.Scanned.{scan_told}
 use Rattle.plan_scan.proofs.Scanning.{sane, start_stands, rest_start, rest_refused, rest_end, next}

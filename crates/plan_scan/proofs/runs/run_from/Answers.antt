@@ -1,5 +1,4 @@
 use mathlib.Core.Path.{sym, ◌∙◌}
-use Prim.Native.Nat.{◌-◌}
 use Rattle.plan_scan.proofs.RunLaws.{run_none, run_more, run_place, run_fits, head_parts}
 use borrow.Author.Rules.{rules}
 use Rattle.plan_scan.proofs.runs.run_from.Goals as goal

@@ -1,5 +1,4 @@
 use mathlib.Core.Path.{refl, sym}
-use Prim.Native.Nat.{◌-◌}
 use Rattle.rules.specs.Fold.{every_below}
 use Rattle.plan.proofs.FieldLaws.{track_count_lem}
 use Rattle.ledger.proofs.Loops.{every_visit, every_done}

@@ -1,5 +1,4 @@
 use mathlib.Core.Path.{◌≡◌}
-use Prim.Native.Nat.{◌-◌}
 use native.Mathlib.Omega.{arith}
 use Rattle.rules.specs.Plan.{no_state}
 use Rattle.soundness.proofs.Marks.{slot, marked_none, marked_root, marked_hosted}

@@ -1,5 +1,4 @@
 use mathlib.Core.Path.{refl}
-use Prim.Native.Nat.{◌-◌}
 use Rattle.rules.specs.Fold.{every_below}
 use Rattle.ledger.proofs.Loops.{every_visit, every_done}
 use borrow.Author.Rules.{rules}
