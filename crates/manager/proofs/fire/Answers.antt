@@ -1,0 +1,6 @@
+-- The call at the terms that the setting comes to. Assumes nothing.
+use mathlib.Core.Path.{sym}
+use Rattle.manager.proofs.fire.Goals as goal
+
+pub returns : goal.returns
+returns c = rw (sym c.terms_of.ensures) c.fire.ensures
