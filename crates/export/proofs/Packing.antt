@@ -1,7 +1,7 @@
 -- A packed answer keeps what the call promised. A part that is not empty lies in one track's words, so its place and its count can be packed.
 -- Assumes nothing.
 use mathlib.Core.Path.{◌≡◌, refl, sym, ap, ◌∙◌}
-use mathlib.Core.Bool.{Bool, true, false, not, ◌&&◌}
+use mathlib.Core.Bool.{Bool, true, false, ◌&&◌}
 use mathlib.Core.List.{List, [], ◌∷◌}
 use Prim.Native.Nat.{ℕ, zero, suc, ◌+◌, ◌*◌, ◌≤◌, ◌<◌}
 use native.Mathlib.Omega.{arith}
@@ -17,7 +17,6 @@ use Rattle.ledger.proofs.LayoutLaws.{place_small}
 use Rattle.rules.specs.Plan.{plan_of, track_count}
 use Rattle.rules.specs.Acceptance.{Reading, turned_back, accepted, read_plan}
 use Rattle.rules.specs.Ledger.{ledger_at}
-use Rattle.rules.specs.Soundness.{are_tidy, is_sound}
 use Rattle.rules.specs.Call.{Answer, Outcome, Meets, ledger_refusal, held_part, entries_part}
 use Rattle.rules.proofs.Tests.{and_holds}
 use Rattle.rules.proofs.SettingLaws.{limit_most}

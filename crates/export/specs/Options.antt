@@ -1,6 +1,5 @@
 -- What the bits of a call's options choose. Assumes nothing.
 use Rattle.std.specs.Prelude.{cond, ℕ, ◌%◌, eqb}
-use Rattle.rules.specs.declared.Limit.{Limit}
 use Rattle.rules.specs.declared.Limit.TheVariants.{Main, ReadingRoom}
 use Rattle.rules.specs.declared.Setting.{Setting}
 

@@ -2,7 +2,6 @@
 use Rattle.std.specs.Prelude.{◌≡◌, cond, List, [], ◌∷◌, ℕ, ◌+◌, ◌*◌, length, eqb}
 use Rattle.rules.specs.Names.{Words, Day}
 use Rattle.rules.specs.Layout.{entries_place}
-use Rattle.rules.specs.declared.Counts.{Counts}
 use Rattle.rules.specs.declared.Date.{Date}
 use Rattle.rules.specs.declared.Terms.{Terms}
 use Rattle.rules.specs.Signed.{bits_of}

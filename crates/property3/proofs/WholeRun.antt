@@ -11,8 +11,6 @@ use Rattle.rules.specs.declared.BeginAnswer.{BeginAnswer}
 use Rattle.rules.specs.declared.BeginAnswer.TheVariants as begin
 use Rattle.rules.specs.Plan.{plan_of}
 use Rattle.rules.specs.Acceptance.{Reading, turned_back, accepted, read_plan}
-use Rattle.rules.specs.Opening.{begun}
-use Rattle.rules.specs.Ledger.{written}
 use Rattle.rules.specs.Answers.{begin_told}
 use Rattle.rules.specs.Call.{refusal, done, Outcome, Call, refused_or, under_plan, begin_outcome, Meets}
 use Rattle.rules.specs.ReferenceRun.{words_from, words_after, answers_from, answers_after}

@@ -1,4 +1,4 @@
-use Rattle.std.proofs.Common.{◌-◌, arith}
+use Rattle.std.proofs.Common.{arith}
 use Rattle.rules.specs.Leading.{plan_sum}
 use Rattle.plan_sum.proofs.SumLaws.{total_more, total_last, total_none}
 use Rattle.timed_sums.proofs.timed_sum_by_two.Goals as goal

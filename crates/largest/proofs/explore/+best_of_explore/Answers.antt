@@ -1,8 +1,8 @@
 use Rattle.std.proofs.Common.{rules}
 use Rattle.std.proofs.lemmas.Bool.{not-false}
 use Rattle.rules.proofs.Tests.{clash}
-use Rattle.largest.proofs.FollowingLaws.{pass_start, pass_low, pass_round, pass_on, pass_end, done_few}
-use Rattle.largest.proofs.ExploreLaws.{come_to_lem, come_round, come_far, enter, leave_round, found_few, leave}
+use Rattle.largest.proofs.FollowingLaws.{pass_start, pass_low, pass_round, pass_on, pass_end}
+use Rattle.largest.proofs.ExploreLaws.{come_to_lem, come_round, come_far, enter, found_few, leave}
 use Rattle.largest.proofs.explore.+best_of_explore.Goals as goal
 
 pub best_of-loop-y-init : goal.best_of-loop-y-init

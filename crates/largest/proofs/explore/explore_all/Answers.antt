@@ -1,4 +1,3 @@
-use Prim.Native.Nat.{◌-◌}
 use Rattle.largest.proofs.StatesLaws.{all_start, all_next, all_more, all_round, all_end}
 use borrow.Author.Rules.{rules}
 use Rattle.largest.proofs.explore.explore_all.Goals as goal

@@ -1,5 +1,4 @@
 use mathlib.Core.Path.{◌≡◌}
-use Prim.Native.Nat.{◌-◌}
 use native.Mathlib.Omega.{arith}
 use Rattle.plan.proofs.ForestLaws.{chained_none}
 use Rattle.largest.proofs.OutgoingLaws.{source_low, chain_more}

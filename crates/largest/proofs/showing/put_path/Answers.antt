@@ -1,5 +1,4 @@
 use mathlib.Core.Path.{refl}
-use Prim.Native.Nat.{◌-◌}
 use Rattle.largest.proofs.ShowingLaws.{put_start, put_on, put_end}
 use borrow.Author.Rules.{rules}
 use Rattle.largest.proofs.showing.put_path.Goals as goal

@@ -1,5 +1,4 @@
 use mathlib.Core.Path.{refl}
-use Prim.Native.Nat.{◌-◌}
 use Rattle.rules.specs.Answers.{largest_told}
 use Rattle.rules.specs.Largest.{no_transition, padded}
 use Rattle.largest.proofs.ShowingLaws.{show_start, stepped, first_low, show_room, show_more}

@@ -1,6 +1,6 @@
 use borrow.Author.Rules.{rules}
 use mathlib.Core.Path.{refl, sym, ◌∙◌}
-use Prim.Native.Nat.{◌-◌, ◌≤◌}
+use Prim.Native.Nat.{◌≤◌}
 use native.Mathlib.Omega.{arith}
 use Rattle.rules.proofs.Ready.{over_ready}
 use Rattle.manager.proofs.BitLaws.{bits_none, twice, bit_small, bits_fit, bits_yes, bits_no, bits_ready}

@@ -5,7 +5,6 @@ use Rattle.rules.specs.Answers.{plan_told}
 use Rattle.ledger.proofs.Words.{leading_room}
 use Rattle.manager.proofs.FurtherRead.{reading_clash}
 use Rattle.manager.proofs.Checks.{lent_holds, checked_refused, checked_other, checked_unsound, checked_accepted, opens_found}
-use borrow.Author.Tests.{not-false}
 use Rattle.manager.proofs.verify.verify.Goals as goal
 
 pub is_other-other-requires : goal.is_other-other-requires

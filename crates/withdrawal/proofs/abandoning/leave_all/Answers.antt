@@ -1,4 +1,3 @@
-use Prim.Native.Nat.{◌-◌}
 use native.Mathlib.Omega.{arith}
 use borrow.Author.Rules.{rules}
 use Rattle.withdrawal.proofs.AbandoningLaws.{leaving_start, leaving_orderly, leaving_length, leaving_more, leaving_end}
