@@ -33,7 +33,8 @@ use Rattle.restoration.proofs.Theorems01.{Sound, over_refused, fire_accepted, ne
 use Rattle.restoration.proofs.SoundWords.{the_ledger, Holds, passes_holds, holds_passes, done_passes, done_accepted, call_accepted, call_refused, call_holds}
 use Rattle.restoration.proofs.Allowed.{fire_allowed}
 use Rattle.restoration.proofs.Bound.{refused_firing, refused_all}
-use Rattle.restoration.proofs.Withdrawing.{Withdrawing, withdrawing, withdrawing_is, none_held, all_fired, event_still, signal_still, fired_withdrawing, fired_one, signalled_sound, signalled_withdrawing, signalled_held, some_order, fires_exactly}
+use Rattle.restoration.proofs.Withdrawing.{Withdrawing, none_held}
+use Rattle.restoration.proofs.FiringOrders.{withdrawing, withdrawing_is, all_fired, event_still, signal_still, fired_withdrawing, fired_one, signalled_sound, signalled_withdrawing, signalled_held, some_order, fires_exactly}
 
 -- An order has as many firings as calls, and its calls are as many as its tracks.
 pub order_length : (cs : List Call) (rs : List Answer) → is_firing_order cs rs ≡ true → firings_in cs rs ≡ length cs

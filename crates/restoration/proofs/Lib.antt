@@ -19,6 +19,7 @@ pub mod Ways
 pub mod WaysKept
 pub mod HeldMost
 pub mod Withdrawing
+pub mod FiringOrders
 pub mod FiringsDue
 -- Books for the sample plan; what would be false.
 pub mod SampleTracks

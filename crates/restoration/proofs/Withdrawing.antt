@@ -1,46 +1,32 @@
--- A ledger without a forward track and without a deviation held: an event and a signal change none of its tracks, and a firing removes one entry and no
--- more. For no entry leads forward, what abandoning sends to sleep holds nothing, and nothing finishes, as no root has ended. As long as an entry is held
--- some firing is allowed. So every order of firings ends, after as many as entries are held. Assumes nothing.
-use mathlib.Core.Path.{◌≡◌, refl, sym, ap, ◌∙◌, subst, fun_ext}
+-- A ledger without a forward track and without a deviation held, told by the two tests; and that a signal which turns every forward track leaves no track
+-- forward. What firings do to such a ledger is in FiringOrders. Assumes nothing.
+use mathlib.Core.Path.{◌≡◌, sym, ap, ◌∙◌}
 use mathlib.Core.Logic.{inl, inr}
 use mathlib.Core.Bool.{true, false, not, ◌&&◌, ◌||◌}
-use mathlib.Core.List.{List, [], ◌∷◌, ◌++◌}
-use mathlib.Core.Option.{none}
-use Prim.Native.Nat.{ℕ, zero, suc, ◌+◌, ◌≤◌}
+use Prim.Native.Nat.{ℕ}
 use native.Mathlib.Omega.{arith}
 use lib.ListN.{length}
 use lib.Dec.{ltb}
 use borrow.Author.Tests.{ltb-true, ltb-false, not-true}
-use Rattle.rules.specs.Fold.{some_below}
 use Rattle.rules.specs.Plan.{Plan, track_count, is_final}
 use Rattle.rules.specs.Rights.{signal_right, is_permitted}
-use Rattle.rules.specs.Ledger.{Configuration, Ledger, is_awake, is_forward, is_empty, sleeping}
-use Rattle.rules.specs.Finish.{is_finishing, finished}
-use Rattle.rules.specs.Event.{EventArguments, move, moved, closed, after_event}
-use Rattle.rules.specs.Signal.{turned, abandoned, after_signal}
-use Rattle.rules.specs.Fire.{may_fire, removed, fired, ready, after_fire}
+use Rattle.rules.specs.Ledger.{Configuration, Ledger, is_awake, is_forward, sleeping}
+use Rattle.rules.specs.Finish.{is_finishing}
+use Rattle.rules.specs.Signal.{turned, abandoned}
+use Rattle.rules.specs.Fire.{may_fire}
 use Rattle.rules.specs.Call.{SignalArguments}
 use Rattle.rules.specs.Transcript.{held_total}
-use Rattle.rules.specs.FiringsDue.{is_plain, holds_no_deviation, none_forward, turns_every, is_order, after_order, FiresExactly}
-use Rattle.rules.proofs.Tests.{look, clash, refuted, and_holds, implies}
-use Rattle.rules.proofs.Modes.{awake_undoing, forward_awake, undoing_is}
-use Rattle.rules.proofs.Folds.{every_at, every_of, some_find, some_not, sum_same, sum_none, sum_at}
+use Rattle.rules.specs.FiringsDue.{is_plain, holds_no_deviation, none_forward, turns_every}
+use Rattle.rules.proofs.Tests.{look, clash, refuted, implies}
+use Rattle.rules.proofs.Modes.{forward_awake}
+use Rattle.rules.proofs.Folds.{every_at, sum_at}
 use Rattle.rules.proofs.Acceptance.{Accepted}
-use Rattle.rules.proofs.Moves.{move_idle}
-use Rattle.rules.proofs.Opening.{enter_none}
-use Rattle.rules.proofs.Closing.{closed_steady}
-use Rattle.rules.proofs.Abandoning.{awake_kept}
-use Rattle.rules.proofs.Finishing.{none_ended, finish_not}
-use Rattle.rules.proofs.Ready.{may_fire_lem, fireable_not_over, none_ready, ready_none}
-use Rattle.theory.proofs.Entries.{older_less, empty_nil}
-use Rattle.theory.proofs.FiringNested.{removed_mode}
-use Rattle.theory.proofs.FiringsFall.{abandoned_held, abandoned_total, removed_one}
-use Rattle.theory.proofs.SoundKept.{kept_sound}
-use Rattle.theory.proofs.Histories.{kept_progress}
-use Rattle.restoration.proofs.Document01.{laws01, unfinished01}
-use Rattle.restoration.proofs.Theorems01.{Sound, Kept, sleeping_asleep, sleeping_held, asleep_nothing, by_none, to_none, recorded, goes, moved_is, turned_held, turned_same, signal_forward, steady, signal_sound, fire_sound}
+use Rattle.rules.proofs.Finishing.{none_ended}
+use Rattle.rules.proofs.Ready.{may_fire_lem}
+use Rattle.theory.proofs.Entries.{older_less}
+use Rattle.restoration.proofs.Theorems01.{Sound, Kept, sleeping_asleep, sleeping_held, signal_forward}
 use Rattle.restoration.proofs.SoundLive.{kept_storable}
-use Rattle.restoration.proofs.Plain.{plain_none, plain_removed, fired_plain}
+use Rattle.restoration.proofs.Plain.{plain_none}
 use Rattle.rules.specs.declared.Terms.{Terms}
 
 -- without a forward track nothing finishes
@@ -66,7 +52,7 @@ module _ (terms : Terms) (p : Plan) (ok : Accepted p) where
   beyond : (l : Ledger) → Kept terms p l → (t : ℕ) → ltb t (track_count p) ≡ false → l t ≡ sleeping
   beyond l k t b = (kept_storable terms p ok l k).beyond t (ltb-false t (track_count p) b)
 
-  all_backward : (l : Ledger) → Kept terms p l → none_forward p l ≡ true → (t : ℕ) → is_forward (l t).mode ≡ false
+  pub all_backward : (l : Ledger) → Kept terms p l → none_forward p l ≡ true → (t : ℕ) → is_forward (l t).mode ≡ false
   unfolding none_forward
   all_backward l k f t =
       elim (look (ltb t (track_count p))) [
@@ -76,7 +62,7 @@ module _ (terms : Terms) (p : Plan) (ok : Accepted p) where
             (λ w. clash (forward_awake (l t).mode w) (ap (λ (c : Configuration). is_awake c.mode) (beyond l k t b) ∙ sleeping_asleep))
       ]
 
-  all_plain : (l : Ledger) → Kept terms p l → holds_no_deviation p l ≡ true → (t : ℕ) → is_plain (l t).held ≡ true
+  pub all_plain : (l : Ledger) → Kept terms p l → holds_no_deviation p l ≡ true → (t : ℕ) → is_plain (l t).held ≡ true
   unfolding holds_no_deviation
   all_plain l k d t =
       elim (look (ltb t (track_count p))) [
@@ -84,94 +70,12 @@ module _ (terms : Terms) (p : Plan) (ok : Accepted p) where
         | inr b ↦ rw (beyond l k t b, sleeping_held) plain_none
       ]
 
-  pub withdrawing : (l : Ledger) → Kept terms p l → none_forward p l ≡ true → holds_no_deviation p l ≡ true → Withdrawing l
-  withdrawing l k f d = record { kept = k; backward = all_backward l k f; plain = all_plain l k d }
-
-  pub withdrawing_is : (l : Ledger) → Withdrawing l → (none_forward p l ≡ true) × (holds_no_deviation p l ≡ true)
-  unfolding none_forward holds_no_deviation
-  withdrawing_is l w = (
-    every_of (track_count p) (λ t. not (is_forward (l t).mode)) (λ t b. rw (w.backward t)),
-    every_of (track_count p) (λ t. is_plain (l t).held) (λ t b. w.plain t),
-  )
-
-  module _ (l : Ledger) (w : Withdrawing l) where
-    -- as long as an entry is held some firing is allowed
-    pub goes_on : (t : ℕ) → is_empty (l t).held ≡ false → (u : ℕ) × (may_fire p l u ≡ true)
-    unfolding is_empty
-    goes_on t e =
-        elim (look (is_awake (l t).mode)) [
-          | inr a ↦ clash (ap is_empty (asleep_nothing terms p l w.kept t a)) e
-          | inl a ↦
-              kept_progress laws01 unfinished01 terms p ok l w.kept t
-              (undoing_is (l t).mode (awake_undoing (l t).mode a (w.backward t))) e
-        ]
-
-    pub all_fired : ((t : ℕ) → may_fire p l t ≡ false) → held_total p l ≡ 0
-    unfolding held_total
-    all_fired n =
-        sum_none (track_count p) (λ t. length (l t).held)
-        (λ t b.
-        elim (look (is_empty (l t).held)) [
-          | inl e ↦ rw (empty_nil (l t).held e)
-          | inr e ↦ let (u, m) = goes_on t e in clash m (n u)
-        ])
-
-    -- no event and no signal changes a track
-    module _ (s : Sound terms p l) where
-      pub event_still : (a : EventArguments) → after_event p l a ≡ l
-      unfolding after_event
-      event_still a =
-          let idle : (t : ℕ) → move p l a t ≡ none = λ t. move_idle p l a t (w.backward t) in
-          let same : moved p l a ≡ l =
-          moved_is p l a ∙ enter_none p ok (goes p l a) (recorded p l a) (λ t. to_none p (move p l a t) (idle t))
-          ∙ fun_ext (λ t. by_none p (move p l a t) (l t) (idle t)) in
-          ap (λ m. finished p (closed p m)) same ∙ ap (finished p) (closed_steady p l s.closing) ∙ finish_not p l s.finish
-
-      pub signal_still : (society : ℕ) → after_signal p l society ≡ l
-      unfolding after_signal
-      signal_still society =
-          ap (λ m. finished p (abandoned p m)) (turned_same p ok (record { society = society }) l (λ t y. w.backward t))
-          ∙ ap (finished p) (steady terms p ok l s) ∙ finish_not p l s.finish
-
-    -- a firing removes an entry
-    module _ (t : ℕ) (may : may_fire p l t ≡ true) where
-      s : Sound terms p l
-      s = kept_sound terms p l w.kept (fireable_not_over p l t may)
-
-      taken_off : fired p l t ≡ removed l t
-      taken_off = fired_plain p l t ok (w.plain t)
-
-      unforward : (u : ℕ) → is_forward (abandoned p (removed l t) u).mode ≡ false
-      unforward u =
-          refuted (is_forward (abandoned p (removed l t) u).mode)
-          (λ f.
-          let q = (awake_kept p ok (removed l t) u (forward_awake (abandoned p (removed l t) u).mode f)).1 in
-          clash (sym (ap is_forward (ap (λ (c : Configuration). c.mode) q ∙ removed_mode p l t u)) ∙ f) (w.backward u))
-
-      fires_so : after_fire p l t ≡ abandoned p (removed l t)
-      unfolding after_fire
-      fires_so = ap (λ m. finished p (abandoned p m)) taken_off ∙ finish_not p (abandoned p (removed l t)) (unended p (abandoned p (removed l t)) unforward)
-
-      pub fired_withdrawing : Withdrawing (after_fire p l t)
-      fired_withdrawing =
-          subst Withdrawing (sym fires_so)
-          (record {
-            kept = inr (subst (λ m. is_finishing p (abandoned p m) ≡ false → Sound terms p (abandoned p m)) taken_off (fire_sound terms p ok l s t may) (unended p (abandoned p (removed l t)) unforward));
-            backward = unforward;
-            plain = λ u. rw (abandoned_held p ok (removed l t) u) (plain_removed p l t u (w.plain u));
-          })
-
-      pub fired_one : suc (held_total p (after_fire p l t)) ≡ held_total p l
-      fired_one =
-          let (b, u, e, f) = may_fire_lem p l t may in
-          ap (λ m. suc (held_total p m)) fires_so ∙ ap suc (abandoned_total p ok (removed l t)) ∙ removed_one p ok l t b e
-
-  -- A signal that turns every forward track leaves such a ledger, with every entry
+  -- a signal that turns every forward track leaves none
   module _ (l : Ledger) (s : Sound terms p l) (a : SignalArguments) (all : turns_every p a.society l ≡ true) where
     abbrev S : Ledger
     S = abandoned p (turned p a.society l)
 
-    turned_back_lem : (t : ℕ) → is_forward (S t).mode ≡ false
+    pub turned_back_lem : (t : ℕ) → is_forward (S t).mode ≡ false
     unfolding turns_every
     turned_back_lem t =
         refuted (is_forward (S t).mode)
@@ -183,75 +87,3 @@ module _ (terms : Terms) (p : Plan) (ok : Accepted p) where
         (implies (is_forward (l t).mode) (is_permitted p signal_right a.society t)
         (every_at (track_count p) (λ t. not (is_forward (l t).mode) || is_permitted p signal_right a.society t) all t b) g)
         k)
-
-    signals_so : after_signal p l a.society ≡ S
-    unfolding after_signal
-    signals_so = finish_not p S (unended p S turned_back_lem)
-
-    pub signalled_sound : Sound terms p (after_signal p l a.society)
-    signalled_sound = subst (Sound terms p) (sym signals_so) (signal_sound terms p ok l s a (unended p S turned_back_lem))
-
-    pub signalled_withdrawing : holds_no_deviation p l ≡ true → Withdrawing (after_signal p l a.society)
-    signalled_withdrawing d =
-        record {
-          kept = inr signalled_sound;
-          backward = λ t. rw signals_so (turned_back_lem t);
-          plain = λ t. rw (signals_so, abandoned_held p ok (turned p a.society l) t, turned_held p ok a l t) (all_plain l (inr s) d t);
-        }
-
-    pub signalled_held : held_total p (after_signal p l a.society) ≡ held_total p l
-    unfolding held_total
-    signalled_held =
-        ap (held_total p) signals_so ∙ abandoned_total p ok (turned p a.society l)
-        ∙ sum_same (track_count p) (λ t. length (turned p a.society l t).held) (λ t. length (l t).held) (λ t b. ap length (turned_held p ok a l t))
-
-  -- Orders of firings.
-  pub order_due : (ts : List ℕ) (l : Ledger) → Withdrawing l → is_order p l ts ≡ true
-      → Withdrawing (after_order p l ts) × (length ts + held_total p (after_order p l ts) ≡ held_total p l)
-  unfolding is_order after_order
-  order_due [] l w o = (w, omega arith)
-  order_due (t ∷ ts) l w o =
-      let (may, rest) = and_holds (may_fire p l t) (is_order p (after_fire p l t) ts) o in
-      let (v, n) = order_due ts (after_fire p l t) (fired_withdrawing l w t may) rest in
-      (v, omega (arith, n, fired_one l w t may))
-
-  order_more : (ts us : List ℕ) (l : Ledger) → is_order p l ts ≡ true → is_order p l (ts ++ us) ≡ is_order p (after_order p l ts) us
-  unfolding is_order after_order
-  order_more [] us l o = refl
-  order_more (t ∷ ts) us l o =
-      let (may, rest) = and_holds (may_fire p l t) (is_order p (after_fire p l t) ts) o in rw may (order_more ts us (after_fire p l t) rest)
-
-  after_more : (ts us : List ℕ) (l : Ledger) → after_order p l (ts ++ us) ≡ after_order p (after_order p l ts) us
-  unfolding after_order
-  after_more [] us l = refl
-  after_more (t ∷ ts) us l = after_more ts us (after_fire p l t)
-
-  -- there is one that goes on until ready is 0
-  pub some_order : (n : ℕ) (l : Ledger) → Withdrawing l → held_total p l ≤ n → (ts : List ℕ) × (is_order p l ts ≡ true) × (ready p (after_order p l ts) ≡ 0)
-  unfolding is_order after_order
-  some_order zero l w b = ([], refl, none_ready p l (λ t c. none_held p l (omega arith) t))
-  some_order (suc n) l w b =
-      elim (look (some_below (track_count p) (may_fire p l))) [
-        | inr f ↦ ([], refl, none_ready p l (some_not (track_count p) (may_fire p l) f))
-        | inl f ↦
-            let (t, c, may) = some_find (track_count p) (may_fire p l) f in
-            let (ts, o, z) = some_order n (after_fire p l t) (fired_withdrawing l w t may) (omega (arith, b, fired_one l w t may)) in
-            (t ∷ ts, rw (may, o), z)
-      ]
-
-  -- The claim, of every ledger that is sound or over, has no forward track and holds no deviation
-  pub fires_exactly : (l : Ledger) → Kept terms p l → none_forward p l ≡ true → holds_no_deviation p l ≡ true → FiresExactly p l
-  fires_exactly l k f d =
-      let due : (ts : List ℕ) → is_order p l ts ≡ true → Withdrawing (after_order p l ts) × (length ts + held_total p (after_order p l ts) ≡ held_total p l) =
-      λ ts o. order_due ts l (withdrawing l k f d) o in
-      record {
-        exactly = λ ts o z.
-            let (v, n) = due ts o in omega (arith, n, all_fired (after_order p l ts) v (ready_none p (after_order p l ts) z));
-        still_due = λ ts o. (due ts o).1;
-        none_due = λ ts o e.
-            let (v, n) = due ts o in none_ready p (after_order p l ts) (λ t b. none_held p (after_order p l ts) (omega (arith, n, e)) t);
-        goes_on = λ ts o.
-            let (v, n) = due ts o in
-            let (us, i, z) = some_order (held_total p (after_order p l ts)) (after_order p l ts) v (omega arith) in
-            (us, order_more ts us l o ∙ i, ap (ready p) (after_more ts us l) ∙ z);
-      }
