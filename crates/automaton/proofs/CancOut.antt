@@ -29,7 +29,7 @@ module _ (comp : ℕ → ℕ) where
   unfolding left_of
   left_pair v w i = ap (λ z. left_of comp (left_after comp z (action (comp i))) w) (left_activity v i) ∙ ap (λ z. left_of comp z w) (left_action v i)
 
-  -- "canc_out(w x x' w') = canc_out(w w') if x' = x̄"
+  -- "cancOut(w x x′ w′) = cancOut(w w′) if x′ = x̄"
   pub canc_out_pair : (w w' : List Symbol) (i : ℕ) → canc_out comp (w ++ (activity i ∷ action (comp i) ∷ w')) ≡ canc_out comp (w ++ w')
   unfolding canc_out
   canc_out_pair w w' i =
@@ -53,7 +53,7 @@ module _ (comp : ℕ → ℕ) where
   left_whole [] h = refl
   left_whole (x ∷ w) h = left_none w x [] h
 
-  -- "canc_out(w) = w otherwise"
+  -- "cancOut(w) = w otherwise"
   pub canc_out_none : (w : List Symbol) → has_pair comp w ≡ false → canc_out comp w ≡ w
   unfolding canc_out onto
   canc_out_none w h = ap (λ z. onto z []) (left_whole w h) ∙ onto_onto w [] [] ∙ append-nil w
