@@ -49,7 +49,8 @@ use Rattle.manager.proofs.entries.Reads as entries-reads
 use Rattle.property3.proofs.PublicReadings.{begin_at, event_at, signal_at, fire_at, ready_at, entries_at}
 use Rattle.property3.proofs.Isolation.{isolation_of_calls}
 use Rattle.property3.proofs.HeldMost.{held_most_of_calls}
-use Rattle.property3.proofs.FiringsDue.{ReadyIs, PartIs, exactly_of_calls, held_of_entries}
+use Rattle.property3.proofs.FiringsDue.{ReadyIs, PartIs}
+use Rattle.property3.proofs.FiringsExactly.{exactly_of_calls, held_of_entries}
 use Rattle.property3.proofs.Calls as calls
 use Rattle.property3.proofs.Calls.{Calls, property3_of_calls, firings_of_calls}
 

@@ -12,6 +12,7 @@ use Rattle.rules.specs.Books.{does, act, Books}
 use Rattle.rules.specs.ReferenceRun.{booked_call, booked, books_from, books_after, ledger_after, AllWithdrawn}
 use Rattle.rules.specs.History.{Property3}
 use Rattle.property3.specs.FreeBooks.{FreeState, free_books}
+use Rattle.property3.specs.FreeRun.{free_call, free_booked, free_from, free_after}
 use Rattle.property3.specs.SmallProperty3.{FreeRestored, SmallProperty3}
 use Rattle.rules.specs.declared.Terms.{Terms}
 
@@ -67,11 +68,41 @@ module _ (p : Plan) (terms : Terms) where
           into_books cs o.words (booked terms bs p (free_books p terms) l c o.answer b)
           ∙ ap (books_from terms bs p k o.words cs) (into_booked l c o.answer b)
 
+  -- the run that a contract speaks of is the rules' run of the free books
+  module _ (bs : List ℕ) where
+    free_call_is : (l : Ledger) (c : Call) (b : Free) → free_call terms bs p l c b ≡ booked_call terms bs p (free_books p terms) l c b
+    unfolding free_call booked_call
+    free_call_is l (event a) b = refl
+    free_call_is l (signal a) b = refl
+    free_call_is l (fire a) b = refl
+
+    free_booked_is : (l : Ledger) (c : Call) (r : Answer) (b : Free)
+        → free_booked terms bs p l c r b ≡ booked terms bs p (free_books p terms) l c r b
+    unfolding free_booked booked
+    free_booked_is l c (refusal n) b = refl
+    free_booked_is l c (done figures) b = free_call_is l c b
+
+    free_from_is : (cs : List Call) (ws : List ℕ) (b : Free)
+        → free_from terms bs p ws cs b ≡ books_from terms bs p (free_books p terms) ws cs b
+    unfolding free_from books_from
+    free_from_is [] ws b = refl
+    free_from_is (c ∷ cs) ws b =
+        let l = ledger_at terms ws (track_count p) in
+        let o = call_outcome terms bs ws c in
+        free_from_is cs o.words (free_booked terms bs p l c o.answer b)
+        ∙ ap (books_from terms bs p (free_books p terms) o.words cs) (free_booked_is l c o.answer b)
+
+    pub free_after_is : (lent : List ℕ) (cs : List Call) (b : Free)
+        → free_after terms bs p lent cs b ≡ books_after terms bs p (free_books p terms) lent cs b
+    unfolding free_after books_after
+    free_after_is lent cs b = free_from_is cs (begin_outcome terms bs lent).words b
+
   from_free : (bs lent : List ℕ) (cs : List Call) → FreeRestored terms bs p lent cs
       → (k : Books p terms) (b : k.State) → AllWithdrawn p (ledger_after terms bs p lent cs) → books_after terms bs p k lent cs b ≡ b
   unfolding books_after into
   from_free bs lent cs h k b w =
-      sym (into_books k b bs cs (begin_outcome terms bs lent).words FreeState.at_begin) ∙ ap (into k b) (h w)
+      sym (into_books k b bs cs (begin_outcome terms bs lent).words FreeState.at_begin)
+      ∙ ap (into k b) (sym (free_after_is bs lent cs FreeState.at_begin) ∙ h w)
 
 module _ (terms : Terms) (bs : List ℕ) (p : Plan) (lent : List ℕ) (cs : List Call) (rs : List Answer) (end : List ℕ) where
   -- the claim at all books, from the form that a contract carries
@@ -90,6 +121,6 @@ module _ (terms : Terms) (bs : List ℕ) (p : Plan) (lent : List ℕ) (cs : List
       record {
         word_for_word = s.word_for_word;
         answered = s.answered;
-        restored = λ w. s.restored (free_books p terms) FreeState.at_begin w;
+        restored = λ w. free_after_is p terms bs lent cs FreeState.at_begin ∙ s.restored (free_books p terms) FreeState.at_begin w;
         progress = s.progress;
       }

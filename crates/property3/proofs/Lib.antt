@@ -7,6 +7,7 @@ pub mod Calls
 pub mod WrongPlan
 pub mod HeldMost
 pub mod FiringsDue
+pub mod FiringsExactly
 pub mod Isolation
 pub mod FreeBooks
 pub mod OneCall

@@ -8,14 +8,15 @@ use Rattle.rules.specs.Plan.{Plan, track_count}
 use Rattle.rules.specs.Ledger.{is_empty}
 use Rattle.rules.specs.Fire.{may_fire}
 use Rattle.rules.specs.Call.{Answer, Call}
-use Rattle.rules.specs.ReferenceRun.{words_after, answers_after, books_after, ledger_after, AllWithdrawn}
-use Rattle.property3.specs.FreeBooks.{FreeState, free_books}
+use Rattle.rules.specs.ReferenceRun.{words_after, answers_after, ledger_after, AllWithdrawn}
+use Rattle.property3.specs.FreeBooks.{FreeState}
+use Rattle.property3.specs.FreeRun.{free_after}
 
 module _ (terms : Terms) (bs : Bytes) where
   abbrev pub FreeRestored : Plan → Words → List Call → Type 0
   FreeRestored p lent cs =
       AllWithdrawn p (ledger_after terms bs p lent cs)
-      → books_after terms bs p (free_books p terms) lent cs FreeState.at_begin ≡ FreeState.at_begin
+      → free_after terms bs p lent cs FreeState.at_begin ≡ FreeState.at_begin
 
   -- For the plan p that the bytes hold, the ledger lent to the begin, the calls after it, their answers and the words in the end.
   pub record SmallProperty3 (p : Plan) (lent : List ℕ) (cs : List Call) (rs : List Answer) (end : List ℕ) : Type 0 where
