@@ -82,8 +82,7 @@ fn counted(plan: &[u8], c: Counts) -> u64
     (c.tracks as u64) * BIT16 + (c.states as u64) * BIT32 + (c.transitions as u64) * BIT48
 }
 
-#[unsafe(no_mangle)]
-pub extern "C" fn retraction_read(plan: &[u8]) -> u64
+pub fn retraction_read(plan: &[u8]) -> u64
     ensures { result ≡ packed_reading (read_plan plan.now) }
 {
     let answer = plan_reader::read_plan(plan);
@@ -93,8 +92,7 @@ pub extern "C" fn retraction_read(plan: &[u8]) -> u64
     }
 }
 
-#[unsafe(no_mangle)]
-pub extern "C" fn retraction_begin(plan: &[u8], ledger: &mut [u16], options: u32) -> u64
+pub fn retraction_begin(plan: &[u8], ledger: &mut [u16], options: u32) -> u64
     ensures { Returns packed (begin_outcome (terms_of (setting_of options)) plan.now ledger.old) result ledger.new }
 {
     let answer = manager::begin(setting_of(options), plan, &mut ledger[..]);
@@ -104,8 +102,7 @@ pub extern "C" fn retraction_begin(plan: &[u8], ledger: &mut [u16], options: u32
     }
 }
 
-#[unsafe(no_mangle)]
-pub extern "C" fn retraction_event(
+pub fn retraction_event(
     plan: &[u8],
     ledger: &mut [u16],
     event: u16,
@@ -130,13 +127,7 @@ pub extern "C" fn retraction_event(
     }
 }
 
-#[unsafe(no_mangle)]
-pub extern "C" fn retraction_signal(
-    plan: &[u8],
-    ledger: &mut [u16],
-    society: u16,
-    options: u32,
-) -> u64
+pub fn retraction_signal(plan: &[u8], ledger: &mut [u16], society: u16, options: u32) -> u64
     ensures { Returns packed (signal_outcome (terms_of (setting_of options)) plan.now ledger.old (record { society = society }))
         result ledger.new }
 {
@@ -147,8 +138,7 @@ pub extern "C" fn retraction_signal(
     }
 }
 
-#[unsafe(no_mangle)]
-pub extern "C" fn retraction_fire(
+pub fn retraction_fire(
     plan: &[u8],
     ledger: &mut [u16],
     track: u16,
@@ -165,8 +155,7 @@ pub extern "C" fn retraction_fire(
     }
 }
 
-#[unsafe(no_mangle)]
-pub extern "C" fn retraction_ready(plan: &[u8], ledger: &mut [u16], options: u32) -> u64
+pub fn retraction_ready(plan: &[u8], ledger: &mut [u16], options: u32) -> u64
     ensures { Returns packed_ready (ready_outcome (terms_of (setting_of options)) plan.now ledger.old) result ledger.new }
 {
     let answer = manager::ready(setting_of(options), plan, &mut ledger[..]);
@@ -176,8 +165,7 @@ pub extern "C" fn retraction_ready(plan: &[u8], ledger: &mut [u16], options: u32
     }
 }
 
-#[unsafe(no_mangle)]
-pub extern "C" fn retraction_entries(plan: &[u8], ledger: &[u16], track: u16, options: u32) -> u64
+pub fn retraction_entries(plan: &[u8], ledger: &[u16], track: u16, options: u32) -> u64
     ensures { result ≡ packed_part (terms_of (setting_of options)) (entries_part (terms_of (setting_of options)) plan.now ledger.now track) track }
 {
     let setting = setting_of(options);
@@ -193,8 +181,7 @@ pub extern "C" fn retraction_entries(plan: &[u8], ledger: &[u16], track: u16, op
 // As many tracks as there can be.
 const MOST_TRACKS: u16 = 32;
 
-#[unsafe(no_mangle)]
-pub extern "C" fn retraction_largest(plan: &[u8], track: u16) -> u64
+pub fn retraction_largest(plan: &[u8], track: u16) -> u64
     ensures { result ≡ packed (track_shown plan.now track) }
 {
     let shown = largest::of_plan(plan);
@@ -213,8 +200,7 @@ pub extern "C" fn retraction_largest(plan: &[u8], track: u16) -> u64
     }
 }
 
-#[unsafe(no_mangle)]
-pub extern "C" fn retraction_largest_step(plan: &[u8], track: u16, place: u16) -> u64
+pub fn retraction_largest_step(plan: &[u8], track: u16, place: u16) -> u64
     ensures { result ≡ packed (step_shown plan.now track place) }
 {
     let shown = largest::of_plan(plan);
@@ -233,8 +219,7 @@ pub extern "C" fn retraction_largest_step(plan: &[u8], track: u16, place: u16) -
     }
 }
 
-#[unsafe(no_mangle)]
-pub extern "C" fn retraction_date_of_day(day: i32) -> u64
+pub fn retraction_date_of_day(day: i32) -> u64
     ensures { result ≡ packed_date (date_of_day day) }
 {
     let answer = calendar::date_of_day(day);
@@ -244,8 +229,7 @@ pub extern "C" fn retraction_date_of_day(day: i32) -> u64
     }
 }
 
-#[unsafe(no_mangle)]
-pub extern "C" fn retraction_day_of_date(year: u16, month: u16, day: u16) -> u64
+pub fn retraction_day_of_date(year: u16, month: u16, day: u16) -> u64
     ensures { result ≡ packed_day (day_of_date (record { year = year; month = month; day = day })) }
 {
     let answer = calendar::day_of_date(Date {

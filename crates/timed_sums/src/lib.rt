@@ -6,8 +6,7 @@ ghost use Rattle.rules.specs.Leading.{plan_sum};
 
 use plan::fields;
 
-#[unsafe(no_mangle)]
-pub extern "C" fn timed_sum_by_eight(plan: &[u8]) -> u64
+pub fn timed_sum_by_eight(plan: &[u8]) -> u64
     ensures { result ≡ plan_sum plan.now }
 {
     plan_sum::sum(plan) as u64
@@ -19,8 +18,7 @@ fn wide(x: u8) -> u16
     x as u16
 }
 
-#[unsafe(no_mangle)]
-pub extern "C" fn timed_sum_by_two(plan: &[u8]) -> u64
+pub fn timed_sum_by_two(plan: &[u8]) -> u64
     ensures { result ≡ plan_sum plan.now }
 {
     let mut sum: u16 = 0;
