@@ -1,10 +1,7 @@
 -- From days to a date: the century that a day lies in and the year in it, years being from March on, and the date that these and a month make up.
 -- Assumes nothing.
-use mathlib.Core.Path.{◌≡◌, sym, ap, ◌∙◌}
-use mathlib.Core.Logic.{inl, inr}
-use Prim.Native.Nat.{ℕ, suc, ◌+◌, ◌-◌, ◌*◌, ◌/◌, ◌%◌, ◌<◌, ◌≤◌}
-use native.Mathlib.Decide.{dec_lt}
-use native.Mathlib.Omega.{arith}
+use Rattle.std.proofs.Common.{◌≡◌, sym, ap, ◌∙◌, inl, inr, ℕ, suc, ◌+◌, ◌-◌, ◌*◌, ◌/◌, ◌%◌, ◌<◌, ◌≤◌, arith}
+use Rattle.std.proofs.Math.Decide.{dec_lt}
 use Rattle.rules.specs.Calendar.{date, february, month_length, in_months, in_years, days_to, date_after}
 use Rattle.calendar.specs.Parts.{march_year, CenturyIs, YearIs, MonthIs}
 use Rattle.calendar.proofs.YearLaws.{closed, hundreds_fewer, year_days, years_closed, years_more}

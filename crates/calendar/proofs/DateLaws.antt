@@ -1,13 +1,7 @@
 -- Dates that the calendar has, and the days from 1 January 1600 to each: the day after a date has one more, so the date n days after the first has n,
 -- and no other date has as many. Assumes nothing.
-use mathlib.Core.Path.{◌≡◌, refl, sym, ap, ◌∙◌}
-use mathlib.Core.Logic.{inl, inr}
-use mathlib.Core.Bool.{true, false, ◌&&◌}
-use Prim.Native.Nat.{ℕ, zero, suc, ◌+◌, ◌-◌, ◌<◌, ◌≤◌}
-use native.Mathlib.Decide.{dec_lt}
-use native.Mathlib.Omega.{arith}
-use lib.Dec.{leb, ltb}
-use borrow.Author.Tests.{ltb-true, ltb-false, leb-true, le-leb}
+use Rattle.std.proofs.Common.{◌≡◌, refl, sym, ap, ◌∙◌, inl, inr, true, false, ◌&&◌, ℕ, zero, suc, ◌+◌, ◌-◌, ◌<◌, ◌≤◌, arith, leb, ltb, ltb-true, ltb-false, leb-true, le-leb}
+use Rattle.std.proofs.Math.Decide.{dec_lt}
 use Rattle.rules.specs.declared.Date.{Date}
 use Rattle.rules.specs.Calendar.{date, month_length, is_date, next_date, date_after, in_months, in_years, days_to}
 use Rattle.rules.proofs.Tests.{look, and_holds}

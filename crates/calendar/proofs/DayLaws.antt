@@ -1,23 +1,16 @@
 -- Days, which are signed, and the days since 1 January 1600, which are not: the epoch is added and taken off, and what the machine computes on the way
 -- fits 32 bits. Assumes nothing.
-use mathlib.Core.Path.{◌≡◌, refl, sym, ap, ◌∙◌}
-use mathlib.Core.Bool.{true, false}
-use Prim.Native.Nat.{ℕ, suc, ◌+◌, ◌-◌, ◌*◌, ◌/◌, ◌%◌, ◌<◌, ◌≤◌}
-use native.Mathlib.Decide.{dec_lt}
-use native.Mathlib.Omega.{arith}
-use lib.Dec.{T, leb}
-use lib.IntN.{ℤ, pos, negsuc, nat_abs, ◌+ℤ◌, ◌-ℤ◌, ◌*ℤ◌, +ℤ_assoc}
-use lib.Signed.{mag, le_z, lt_z, non_neg}
-use borrow.Author.Tests.{leb-true, le-leb, lt-leb, ltb-true, ltb-false}
-use mir.Syntax.{w32}
-use mir.Val.{SFits, Fits, to_z}
+use Rattle.std.proofs.Common.{◌≡◌, refl, sym, ap, ◌∙◌, true, ℕ, suc, ◌+◌, ◌-◌, ◌*◌, ◌/◌, ◌%◌, ◌<◌, ◌≤◌, arith, T, leb, ℤ, pos, negsuc, nat_abs, ◌+ℤ◌, ◌-ℤ◌, ◌*ℤ◌, leb-true, le-leb, w32, SFits, Fits, to_z}
+use Rattle.std.proofs.Math.Decide.{dec_lt}
+use Rattle.std.proofs.Math.IntN.{+ℤ_assoc}
+use lib.Signed.{mag, non_neg}
 use mir.ValLaws.{to_z-of_z, to_z_pos}
 use Rattle.rules.specs.Names.{Day}
 use Rattle.rules.specs.Day.{is_day}
 use Rattle.rules.specs.declared.Date.{Date}
 use Rattle.rules.specs.Calendar.{is_date, in_months, in_years, days_to}
 use Rattle.rules.specs.Conversion.{days_since, day_number}
-use Rattle.rules.proofs.Tests.{clash, and_holds}
+use Rattle.rules.proofs.Tests.{and_holds}
 use Rattle.signed.specs.Floor.{times, rest}
 use Rattle.signed.proofs.Integers.{rd, sub_ge, sub_lt, sub_is, minus_fits, fits_pos, cast_pos}
 use Rattle.signed.proofs.FloorLaws.{lift, times_fits, rest_lt}
@@ -57,17 +50,6 @@ day_since n h = elim (dec_lt n 109573) [
 pub day_number_lem : (D : Date) → is_date D ≡ true → (is_day (day_number D) ≡ true) × (days_since (day_number D) ≡ days_to D)
 unfolding day_number
 day_number_lem D e = let p = real_of D e in day_since (days_to D) (days_small D p.0 p.1)
-
--- the test of the range
-pub too_early : (z : Day) → lt_z z (negsuc 109572) ≡ true → false ≡ is_day z
-unfolding is_day
-too_early (pos a) e = clash {b = false} e refl
-too_early (negsuc a) e = rw (lt-leb a 109572 (ltb-true 109572 a e))
-
-pub not_too_early : (z : Day) → lt_z z (negsuc 109572) ≡ false → le_z z (pos 182620) ≡ is_day z
-unfolding is_day
-not_too_early (pos a) e = refl
-not_too_early (negsuc a) e = rw (le-leb a 109572 (ltb-false 109572 a e))
 
 -- a number that is not below zero once n is added is near zero, and so is four times it
 near : (x : ℤ) (n i : ℕ) → x +ℤ pos n ≡ pos i → mag x ≤ n + i

@@ -1,8 +1,6 @@
 -- Worked examples of both conversions: the epoch, the days beside a leap day, the ends of the range, and what is turned back. The day of a date is
 -- computed; the date of a day follows, as one conversion undoes the other. Assumes nothing.
-use mathlib.Core.Path.{◌≡◌, refl}
-use Prim.Native.Nat.{ℕ}
-use lib.IntN.{pos, negsuc}
+use Rattle.std.proofs.Common.{◌≡◌, refl, ℕ, pos, negsuc}
 use Rattle.rules.specs.Day.{is_day}
 use Rattle.rules.specs.Calendar.{date, is_leap, february, month_length, is_date, in_months, in_years, days_to}
 use Rattle.rules.specs.Conversion.{refusal, found, day_number, date_of_day, day_of_date}

@@ -1,13 +1,7 @@
 -- The lengths of months and the days before each, one month after another; and sums that never fall, as the days before months and years are: a
 -- number lies between two neighbours of such a sum at one place only. Assumes nothing.
-use mathlib.Core.Path.{◌≡◌, refl, sym, ap, ◌∙◌, subst}
-use mathlib.Core.Logic.{◌⊎◌, inl, inr}
-use Prim.{Unit}
-use Prim.Native.Nat.{ℕ, zero, suc, ◌+◌, ◌-◌, ◌*◌, ◌/◌, ◌%◌, ◌<◌, ◌≤◌}
-use native.Mathlib.Decide.{dec_lt}
-use native.Mathlib.Omega.{arith}
-use lib.ListN.{get_or}
-use borrow.Author.Tests.{lt-ltb, le-ltb}
+use Rattle.std.proofs.Common.{◌≡◌, refl, sym, ap, ◌∙◌, subst, ◌⊎◌, inl, inr, ℕ, zero, suc, ◌+◌, ◌-◌, ◌*◌, ◌/◌, ◌%◌, ◌<◌, ◌≤◌, arith, get_or, lt-ltb, le-ltb}
+use Rattle.std.proofs.Math.Decide.{dec_lt}
 use Rattle.rules.specs.Calendar.{february, months, month_length, in_months, in_years}
 use Rattle.calendar.specs.Parts.{march_year, SinceMarch, MonthIs}
 use Rattle.calendar.proofs.YearLaws.{february_bounds, year_days, years_more, years_closed}
@@ -97,28 +91,12 @@ module _ (m k s : ℕ) (e : m ≡ k) where
   pub since_early : k < 3 → ((y : ℕ) → s ≡ 306 + in_months y (k - 1)) → SinceMarch m s
   since_early h f = record { early = λ (g : m < 3) y. rw e (f y); late = λ (g : 3 ≤ m) y. absurd (omega arith) }
 
--- a month that is none of the ten from March on, and not January
-unfoldable pub NoneOf : ℕ → ℕ → Type 0
-NoneOf m zero = Unit
-NoneOf m (suc k) = NoneOf m k × (m ≡ 3 + k → ⊥)
-
-none_of : (m k : ℕ) → 3 ≤ m → NoneOf m k → 3 + k ≤ m
-unfolding NoneOf
-none_of m zero h n = omega arith
-none_of m (suc k) h n = let e = n.1 in omega (arith, none_of m k h n.0, e)
-
-pub is_february : (m : ℕ) → 1 ≤ m → m ≤ 12 → NoneOf m 10 → (m ≡ 1 → ⊥) → m ≡ 2
-is_february m h g n f = elim (dec_lt m 3) [
-  | yes p ↦ omega arith
-  | no q ↦ absurd (omega (arith, none_of m 10 (omega arith) n))
-]
-
 -- the days to a month, from those to its year from March on
 module _ (y m : ℕ) where
   pub march_early : m < 3 → y ≡ march_year y m
   march_early h = rw (lt-ltb m 3 h)
 
-  pub march_late : 3 ≤ m → y + 1 ≡ march_year y m
+  march_late : 3 ≤ m → y + 1 ≡ march_year y m
   march_late h = rw (le-ltb m 3 h)
 
   pub march_bounds : (y ≤ march_year y m) × (march_year y m ≤ y + 1)

@@ -1,11 +1,7 @@
 -- What the two conversions are to each other, by the definitions alone: each undoes the other, each refuses exactly what lies outside, a day later is
 -- the next date. The days since 1 January 1600 are what a day and its date have in common. Assumes nothing.
-use mathlib.Core.Path.{◌≡◌, sym, ap, ◌∙◌}
-use mathlib.Core.Logic.{◌↔◌, inl, inr}
-use mathlib.Core.Bool.{true, false}
-use Prim.Native.Nat.{ℕ, suc, ◌+◌}
-use native.Mathlib.Omega.{arith}
-use lib.IntN.{ℤ, pos, nat_abs, ◌+ℤ◌, ◌-ℤ◌, +ℤ_assoc, +ℤ-neg_ℤ_cancel}
+use Rattle.std.proofs.Common.{◌≡◌, sym, ap, ◌∙◌, ◌↔◌, inl, inr, true, false, ℕ, suc, ◌+◌, arith, ℤ, pos, nat_abs, ◌+ℤ◌, ◌-ℤ◌}
+use Rattle.std.proofs.Math.IntN.{+ℤ_assoc, +ℤ-neg_ℤ_cancel}
 use Rattle.rules.specs.Names.{Refusal, Day}
 use Rattle.rules.specs.declared.Date.{Date}
 use Rattle.rules.specs.Day.{is_day}

@@ -1,26 +1,21 @@
 -- Leap years, and the days of the years from 1600 on in closed form: 365 each, one more for each fourth, one less for each hundredth, one more for
 -- each four-hundredth. A year is of one of four kinds, and for each kind the closed form grows by the year's days. Assumes nothing.
-use mathlib.Core.Path.{◌≡◌, refl, sym, ◌∙◌}
-use mathlib.Core.Logic.{inl, inr}
-use mathlib.Core.Bool.{true, false}
-use Prim.Native.Nat.{ℕ, zero, suc, ◌+◌, ◌-◌, ◌*◌, ◌/◌, ◌%◌, ◌≤◌}
-use native.Mathlib.Omega.{arith}
-use lib.Dec.{eqb}
-use borrow.Author.Tests.{eq-eqb, ne_eqb, eqb-true, eqb-false}
+use Rattle.std.proofs.Common.{◌≡◌, refl, sym, ◌∙◌, inl, inr, true, false, ℕ, zero, suc, ◌+◌, ◌-◌, ◌*◌, ◌/◌, ◌%◌, ◌≤◌, arith, eqb, eq-eqb, ne_eqb, eqb-true}
+use borrow.Author.Tests.{eqb-false}
 use Rattle.rules.specs.Calendar.{is_leap, february, in_months, in_years}
 use Rattle.rules.proofs.Tests.{look}
 
 -- leap years
 module _ (y : ℕ) where
-  pub leap_no : (y % 4 ≡ 0 → ⊥) → false ≡ is_leap y
+  leap_no : (y % 4 ≡ 0 → ⊥) → false ≡ is_leap y
   unfolding is_leap
   leap_no h = rw (ne_eqb (y % 4) 0 h)
 
-  pub leap_fourth : y % 4 ≡ 0 → (y % 100 ≡ 0 → ⊥) → true ≡ is_leap y
+  leap_fourth : y % 4 ≡ 0 → (y % 100 ≡ 0 → ⊥) → true ≡ is_leap y
   unfolding is_leap
   leap_fourth h k = rw (eq-eqb (y % 4) 0 h, ne_eqb (y % 100) 0 k)
 
-  pub leap_hundredth : y % 4 ≡ 0 → y % 100 ≡ 0 → eqb (y % 400) 0 ≡ is_leap y
+  leap_hundredth : y % 4 ≡ 0 → y % 100 ≡ 0 → eqb (y % 400) 0 ≡ is_leap y
   unfolding is_leap
   leap_hundredth h k = rw (eq-eqb (y % 4) 0 h, eq-eqb (y % 100) 0 k)
 

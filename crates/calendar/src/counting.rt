@@ -16,7 +16,7 @@ fn before_year(year: u16) -> u32
     requires { (1600 ≤ year) × (year ≤ 2400) }
     ensures { result ≡ in_years (year - 1600) }
 {
-    let k = (year - 1600) as u32;
+    let k = u32::from(year - 1600);
     365 * k + (k + 3) / 4 - (k + 99) / 100 + (k + 399) / 400
 }
 
@@ -25,10 +25,7 @@ fn march_year(year: u16, month: u16) -> u16
     requires { year ≤ 2399 }
     ensures { result ≡ march_year year month }
 {
-    if month < 3 {
-        return year;
-    }
-    year + 1
+    if month < 3 { year } else { year + 1 }
 }
 
 // The days of a year from March on before a month of it.
@@ -65,9 +62,7 @@ fn days_to(date: Date) -> u32
     requires { is_date date ≡ true }
     ensures { (result ≡ days_to date) × (result < 292194) }
 {
-    let year = date.year;
-    let month = date.month;
-    before_month(year, month) + (date.day as u32 - 1)
+    before_month(date.year, date.month) + (u32::from(date.day) - 1)
 }
 
 // The number of a date's day.

@@ -1,5 +1,5 @@
 // Which days and which dates there are.
-ghost use Rattle.std.specs.Prelude.{◌≡◌, ◌≤◌};
+ghost use Rattle.std.specs.Prelude.{◌≡◌, ◌≤◌, leb};
 ghost use Rattle.rules.specs.Day.{is_day};
 ghost use Rattle.rules.specs.Calendar.{is_leap, month_length, is_date};
 
@@ -18,25 +18,18 @@ const MONTHS: u16 = 12;
 
 const SHORTEST_MONTH: u16 = 28;
 
+#[tactic(auto, unfolding(rules::specs::Day::is_day))]
 pub fn is_day(day: i32) -> bool
     ensures { result ≡ is_day day }
 {
-    if day < EARLIEST_DAY {
-        return false;
-    }
-    day <= LATEST_DAY
+    (EARLIEST_DAY..=LATEST_DAY).contains(&day)
 }
 
+#[tactic(auto, unfolding(rules::specs::Calendar::is_leap))]
 fn is_leap(year: u16) -> bool
     ensures { result ≡ is_leap year }
 {
-    if year % 4 != 0 {
-        return false;
-    }
-    if year % 100 != 0 {
-        return true;
-    }
-    year % 400 == 0
+    year % 4 == 0 && (year % 100 != 0 || year % 400 == 0)
 }
 
 fn month_length(year: u16, month: u16) -> u16
@@ -44,40 +37,25 @@ fn month_length(year: u16, month: u16) -> u16
     ensures { result ≡ month_length year month }
 {
     match month {
-        2 => {
-            if is_leap(year) {
-                return 29;
-            }
-            28
-        }
+        2 => { if is_leap(year) { 29 } else { 28 } }
         4 | 6 | 9 | 11 => 30,
         _ => 31,
     }
 }
 
+fn is_in_month(year: u16, month: u16, day: u16) -> bool
+    requires { (1 ≤ month) × (month ≤ 12) }
+    ensures { result ≡ leb day (month_length year month) }
+{
+    day <= SHORTEST_MONTH || day <= month_length(year, month)
+}
+
+#[tactic(auto, unfolding(rules::specs::Calendar::is_date))]
 pub fn is_date(date: Date) -> bool
     ensures { result ≡ is_date date }
 {
-    let year = date.year;
-    let month = date.month;
-    let day = date.day;
-    if year < FIRST_YEAR {
-        return false;
-    }
-    if LAST_YEAR < year {
-        return false;
-    }
-    if month < 1 {
-        return false;
-    }
-    if MONTHS < month {
-        return false;
-    }
-    if day < 1 {
-        return false;
-    }
-    if day <= SHORTEST_MONTH {
-        return true;
-    }
-    day <= month_length(year, month)
+    (FIRST_YEAR..=LAST_YEAR).contains(&date.year)
+        && (1..=MONTHS).contains(&date.month)
+        && 1 <= date.day
+        && is_in_month(date.year, date.month, date.day)
 }

@@ -10,25 +10,24 @@ ghost use Rattle.std.specs.Prelude.{◌≡◌};
 ghost use Rattle.rules.specs.Conversion.{date_of_day, day_of_date};
 ghost use Rattle.rules.specs.Answers.{date_told, day_told};
 
-use rules::{Date, DateAnswer, DayAnswer};
-
-// No such day, or no such date.
-const OUTSIDE: u8 = 26;
+use rules::{Date, DateAnswer, DayAnswer, Refusal};
 
 pub fn date_of_day(day: i32) -> DateAnswer
     ensures { date_told result ≡ date_of_day day }
 {
     if dates::is_day(day) {
-        return DateAnswer::On(naming::date_of(day));
+        DateAnswer::On(naming::date_of(day))
+    } else {
+        DateAnswer::Refused(Refusal::Day as u8)
     }
-    DateAnswer::Refused(OUTSIDE)
 }
 
 pub fn day_of_date(date: Date) -> DayAnswer
     ensures { day_told result ≡ day_of_date date }
 {
     if dates::is_date(date) {
-        return DayAnswer::Day(counting::day_of(date));
+        DayAnswer::Day(counting::day_of(date))
+    } else {
+        DayAnswer::Refused(Refusal::Day as u8)
     }
-    DayAnswer::Refused(OUTSIDE)
 }

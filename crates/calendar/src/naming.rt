@@ -34,11 +34,9 @@ fn century_of(day: i32) -> Place
     ensures { CenturyIs (days_since day) result.unit result.days }
 {
     let s = signed::floor::split(4 * (day - NEW_CENTURY) + 3, FOUR_CENTURIES);
-    let times = s.times;
-    let rest = s.rest;
     Place {
-        unit: (times + 8) as u32,
-        days: rest as u32 / 4,
+        unit: (s.times + 8) as u32,
+        days: s.rest as u32 / 4,
     }
 }
 
@@ -61,14 +59,15 @@ fn month_of(days: u32) -> Place
     let months = fifths / FIVE_MONTHS;
     let rest = fifths % FIVE_MONTHS / 5;
     if months < 10 {
-        return Place {
+        Place {
             unit: months + 3,
             days: rest,
-        };
-    }
-    Place {
-        unit: months - 9,
-        days: rest,
+        }
+    } else {
+        Place {
+            unit: months - 9,
+            days: rest,
+        }
     }
 }
 
@@ -77,10 +76,7 @@ fn year_at(began: u32, month: u32) -> u32
     requires { began ≤ 2399 }
     ensures { march_year result month ≡ began + 1 }
 {
-    if month < 3 {
-        return began + 1;
-    }
-    began
+    if month < 3 { began + 1 } else { began }
 }
 
 // The date of a day.

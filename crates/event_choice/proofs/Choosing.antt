@@ -1,15 +1,7 @@
 -- From the passes to the choice: the words name the event's moves, so what was judged of those moves is what the rules say. Assumes nothing.
-use mathlib.Core.Path.{◌≡◌, sym, ap, ◌∙◌, subst, fun_ext}
-use mathlib.Core.Logic.{inl, inr}
-use mathlib.Core.Bool.{Bool, false, not, ◌&&◌}
-use mathlib.Core.List.{List}
-use mathlib.Core.Option.{none, some}
-use Prim.Native.Nat.{ℕ}
-use native.Mathlib.Omega.{arith}
-use lib.Dec.{eqb, leb, ltb}
-use lib.IntN.{ℤ}
-use lib.ListN.{length, get_or, replicate}
-use borrow.Author.Tests.{ltb-true, ltb-false}
+use Rattle.std.proofs.Common.{◌≡◌, sym, ap, ◌∙◌, subst, inl, inr, Bool, false, not, ◌&&◌, List, ℕ, arith, eqb, leb, ltb, length, get_or, replicate, ltb-true, ltb-false}
+use Rattle.std.proofs.Math.Path.{fun_ext}
+use Rattle.std.proofs.Math.Option.{none, some}
 use Rattle.rules.specs.declared.Counts.{Counts}
 use Rattle.rules.specs.Fold.{some_below, count_below}
 use Rattle.rules.specs.Plan.{Plan, plan_of, track_count, no_state, optional, transition, is_final}
@@ -26,11 +18,12 @@ use Rattle.ledger.specs.Ladder.{Going, ledger_of}
 use Rattle.lookup.specs.Figures.{Figures, Numbers}
 use Rattle.lookup.proofs.Facts.{plan_facts, few_tracks, live_of_going, beyond}
 use Rattle.lookup.proofs.FiguresLaws.{figure_each}
+use Rattle.event_choice.specs.declared.Asked.{Asked}
 use Rattle.event_choice.specs.declared.judging.Survey.{Survey}
 use Rattle.event_choice.specs.declared.judging.Verdict.{Verdict}
 use Rattle.rules.specs.declared.Terms.{Terms}
 use Rattle.event_choice.specs.Next.{InRange, moves_of, is_last, closes_next}
-use Rattle.event_choice.specs.Chosen.{Surveyed, Judged, Chosen}
+use Rattle.event_choice.specs.Chosen.{told, Surveyed, Judged, Chosen}
 use Rattle.event_choice.proofs.Visits.{word_some, moves_at}
 use Rattle.event_choice.proofs.Moved.{mover_facts, closes_before, closings_before, full_before}
 use Rattle.event_choice.proofs.Ending.{none_closes, no_closings, full_moves}
@@ -39,12 +32,11 @@ is_move_lem : (p : Plan) (w : ℕ) → not (eqb w no_state) ≡ is_move (optiona
 unfolding optional is_move
 is_move_lem p w = elim (look (eqb w no_state)) [ inl q ↦ rw (q, is_move) | inr q ↦ rw (q, is_move) ]
 
-pub same_arguments : (e o : ℕ) {d z : ℤ} → d ≡ z
-    → ◌≡◌ {A = EventArguments} (record { event = e; day = d; society = o }) (record { event = e; day = z; society = o })
-same_arguments e o q = ap (λ d. record { event = e; day = d; society = o }) q
+module _ (terms : Terms) (bs : List ℕ) (c : Counts) (ws : List ℕ) (g : Going terms bs c ws) (asked : Asked) {ts : List ℕ}
+    (took : Numbers ts c.tracks (move (plan_of bs c) (ledger_of terms c ws) (told asked))) where
+  abbrev event : EventArguments
+  event = told asked
 
-module _ (terms : Terms) (bs : List ℕ) (c : Counts) (ws : List ℕ) (g : Going terms bs c ws) (event : EventArguments) {ts : List ℕ}
-    (took : Numbers ts c.tracks (move (plan_of bs c) (ledger_of terms c ws) event)) where
   abbrev p : Plan
   p = plan_of bs c
 
@@ -87,20 +79,12 @@ module _ (terms : Terms) (bs : List ℕ) (c : Counts) (ws : List ℕ) (g : Going
       e ∙ ap (λ k. count_below k (λ t. not (eqb (get_or ts t 0) no_state))) (sym (track_count_lem bs c))
       ∙ count_same (track_count p) _ _ (λ t b. is_move_lem p (get_or ts t 0) ∙ ap (is_move) (taken_all.at t b))
 
-  -- the day, as the choice keeps it
-  dayed : {d : ℤ} → d ≡ event.day → {ms : List Bool} {n k : ℕ} {f : Bool}
-      → Chosen terms p l (record { event = event.event; day = event.day; society = event.society; taken = ts; closing = ms; moved = n; closed = k; full = f })
-      → Chosen terms p l (record { event = event.event; day = d; society = event.society; taken = ts; closing = ms; moved = n; closed = k; full = f })
-  dayed e {ms} {n} {k} {f} h =
-      subst (λ d. Chosen terms p l (record { event = event.event; day = d; society = event.society; taken = ts; closing = ms; moved = n; closed = k; full = f })) (sym e) h
-
   -- no move leads to a final state
-  pub chosen_early : {d : ℤ} → d ≡ event.day → {v : Survey} → Surveyed terms p l ts c.tracks v → v.ends ≡ false
-      → Chosen terms p l (record { event = event.event; day = d; society = event.society; taken = ts; closing = replicate slots false; moved = v.moved; closed = 0; full = v.full })
+  pub chosen_early : {v : Survey} → Surveyed terms p l ts c.tracks v → v.ends ≡ false
+      → Chosen terms p l (record { asked = asked; taken = ts; closing = replicate slots false; moved = v.moved; closed = 0; full = v.full })
   unfolding is_last sleeping is_forward
-  chosen_early on {v} s z =
-      dayed on
-      (record {
+  chosen_early {v} s z =
+      record {
         taken = taken_all;
         closing = figure_each false _ false (track_count p) (few_tracks bs c g.checked.lent.accepts) (λ t b. sym (none_closes p ok l live event stays t));
         many_moved = count_all_lem s.many;
@@ -109,7 +93,7 @@ module _ (terms : Terms) (bs : List ℕ) (c : Counts) (ws : List ℕ) (g : Going
             s.fills ∙ ap (λ k. some_below k (λ t. has_code p (optional (get_or ts t 0)) && leb terms.limit (length (l t).held))) (sym (track_count_lem bs c))
             ∙ some_same (track_count p) _ _ (λ t b. ap (λ o. has_code p o && leb terms.limit (length (l t).held)) (taken_all.at t b))
             ∙ sym (full_moves p ok l live event stays terms);
-      })
+      }
     where
       stays : (t x : ℕ) → move p l event t ≡ some x → is_final p (transition p x).destination ≡ false
       stays t x q =
@@ -125,18 +109,17 @@ module _ (terms : Terms) (bs : List ℕ) (c : Counts) (ws : List ℕ) (g : Going
 
   -- some move may
   module _ {n : ℕ} (count : n ≡ count_below c.tracks (λ t. not (eqb (get_or ts t 0) no_state))) where
-    pub chosen_all : {d : ℤ} → d ≡ event.day → {ms : List Bool} {v : Verdict} → Figures false ms c.tracks (closes_next p l (moves_of ts c.tracks))
+    pub chosen_all : {ms : List Bool} {v : Verdict} → Figures false ms c.tracks (closes_next p l (moves_of ts c.tracks))
         → Judged terms p l (moves_of ts c.tracks) c.tracks v
-        → Chosen terms p l (record { event = event.event; day = d; society = event.society; taken = ts; closing = ms; moved = n; closed = v.closed; full = v.full })
-    chosen_all on {ms} {v} f j =
+        → Chosen terms p l (record { asked = asked; taken = ts; closing = ms; moved = n; closed = v.closed; full = v.full })
+    chosen_all {ms} {v} f j =
         let q = sym (track_count_lem bs c) in
         let h = subst (λ n. Judged terms p l (move p l event) n v) q (subst (λ goes. Judged terms p l goes c.tracks v) moves_are j) in
         let k = subst (λ n. Figures false ms n (closes_next p l (move p l event))) q (subst (λ goes. Figures false ms c.tracks (closes_next p l goes)) moves_are f) in
-        dayed on
-        (record {
+        record {
           taken = taken_all;
           closing = record { size = k.size; at = λ t b. k.at t b ∙ sym (closes_before p ok l live event t b) };
           many_moved = count_all_lem count;
           many_closed = h.closings ∙ sym (closings_before p ok l live event);
           full = h.fills ∙ sym (full_before p ok l live event terms);
-        })
+        }

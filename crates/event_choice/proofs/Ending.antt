@@ -1,12 +1,8 @@
 -- Where no move leads to a final state, no scope closes: a track that is in a final state after the moves was there before, and no closing was due
 -- then. Assumes nothing.
-use mathlib.Core.Path.{◌≡◌, ap, ◌∙◌}
-use mathlib.Core.Logic.{inl, inr}
-use mathlib.Core.Bool.{true, false, ◌&&◌, and-false, or-false}
-use mathlib.Core.Option.{some}
-use Prim.Native.Nat.{ℕ, ◌<◌}
-use lib.Dec.{leb}
-use lib.ListN.{length}
+use Rattle.std.proofs.Common.{◌≡◌, ap, ◌∙◌, inl, inr, true, false, ◌&&◌, ℕ, ◌<◌, leb, length}
+use Rattle.std.proofs.Math.Bool.{and-false, or-false}
+use Rattle.std.proofs.Math.Option.{some}
 use Rattle.rules.specs.Fold.{some_below}
 use Rattle.rules.specs.Plan.{Plan, track_count, state_count, transition, is_final}
 use Rattle.rules.specs.Ledger.{Configuration, Ledger, is_awake}

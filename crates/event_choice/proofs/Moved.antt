@@ -1,13 +1,8 @@
 -- The ledger after an event's moves, read off the ledger before. A mover has no open scope, so what wakes was asleep and what closes was open
 -- before; a scope therefore closes exactly if each of its tracks will be forward in a final state, and its host does not move. Assumes nothing.
-use mathlib.Core.Path.{◌≡◌, refl, sym, ap, ap₂, ◌∙◌, subst}
-use mathlib.Core.Logic.{◌⊎◌, inl, inr}
-use mathlib.Core.Bool.{Bool, true, false, not, ◌&&◌, ◌||◌, and_comm, or-false}
-use mathlib.Core.Option.{Option, none, some}
-use Prim.Native.Nat.{ℕ, ◌<◌}
-use lib.Dec.{eqb, leb}
-use lib.ListN.{length}
-use borrow.Author.Tests.{eq-eqb, eqb-true}
+use Rattle.std.proofs.Common.{◌≡◌, refl, sym, ap, ap₂, ◌∙◌, subst, ◌⊎◌, inl, inr, Bool, true, false, not, ◌&&◌, ◌||◌, ℕ, ◌<◌, eqb, leb, length, eq-eqb, eqb-true}
+use Rattle.std.proofs.Math.Bool.{and_comm, or-false}
+use Rattle.std.proofs.Math.Option.{Option, none, some}
 use Rattle.rules.specs.declared.Mode.TheVariants.{Forward}
 use Rattle.rules.specs.declared.Terms.{Terms}
 use Rattle.rules.specs.Fold.{some_below, every_below, count_below}

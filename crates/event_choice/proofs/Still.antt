@@ -1,14 +1,9 @@
 -- Where no track moves, a live ledger stays as it is: none enters a state, so none wakes; closing and finish are not due before the event
 -- and so not after it. Assumes nothing.
-use mathlib.Core.Path.{◌≡◌, refl, ap, ◌∙◌, fun_ext}
-use mathlib.Core.Logic.{inl, inr}
-use mathlib.Core.Bool.{Bool, false, cond}
-use mathlib.Core.Option.{Option, none, some}
-use Prim.Native.Nat.{ℕ, zero, suc, ◌+◌, ◌<◌, ◌≤◌}
-use native.Mathlib.Nat.{not-suc-le-zero}
-use native.Mathlib.Omega.{arith}
-use lib.Dec.{ltb, eqb}
-use borrow.Author.Tests.{ltb-true, ltb-false, eqb-true, eqb-false}
+use Rattle.std.proofs.Common.{◌≡◌, refl, ap, ◌∙◌, inl, inr, Bool, false, cond, ℕ, zero, suc, ◌+◌, ◌<◌, ◌≤◌, not-suc-le-zero, arith, ltb, eqb, ltb-true, ltb-false, eqb-true}
+use Rattle.std.proofs.Math.Path.{fun_ext}
+use Rattle.std.proofs.Math.Option.{Option, none, some}
+use borrow.Author.Tests.{eqb-false}
 use Rattle.rules.specs.Fold.{count_below}
 use Rattle.rules.specs.Plan.{Plan, track_count, state_count}
 use Rattle.rules.specs.Ledger.{Ledger, is_forward, sleeping}

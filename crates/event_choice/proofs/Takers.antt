@@ -1,14 +1,8 @@
 -- Who takes a transition: a forward track is in a state of its own, so none but the transition's own track; and since no two transitions share
 -- source and event, the one found last is the first. Assumes nothing.
-use mathlib.Core.Path.{◌≡◌, refl, sym, ap, ◌∙◌, subst}
-use mathlib.Core.Logic.{inl, inr}
-use mathlib.Core.Bool.{Bool, true, false, cond, not, ◌&&◌}
-use mathlib.Core.List.{List}
-use mathlib.Core.Option.{Option, none, some}
-use Prim.Native.Nat.{ℕ, ◌+◌, ◌<◌}
-use native.Mathlib.Omega.{arith}
-use lib.Dec.{eqb, ltb}
-use borrow.Author.Tests.{eq-eqb, eqb-true, not-true}
+use Rattle.std.proofs.Common.{◌≡◌, refl, sym, ap, ◌∙◌, subst, inl, inr, Bool, true, false, cond, not, ◌&&◌, List, ℕ, ◌+◌, ◌<◌, arith, eqb, ltb, eq-eqb, eqb-true}
+use Rattle.std.proofs.Math.Option.{Option, none, some}
+use borrow.Author.Tests.{not-true}
 use Rattle.rules.specs.declared.Counts.{Counts}
 use Rattle.rules.specs.declared.Track.{Track}
 use Rattle.rules.specs.declared.Terms.{Terms}

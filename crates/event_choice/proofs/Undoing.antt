@@ -1,11 +1,7 @@
 -- An event leaves undoing tracks and their scopes alone: they do not move, nothing that they host wakes, and none of their scopes closes. So which
 -- of them have an open scope is known before the call. Assumes nothing.
-use mathlib.Core.Path.{◌≡◌, sym, ap, ◌∙◌, subst}
-use mathlib.Core.Logic.{inl, inr}
-use mathlib.Core.Bool.{true, false, ◌&&◌}
-use mathlib.Core.Option.{Option, none}
-use Prim.Native.Nat.{ℕ}
-use lib.Dec.{eqb}
+use Rattle.std.proofs.Common.{◌≡◌, sym, ap, ◌∙◌, subst, inl, inr, true, false, ◌&&◌, ℕ, eqb}
+use Rattle.std.proofs.Math.Option.{Option, none}
 use Rattle.rules.specs.Plan.{Plan, owner, first_state}
 use Rattle.rules.specs.Ledger.{Configuration, Ledger, is_awake, is_forward, is_undoing, sleeping}
 use Rattle.rules.specs.Scope.{has_open_scope}

@@ -6,6 +6,7 @@ use Rattle.rules.specs.Plan.{Plan, track_count, no_state, optional}
 use Rattle.rules.specs.Ledger.{Ledger}
 use Rattle.rules.specs.Event.{EventArguments, has_code, move, moves, moved, closes_scope, closings, is_full}
 use Rattle.lookup.specs.Figures.{Figures, Numbers}
+use Rattle.event_choice.specs.declared.Asked.{Asked}
 use Rattle.event_choice.specs.declared.Choice.{Choice}
 use Rattle.event_choice.specs.declared.judging.Survey.{Survey}
 use Rattle.event_choice.specs.declared.judging.Verdict.{Verdict}
@@ -24,8 +25,11 @@ pub record Judged (terms : Terms) (p : Plan) (l : Ledger) (goes : ℕ → Option
   pub fills : r.full ≡ some_below n (full_next p l goes terms)
 
 -- what the event was given
+abbrev pub told : Asked → EventArguments
+told a = record { event = a.event; day = a.day; society = a.society }
+
 abbrev pub arguments_of : Choice → EventArguments
-arguments_of r = record { event = r.event; day = r.day; society = r.society }
+arguments_of r = told r.asked
 
 -- the whole choice
 pub record Chosen (terms : Terms) (p : Plan) (l : Ledger) (r : Choice) : Type 0 where

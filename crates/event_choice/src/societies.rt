@@ -1,15 +1,15 @@
 // The rights: of the moves that an event makes for any society, those of the tracks that its own may move.
 ghost use Rattle.std.specs.Prelude.{◌≡◌, cond, length};
+ghost use Rattle.plan.specs.Plans.{plan_in};
 ghost use Rattle.std.proofs.Math.Option.{none};
-ghost use Rattle.rules.specs.Plan.{plan_of, optional};
+ghost use Rattle.rules.specs.Plan.{optional};
 ghost use Rattle.rules.specs.Rights.{move_right, is_permitted};
-ghost use Rattle.ledger.specs.Ladder.{Accepts};
 ghost use Rattle.lookup.specs.Figures.{Numbers};
 ghost use Rattle.event_choice.specs.Next.{moves_of};
 
+use plan::Plan;
 use plan::fields::NO_STATE;
-use rights::MOVE;
-use rules::Counts;
+use rights::Right;
 
 // A transition, 65535 for none, or none if it may not be taken.
 fn if_permitted(may: bool, x: u16) -> u16
@@ -19,18 +19,15 @@ fn if_permitted(may: bool, x: u16) -> u16
 }
 
 // The transition that each track takes for a society, given the one that it takes for any, 65535 for none.
-pub fn taken_of(plan: &[u8], c: Counts, society: u16, all: [u16; 32]) -> [u16; 32]
-    requires { Accepts plan.now c × (length all ≡ 32) }
-    ensures { Numbers result c.tracks
-        (λ t. cond (is_permitted (plan_of plan.now c) move_right society t) (moves_of all c.tracks t) none) }
+pub fn taken_of(plan: &Plan, society: u16, all: [u16; 32]) -> [u16; 32]
+    requires { length all ≡ 32 }
+    ensures { Numbers result plan.now.records.counts.tracks
+        (λ t. cond (is_permitted (plan_in plan.now.records) move_right society t) (moves_of all plan.now.records.counts.tracks t) none) }
 {
-    let may = rights::permitted(plan, c, MOVE, society);
+    let may = rights::permitted(plan, Right::Move as u16, society);
     let mut taken = [NO_STATE; 32];
-    let tracks = c.tracks;
-    let mut t: usize = 0;
-    while t < tracks {
+    for t in 0..plan.records.counts.tracks {
         taken[t] = if_permitted(may[t], all[t]);
-        t += 1;
     }
     taken
 }

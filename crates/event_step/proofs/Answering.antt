@@ -1,11 +1,7 @@
 -- From the choice to the call's outcome: 21 or the step where the ledger is going, and before that 19, 26, 20 and 28. Assumes nothing.
-use mathlib.Core.Path.{◌≡◌, refl, sym, ap, ap₂, ◌∙◌, subst}
-use mathlib.Core.Bool.{Bool, true, false, cond, not}
-use mathlib.Core.List.{List, [], ◌∷◌}
-use Prim.Native.Nat.{ℕ, zero, suc, ◌<◌}
-use lib.Dec.{eqb}
+use Rattle.std.proofs.Common.{◌≡◌, refl, sym, ap, ap₂, ◌∙◌, subst, Bool, true, false, cond, not, List, [], ◌∷◌, ℕ, zero, suc, ◌<◌, eqb, eq-eqb, ne_eqb, arith}
 use lib.Signed.{mag, lt_z}
-use borrow.Author.Tests.{eq-eqb, ne_eqb, not-true, not-false}
+use borrow.Author.Tests.{not-true, not-false}
 use Rattle.rules.specs.Names.{Day}
 use Rattle.rules.specs.Day.{is_day}
 use Rattle.rules.specs.declared.Counts.{Counts}
@@ -19,6 +15,9 @@ use Rattle.rules.specs.Scope.{is_over}
 use Rattle.rules.specs.Event.{EventArguments, moves, moved, closings, is_full, after_event}
 use Rattle.rules.specs.Call.{Answer, done, Outcome, event, Meets, refused_or, under_plan, call_refusals, figures, after, dated_by, bad_day, call_outcome, event_outcome}
 use Rattle.rules.specs.Answers.{event_told}
+use Rattle.rules.specs.declared.Refusal.{Refusal}
+use Rattle.rules.specs.Refusals.{number_of, refusal_number}
+use Rattle.std.specs.Prelude.{Result, Err}
 use Rattle.rules.proofs.Tests.{passed}
 use Rattle.rules.proofs.LedgerChecks.{unless_refused, passes_first}
 use Rattle.rules.proofs.Stored.{written_read}
@@ -33,6 +32,10 @@ use Rattle.rules.specs.declared.Terms.{Terms}
 use Rattle.event_choice.specs.Chosen.{arguments_of, Chosen}
 use Rattle.event_choice.proofs.Still.{no_moves, after_same, still_closings}
 use Rattle.event_step.specs.Outcome.{early_refusal, going_outcome}
+
+-- no refusal has the number 0
+not_zero : (r : Refusal) → number_of r ≡ 0 → ⊥
+not_zero r e = grind (arith, e)
 
 met : {o : Outcome} {a : Answer} {w : List ℕ} → o ≡ record { answer = a; words = w } → Meets o a w
 met e = record { answered = ap (λ (x : Outcome). x.answer) (sym e); left = ap (λ (x : Outcome). x.words) (sym e) }
@@ -82,14 +85,14 @@ module _ (terms : Terms) (bs : List ℕ) (c : Counts) (ws : List ℕ) (g : Going
     count = ap (λ i. count_below (track_count p) (moves p l i)) (sym h.1) ∙ sym h.0.many_moved
 
     -- the day is written after the tracks, or before them
-    put_last : {u v : List ℕ} → v ≡ dated r.day u → u ≡ written terms c.tracks (after_event p l e) ws
+    put_last : {u v : List ℕ} → v ≡ dated r.asked.day u → u ≡ written terms c.tracks (after_event p l e) ws
         → written terms (track_count p) (after_event p l e) (dated e.day ws) ≡ v
     put_last {u} {v} d w =
         ap (λ n. written terms n (after_event p l e) (dated e.day ws)) (track_count_lem bs c)
         ∙ sym (dated_written e.day terms c.tracks (after_event p l e) ws g.checked.lent.room.words)
         ∙ ap₂ dated (ap (λ (a : EventArguments). a.day) (sym h.1)) (sym w) ∙ sym d
 
-    pub step_met : {u v : List ℕ} → u ≡ written terms c.tracks (after_event p l (arguments_of r)) ws → v ≡ dated r.day u
+    pub step_met : {u v : List ℕ} → u ≡ written terms c.tracks (after_event p l (arguments_of r)) ws → v ≡ dated r.asked.day u
         → Meets (going_outcome terms p ws e) (event_told (Moved r.moved r.closed)) v
     unfolding refused_or first_refusal figures event_told outcome
     step_met w d =
@@ -98,7 +101,7 @@ module _ (terms : Terms) (bs : List ℕ) (c : Counts) (ws : List ℕ) (g : Going
         met (as_read ∙ (rw (full ∙ z) (λ k. record { answer = done (count k ∷ j k ∷ []); words = left k })))
 
     -- where no track moves nothing changes but the day
-    pub still_met : {v : List ℕ} → r.moved ≡ 0 → v ≡ dated r.day ws → Meets (going_outcome terms p ws e) (event_told (Moved 0 0)) v
+    pub still_met : {v : List ℕ} → r.moved ≡ 0 → v ≡ dated r.asked.day ws → Meets (going_outcome terms p ws e) (event_told (Moved 0 0)) v
     unfolding refused_or first_refusal figures event_told outcome
     still_met y d =
         let still = no_moves p l e (beyond terms bs c ws) (count ∙ y) in
@@ -147,14 +150,8 @@ module _ (p : Plan) (last : Day) (l : Ledger) (e : EventArguments) where
 pub day_asked : (last : Day) {x y : Day} → x ≡ y → {b : Bool} → b ≡ bad_day last x → b ≡ bad_day last y
 day_asked last e q = q ∙ ap (bad_day last) e
 
--- an event as it was given, where the machine reads its day back
-pub asked_of : (p : Plan) (last : Day) (l : Ledger) (e o : ℕ) {x y : Day} → x ≡ y
-    → {r : ℕ} → r ≡ early_refusal p last l (record { event = e; day = x; society = o })
-    → r ≡ early_refusal p last l (record { event = e; day = y; society = o })
-asked_of p last l e o q f = f ∙ ap (λ d. early_refusal p last l (record { event = e; day = d; society = o })) q
-
 -- the choice is of a day in range
-pub choice_day : (r : Choice) {e : EventArguments} → arguments_of r ≡ e → is_day e.day ≡ true → is_day r.day ≡ true
+pub choice_day : (r : Choice) {e : EventArguments} → arguments_of r ≡ e → is_day e.day ≡ true → is_day r.asked.day ≡ true
 choice_day r q h = ap (λ (x : EventArguments). is_day x.day) q ∙ h
 
 -- the call's outcome by them: a refusal before others decides
@@ -203,10 +200,14 @@ module _ (terms : Terms) (bs : List ℕ) (c : Counts) (ws : List ℕ) (h : Check
       ∙ ap answered
       (four (eqb e.event 0) (bad_day (last_day ws) e.day) (is_over (plan_of bs c) read) lacks later ∙ ap (λ n. unless_refused n later) by_counts)
 
-  pub event_refused : (r : ℕ) → r ≡ early → (r ≡ 0 → ⊥) → Meets (event_outcome terms bs ws e) (event_told (Refused r)) ws
+  refused : (r : ℕ) → r ≡ early → (r ≡ 0 → ⊥) → Meets (event_outcome terms bs ws e) (event_told (Refused r)) ws
   unfolding refused_or event_told unless_refused
-  event_refused zero q n = absurd (n refl)
-  event_refused (suc r) q n = met (checked ∙ (rw (← q)))
+  refused zero q n = absurd (n refl)
+  refused (suc r) q n = met (checked ∙ (rw (← q)))
+
+  pub event_refused : {k : ℕ} {r : Refusal} → k ≡ number_of r → {x : Result (Unit {0}) Refusal} → x ≡ Err r → refusal_number x ≡ early
+      → Meets (event_outcome terms bs ws e) (event_told (Refused k)) ws
+  event_refused {k} {r} n x q = refused k (n ∙ sym (ap refusal_number x) ∙ q) (λ z. not_zero r (sym n ∙ z))
 
   module _ (z : early ≡ 0) where
     pub going_of : Going terms bs c ws
@@ -218,3 +219,14 @@ module _ (terms : Terms) (bs : List ℕ) (c : Counts) (ws : List ℕ) (h : Check
     event_going x a v f =
         let s : event_outcome terms bs ws e ≡ going_outcome terms (plan_of bs c) ws e = checked ∙ (rw z) in
         subst (λ (y : Outcome). Meets y a v) (ap (going_outcome terms (plan_of bs c) ws) f ∙ sym s)
+
+-- the outcome of the arguments that the choice was made for
+pub going_as : (terms : Terms) (p : Plan) (ws : List ℕ) {x e : EventArguments} {a : Answer} {v : List ℕ} → x ≡ e → Meets (going_outcome terms p ws x) a v
+    → Meets (going_outcome terms p ws e) a v
+going_as terms p ws {a = a} {v = v} q = subst (λ y. Meets (going_outcome terms p ws y) a v) q
+
+-- an event's outcome on its day as it was given, where the machine reads it back
+pub on_day : (terms : Terms) (bs ws : List ℕ) (e o : ℕ) {x y : Day} {a : Answer} {v : List ℕ} → x ≡ y
+    → Meets (event_outcome terms bs ws (record { event = e; day = x; society = o })) a v
+    → Meets (event_outcome terms bs ws (record { event = e; day = y; society = o })) a v
+on_day terms bs ws e o {a = a} {v = v} q = subst (λ d. Meets (event_outcome terms bs ws (record { event = e; day = d; society = o })) a v) q

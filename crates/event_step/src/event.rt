@@ -1,25 +1,30 @@
 // An event: its refusals, judged before a word is written, then its step, finish, its day, and its figures.
 ghost use Rattle.std.specs.Prelude.{◌≡◌, true, false, ◌≤◌, length};
+ghost use Rattle.plan.specs.Plans.{plan_in};
 ghost use Rattle.rules.specs.Layout.{leading_words};
 ghost use Rattle.rules.specs.Day.{is_day};
 ghost use Rattle.rules.specs.Leading.{last_day};
-ghost use Rattle.rules.specs.Plan.{plan_of, first_state};
+ghost use Rattle.rules.specs.Plan.{first_state};
 ghost use Rattle.rules.specs.Scope.{has_open_scope, is_over};
 ghost use Rattle.rules.specs.Call.{bad_day, Meets, event_outcome};
 ghost use Rattle.rules.specs.Answers.{event_told};
-ghost use Rattle.ledger.specs.Ladder.{Checked, Going, ledger_of};
-ghost use Rattle.lookup.specs.Figures.{Figures};
+ghost use Rattle.rules.specs.Refusals.{refusal_number};
+ghost use Rattle.ledger.specs.Ladder.{IsChecked, IsGoing, ledger_of};
+ghost use Rattle.lookup.specs.Figures.{Figures, Numbers};
 ghost use Rattle.transition_index.specs.Indexed.{Indexed};
-ghost use Rattle.event_choice.specs.Chosen.{arguments_of, Chosen};
+ghost use Rattle.event_choice.specs.Next.{any_day_move};
+ghost use Rattle.event_choice.specs.Chosen.{told, arguments_of, Chosen};
 ghost use Rattle.event_step.specs.Outcome.{early_refusal, going_outcome};
 
 use calendar::dates::is_day;
-use event_choice::Choice;
+use event_choice::{Asked, Choice, indexed, moving};
 use finish::finishing;
 use ledger::leading;
 use lookup::{opens, reading};
-use rights::MOVE;
-use rules::{Counts, EventAnswer, Terms};
+use plan::Plan;
+use rights::Right;
+use rules::{EventAnswer, Refusal, Terms};
+use transition_index::TransitionIndex;
 
 // 26: whether a day is out of range or before the last accepted one.
 fn is_bad_day(ledger: &[u16], day: i32) -> bool
@@ -32,72 +37,83 @@ fn is_bad_day(ledger: &[u16], day: i32) -> bool
     day < leading::last_day(ledger)
 }
 
-// The refusal 19, 26, 20 or 28 that turns an event back, the first of them that applies; 0 where none does.
-fn refusal_of(
-    terms: Terms,
-    plan: &[u8],
-    c: Counts,
-    ledger: &[u16],
-    event: u16,
-    day: i32,
-    society: u16,
-) -> u8
-    requires { Checked terms plan.now c ledger.now }
-    ensures { result ≡ early_refusal (plan_of plan.now c) (last_day ledger.now) (ledger_of terms c ledger.now)
-        (record { event = event; day = day; society = society }) }
+// The refusal 19, 26, 20 or 28 that turns an event back: the first of them that applies.
+fn refusal_of(terms: Terms, plan: &Plan, ledger: &[u16], asked: Asked) -> Result<(), Refusal>
+    requires { IsChecked terms plan.now.records ledger.now }
+    ensures { refusal_number result
+        ≡ early_refusal (plan_in plan.now.records) (last_day ledger.now) (ledger_of terms plan.now.records.counts ledger.now) (told asked) }
 {
-    if event == 0 {
-        return 19;
+    if asked.event == 0 {
+        return Err(Refusal::NoEvent);
     }
-    if is_bad_day(ledger, day) {
-        return 26;
+    if is_bad_day(ledger, asked.day) {
+        return Err(Refusal::Day);
     }
-    if reading::is_over(terms, plan, c, ledger) {
-        return 20;
+    if reading::is_over(terms, plan, ledger) {
+        return Err(Refusal::Over);
     }
-    if !rights::holds_somewhere(plan, c, MOVE, society) {
-        return 28;
+    if !rights::holds_somewhere(plan, Right::Move as u16, asked.society) {
+        return Err(Refusal::NoRight);
     }
-    0
+    Ok(())
 }
 
 // An event that none of these turns back, its choice made, given which tracks have an open scope and the first state of
 // each. Where no track moves nothing changes but the day.
 fn go_on(
     terms: Terms,
-    plan: &[u8],
-    c: Counts,
+    plan: &Plan,
     ledger: &mut [u16],
     choice: Choice,
     opens: &[bool; 32],
     firsts: &[u16; 32],
 ) -> EventAnswer
-    requires { Going terms plan.now c ledger.old × Chosen terms (plan_of plan.now c) (ledger_of terms c ledger.old) choice
-        × Figures false opens.now c.tracks (has_open_scope (plan_of plan.now c) (ledger_of terms c ledger.old))
-        × Figures 0 firsts.now c.tracks (first_state (plan_of plan.now c)) × (is_day choice.day ≡ true) }
-    ensures { Meets (going_outcome terms (plan_of plan.now c) ledger.old (arguments_of choice)) (event_told result) ledger.new }
+    requires { IsGoing terms plan.now.records ledger.old
+        × Chosen terms (plan_in plan.now.records) (ledger_of terms plan.now.records.counts ledger.old) choice
+        × Figures false opens.now plan.now.records.counts.tracks (has_open_scope (plan_in plan.now.records) (ledger_of terms plan.now.records.counts ledger.old))
+        × Figures 0 firsts.now plan.now.records.counts.tracks (first_state (plan_in plan.now.records))
+        × (is_day choice.asked.day ≡ true) }
+    ensures { Meets (going_outcome terms (plan_in plan.now.records) ledger.old (arguments_of choice)) (event_told result) ledger.new }
 {
     if choice.full {
-        return EventAnswer::Refused(21);
+        return EventAnswer::Refused(Refusal::Full as u8);
     }
-    let day = choice.day;
-    let movers = choice.moved;
-    if movers == 0 {
-        leading::put_day(&mut ledger[..], day);
+    let day = choice.asked.day;
+    if choice.moved == 0 {
+        leading::put_day(ledger, day);
         return EventAnswer::Moved(0, 0);
     }
-    let closed = choice.closed;
-    event_writing::write(terms, plan, c, &mut ledger[..], choice, firsts);
-    finishing::finish(terms, plan, c, &mut ledger[..], opens);
-    leading::put_day(&mut ledger[..], day);
-    EventAnswer::Moved(movers, closed)
+    event_writing::write(terms, plan, ledger, choice, firsts);
+    finishing::finish(terms, plan, ledger, opens);
+    leading::put_day(ledger, day);
+    EventAnswer::Moved(choice.moved, choice.closed)
+}
+
+// An event that none of these turns back, given besides the transition that each track takes for it on any day.
+fn step(
+    terms: Terms,
+    plan: &Plan,
+    ledger: &mut [u16],
+    asked: Asked,
+    any: [u16; 32],
+    opens: &[bool; 32],
+    firsts: &[u16; 32],
+) -> EventAnswer
+    requires { IsGoing terms plan.now.records ledger.old
+        × Numbers any plan.now.records.counts.tracks (any_day_move (plan_in plan.now.records) (ledger_of terms plan.now.records.counts ledger.old) asked.event)
+        × Figures false opens.now plan.now.records.counts.tracks (has_open_scope (plan_in plan.now.records) (ledger_of terms plan.now.records.counts ledger.old))
+        × Figures 0 firsts.now plan.now.records.counts.tracks (first_state (plan_in plan.now.records))
+        × (is_day asked.day ≡ true) }
+    ensures { Meets (going_outcome terms (plan_in plan.now.records) ledger.old (told asked)) (event_told result) ledger.new }
+{
+    let choice = event_choice::choose(terms, plan, ledger, asked, opens, any);
+    go_on(terms, plan, ledger, choice, opens, firsts)
 }
 
 // An event under an accepted plan, on a sound ledger, given the first state of each track and, unless it is over, which have an open scope.
 pub fn event(
     terms: Terms,
-    plan: &[u8],
-    c: Counts,
+    plan: &Plan,
     ledger: &mut [u16],
     event: u16,
     day: i32,
@@ -105,56 +121,44 @@ pub fn event(
     opens: &[bool; 32],
     firsts: &[u16; 32],
 ) -> EventAnswer
-    requires { Checked terms plan.now c ledger.old
-        × (is_over (plan_of plan.now c) (ledger_of terms c ledger.old) ≡ false
-        → Figures false opens.now c.tracks (has_open_scope (plan_of plan.now c) (ledger_of terms c ledger.old)))
-        × Figures 0 firsts.now c.tracks (first_state (plan_of plan.now c)) }
-    ensures { Meets (event_outcome terms plan.now ledger.old
+    requires { IsChecked terms plan.now.records ledger.old
+        × (is_over (plan_in plan.now.records) (ledger_of terms plan.now.records.counts ledger.old) ≡ false
+        → Figures false opens.now plan.now.records.counts.tracks (has_open_scope (plan_in plan.now.records) (ledger_of terms plan.now.records.counts ledger.old)))
+        × Figures 0 firsts.now plan.now.records.counts.tracks (first_state (plan_in plan.now.records)) }
+    ensures { Meets (event_outcome terms plan.now.records.bytes.now ledger.old
         (record { event = event; day = day; society = society })) (event_told result) ledger.new }
 {
-    let refusal = refusal_of(terms, plan, c, &ledger[..], event, day, society);
-    if refusal != 0 {
-        return EventAnswer::Refused(refusal);
+    let asked = Asked {
+        event,
+        day,
+        society,
+    };
+    if let Err(refusal) = refusal_of(terms, plan, ledger, asked) {
+        return EventAnswer::Refused(refusal.number());
     }
-    let choice = event_choice::choose(terms, plan, c, &ledger[..], event, day, society, opens);
-    go_on(terms, plan, c, &mut ledger[..], choice, opens, firsts)
+    let any = moving::taken_by(terms, plan, ledger, event, opens);
+    step(terms, plan, ledger, asked, any, opens, firsts)
 }
 
 // The same, given the first state of each track and an index of the transitions: who has many events makes them once. The open scopes
 // it finds itself.
 pub fn event_indexed(
     terms: Terms,
-    plan: &[u8],
-    c: Counts,
+    plan: &Plan,
     ledger: &mut [u16],
-    event: u16,
-    day: i32,
-    society: u16,
+    asked: Asked,
     firsts: &[u16; 32],
-    head: &[u16; 256],
-    next: &[u16; 256],
+    index: &TransitionIndex,
 ) -> EventAnswer
-    requires { Checked terms plan.now c ledger.old × Figures 0 firsts.now c.tracks (first_state (plan_of plan.now c))
-        × Indexed plan.now c head.now next.now }
-    ensures { Meets (event_outcome terms plan.now ledger.old
-        (record { event = event; day = day; society = society })) (event_told result) ledger.new }
+    requires { IsChecked terms plan.now.records ledger.old
+        × Figures 0 firsts.now plan.now.records.counts.tracks (first_state (plan_in plan.now.records))
+        × Indexed plan.now.records.bytes.now plan.now.records.counts index.now.chains.last index.now.chains.before }
+    ensures { Meets (event_outcome terms plan.now.records.bytes.now ledger.old (told asked)) (event_told result) ledger.new }
 {
-    let refusal = refusal_of(terms, plan, c, &ledger[..], event, day, society);
-    if refusal != 0 {
-        return EventAnswer::Refused(refusal);
+    if let Err(refusal) = refusal_of(terms, plan, ledger, asked) {
+        return EventAnswer::Refused(refusal.number());
     }
-    let opens = opens::open_scopes(terms, plan, c, &ledger[..]);
-    let choice = event_choice::choose_indexed(
-        terms,
-        plan,
-        c,
-        &ledger[..],
-        event,
-        day,
-        society,
-        &opens,
-        head,
-        next,
-    );
-    go_on(terms, plan, c, &mut ledger[..], choice, &opens, firsts)
+    let opens = opens::open_scopes(terms, plan, ledger);
+    let any = indexed::taken_from(terms, plan, ledger, asked.event, &opens, index);
+    step(terms, plan, ledger, asked, any, &opens, firsts)
 }

@@ -1,15 +1,7 @@
 -- The three passes one after the other: entries installed, states entered, scopes closed. Each is the rules' own step on the ledger that the one
 -- before left, so together they are the event. Assumes nothing.
-use mathlib.Core.Path.{◌≡◌, sym, ap, ◌∙◌, subst}
-use mathlib.Core.Logic.{inl, inr}
-use mathlib.Core.Bool.{true, false, not, ◌&&◌, ◌||◌}
-use mathlib.Core.List.{List}
-use mathlib.Core.Option.{Option, none, some}
-use Prim.Native.Nat.{ℕ, ◌<◌, ◌≤◌}
-use native.Mathlib.Omega.{arith}
-use lib.Dec.{eqb, leb, ltb}
-use lib.ListN.{length}
-use borrow.Author.Tests.{leb-false, ltb-true, ltb-false}
+use Rattle.std.proofs.Common.{◌≡◌, sym, ap, ◌∙◌, subst, inl, inr, true, false, not, ◌&&◌, ◌||◌, List, ℕ, ◌<◌, ◌≤◌, arith, eqb, leb, ltb, length, leb-false, ltb-true, ltb-false}
+use Rattle.std.proofs.Math.Option.{Option, none, some}
 use Rattle.rules.specs.declared.Counts.{Counts}
 use Rattle.rules.specs.Plan.{Plan, plan_of, track_count, no_state, host, replacement}
 use Rattle.rules.specs.Ledger.{Configuration, Ledger, is_awake, is_forward, sleeping, written}
@@ -70,10 +62,10 @@ module _ (terms : Terms) (bs : List ℕ) (c : Counts) (ws : List ℕ) (g : Going
   took = subst (λ n. Numbers r.taken n (move p l e)) (track_count_lem bs c) ch.taken
 
   pub in_range : InRange c r.taken
-  in_range = choosing.in_range terms bs c ws g e took
+  in_range = choosing.in_range terms bs c ws g r.asked took
 
   moves_are : moves_of r.taken c.tracks ≡ move p l e
-  moves_are = choosing.moves_are terms bs c ws g e took
+  moves_are = choosing.moves_are terms bs c ws g r.asked took
 
   module _ (free : r.full ≡ false) where
     -- a track that is given an entry has room for it

@@ -1,7 +1,5 @@
 -- Bit 0 of the options alone chooses: the others are ignored. Assumes nothing.
-use mathlib.Core.Path.{◌≡◌, refl}
-use Prim.Native.Nat.{ℕ, ◌+◌, ◌*◌, ◌%◌}
-use native.Mathlib.Omega.{arith}
+use Rattle.std.proofs.Common.{◌≡◌, refl, ℕ, ◌+◌, ◌*◌, ◌%◌, arith}
 use Rattle.rules.specs.declared.Limit.TheVariants.{Main, ReadingRoom}
 use Rattle.export.specs.Options.{setting_of}
 

@@ -1,11 +1,5 @@
 -- The bits of a packed answer give it back: the refusal, the figures, and where a part lies. By division. Assumes nothing.
-use mathlib.Core.Path.{◌≡◌, refl, sym, ap, ◌∙◌}
-use mathlib.Core.Bool.{true}
-use mathlib.Core.List.{List, [], ◌∷◌}
-use Prim.Native.Nat.{ℕ, ◌+◌, ◌*◌, ◌≤◌, ◌<◌, ◌/◌, ◌%◌}
-use native.Mathlib.Omega.{arith}
-use lib.ListN.{length, take, drop}
-use borrow.Author.Tests.{ne_eqb}
+use Rattle.std.proofs.Common.{◌≡◌, refl, sym, ap, ◌∙◌, true, List, [], ◌∷◌, ℕ, ◌+◌, ◌*◌, ◌≤◌, ◌<◌, ◌/◌, ◌%◌, arith, length, take, drop, ne_eqb}
 use Rattle.rules.specs.Names.{Day}
 use Rattle.rules.specs.Signed.{signed_of, bits_of}
 use Rattle.rules.specs.Day.{is_day}

@@ -2,12 +2,11 @@
 // answer packed into one number.
 #![tactic(auto)]
 
-ghost use Rattle.std.specs.Prelude.{◌≡◌, ◌+◌, ◌*◌, ◌<◌};
+ghost use Rattle.std.specs.Prelude.{◌≡◌, ◌+◌, ◌*◌};
 ghost use Rattle.rules.specs.Setting.{terms_of};
 ghost use Rattle.rules.specs.Acceptance.{read_plan};
 ghost use Rattle.rules.specs.Conversion.{date_of_day, day_of_date};
 ghost use Rattle.rules.specs.Call.{begin_outcome, event_outcome, signal_outcome, fire_outcome, ready_outcome, entries_part};
-ghost use Rattle.plan.specs.Holds.{Holds};
 ghost use Rattle.export.specs.Options.{setting_of};
 ghost use Rattle.export.specs.Shown.{track_shown, step_shown};
 ghost use Rattle.export.specs.Packed.{bit16, bit32, bit48, packed_reading, packed, packed_ready, packed_part, packed_date, packed_day, Returns};
@@ -15,9 +14,10 @@ ghost use Rattle.export.specs.Packed.{bit16, bit32, bit48, packed_reading, packe
 use largest::NO_TRANSITION;
 use ledger::layout;
 use ledger::setting::terms_of;
+use plan::Records;
 use rules::{
-    BeginAnswer, Counts, Date, DateAnswer, DayAnswer, EventAnswer, FireAnswer, LargestAnswer,
-    Limit, PlanAnswer, ReadyAnswer, Setting, SignalAnswer,
+    BeginAnswer, Date, DateAnswer, DayAnswer, EventAnswer, FireAnswer, LargestAnswer, Limit,
+    ReadyAnswer, Setting, SignalAnswer,
 };
 
 // What a figure is multiplied by to stand at bit 16, at bit 32 and at bit 48.
@@ -27,39 +27,32 @@ const BIT32: u64 = 4294967296;
 
 const BIT48: u64 = 281474976710656;
 
-// A refusal, at bit 0.
-fn at_bit0(n: u8) -> u64
-    ensures { result ≡ n }
+// Three figures, at bits 16, 32 and 48.
+fn triple(a: u16, b: u16, c: u16) -> u64
+    ensures { result ≡ a * bit16 + b * bit32 + c * bit48 }
 {
-    n as u64
-}
-
-// A figure, at bit 16.
-fn at_bit16(figure: u16) -> u64
-    ensures { (result ≡ figure * bit16) × (result < bit32) }
-{
-    (figure as u64) * BIT16
-}
-
-// A figure, at bit 32.
-fn at_bit32(figure: u32) -> u64
-    ensures { result ≡ figure * bit32 }
-{
-    (figure as u64) * BIT32
+    u64::from(a) * BIT16 + u64::from(b) * BIT32 + u64::from(c) * BIT48
 }
 
 // Two figures, at bits 16 and 32.
 fn pair(a: u16, b: u16) -> u64
     ensures { result ≡ a * bit16 + b * bit32 }
 {
-    at_bit16(a) + at_bit32(b as u32)
+    triple(a, b, 0)
 }
 
-// Three figures, at bits 16, 32 and 48.
-fn triple(a: u16, b: u16, c: u16) -> u64
-    ensures { result ≡ a * bit16 + b * bit32 + c * bit48 }
+// A figure, at bit 16.
+fn at_bit16(figure: u16) -> u64
+    ensures { result ≡ figure * bit16 }
 {
-    (a as u64) * BIT16 + (b as u64) * BIT32 + (c as u64) * BIT48
+    triple(figure, 0, 0)
+}
+
+// A figure of 32 bits, at bit 32.
+fn at_bit32(figure: u32) -> u64
+    ensures { result ≡ figure * bit32 }
+{
+    u64::from(figure) * BIT32
 }
 
 // What the caller keeps to, by the bits of the options.
@@ -75,29 +68,30 @@ fn setting_of(options: u32) -> Setting
 }
 
 // A plan's tracks, states and transitions, at bits 16, 32 and 48: they are few.
-fn counted(plan: &[u8], c: Counts) -> u64
-    requires { Holds plan.now c }
-    ensures { result ≡ c.tracks * bit16 + c.states * bit32 + c.transitions * bit48 }
+fn counted(records: &Records) -> u64
+    ensures { result ≡ records.now.counts.tracks * bit16 + records.now.counts.states * bit32 + records.now.counts.transitions * bit48 }
 {
-    (c.tracks as u64) * BIT16 + (c.states as u64) * BIT32 + (c.transitions as u64) * BIT48
+    triple(
+        records.counts.tracks as u16,
+        records.counts.states as u16,
+        records.counts.transitions as u16,
+    )
 }
 
 pub fn retraction_read(plan: &[u8]) -> u64
     ensures { result ≡ packed_reading (read_plan plan.now) }
 {
-    let answer = plan_reader::read_plan(plan);
-    match answer {
-        PlanAnswer::Refused(n) => at_bit0(n),
-        PlanAnswer::Accepted(c) => counted(plan, c),
+    match plan_reader::read(plan) {
+        Err(refusal) => u64::from(refusal.number()),
+        Ok(read) => counted(&read.records),
     }
 }
 
 pub fn retraction_begin(plan: &[u8], ledger: &mut [u16], options: u32) -> u64
     ensures { Returns packed (begin_outcome (terms_of (setting_of options)) plan.now ledger.old) result ledger.new }
 {
-    let answer = manager::begin(setting_of(options), plan, &mut ledger[..]);
-    match answer {
-        BeginAnswer::Refused(n) => at_bit0(n),
+    match manager::begin(setting_of(options), plan, ledger) {
+        BeginAnswer::Refused(n) => u64::from(n),
         BeginAnswer::Begun => 0,
     }
 }
@@ -113,16 +107,8 @@ pub fn retraction_event(
     ensures { Returns packed (event_outcome (terms_of (setting_of options)) plan.now ledger.old
         (record { event = event; day = day; society = society })) result ledger.new }
 {
-    let answer = manager::event(
-        setting_of(options),
-        plan,
-        &mut ledger[..],
-        event,
-        day,
-        society,
-    );
-    match answer {
-        EventAnswer::Refused(n) => at_bit0(n),
+    match manager::event(setting_of(options), plan, ledger, event, day, society) {
+        EventAnswer::Refused(n) => u64::from(n),
         EventAnswer::Moved(moved, closed) => pair(moved, closed),
     }
 }
@@ -131,9 +117,8 @@ pub fn retraction_signal(plan: &[u8], ledger: &mut [u16], society: u16, options:
     ensures { Returns packed (signal_outcome (terms_of (setting_of options)) plan.now ledger.old (record { society = society }))
         result ledger.new }
 {
-    let answer = manager::signal(setting_of(options), plan, &mut ledger[..], society);
-    match answer {
-        SignalAnswer::Refused(n) => at_bit0(n),
+    match manager::signal(setting_of(options), plan, ledger, society) {
+        SignalAnswer::Refused(n) => u64::from(n),
         SignalAnswer::Turned(turned) => at_bit16(turned),
     }
 }
@@ -148,9 +133,8 @@ pub fn retraction_fire(
     ensures { Returns packed (fire_outcome (terms_of (setting_of options)) plan.now ledger.old
         (record { track = track; society = society })) result ledger.new }
 {
-    let answer = manager::fire(setting_of(options), plan, &mut ledger[..], track, society);
-    match answer {
-        FireAnswer::Refused(n) => at_bit0(n),
+    match manager::fire(setting_of(options), plan, ledger, track, society) {
+        FireAnswer::Refused(n) => u64::from(n),
         FireAnswer::Fired(code, deviation) => pair(code, deviation),
     }
 }
@@ -158,9 +142,8 @@ pub fn retraction_fire(
 pub fn retraction_ready(plan: &[u8], ledger: &mut [u16], options: u32) -> u64
     ensures { Returns packed_ready (ready_outcome (terms_of (setting_of options)) plan.now ledger.old) result ledger.new }
 {
-    let answer = manager::ready(setting_of(options), plan, &mut ledger[..]);
-    match answer {
-        ReadyAnswer::Refused(n) => at_bit0(n),
+    match manager::ready(setting_of(options), plan, ledger) {
+        ReadyAnswer::Refused(n) => u64::from(n),
         ReadyAnswer::Ready(bits) => at_bit32(bits),
     }
 }
@@ -174,7 +157,7 @@ pub fn retraction_entries(plan: &[u8], ledger: &[u16], track: u16, options: u32)
     if count == 0 {
         return 0;
     }
-    let from = layout::entry_place(terms_of(setting), layout::wide(track), 0);
+    let from = layout::entry_place(terms_of(setting), usize::from(track), 0);
     (count as u64) + (from as u64) * BIT16
 }
 
@@ -185,17 +168,14 @@ pub fn retraction_largest(plan: &[u8], track: u16) -> u64
     ensures { result ≡ packed (track_shown plan.now track) }
 {
     let shown = largest::of_plan(plan);
-    let answer = shown.answer;
-    match answer {
-        LargestAnswer::Refused(n) => at_bit0(n),
+    match shown.answer {
+        LargestAnswer::Refused(n) => u64::from(n),
         LargestAnswer::Shown => {
             if MOST_TRACKS <= track {
                 return 0;
             }
-            let t = layout::wide(track);
-            let figures = shown.figures;
-            let lengths = shown.lengths;
-            pair(figures[t], lengths[t])
+            let t = usize::from(track);
+            pair(shown.figures[t], shown.lengths[t])
         }
     }
 }
@@ -204,17 +184,15 @@ pub fn retraction_largest_step(plan: &[u8], track: u16, place: u16) -> u64
     ensures { result ≡ packed (step_shown plan.now track place) }
 {
     let shown = largest::of_plan(plan);
-    let answer = shown.answer;
-    match answer {
-        LargestAnswer::Refused(n) => at_bit0(n),
+    match shown.answer {
+        LargestAnswer::Refused(n) => u64::from(n),
         LargestAnswer::Shown => {
             if MOST_TRACKS <= track {
                 return at_bit16(NO_TRANSITION);
             }
-            let t = layout::wide(track);
-            let lengths = shown.lengths;
-            let steps = shown.steps;
-            at_bit16(largest::steps::step_at(&lengths, &steps, t, place))
+            let t = usize::from(track);
+            let step = largest::steps::step_at(&shown.lengths, &shown.steps, t, place);
+            at_bit16(step)
         }
     }
 }
@@ -222,9 +200,8 @@ pub fn retraction_largest_step(plan: &[u8], track: u16, place: u16) -> u64
 pub fn retraction_date_of_day(day: i32) -> u64
     ensures { result ≡ packed_date (date_of_day day) }
 {
-    let answer = calendar::date_of_day(day);
-    match answer {
-        DateAnswer::Refused(n) => at_bit0(n),
+    match calendar::date_of_day(day) {
+        DateAnswer::Refused(n) => u64::from(n),
         DateAnswer::On(date) => triple(date.year, date.month, date.day),
     }
 }
@@ -232,13 +209,8 @@ pub fn retraction_date_of_day(day: i32) -> u64
 pub fn retraction_day_of_date(year: u16, month: u16, day: u16) -> u64
     ensures { result ≡ packed_day (day_of_date (record { year = year; month = month; day = day })) }
 {
-    let answer = calendar::day_of_date(Date {
-        year: year,
-        month: month,
-        day: day,
-    });
-    match answer {
-        DayAnswer::Refused(n) => at_bit0(n),
+    match calendar::day_of_date(Date { year, month, day }) {
+        DayAnswer::Refused(n) => u64::from(n),
         DayAnswer::Day(z) => at_bit32(signed::words::bits_of(z)),
     }
 }

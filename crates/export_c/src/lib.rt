@@ -21,7 +21,7 @@ pub extern "C" fn retraction_read(plan: &[u8]) -> u64
 pub extern "C" fn retraction_begin(plan: &[u8], ledger: &mut [u16], options: u32) -> u64
     ensures { Returns packed (begin_outcome (terms_of (setting_of options)) plan.now ledger.old) result ledger.new }
 {
-    export::retraction_begin(plan, &mut ledger[..], options)
+    export::retraction_begin(plan, ledger, options)
 }
 
 #[unsafe(no_mangle)]
@@ -36,7 +36,7 @@ pub extern "C" fn retraction_event(
     ensures { Returns packed (event_outcome (terms_of (setting_of options)) plan.now ledger.old
         (record { event = event; day = day; society = society })) result ledger.new }
 {
-    export::retraction_event(plan, &mut ledger[..], event, day, society, options)
+    export::retraction_event(plan, ledger, event, day, society, options)
 }
 
 #[unsafe(no_mangle)]
@@ -49,7 +49,7 @@ pub extern "C" fn retraction_signal(
     ensures { Returns packed (signal_outcome (terms_of (setting_of options)) plan.now ledger.old (record { society = society }))
         result ledger.new }
 {
-    export::retraction_signal(plan, &mut ledger[..], society, options)
+    export::retraction_signal(plan, ledger, society, options)
 }
 
 #[unsafe(no_mangle)]
@@ -63,14 +63,14 @@ pub extern "C" fn retraction_fire(
     ensures { Returns packed (fire_outcome (terms_of (setting_of options)) plan.now ledger.old
         (record { track = track; society = society })) result ledger.new }
 {
-    export::retraction_fire(plan, &mut ledger[..], track, society, options)
+    export::retraction_fire(plan, ledger, track, society, options)
 }
 
 #[unsafe(no_mangle)]
 pub extern "C" fn retraction_ready(plan: &[u8], ledger: &mut [u16], options: u32) -> u64
     ensures { Returns packed_ready (ready_outcome (terms_of (setting_of options)) plan.now ledger.old) result ledger.new }
 {
-    export::retraction_ready(plan, &mut ledger[..], options)
+    export::retraction_ready(plan, ledger, options)
 }
 
 #[unsafe(no_mangle)]

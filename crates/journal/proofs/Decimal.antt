@@ -1,14 +1,6 @@
 -- Laws of decimal numbers, which hide the fuel: a number below ten is its digit, another one the digits of a tenth of it and its last
 -- digit. So a number below 10 ^ k has at most k digits. Assumes nothing.
-use mathlib.Core.Path.{◌≡◌, ap}
-use mathlib.Core.Logic.{inl, inr}
-use mathlib.Core.List.{List, [], ◌∷◌, ◌++◌}
-use Prim.Native.Nat.{ℕ, zero, suc, ◌+◌, ◌*◌, ◌/◌, ◌%◌, ◌^◌, ◌<◌, ◌≤◌}
-use native.Mathlib.Nat.{pow-suc}
-use native.Mathlib.Omega.{arith}
-use lib.Dec.{ltb}
-use lib.ListN.{length, length-append}
-use borrow.Author.Tests.{lt-ltb, le-ltb, ltb-true, ltb-false}
+use Rattle.std.proofs.Common.{◌≡◌, ap, inl, inr, List, [], ◌∷◌, ◌++◌, ℕ, zero, suc, ◌+◌, ◌*◌, ◌/◌, ◌%◌, ◌^◌, ◌<◌, ◌≤◌, pow-suc, arith, ltb, length, length-append, lt-ltb, le-ltb, ltb-true, ltb-false}
 use Rattle.rules.specs.Text.{decimal_to, decimal}
 use Rattle.rules.proofs.Tests.{look}
 

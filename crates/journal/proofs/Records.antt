@@ -1,19 +1,14 @@
 -- Laws of what stands at a place of the journal: one for each way that the reader goes, and the bytes that a whole record takes up.
 -- Assumes nothing.
-use mathlib.Core.Path.{◌≡◌, refl, sym, ap, subst, ◌∙◌}
-use mathlib.Core.Logic.{inl, inr}
-use mathlib.Core.Bool.{true, false, not, ◌||◌}
-use mathlib.Core.List.{List, [], ◌∷◌}
-use Prim.Native.Nat.{ℕ, ◌+◌, ◌-◌, ◌<◌, ◌≤◌}
-use native.Mathlib.Omega.{arith}
-use lib.Dec.{leb, ltb, eqb}
-use lib.IntN.{ℤ}
-use lib.ListN.{length, get_or-eq_default}
-use borrow.Author.Tests.{le-leb, lt-leb, lt-ltb, le-ltb, eq-eqb, ne_eqb, leb-true, leb-false, ltb-false, eqb-true, eqb-false, not-false}
+use Rattle.std.proofs.Common.{◌≡◌, refl, sym, ap, subst, ◌∙◌, inl, inr, true, false, not, ◌||◌, List, [], ◌∷◌, ℕ, ◌+◌, ◌-◌, ◌<◌, ◌≤◌, arith, leb, ltb, eqb, ℤ, length, le-leb, lt-ltb, le-ltb, eq-eqb, ne_eqb, leb-true, leb-false, ltb-false, eqb-true}
+use Rattle.std.proofs.Math.ListN.{get_or-eq_default}
+use borrow.Author.Tests.{lt-leb, eqb-false, not-false}
 use Rattle.rules.specs.Record.{word, day_at, size_at, kind_at}
 use Rattle.rules.specs.Journal.{Item, ended, broken, journal_length, society_at, is_broken, record_of, item_at}
 use Rattle.rules.proofs.Tests.{look, or_fails}
-use Rattle.journal.specs.Records.{size_of}
+use Rattle.journal.specs.declared.record.Kind.{Kind}
+use Rattle.journal.specs.declared.record.Kind.TheVariants as kinds
+use Rattle.journal.specs.Records.{kind_number, size_of}
 
 pub length_none : (k : ℕ) → (k ≡ 17 → ⊥) → (k ≡ 18 → ⊥) → (k ≡ 19 → ⊥) → (k ≡ 20 → ⊥) → journal_length k ≡ 0
 unfolding journal_length
@@ -23,28 +18,16 @@ length_none k a b c d =
       | inr e ↦ let l : 17 ≤ k = ltb-false k 17 e in rw e (get_or-eq_default (6 ∷ 8 ∷ 6 ∷ 12 ∷ []) 0 {n = k - 17} (omega arith))
     ]
 
--- a kind that there is: an event's, a signal's, a firing's or else that of the lowest one
-module _ (k : ℕ) (known : journal_length k ≡ 0 → ⊥) where
-  pub lowest_kind : (k ≡ 20 → ⊥) → (k ≡ 17 → ⊥) → (k ≡ 18 → ⊥) → k ≡ 19
-  lowest_kind a b c = elim (look (eqb k 19)) [ inl e ↦ eqb-true k 19 e | inr e ↦ absurd (known (length_none k b c (eqb-false k 19 e) a)) ]
+-- a kind that there is: every record of it has a first field
+pub first_field : (k : Kind) → 6 ≤ journal_length (kind_number k)
+unfolding journal_length
+first_field kinds.Signal = omega arith
+first_field kinds.Fire = omega arith
+first_field kinds.FireLowest = omega arith
+first_field kinds.Event = omega arith
 
-  -- every record has a first field
-  pub first_field : 6 ≤ journal_length k
-  unfolding journal_length
-  first_field =
-      elim (look (eqb k 20)) [
-        | inl e ↦ let z : journal_length k ≡ 12 = rw (eqb-true k 20 e) in omega arith
-        | inr a ↦
-            elim (look (eqb k 17)) [
-              | inl e ↦ let z : journal_length k ≡ 6 = rw (eqb-true k 17 e) in omega arith
-              | inr b ↦
-                  elim (look (eqb k 18)) [
-                    | inl e ↦ let z : journal_length k ≡ 8 = rw (eqb-true k 18 e) in omega arith
-                    | inr d ↦
-                        let z : journal_length k ≡ 6 = rw (lowest_kind (eqb-false k 20 a) (eqb-false k 17 b) (eqb-false k 18 d)) in omega arith
-                  ]
-            ]
-      ]
+pub known_length : (k : Kind) → journal_length (kind_number k) ≡ 0 → ⊥
+known_length k e = omega (arith, first_field k, e)
 
 module _ (js : List ℕ) (at : ℕ) where
   pub at_end : length js ≤ at → item_at js at ≡ ended

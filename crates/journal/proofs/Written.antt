@@ -1,12 +1,7 @@
 -- Laws of writing: a text after a text is the two texts as one, so a line is written piece by piece. Assumes nothing.
-use mathlib.Core.Path.{◌≡◌, sym, ap, subst, ◌∙◌}
-use mathlib.Core.List.{List, [], ◌∷◌, ◌++◌, append_assoc}
-use Prim.Native.Nat.{ℕ, ◌+◌, ◌/◌, ◌%◌, ◌<◌, ◌≤◌}
-use native.Mathlib.Nat.{add-zero, add_assoc}
-use native.Mathlib.Numerals.{add-one}
-use native.Mathlib.Omega.{arith}
-use lib.ListN.{length, take, drop, get_or, set, length-append, take-append-drop}
-use lib.Seq.{length-take-le, take-suc, take_all, take_at, drop-append-add, drop-drop, set_split}
+use Rattle.std.proofs.Common.{◌≡◌, sym, ap, subst, ◌∙◌, List, [], ◌∷◌, ◌++◌, append_assoc, ℕ, ◌+◌, ◌-◌, ◌/◌, ◌%◌, ◌<◌, ◌≤◌, add-zero, add_assoc, add-one, arith, length, take, drop, set, length-append, take-append-drop, length-take-le, take_at, drop-drop}
+use borrow.Rule.Slice.PartMut.{put_mid}
+use Rattle.std.proofs.Math.Seq.{drop-append-add, set_split}
 use Rattle.rules.specs.Text.{decimal}
 use Rattle.journal.specs.Writing.{written_at, Wrote}
 use Rattle.journal.proofs.Decimal.{decimal_digit, decimal_tenth}
@@ -45,16 +40,10 @@ module _ (out : List ℕ) (at : ℕ) where
       ∙ ap (λ (k : ℕ). drop k out) (add_assoc at (length a) (length b) ∙ ap (λ (k : ℕ). at + k) (sym (length-append a b)))) in
       rw (front, back) (append_assoc (take at out) a (b ++ drop (at + length (a ++ b)) out) ∙ ap (λ (l : List ℕ). take at out ++ l) (sym (append_assoc a b (drop (at + length (a ++ b)) out))))
 
-  -- one more byte of a word
-  pub written_more : (word : List ℕ) (i : ℕ) → at + length word ≤ length out → i < length word
-      → set (written_at out at (take i word)) (at + i) (get_or word i 0) ≡ written_at out at (take (i + 1) word)
-  written_more word i h l =
-      let n : length (take i word) ≡ i = length-take-le i word (omega arith) in
-      let m : length (written_at out at (take i word)) ≡ length out = length-written_lem (take i word) (omega arith) in
-      written_byte (written_at out at (take i word)) (at + i) (get_or word i 0) (omega arith)
-      ∙ ap (λ (k : ℕ). written_at (written_at out at (take i word)) (at + k) (get_or word i 0 ∷ [])) (sym n)
-      ∙ written_then (take i word) (get_or word i 0 ∷ []) (omega arith)
-      ∙ ap (λ (l : List ℕ). written_at out at l) (sym (take-suc word i 0 l) ∙ ap (λ (k : ℕ). take k word) (sym (add-one i)))
+  -- a word in the place of as many bytes
+  pub word_written : (word : List ℕ) {copied : List ℕ} → copied ≡ word → put_mid at (at + length word - at) out copied ≡ written_at out at word
+  unfolding written_at
+  word_written word e = let n : at + length word - at ≡ length word = omega arith in rw (e, n) (ap (λ l. take at out ++ (word ++ l)) (drop-drop (length word) at out))
 
 -- the same text under another name
 pub retold : {out out' a b : List ℕ} {at end : ℕ} → a ≡ b → Wrote out at a out' end → Wrote out at b out' end
@@ -70,13 +59,7 @@ wrote_then {out} {mid} {out'} {a} {b} {at} {place} {end} h v w =
           ∙ written_then out at a b h;
     }
 
--- a word, once all of it is written
-pub wrote_word : (out : List ℕ) (at : ℕ) (word out' : List ℕ) (i : ℕ) → length word ≤ i → i ≤ length word → out' ≡ written_at out at (take i word) → Wrote out at word out' (at + i)
-wrote_word out at word out' i h l e =
-    let n : i ≡ length word = omega arith in
-    record { place = ap (λ (k : ℕ). at + k) n; bytes = e ∙ ap (λ (w : List ℕ). written_at out at w) (take_all i word h) }
-
--- the same, where the word is a number below ten or the last digit of a number
+-- a number below ten, or the last digit of a number
 pub wrote_digit : (out : List ℕ) (at n b : ℕ) (out' : List ℕ) (end : ℕ) → n < 10 → b ≡ 48 + n → Wrote out at (b ∷ []) out' end → Wrote out at (decimal n) out' end
 wrote_digit out at n b out' end h e w = retold (ap (λ (x : ℕ). x ∷ []) e ∙ sym (decimal_digit n h)) w
 

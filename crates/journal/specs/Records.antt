@@ -1,10 +1,12 @@
 -- The reader's answer at a place of the journal, as the rules have it. Assumes nothing.
-use Rattle.std.specs.Prelude.{ℕ}
+use Rattle.std.specs.Prelude.{◌≡◌, ℕ, Option, Some, None}
 use Rattle.rules.specs.Signed.{joined}
 use Rattle.rules.specs.Plan.{Plan}
 use Rattle.rules.specs.Ledger.{Ledger}
-use Rattle.rules.specs.Journal.{Item, ended, broken, fire_lowest, called, fire_lowest_call}
+use Rattle.rules.specs.Journal.{Item, ended, broken, fire_lowest, called, journal_length, fire_lowest_call}
 use Rattle.rules.specs.Call.{Call, event, signal, fire}
+use Rattle.journal.specs.declared.record.Kind.{Kind}
+use Rattle.journal.specs.declared.record.Kind.TheVariants as kind
 use Rattle.journal.specs.declared.record.Record.{Record}
 use Rattle.journal.specs.declared.record.Record.TheVariants.{Ended, Broken, Event, Signal, Fire, FireLowest}
 
@@ -15,6 +17,18 @@ record_told (Event e low high o) = called (event (record { event = e; day = join
 record_told (Signal o) = called (signal (record { society = o }))
 record_told (Fire t o) = called (fire (record { track = t; society = o }))
 record_told (FireLowest o) = fire_lowest o
+
+-- a kind's number
+abbrev pub kind_number : Kind → ℕ
+kind_number kind.Signal = 17
+kind_number kind.Fire = 18
+kind_number kind.FireLowest = 19
+kind_number kind.Event = 20
+
+-- the kind of a number, if its records have a length
+abbrev pub IsKind : ℕ → Option Kind → Type 0
+IsKind n None = journal_length n ≡ 0
+IsKind n (Some k) = n ≡ kind_number k
 
 -- how many bytes it takes up, 0 where the reading ends
 abbrev pub size_of : Item → ℕ

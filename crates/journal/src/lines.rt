@@ -21,7 +21,7 @@ fn put_field(out: &mut [u8], at: usize, n: u64) -> usize
     requires { at + 1 + length (decimal n) ≤ length out.old }
     ensures { Wrote out.old at (ascii " " ++ decimal n) out.new result }
 {
-    let number = put_byte(&mut out[..], at, b' ');
+    let number = put_byte(out, at, b' ');
     put_number(out, number, n)
 }
 
@@ -30,7 +30,7 @@ fn put_deviation_field(out: &mut [u8], at: usize, deviation: u16) -> usize
     requires { at + 1 + length (deviation_text deviation) ≤ length out.old }
     ensures { Wrote out.old at (ascii " " ++ deviation_text deviation) out.new result }
 {
-    let text = put_byte(&mut out[..], at, b' ');
+    let text = put_byte(out, at, b' ');
     put_deviation(out, text, deviation)
 }
 
@@ -39,7 +39,7 @@ fn put_head(out: &mut [u8], at: usize, name: &[u8], n: u64) -> usize
     requires { at + length name.now + 1 + length (decimal n) ≤ length out.old }
     ensures { Wrote out.old at (name.now ++ (ascii " " ++ decimal n)) out.new result }
 {
-    let field = put_word(&mut out[..], at, name);
+    let field = put_word(out, at, name);
     put_field(out, field, n)
 }
 
@@ -48,7 +48,7 @@ fn put_one(out: &mut [u8], at: usize, name: &[u8], n: u64) -> usize
     requires { at + length name.now + 2 + length (decimal n) ≤ length out.old }
     ensures { Wrote out.old at (line name.now (decimal n ∷ [])) out.new result }
 {
-    let end = put_head(&mut out[..], at, name, n);
+    let end = put_head(out, at, name, n);
     put_byte(out, end, NEWLINE)
 }
 
@@ -57,9 +57,9 @@ fn put_three(out: &mut [u8], at: usize, name: &[u8], n: u64, m: u64, k: u64) -> 
     requires { at + length name.now + 4 + length (decimal n) + length (decimal m) + length (decimal k) ≤ length out.old }
     ensures { Wrote out.old at (line name.now (decimal n ∷ decimal m ∷ decimal k ∷ [])) out.new result }
 {
-    let second = put_head(&mut out[..], at, name, n);
-    let third = put_field(&mut out[..], second, m);
-    let end = put_field(&mut out[..], third, k);
+    let second = put_head(out, at, name, n);
+    let third = put_field(out, second, m);
+    let end = put_field(out, third, k);
     put_byte(out, end, NEWLINE)
 }
 
@@ -91,9 +91,9 @@ fn fired_line(out: &mut [u8], at: usize, track: u16, code: u16, deviation: u16) 
     requires { at + line_room ≤ length out.old }
     ensures { Lined out.old at (done_line (fire (record { track = track; society = 0 })) (code ∷ deviation ∷ [])) out.new result }
 {
-    let second = put_head(&mut out[..], at, b"F", track as u64);
-    let third = put_field(&mut out[..], second, code as u64);
-    let end = put_deviation_field(&mut out[..], third, deviation);
+    let second = put_head(out, at, b"F", track as u64);
+    let third = put_field(out, second, code as u64);
+    let end = put_deviation_field(out, third, deviation);
     put_byte(out, end, NEWLINE)
 }
 
@@ -145,7 +145,7 @@ pub fn tally_line(out: &mut [u8], at: usize, held: u32, fired: u32) -> usize
     requires { at + line_room ≤ length out.old }
     ensures { Lined out.old at (tally_line held fired) out.new result }
 {
-    let second = put_head(&mut out[..], at, b"H", held as u64);
-    let end = put_field(&mut out[..], second, fired as u64);
+    let second = put_head(out, at, b"H", held as u64);
+    let end = put_field(out, second, fired as u64);
     put_byte(out, end, NEWLINE)
 }

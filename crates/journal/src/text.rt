@@ -18,12 +18,9 @@ pub fn put_word(out: &mut [u8], at: usize, word: &[u8]) -> usize
     requires { at + length word.now ≤ length out.old }
     ensures { Wrote out.old at word.now out.new result }
 {
-    let mut i = 0;
-    while i < word.len() {
-        out[at + i] = word[i];
-        i += 1;
-    }
-    at + i
+    let end = at + word.len();
+    out[at..end].copy_from_slice(word);
+    end
 }
 
 fn digit(n: u64) -> u8
@@ -41,7 +38,7 @@ pub fn put_number(out: &mut [u8], at: usize, n: u64) -> usize
     if n < 10 {
         return put_byte(out, at, digit(n));
     }
-    let last = put_number(&mut out[..], at, n / 10);
+    let last = put_number(out, at, n / 10);
     put_byte(out, last, digit(n % 10))
 }
 

@@ -1,14 +1,5 @@
 -- The answer as a whole: nothing beside a refusal; else every word is as the rules have it, for the paths shown. Assumes nothing.
-use mathlib.Core.Path.{◌≡◌, refl, sym, ap, ◌∙◌}
-use mathlib.Core.Bool.{true, false, cond}
-use mathlib.Core.List.{List, [], append-nil}
-use mathlib.Core.Logic.{inl, inr, ⊎_elim}
-use Prim.Native.Nat.{ℕ, zero, suc, ◌<◌, ◌≤◌}
-use native.Mathlib.Nat.{eq-or-lt_of_le}
-use native.Mathlib.Omega.{arith}
-use lib.Dec.{ltb}
-use lib.ListN.{length, replicate}
-use borrow.Author.Tests.{lt-ltb, le-ltb}
+use Rattle.std.proofs.Common.{◌≡◌, refl, sym, ap, ◌∙◌, true, false, cond, List, [], append-nil, inl, inr, ⊎_elim, ℕ, zero, suc, ◌<◌, ◌≤◌, eq-or-lt_of_le, arith, ltb, length, replicate, lt-ltb, le-ltb}
 use Rattle.rules.specs.declared.Counts.{Counts}
 use Rattle.rules.specs.Plan.{Plan, plan_of}
 use Rattle.rules.specs.Acceptance.{turned_back, accepted, read_plan}

@@ -1,12 +1,7 @@
 -- The best of a state's transitions, from the last one down: the more entries lie behind it the better, and of equal ones the lowest-numbered. Assumes
 -- nothing.
-use mathlib.Core.Path.{◌≡◌, sym, ap, ◌∙◌}
-use mathlib.Core.Bool.{true}
-use mathlib.Core.Logic.{inl, inr}
-use Prim.Native.Nat.{ℕ, suc, ◌+◌, ◌<◌, ◌≤◌, max}
-use native.Mathlib.Omega.{arith}
-use lib.Dec.{eqb, ltb}
-use borrow.Author.Tests.{eqb-true, eqb-false, ltb-true, ltb-false}
+use Rattle.std.proofs.Common.{◌≡◌, sym, ap, ◌∙◌, true, inl, inr, ℕ, suc, ◌+◌, ◌<◌, ◌≤◌, max, arith, eqb, ltb, eqb-true, ltb-true, ltb-false}
+use borrow.Author.Tests.{eqb-false}
 use Rattle.rules.specs.Plan.{Plan, transition_count, transition}
 use Rattle.rules.specs.Largest.{of_transition, leaves}
 use Rattle.rules.proofs.Tests.{look}
@@ -43,7 +38,6 @@ module _ (p : Plan) (s : ℕ) where
 
   -- the best of the transitions from y on, of n
   pub record Best-from (n y : ℕ) (best : Best) : Type 0 where
-    pub going : best.ends ≡ true
     pub none : best.entries ≡ 0 → best.step ≡ 65535
     pub some : (best.entries ≡ 0 → ⊥) → Lowest n y best.entries best.step
 
@@ -80,7 +74,6 @@ module _ (p : Plan) (s : ℕ) where
         | inl e ↦
             rw e
             (record {
-              going = h.going;
               none = h.none;
               some = λ d. lower n y z best.entries best.step d w (λ q. d (sym q ∙ here ∙ eqb-true (value y) 0 e)) (h.some d);
             })
@@ -90,14 +83,12 @@ module _ (p : Plan) (s : ℕ) where
                   let i = ltb-true (value y) best.entries m in
                   rw (e, m)
                   (record {
-                    going = h.going;
                     none = h.none;
                     some = λ d. lower n y z best.entries best.step d w (λ (q : gain p s y ≡ best.entries). omega arith) (h.some d);
                   })
               | inr m ↦
                   rw (e, m)
                   (record {
-                    going = h.going;
                     none = λ q. absurd (eqb-false (value y) 0 e q);
                     some = λ d.
                         record {

@@ -1,14 +1,8 @@
 -- The path shown has as many entries as the figure. Where it ends, nothing more is to be had; else behind its next transition lies what is left.
 -- Assumes nothing.
-use mathlib.Core.Path.{◌≡◌, refl, sym, ap, ◌∙◌}
-use mathlib.Core.Bool.{Bool, true, false}
-use mathlib.Core.List.{List, [], ◌∷◌}
-use mathlib.Core.Logic.{inl, inr}
-use mathlib.Core.Option.{none, some}
-use Prim.Native.Nat.{ℕ, zero, suc, ◌+◌, ◌<◌}
-use native.Mathlib.Omega.{arith}
-use lib.Dec.{eqb, ltb}
-use borrow.Author.Tests.{eqb-true, eqb-false, eq-eqb, ne_eqb, ltb-true, ltb-false}
+use Rattle.std.proofs.Common.{◌≡◌, refl, sym, ap, ◌∙◌, Bool, true, false, List, [], ◌∷◌, inl, inr, ℕ, zero, suc, ◌+◌, ◌<◌, arith, eqb, ltb, eqb-true, eq-eqb, ne_eqb, ltb-true, ltb-false}
+use Rattle.std.proofs.Math.Option.{none, some}
+use borrow.Author.Tests.{eqb-false}
 use Rattle.rules.specs.Fold.{first_below}
 use Rattle.rules.specs.Plan.{Plan, track_count, state_count, transition_count, transition, first_state}
 use Rattle.rules.specs.Largest.{no_transition, of_transition, of_state, leaves, is_path, entries_along, goes_on, has_cycle, largest, Attains}

@@ -1,15 +1,7 @@
 -- Coming to a state: it is known; or it is entered, and leads back to itself; or it is entered now, and when its transitions are followed it is known.
 -- Assumes nothing.
-use mathlib.Core.Path.{◌≡◌, refl, sym, ap, ◌∙◌}
-use mathlib.Core.Bool.{true, false}
-use mathlib.Core.List.{List, [], ◌∷◌, ◌++◌}
-use mathlib.Core.Logic.{inl, inr}
-use Prim.Native.Nat.{ℕ, suc, ◌+◌, ◌-◌, ◌<◌, ◌≤◌}
-use native.Mathlib.Omega.{arith}
-use lib.Dec.{eqb}
-use lib.ListN.{get_or, set, length-set}
-use lib.Seq.{get_or-set_same, get_or-set_other}
-use borrow.Author.Tests.{eqb-true, eqb-false}
+use Rattle.std.proofs.Common.{◌≡◌, refl, sym, ap, ◌∙◌, true, false, List, [], ◌∷◌, ◌++◌, inl, inr, ℕ, suc, ◌+◌, ◌-◌, ◌<◌, ◌≤◌, arith, eqb, get_or, set, length-set, get_or-set_same, get_or-set_other, eqb-true}
+use borrow.Author.Tests.{eqb-false}
 use Rattle.rules.specs.declared.Counts.{Counts}
 use Rattle.rules.specs.Plan.{Plan, plan_of, transition}
 use Rattle.rules.specs.Largest.{of_state, leaves, is_path, end_of, Leads, goes_on}
@@ -18,7 +10,7 @@ use Rattle.rules.proofs.Acceptance.{Accepted, accepts}
 use Rattle.rules.proofs.Paths.{path_parts, path_longer, end_longer, leads_none, leads_first, led_back, loops_on}
 use Rattle.ledger.specs.Ladder.{Accepts}
 use Rattle.largest.specs.declared.explore.Best.{Best}
-use Rattle.largest.specs.Table.{Known, Entering, Explored, Exploring, Found, Behind}
+use Rattle.largest.specs.Table.{Known, Entering, Explored, Exploring, Found}
 use Rattle.largest.proofs.ChosenLaws.{most_is}
 use Rattle.largest.proofs.FollowingLaws.{kept_same, Passing, pass_here, few}
 
@@ -54,17 +46,17 @@ module _ (bs : List ℕ) (c : Counts) (acc : Accepts bs c) where
           let (b, i) = path_parts p u y ys h in
           (y, b, leads_last (transition p y).destination s x a (record { by = ys; path = i; to = ends_some_of p u s y ys e }))
 
-  pub come_to_lem : (s : ℕ) (head next before most step step₀ : List ℕ) (best : Best) (y d : ℕ) → (y ≡ 0 → ⊥) → Exploring bs c head next s before step₀
-      → Passing p c.transitions s before most step best y → d ≡ (transition p (y - 1)).destination → Entering bs c head next d most step
-  come_to_lem s head next before most step step₀ best y d n x h e =
-      let w = pass_here bs c acc s before most step best y n h in
+  pub come_to_lem : (s : ℕ) (head next before most step step₀ : List ℕ) (best : Best) (x d : ℕ) → Exploring bs c head next s before step₀
+      → Passing p c.transitions s before most step best (suc x) → d ≡ (transition p x).destination → Entering bs c head next d most step
+  come_to_lem s head next before most step step₀ best x d k h e =
+      let w = pass_here bs c acc s before most step best x h in
       rw e
       (record {
         accepts = acc;
-        chains = x.chains;
+        chains = k.chains;
         state = w.to;
         table = h.table;
-        led = λ u i. comes_on u s (y - 1) w.left (x.led u (h.kept.entered u i));
+        led = λ u i. comes_on u s x w.left (k.led u (h.kept.entered u i));
       })
 
   module _ (s : ℕ) (head next most step : List ℕ) (h : Entering bs c head next s most step) where
@@ -118,11 +110,10 @@ module _ (bs : List ℕ) (c : Counts) (acc : Accepts bs c) where
         }
 
     -- one of its transitions leads round,
-    pub leave_round : (left : ℕ) (best : Best) (before most' step' most'' step'' : List ℕ) → (left ≡ 0 → ⊥) → best.ends ≡ false
-        → Behind p s (left - 1) before most' step' best → Explored p s left most most'' step'' false
-    leave_round left best before most' step' most'' step'' d e w =
+    pub leave_round : (left : ℕ) (most' step' : List ℕ) → (left ≡ 0 → ⊥) → goes_on p (suc (left - 1)) s ≡ true → Explored p s left most most' step' false
+    leave_round left most' step' d w =
         let q : suc (left - 1) ≡ left = omega arith in
-        record { done = λ k. clash k refl; round = λ k. rw q at (w.round e) }
+        record { done = λ k. clash k refl; round = λ k. rw q at w }
 
     -- or all end, and it is known
     pub found_few : (best : Best) (before most' step' : List ℕ) → Found p s before most' step' best → of_state p s + best.entries ≤ 257

@@ -1,13 +1,6 @@
 -- All paths together fit the room for them: a transition is on a path of its own track alone, and there once. Assumes nothing.
-use mathlib.Core.Path.{◌≡◌, refl, ap, ◌∙◌}
-use mathlib.Core.Bool.{true, false}
-use mathlib.Core.List.{List, [], ◌∷◌}
-use mathlib.Core.Logic.{inl, inr}
-use Prim.Native.Nat.{ℕ, zero, suc, ◌<◌, ◌≤◌}
-use native.Mathlib.Omega.{arith}
-use lib.Dec.{eqb, ltb}
-use lib.ListN.{length}
-use borrow.Author.Tests.{eqb-true, eqb-false}
+use Rattle.std.proofs.Common.{◌≡◌, refl, ap, ◌∙◌, true, false, List, [], ◌∷◌, inl, inr, ℕ, zero, suc, ◌<◌, ◌≤◌, arith, eqb, ltb, length, eqb-true}
+use borrow.Author.Tests.{eqb-false}
 use Rattle.rules.specs.Plan.{Plan, track_count, state_count, transition_count, transition, owner, mover, is_state_of, first_state}
 use Rattle.rules.specs.Largest.{is_path, has_cycle, joined}
 use Rattle.rules.proofs.Tests.{look, and_holds}

@@ -1,14 +1,7 @@
 -- Following the transitions of a state along their chain: the best so far is the best of those met, and what lies behind these ends. When all are met,
 -- the state ends too. Assumes nothing.
-use mathlib.Core.Path.{◌≡◌, refl, sym, subst}
-use mathlib.Core.Bool.{Bool, true, false}
-use mathlib.Core.List.{List}
-use mathlib.Core.Logic.{inl, inr}
-use Prim.Native.Nat.{ℕ, zero, suc, ◌+◌, ◌-◌, ◌<◌, ◌≤◌, max}
-use native.Mathlib.Omega.{arith}
-use lib.Dec.{eqb, ltb}
-use lib.ListN.{get_or}
-use borrow.Author.Tests.{eqb-true, eqb-false, ltb-true, ltb-false}
+use Rattle.std.proofs.Common.{◌≡◌, refl, sym, subst, Bool, true, false, List, inl, inr, ℕ, suc, ◌+◌, ◌<◌, ◌≤◌, arith, eqb, ltb, get_or, eqb-true, ltb-true, ltb-false}
+use borrow.Author.Tests.{eqb-false}
 use Rattle.rules.specs.declared.Counts.{Counts}
 use Rattle.rules.specs.Fold.{greatest_below}
 use Rattle.rules.specs.Plan.{Plan, plan_of, state_count, transition}
@@ -18,12 +11,12 @@ use Rattle.rules.proofs.Acceptance.{Accepted, accepts}
 use Rattle.rules.proofs.Paths.{leaves_told, leaves_states, goes_through, goes_nowhere, ends_somewhere}
 use Rattle.rules.proofs.Figures.{most_few}
 use Rattle.plan.specs.Passes.{Chains}
-use Rattle.plan.proofs.Members.{of_member, Walk, walk_start, walk_next, walk_end}
+use Rattle.plan.proofs.Members.{of_member, Walk, walk_start, walk_item, walk_end}
 use Rattle.plan.proofs.FieldLaws.{state_count_lem, transition_count_lem}
 use Rattle.ledger.specs.Ladder.{Accepts}
 use Rattle.largest.specs.declared.explore.Best.{Best}
 use Rattle.largest.specs.Chosen.{most_from, gain, best_gain}
-use Rattle.largest.specs.Table.{Known, Table, Kept, Done, Explored, Found, Behind, better_of}
+use Rattle.largest.specs.Table.{Known, Table, Kept, Done, Explored, Found, better_of}
 use Rattle.largest.proofs.BestLaws.{better_most, value, Best-from, best_more, best_all}
 
 pub kept_same : (ws : List ℕ) → Kept ws ws
@@ -63,7 +56,7 @@ module _ (bs : List ℕ) (c : Counts) (acc : Accepts bs c) where
   few s = let i = state_count_lem bs c in omega (arith, most_few p (state_count p) s, acc.holds.states)
 
   pub pass_start : (s : ℕ) (head next most step : List ℕ) → s < c.states → Chains (leaves p) 128 c.transitions head next → Table p most step
-      → Passing p c.transitions s most most step (record { ends = true; entries = 0; step = 65535 }) (get_or head s 0)
+      → Passing p c.transitions s most most step (record { entries = 0; step = 65535 }) (get_or head s 0)
   pass_start s head next most step l h t =
       let w = h.ends.at s (omega (arith, acc.holds.states)) in
       record {
@@ -73,34 +66,29 @@ module _ (bs : List ℕ) (c : Counts) (acc : Accepts bs c) where
         straight = λ x m a.
             let n : x < c.transitions = rw transition_count_lem at (leaves_told p s x a).0 in
             clash a (w.none_after x m n);
-        best_so_far = record { going = refl; none = λ e. refl; some = λ d. absurd (d refl) };
+        best_so_far = record { none = λ e. refl; some = λ d. absurd (d refl) };
       }
 
-  pub pass_here : (s : ℕ) (before most step : List ℕ) (best : Best) (y : ℕ) → (y ≡ 0 → ⊥) → Passing p c.transitions s before most step best y → Here p c.states c.transitions s (y - 1)
-  pass_here s before most step best zero d h = absurd (d refl)
-  pass_here s before most step best (suc y) d h =
-      let q : suc y - 1 ≡ y = omega arith in
-      let a = h.walk.member y refl in
-      rw q
-      (record {
+  pub pass_here : (s : ℕ) (before most step : List ℕ) (best : Best) (x : ℕ) → Passing p c.transitions s before most step best (suc x)
+      → Here p c.states c.transitions s x
+  pass_here s before most step best x h =
+      let a = h.walk.member x refl in
+      record {
         there = omega (arith, h.walk.within);
         left = a;
-        to = rw state_count_lem at (leaves_states p ok s y a).1;
-      })
+        to = rw state_count_lem at (leaves_states p ok s x a).1;
+      }
 
-  pub pass_low : (s : ℕ) (before most step : List ℕ) (best : Best) (y d : ℕ) → (y ≡ 0 → ⊥) → Passing p c.transitions s before most step best y
-      → d ≡ (transition p (y - 1)).destination → d < c.states
-  pass_low s before most step best y d n h e = rw e (pass_here s before most step best y n h).to
+  pub pass_low : (s : ℕ) (before most step : List ℕ) (best : Best) (x d : ℕ) → Passing p c.transitions s before most step best (suc x)
+      → d ≡ (transition p x).destination → d < c.states
+  pass_low s before most step best x d h e = rw e (pass_here s before most step best x h).to
 
   -- it leads round
-  pub pass_round : (s left : ℕ) (before most step most' step' most'' step'' : List ℕ) (best : Best) (y d : ℕ) (ends : Bool) → (y ≡ 0 → ⊥)
-      → Passing p c.transitions s before most step best y → d ≡ (transition p (y - 1)).destination → ends ≡ false
-      → Explored p d left most most' step' ends → Behind p s left before most'' step'' (record { ends = false; entries = 0; step = 65535 })
-  pass_round s left before most step most' step' most'' step'' best y d ends n h e r x =
-      record {
-        found = λ q. clash q refl;
-        round = λ q. goes_through p left s (y - 1) (pass_here s before most step best y n h).left (rw e at (x.round r));
-      }
+  pub pass_round : (s left : ℕ) (before most step most' step' : List ℕ) (best : Best) (x d : ℕ) (ends : Bool)
+      → Passing p c.transitions s before most step best (suc x) → d ≡ (transition p x).destination → ends ≡ false
+      → Explored p d left most most' step' ends → goes_on p (suc left) s ≡ true
+  pass_round s left before most step most' step' best x d ends h e r k =
+      goes_through p left s x (pass_here s before most step best x h).left (rw e at (k.round r))
 
   -- what is known of a state that was explored
   pub done_known : (s : ℕ) (before most step : List ℕ) → s < c.states → Done p s before most step → Known p s (get_or most s 0) (get_or step s 0)
@@ -112,47 +100,42 @@ module _ (bs : List ℕ) (c : Counts) (acc : Accepts bs c) where
   pub done_few : (s : ℕ) (before most step : List ℕ) → s < c.states → Done p s before most step → get_or most s 0 ≤ 257
   done_few s before most step l h = known_few s _ _ (done_known s before most step l h)
 
-  pub pass_on : (s : ℕ) (head next before most step most' step' : List ℕ) (best : Best) (y d of : ℕ) → (y ≡ 0 → ⊥)
-      → Chains (leaves p) 128 c.transitions head next → Passing p c.transitions s before most step best y → d ≡ (transition p (y - 1)).destination
-      → Done p d most most' step' → of ≡ of_transition p (y - 1)
-      → Passed p c.transitions s before most' step' (better_of best (y - 1) (of + get_or most' d 0)) y (get_or next (y - 1) 0)
-  pass_on s head next before most step most' step' best zero d of n ch h e w o = absurd (n refl)
-  pass_on s head next before most step most' step' best (suc y) d of n ch h e w o =
-      let q : suc y - 1 ≡ y = omega arith in
-      let a = h.walk.member y refl in
-      let below : y < c.transitions = omega (arith, h.walk.within) in
-      let dest : d ≡ (transition p y).destination = rw q at e in
-      let here = (pass_here s before most step best (suc y) n h).to in
+  pub pass_on : (s : ℕ) (head next before most step most' step' : List ℕ) (best : Best) (x d of : ℕ)
+      → Chains (leaves p) 128 c.transitions head next → Passing p c.transitions s before most step best (suc x) → d ≡ (transition p x).destination
+      → Done p d most most' step' → of ≡ of_transition p x
+      → Passed p c.transitions s before most' step' (better_of best x (of + get_or most' d 0)) (suc x) (get_or next x 0)
+  pass_on s head next before most step most' step' best x d of ch h e w o =
+      let a = h.walk.member x refl in
+      let below : x < c.transitions = omega (arith, h.walk.within) in
+      let here = (pass_here s before most step best x h).to in
       let k = done_known d most most' step' (rw (← e) at here) w in
-      let v : of + get_or most' d 0 ≡ value p s y = rw (k.entries_are, dest, o, q) in
-      let m : (better_of best y (value p s y)).entries ≡ max best.entries (value p s y) = better_most best y (value p s y) in
+      let v : of + get_or most' d 0 ≡ value p s x = rw (k.entries_are, e, o) in
       let st =
-      walk_next (leaves p) 128 s c.transitions head next (value p s) best.entries (suc y) (value p s (suc y - 1))
-      (better_of best y (value p s y)).entries ch n h.walk refl (rw q m) in
-      let links = ch.links s y below a in
-      let lo : get_or next y 0 < suc y = rw q at st.lower in
-      rw (q, v)
+      walk_item (leaves p) 128 s c.transitions head next (value p s) best.entries x (value p s x) (better_of best x (value p s x)).entries ch h.walk
+      refl (better_most best x (value p s x)) in
+      let links = ch.links s x below a in
+      rw v
       (record {
         on =
             record {
               table = w.table;
               kept = kept_then before most most' h.kept w.kept;
-              walk = rw q at st.walk;
-              straight = λ x i b.
-                  elim (look (ltb y x)) [
-                    | inl g ↦ h.straight x (ltb-true y x g) b
+              walk = st.walk;
+              straight = λ y i b.
+                  elim (look (ltb x y)) [
+                    | inl g ↦ h.straight y (ltb-true x y g) b
                     | inr g ↦
-                        elim (look (eqb x y)) [
-                          | inl r ↦ rw (eqb-true x y r, ← dest) k.ends
+                        elim (look (eqb y x)) [
+                          | inl r ↦ rw (eqb-true y x r, ← e) k.ends
                           | inr r ↦
-                              let f : x ≡ y → ⊥ = eqb-false x y r in
-                              let j = ltb-false y x g in
-                              clash b (links.none_after x i (omega arith))
+                              let f : y ≡ x → ⊥ = eqb-false y x r in
+                              let j = ltb-false x y g in
+                              clash b (links.none_after y i (omega arith))
                         ]
                   ];
-              best_so_far = best_more p s c.transitions y (get_or next y 0) best below links a h.best_so_far;
+              best_so_far = best_more p s c.transitions x (get_or next x 0) best below links a h.best_so_far;
             };
-        lower = lo;
+        lower = st.lower;
       })
 
   -- the greatest value of the chain's members is what lies behind the best

@@ -3,6 +3,7 @@ pub mod ChosenLaws
 pub mod EntriesLaws
 pub mod OutgoingLaws
 pub mod BestLaws
+pub mod OnwardLaws
 pub mod FollowingLaws
 pub mod ExploreLaws
 pub mod StatesLaws

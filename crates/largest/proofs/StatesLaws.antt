@@ -1,14 +1,7 @@
 -- All states one after the other: those so far are known, and none is entered, so that nothing leads to the next one. Assumes nothing.
-use mathlib.Core.Path.{◌≡◌, refl, ap, ◌∙◌}
-use mathlib.Core.Bool.{Bool, true, false}
-use mathlib.Core.List.{List}
-use mathlib.Core.Logic.{◌⊎◌, inl, inr}
-use Prim.Native.Nat.{ℕ, ◌+◌, ◌<◌, ◌≤◌}
-use native.Mathlib.Nat.{not-suc-le-zero}
-use native.Mathlib.Omega.{arith}
-use lib.Dec.{eqb, ltb}
-use lib.ListN.{length, get_or, replicate, length-replicate, get_or-replicate, get_or-eq_default}
-use borrow.Author.Tests.{eqb-true, eqb-false, ltb-true, ltb-false}
+use Rattle.std.proofs.Common.{◌≡◌, refl, ap, ◌∙◌, Bool, true, false, List, ◌⊎◌, inl, inr, ℕ, ◌+◌, ◌<◌, ◌≤◌, not-suc-le-zero, arith, eqb, ltb, length, get_or, replicate, eqb-true, ltb-true, ltb-false}
+use Rattle.std.proofs.Math.ListN.{length-replicate, get_or-replicate, get_or-eq_default}
+use borrow.Author.Tests.{eqb-false}
 use Rattle.rules.specs.declared.Counts.{Counts}
 use Rattle.rules.specs.Plan.{Plan, plan_of, state_count}
 use Rattle.rules.specs.Largest.{leaves, has_cycle}

@@ -1,5 +1,5 @@
--- What the walk over a plan's states keeps of each of them, in two tables of words, and what it promises of them. Assumes nothing.
-use Rattle.std.specs.Prelude.{◌≡◌, Bool, true, false, cond, List, ℕ, suc, ◌<◌, length, get_or, ltb, eqb}
+-- What the walk over a plan's states keeps of each of them, as two lists of words, and what it promises of them. Assumes nothing.
+use Rattle.std.specs.Prelude.{◌≡◌, Bool, true, false, cond, List, ℕ, ◌<◌, length, get_or, map, ltb, eqb}
 use Rattle.rules.specs.Names.{Bytes, StateNumber, TransitionNumber}
 use Rattle.rules.specs.declared.Counts.{Counts}
 use Rattle.rules.specs.Plan.{Plan, plan_of, state_count, transition}
@@ -7,7 +7,15 @@ use Rattle.rules.specs.Largest.{leaves, Leads, goes_on, has_cycle}
 use Rattle.plan.specs.Passes.{state_slots, Chains}
 use Rattle.ledger.specs.Ladder.{Accepts}
 use Rattle.largest.specs.declared.explore.Best.{Best}
+use Rattle.largest.specs.declared.explore.Onward.{Onward}
 use Rattle.largest.specs.Chosen.{most_from, best_gain, step_word}
+
+-- the table as two lists of words
+abbrev pub most_words : List Onward → List ℕ
+most_words table = map (λ k. k.most) table
+
+abbrev pub step_words : List Onward → List ℕ
+step_words table = map (λ k. k.step) table
 
 -- the word of a state that is entered; below it a word is the most entries from the state on, above it the state was not come to yet
 abbrev pub entered_word : ℕ
@@ -64,15 +72,11 @@ pub record Found (p : Plan) (s : StateNumber) (before most step : List ℕ) (bes
   pub entries_are : best.entries ≡ best_gain p s
   pub step_is : best.step ≡ step_word p s
 
-pub record Behind (p : Plan) (s : StateNumber) (left : ℕ) (before most step : List ℕ) (best : Best) : Type 0 where
-  pub found : best.ends ≡ true → Found p s before most step best
-  pub round : best.ends ≡ false → goes_on p (suc left) s ≡ true
-
 -- the better of the best so far and a transition with so many entries, of equal ones the transition; nothing is better than no entry
 unfoldable pub better_of : Best → TransitionNumber → ℕ → Best
 better_of b x entries =
     cond (eqb entries 0) b
-    (cond (ltb entries b.entries) b (record { ends = b.ends; entries = entries; step = x }))
+    (cond (ltb entries b.entries) b (record { entries = entries; step = x }))
 
 -- all states are known, and there is no cycle; or there is one
 pub record Whole (p : Plan) (most step : List ℕ) (ends : Bool) : Type 0 where

@@ -1,26 +1,33 @@
 // The most entries from each state on, by a walk that goes down every transition once: a state is entered, each of its transitions is followed,
 // and then it is known what lies behind the best of them. A state that is come to while it is still entered is on a cycle.
-ghost use Rattle.std.specs.Prelude.{◌≡◌, true, false, ◌+◌, ◌<◌, ◌≤◌, suc, replicate};
-ghost use Rattle.rules.specs.Plan.{plan_of};
-ghost use Rattle.rules.specs.Largest.{of_transition, of_state, leaves, goes_on, has_cycle};
-ghost use Rattle.plan.specs.Holds.{Holds};
+ghost use Rattle.std.specs.Prelude.{◌≡◌, true, ◌+◌, ◌<◌, ◌≤◌, suc, replicate, MatchOption};
+ghost use Rattle.plan.specs.Plans.{plan_in};
+ghost use Rattle.rules.specs.Largest.{of_transition, of_state, leaves, goes_on};
 ghost use Rattle.plan.specs.Passes.{Chains};
-ghost use Rattle.ledger.specs.Ladder.{Accepts};
-ghost use Rattle.largest.specs.Table.{Exploring, Explored, Entering, Behind, Whole, better_of};
+ghost use Rattle.largest.specs.Table.{most_words, step_words, Exploring, Explored, Entering, Found, Whole, better_of};
 
 use crate::NO_TRANSITION;
-use plan::fields::{code_of, destination_of, replacement_of};
-use rules::Counts;
+use plan::chains::KeyChains;
+use plan::{Plan, Records};
 
-// Of a state that was not come to yet, and of one that is entered; what is known of any other is the most entries from it on.
-pub const UNKNOWN: u16 = 65535;
+// What is known of a state: the most entries from it on, and the transition that the path shown takes there.
+#[derive(Clone, Copy)]
+pub struct Onward {
+    pub most: u16,
+    pub step: u16,
+}
+
+// Of a state that was not come to yet, and the most of one that is entered.
+pub const UNKNOWN: Onward = Onward {
+    most: 65535,
+    step: NO_TRANSITION,
+};
 
 const ENTERED: u16 = 65534;
 
-// The best transition so far of those that leave a state: how many entries lie behind it, and which it is. `ends` is false where one leads round.
+// The best transition so far of those that leave a state: how many entries lie behind it, and which it is.
 #[derive(Clone, Copy)]
 pub struct Best {
-    pub ends: bool,
     pub entries: u16,
     pub step: u16,
 }
@@ -37,88 +44,69 @@ fn better(b: Best, x: usize, entries: u16) -> Best
         return b;
     }
     Best {
-        ends: b.ends,
-        entries: entries,
+        entries,
         step: x as u16,
     }
 }
 
 // What a state adds to the entries along a path.
-fn of_state(plan: &[u8], c: Counts, s: usize) -> u16
-    requires { Accepts plan.now c × (s < c.states) }
-    ensures { (result ≡ of_state (plan_of plan.now c) s) × (result ≤ 1) }
+fn of_state(plan: &Plan, s: usize) -> u16
+    requires { s < plan.now.records.counts.states }
+    ensures { (result ≡ of_state (plan_in plan.now.records) s) × (result ≤ 1) }
 {
-    if replacement_of(plan, c, s) == 0 {
-        return 0;
-    }
-    1
+    u16::from(plan.records.replacement_of(s) != 0)
 }
 
 // What a transition adds.
-fn of_transition(plan: &[u8], c: Counts, x: usize) -> u16
-    requires { Holds plan.now c × (x < c.transitions) }
-    ensures { (result ≡ of_transition (plan_of plan.now c) x) × (result ≤ 1) }
+fn of_transition(records: &Records, x: usize) -> u16
+    requires { x < records.now.counts.transitions }
+    ensures { (result ≡ of_transition (plan_in records.now) x) × (result ≤ 1) }
 {
-    if code_of(plan, c, x) == 0 {
-        return 0;
-    }
-    1
+    u16::from(records.code_of(x) != 0)
 }
 
-// The best of the transitions that leave a state which is entered.
+// The best of the transitions that leave a state which is entered, or none where one leads round.
 #[cycle(best_of_explore)]
 fn best_of(
-    plan: &[u8],
-    c: Counts,
-    head: &[u16; 128],
-    next: &[u16; 256],
+    plan: &Plan,
+    outgoing: &KeyChains<128, 256>,
     s: usize,
     left: usize,
-    most: &mut [u16; 128],
-    step: &mut [u16; 128],
-) -> Best
-    requires { Exploring plan.now c head.now next.now s most.old step.old }
-    ensures { Behind (plan_of plan.now c) s left most.old most.new step.new result }
+    table: &mut [Onward; 128],
+) -> Option<Best>
+    requires { Exploring plan.now.records.bytes.now plan.now.records.counts outgoing.now.last outgoing.now.before s (most_words table.old) (step_words table.old) }
+    ensures { MatchOption result (goes_on (plan_in plan.now.records) (suc left) s ≡ true) (Found (plan_in plan.now.records) s (most_words table.old) (most_words table.new) (step_words table.new)) }
 {
     let mut best = Best {
-        ends: true,
         entries: 0,
         step: NO_TRANSITION,
     };
-    let mut y = head[s] as usize;
-    while y != 0 {
-        let x = y - 1;
-        let d = destination_of(plan, c, x) as usize;
-        if !explore(plan, c, head, next, d, left, most, step) {
-            return Best {
-                ends: false,
-                entries: 0,
-                step: NO_TRANSITION,
-            };
+    let mut next = outgoing.last(s);
+    while let Some(x) = next {
+        let d = plan.records.destination_of(x) as usize;
+        if !explore(plan, outgoing, d, left, table) {
+            return None;
         }
-        best = better(best, x, of_transition(plan, c, x) + most[d]);
-        y = next[x] as usize;
+        best = better(best, x, of_transition(&plan.records, x) + table[d].most);
+        next = outgoing.before(x);
     }
-    best
+    Some(best)
 }
 
 // Whether every path from a state ends: then what lies behind it is known. `left` falls along a path: one that uses it up has as many transitions as
 // there are states, and goes round.
 #[cycle(best_of_explore)]
 fn explore(
-    plan: &[u8],
-    c: Counts,
-    head: &[u16; 128],
-    next: &[u16; 256],
+    plan: &Plan,
+    outgoing: &KeyChains<128, 256>,
     s: usize,
     left: usize,
-    most: &mut [u16; 128],
-    step: &mut [u16; 128],
+    table: &mut [Onward; 128],
 ) -> bool
-    requires { Entering plan.now c head.now next.now s most.old step.old }
-    ensures { Explored (plan_of plan.now c) s left most.old most.new step.new result }
+    requires { Entering plan.now.records.bytes.now plan.now.records.counts outgoing.now.last outgoing.now.before s (most_words table.old) (step_words table.old) }
+    ensures { Explored (plan_in plan.now.records) s left (most_words table.old) (most_words table.new) (step_words table.new) result }
 {
-    let known = most[s];
+    let known = table[s].most;
     if known < ENTERED {
         return true;
     }
@@ -128,36 +116,28 @@ fn explore(
     if left == 0 {
         return false;
     }
-    most[s] = ENTERED;
-    let best = best_of(plan, c, head, next, s, left - 1, most, step);
-    if !best.ends {
+    table[s].most = ENTERED;
+    let Some(best) = best_of(plan, outgoing, s, left - 1, table) else {
         return false;
-    }
-    most[s] = of_state(plan, c, s) + best.entries;
-    step[s] = best.step;
+    };
+    table[s] = Onward {
+        most: of_state(plan, s) + best.entries,
+        step: best.step,
+    };
     true
 }
 
 // Whether the plan has no cycle: then the most entries from each state on are known, and the transition that the path shown takes there.
-pub fn explore_all(
-    plan: &[u8],
-    c: Counts,
-    head: &[u16; 128],
-    next: &[u16; 256],
-    most: &mut [u16; 128],
-    step: &mut [u16; 128],
-) -> bool
-    requires { Accepts plan.now c × Chains (leaves (plan_of plan.now c)) 128 c.transitions head.now next.now
-        × (most.old ≡ replicate 128 65535) × (step.old ≡ replicate 128 65535) }
-    ensures { Whole (plan_of plan.now c) most.new step.new result }
+pub fn explore_all(plan: &Plan, outgoing: &KeyChains<128, 256>, table: &mut [Onward; 128]) -> bool
+    requires { Chains (leaves (plan_in plan.now.records)) 128 plan.now.records.counts.transitions outgoing.now.last outgoing.now.before
+        × (most_words table.old ≡ replicate 128 65535)
+        × (step_words table.old ≡ replicate 128 65535) }
+    ensures { Whole (plan_in plan.now.records) (most_words table.new) (step_words table.new) result }
 {
-    let states = c.states;
-    let mut s: usize = 0;
-    while s < states {
-        if !explore(plan, c, head, next, s, states, most, step) {
+    for s in 0..plan.records.counts.states {
+        if !explore(plan, outgoing, s, plan.records.counts.states, table) {
             return false;
         }
-        s += 1;
     }
     true
 }

@@ -1,25 +1,18 @@
-// The transitions that leave each state, chained, so that each of them is met without a pass over the others. In a chain a transition is told
-// by one more than its number, and 0 is the end.
-ghost use Rattle.std.specs.Prelude.{◌≡◌, replicate};
-ghost use Rattle.rules.specs.Plan.{plan_of};
+// The transitions that leave each state, chained, so that each of them is met without a pass over the others.
+ghost use Rattle.plan.specs.Plans.{plan_in};
 ghost use Rattle.rules.specs.Largest.{leaves};
 ghost use Rattle.plan.specs.Passes.{Chains};
-ghost use Rattle.ledger.specs.Ladder.{Accepts};
 
-use plan::fields::source_of;
-use rules::Counts;
+use plan::Plan;
+use plan::chains::KeyChains;
 
-// For each state the last transition that leaves it, and from each transition the one before it with the same source.
-pub fn chain_transitions(plan: &[u8], c: Counts, last: &mut [u16; 128], before: &mut [u16; 256])
-    requires { Accepts plan.now c × (last.old ≡ replicate 128 0) × (before.old ≡ replicate 256 0) }
-    ensures { Chains (leaves (plan_of plan.now c)) 128 c.transitions last.new before.new }
+// The transitions of each state, by their source.
+pub fn chain_transitions(plan: &Plan) -> KeyChains<128, 256>
+    ensures { Chains (leaves (plan_in plan.now.records)) 128 plan.now.records.counts.transitions result.last result.before }
 {
-    let transitions = c.transitions;
-    let mut x: usize = 0;
-    while x < transitions {
-        let s = source_of(plan, c, x) as usize;
-        before[x] = last[s];
-        last[s] = (x + 1) as u16;
-        x += 1;
+    let mut outgoing = KeyChains::new();
+    for x in 0..plan.records.counts.transitions {
+        outgoing.add(usize::from(plan.records.source_of(x)), x);
     }
+    outgoing
 }

@@ -1,25 +1,16 @@
 // Reading the paths that are shown: they stand end to end.
-ghost use Rattle.std.specs.Prelude.{◌≡◌, List, ℕ, ◌*◌, ◌≤◌, ◌<◌, length, get_or};
-ghost use Rattle.rules.specs.Fold.{tabulate};
-ghost use Rattle.rules.specs.Largest.{no_transition, joined};
+ghost use Rattle.std.specs.Prelude.{◌≡◌, List, ℕ, ◌<◌, get_or, sum, take};
+ghost use Rattle.rules.specs.Largest.{no_transition};
 ghost use Rattle.largest.specs.Laid.{Laid};
 
 use crate::NO_TRANSITION;
-use ledger::layout::wide;
 
 // Where the path of a track starts: behind those of the tracks before it.
 fn start_of(lengths: &[u16; 32], t: usize) -> usize
     requires { t < 32 }
-    ensures { (result ≤ 65535 * t)
-        × ((path : ℕ → List ℕ) → lengths.now ≡ tabulate 32 (λ u. length (path u)) → result ≡ length (joined t path)) }
+    ensures { result ≡ sum (take t lengths.now) }
 {
-    let mut at: usize = 0;
-    let mut u: usize = 0;
-    while u < t {
-        at += wide(lengths[u]);
-        u += 1;
-    }
-    at
+    lengths[..t].iter().map(|n| usize::from(*n)).sum()
 }
 
 // The transition at a place of a track's path, 65535 beyond it.
@@ -30,5 +21,5 @@ pub fn step_at(lengths: &[u16; 32], steps: &[u16; 256], t: usize, place: u16) ->
     if lengths[t] <= place {
         return NO_TRANSITION;
     }
-    steps[start_of(lengths, t) + wide(place)]
+    steps[start_of(lengths, t) + usize::from(place)]
 }

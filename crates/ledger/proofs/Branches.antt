@@ -1,8 +1,13 @@
 -- Tests taken one after the other: `if !a { return false; } b` is "a and b", and `if !a { return true; } b` is "not a, or b". What the code
--- answered is q and r. Assumes nothing.
-use mathlib.Core.Path.{◌≡◌, sym, ◌∙◌}
-use mathlib.Core.Bool.{Bool, true, false, not, ◌&&◌, ◌||◌}
+-- answered is q and r. And `a && b` itself, which is b where a holds, and a where it fails. Assumes nothing.
+use Rattle.std.proofs.Common.{◌≡◌, sym, ◌∙◌, Bool, true, false, not, ◌&&◌, ◌||◌}
 use borrow.Author.Tests.{not-true, not-false}
+
+pub and_then : {a : Bool} (b : Bool) → a ≡ true → b ≡ (a && b)
+and_then b h = rw h
+
+pub and_else : {a : Bool} (b : Bool) → a ≡ false → a ≡ (a && b)
+and_else b h = rw h
 
 module _ {q a : Bool} (e : q ≡ a) where
   pub and_stops : (b : Bool) → not q ≡ true → false ≡ (a && b)

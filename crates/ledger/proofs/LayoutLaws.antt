@@ -1,9 +1,5 @@
 -- Places of tracks: each starts where the one before it ends, and all are small, below 2^23, whatever limit a word can count. Assumes nothing.
-use mathlib.Core.Path.{◌≡◌}
-use Prim.Native.Nat.{ℕ, ◌+◌, ◌*◌, ◌<◌, ◌≤◌}
-use native.Mathlib.Nat.{mul-le-mul}
-use native.Mathlib.Numerals.{add-one}
-use native.Mathlib.Omega.{arith}
+use Rattle.std.proofs.Common.{◌≡◌, ℕ, ◌+◌, ◌*◌, ◌<◌, ◌≤◌, mul-le-mul, add-one, arith}
 use Rattle.rules.specs.declared.Terms.{Terms}
 use Rattle.rules.specs.Layout.{leading_words, head_words, entry_width, track_width, track_place}
 use Rattle.rules.proofs.TrackWords.{place_more}

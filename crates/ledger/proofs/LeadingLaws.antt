@@ -1,12 +1,5 @@
 -- The leading words as the code looks at them and writes them, one after the other. Assumes nothing.
-use mathlib.Core.Path.{◌≡◌}
-use mathlib.Core.Bool.{not, ◌||◌}
-use mathlib.Core.List.{List, [], ◌∷◌}
-use Prim.Native.Nat.{ℕ, ◌≤◌}
-use native.Mathlib.Omega.{arith}
-use lib.ListN.{length, get_or, set}
-use lib.Dec.{eqb}
-use lib.IntN.{ℤ}
+use Rattle.std.proofs.Common.{◌≡◌, not, ◌||◌, List, [], ◌∷◌, ℕ, ◌≤◌, arith, length, get_or, set, eqb, ℤ}
 use Rattle.rules.specs.Layout.{leading_words, length_place, sum_place, low_day_place, high_day_place}
 use Rattle.rules.specs.Signed.{low_word, high_word}
 use Rattle.rules.specs.Day.{earliest_day}

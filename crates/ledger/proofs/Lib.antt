@@ -2,6 +2,7 @@
 pub mod Loops
 pub mod Branches
 pub mod LayoutLaws
+pub mod Modes
 pub mod Words
 pub mod TidyLaws
 pub mod ReadTracks

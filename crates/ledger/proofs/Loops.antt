@@ -1,9 +1,6 @@
 -- Loops that test each number in rising order. One that leaves at the first that fails: one more passed, one that fails, and the end. One
 -- that visits all and keeps whether all passed, or whether some did: one more, and the end. Assumes nothing.
-use mathlib.Core.Path.{◌≡◌, sym, ap₂, ◌∙◌}
-use mathlib.Core.Bool.{Bool, true, false, ◌&&◌, ◌||◌}
-use Prim.Native.Nat.{ℕ, ◌+◌, ◌<◌, ◌≤◌}
-use native.Mathlib.Omega.{arith}
+use Rattle.std.proofs.Common.{◌≡◌, sym, ap₂, ◌∙◌, Bool, true, false, ◌&&◌, ◌||◌, ℕ, ◌+◌, ◌<◌, ◌≤◌, arith}
 use Rattle.rules.specs.Fold.{some_below, every_below}
 use Rattle.rules.proofs.Tests.{clash, refuted}
 use Rattle.rules.proofs.Folds.{every_at, every_more, some_more}

@@ -1,16 +1,9 @@
 -- A track's words tested against the layout: an asleep track's are zero all together, and of another the mode, the count and the words behind
 -- the entries held are asked. That all words of a run are zero is told by their bits together. Assumes nothing.
-use mathlib.Core.Path.{◌≡◌, sym, ap, subst, ◌∙◌}
-use mathlib.Core.Logic.{inl, inr}
-use mathlib.Core.Bool.{Bool, true, false, ◌&&◌, ◌||◌}
-use mathlib.Core.List.{List}
-use Prim.Native.Nat.{ℕ, ◌+◌, ◌*◌, ◌-◌, ◌<◌, ◌≤◌}
-use native.Mathlib.Nat.{add_assoc}
-use native.Mathlib.Omega.{arith}
+use Rattle.std.proofs.Common.{◌≡◌, sym, ap, subst, ◌∙◌, inl, inr, Bool, true, false, ◌&&◌, ◌||◌, List, ℕ, ◌+◌, ◌*◌, ◌-◌, ◌<◌, ◌≤◌, add_assoc, arith, length, get_or, take, drop, length-drop, length-take-le, eqb, ltb, eqb-true, eq-eqb, ne_eqb, ltb-false, le-ltb, le-leb}
 use lib.Bits.{bit_or, bit_and, or_add_and, and_le_l, and_le_r}
-use lib.ListN.{get_or}
-use lib.Dec.{eqb, ltb}
-use borrow.Author.Tests.{eqb-true, eq-eqb, ne_eqb, ltb-false, le-ltb, le-leb, lt-leb}
+use Rattle.std.proofs.lemmas.List.{get_or-take, get_or-drop}
+use borrow.Author.Tests.{lt-leb}
 use Rattle.rules.specs.declared.Terms.{Terms}
 use Rattle.rules.specs.Fold.{every_below}
 use Rattle.rules.specs.Layout.{entry_width, head_words, track_width}
@@ -26,6 +19,14 @@ or_zero a b =
   where
     sum : bit_or a b + bit_and a b ≡ a + b
     sum = or_add_and a b
+
+-- whether a part's words are zero, by their places in the whole
+pub zero_part : (ws : List ℕ) (from k n : ℕ) → k ≡ n → from + n ≤ length ws
+    → every_below (length (take k (drop from ws))) (λ j. eqb (get_or (take k (drop from ws)) j 0) 0) ≡ every_below n (λ j. eqb (get_or ws (from + j) 0) 0)
+zero_part ws from k n e room =
+    let i : length (take k (drop from ws)) ≡ n = length-take-le k (drop from ws) (omega (arith, length-drop from ws)) ∙ e in
+    ap (λ m. every_below m (λ j. eqb (get_or (take k (drop from ws)) j 0) 0)) i
+    ∙ every_same n _ _ (λ j b. ap (λ w. eqb w 0) (get_or-take k (drop from ws) j 0 (omega arith) ∙ get_or-drop from ws j 0))
 
 -- a test of the numbers from m on
 every_from : (m n : ℕ) (f : ℕ → Bool) → m ≤ n → every_below (n - m) (λ j. f (m + j)) ≡ every_below n (λ j. ltb j m || f j)

@@ -1,12 +1,7 @@
 -- A track's words read and written, said of the ledger that they hold. Assumes nothing.
-use mathlib.Core.Path.{◌≡◌, refl, sym, ap, ◌∙◌}
-use mathlib.Core.List.{List, ◌∷◌, ◌++◌, append-nil}
-use Prim.Native.Nat.{ℕ, zero, suc, pred, ◌+◌, ◌-◌, ◌<◌, ◌≤◌}
-use native.Mathlib.Omega.{arith}
-use native.Mathlib.Nat.{add-sub_cancel_left}
-use native.Mathlib.Numerals.{add-one, sub-one}
-use lib.Seq.{drop-length, drop-drop, length-take-le}
-use lib.ListN.{length, get_or, set, take, drop, replicate, length-drop, replicate-append-replicate}
+use Rattle.std.proofs.Common.{◌≡◌, refl, sym, ap, ◌∙◌, List, ◌∷◌, ◌++◌, ℕ, zero, suc, pred, ◌+◌, ◌-◌, ◌<◌, ◌≤◌, arith, add-one, sub-one, drop-drop, length-take-le, length, get_or, set, take, drop, replicate, length-drop}
+use Rattle.std.proofs.Math.Nat.{add-sub_cancel_left}
+use Rattle.std.proofs.Math.ListN.{replicate-append-replicate}
 use Rattle.rules.specs.declared.Mode.{Mode}
 use Rattle.rules.specs.declared.Mode.TheVariants.{Asleep, Forward, Undoing}
 use Rattle.rules.specs.declared.Terms.{Terms}
@@ -33,10 +28,6 @@ unfolding mode_of
 mode_more zero h k = absurd (h refl)
 mode_more (suc zero) h k = absurd (k refl)
 mode_more (suc (suc w)) h k = refl
-
--- words zeroed one by one
-pub cleared : (ws vs : List ℕ) (i : ℕ) → vs ≡ replicate i 0 ++ drop i ws → i ≡ length ws → vs ≡ replicate (length ws) 0
-cleared ws vs i e h = e ∙ rw (h, drop-length, append-nil)
 
 pub count_of : {k j : Track} → k ≡ j → k.count ≡ j.count
 count_of e = ap (λ (x : Track). x.count) e

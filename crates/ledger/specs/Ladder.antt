@@ -6,18 +6,13 @@ use Rattle.rules.specs.Names.{Bytes, Words, TrackNumber}
 use Rattle.rules.specs.declared.Counts.{Counts}
 use Rattle.rules.specs.declared.Terms.{Terms}
 use Rattle.rules.specs.Plan.{plan_of}
-use Rattle.rules.specs.Acceptance.{accepted, read_plan}
 use Rattle.rules.specs.Layout.{track_place, track_width, word_count}
 use Rattle.rules.specs.Leading.{other_plan}
 use Rattle.rules.specs.Ledger.{Ledger, ledger_at}
 use Rattle.rules.specs.Scope.{is_over}
 use Rattle.rules.specs.Soundness.{are_tidy, is_sound}
-use Rattle.plan.specs.Holds.{Holds}
-
--- the plan is accepted, with these counts
-pub record Accepts (bs : Bytes) (c : Counts) : Type 0 where
-  pub read : read_plan bs ≡ accepted c
-  pub holds : Holds bs c
+pub use Rattle.plan.specs.Accepts.{Accepts}
+use Rattle.plan.specs.declared.Records.{Records}
 
 -- under the terms that the caller keeps to
 module _ (terms : Terms) where
@@ -55,3 +50,13 @@ module _ (terms : Terms) where
   pub record Going (bs : Bytes) (c : Counts) (ws : Words) : Type 0 where
     pub checked : Checked bs c ws
     pub goes_on : is_over (plan_of bs c) (ledger_of c ws) ≡ false
+
+  -- the same of a plan's records as the code has them
+  abbrev pub IsLent : Records → Words → Type 0
+  IsLent r ws = Lent r.bytes.now r.counts ws
+
+  abbrev pub IsChecked : Records → Words → Type 0
+  IsChecked r ws = Checked r.bytes.now r.counts ws
+
+  abbrev pub IsGoing : Records → Words → Type 0
+  IsGoing r ws = Going r.bytes.now r.counts ws

@@ -4,11 +4,17 @@ use Rattle.rules.specs.Names.{Words, Place, TrackNumber, StateNumber, Code}
 use Rattle.rules.specs.declared.Terms.{Terms}
 use Rattle.rules.specs.declared.Track.{Track}
 use Rattle.rules.specs.Layout.{state_place, count_place, entry_width, deviation_place, track_width, track_place, entries_place}
+use Rattle.rules.specs.Ledger as ledger
+use Rattle.ledger.specs.declared.track.Entry.{Entry}
 use Rattle.rules.specs.Ledger.{Configuration, mode_word, configuration_at}
 
 -- a configuration without its entries
 unfoldable pub track_of : Configuration → Track
 track_of c = record { mode = c.mode; state = c.state; count = length c.held }
+
+-- an entry that the code has by value
+abbrev pub entry_of : Entry → ledger.Entry
+entry_of e = record { code = e.code; deviation = e.deviation }
 
 module _ (terms : Terms) where
   -- the track as its words tell it

@@ -28,14 +28,14 @@ pub const ENTRY_WIDTH: usize = 2;
 pub fn wide(x: u16) -> usize
     ensures { (result ≡ x) × (result < 65536) }
 {
-    x as usize
+    usize::from(x)
 }
 
 // The most entries that a track holds.
 pub fn limit(terms: Terms) -> usize
     ensures { result ≡ terms.limit }
 {
-    wide(terms.limit)
+    usize::from(terms.limit)
 }
 
 // Words of one track.

@@ -3,7 +3,6 @@ ghost use Rattle.std.specs.Prelude.{◌≡◌, ◌≤◌, ◌<◌, length};
 ghost use Rattle.rules.specs.Layout.{leading_words};
 ghost use Rattle.rules.specs.Leading.{last_day, dated, stamped, other_plan};
 
-use crate::layout;
 use crate::layout::{HIGH_DAY_WORD, LENGTH_WORD, LOW_DAY_WORD, SUM_WORD};
 use calendar::dates::EARLIEST_DAY;
 use signed::words;
@@ -13,7 +12,7 @@ pub fn is_other(plan: &[u8], ledger: &[u16]) -> bool
     requires { leading_words ≤ length ledger.now }
     ensures { result ≡ other_plan plan.now ledger.now }
 {
-    let other_length = layout::wide(ledger[LENGTH_WORD]) != plan.len();
+    let other_length = usize::from(ledger[LENGTH_WORD]) != plan.len();
     let other_sum = ledger[SUM_WORD] != plan_sum::sum(plan);
     other_length | other_sum
 }
@@ -42,5 +41,5 @@ pub fn stamp(plan: &[u8], ledger: &mut [u16])
 {
     ledger[LENGTH_WORD] = plan.len() as u16;
     ledger[SUM_WORD] = plan_sum::sum(plan);
-    put_day(&mut ledger[..], EARLIEST_DAY);
+    put_day(ledger, EARLIEST_DAY);
 }

@@ -14,11 +14,11 @@ pub const READING_ROOM_LIMIT: u16 = 8;
 pub const MAIN_TRACK_WIDTH: usize = layout::HEAD_WORDS
     + layout::ENTRY_WIDTH * (MAIN_LIMIT as usize);
 
+#[tactic(auto, unfolding(rules::specs::Setting::terms_of, rules::specs::Setting::limit_of))]
 pub fn terms_of(setting: Setting) -> Terms
     ensures { result ≡ terms_of setting }
 {
-    let limit = setting.limit;
-    match limit {
+    match setting.limit {
         Limit::Main => Terms { limit: MAIN_LIMIT },
         Limit::ReadingRoom => Terms {
             limit: READING_ROOM_LIMIT,

@@ -10,16 +10,13 @@ use crate::layout;
 use crate::layout::{COUNT_WORD, ENTRY_WIDTH, HEAD_WORDS, LEADING_WORDS};
 use rules::Terms;
 
-// Whether so many words from a place on are zero. All are read, so that the processor takes many at a time.
-fn are_zero(ledger: &[u16], from: usize, count: usize) -> bool
-    requires { from + count ≤ length ledger.now }
-    ensures { result ≡ every_below count (λ j. eqb (get_or ledger.now (from + j) 0) 0) }
+// Whether words are zero. All are read, so that the processor takes many at a time.
+fn are_zero(words: &[u16]) -> bool
+    ensures { result ≡ every_below (length words.now) (λ j. eqb (get_or words.now j 0) 0) }
 {
     let mut bits: u16 = 0;
-    let mut j: usize = 0;
-    while j < count {
-        bits |= ledger[from + j];
-        j += 1;
+    for w in words {
+        bits |= *w;
     }
     bits == 0
 }
@@ -29,20 +26,20 @@ fn is_tidy(terms: Terms, ledger: &[u16], at: usize) -> bool
     requires { at + track_width terms ≤ length ledger.now }
     ensures { result ≡ is_tidy terms ledger.now at }
 {
+    let end = at + layout::track_width(terms);
     let mode = ledger[at];
     if mode == 0 {
-        return are_zero(ledger, at, layout::track_width(terms));
+        return are_zero(&ledger[at..end]);
     }
     if 2 < mode {
         return false;
     }
-    let count = layout::wide(ledger[at + COUNT_WORD]);
+    let count = usize::from(ledger[at + COUNT_WORD]);
     let limit = layout::limit(terms);
     if limit < count {
         return false;
     }
-    let held = ENTRY_WIDTH * count;
-    are_zero(ledger, at + HEAD_WORDS + held, ENTRY_WIDTH * limit - held)
+    are_zero(&ledger[at + HEAD_WORDS + ENTRY_WIDTH * count..end])
 }
 
 // Whether those of every track are. `at` is where the track looked at starts.
@@ -53,12 +50,9 @@ pub fn are_tidy(terms: Terms, ledger: &[u16], tracks: usize) -> bool
     let width = layout::track_width(terms);
     let mut all = true;
     let mut at = LEADING_WORDS;
-    let mut t: usize = 0;
-    while t < tracks {
-        let tidy = is_tidy(terms, ledger, at);
-        all = all & tidy;
+    for t in 0..tracks {
+        all &= is_tidy(terms, ledger, at);
         at += width;
-        t += 1;
     }
     all
 }

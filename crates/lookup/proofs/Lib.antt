@@ -2,3 +2,4 @@
 pub mod Facts
 pub mod FiguresLaws
 pub mod OneTrackLaws
+pub mod Inside

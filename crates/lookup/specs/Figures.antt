@@ -1,4 +1,5 @@
 -- Figures that a pass keeps, one for each track that there can be, and the one track that a visit concerns. Assumes nothing.
+use Rattle.std.specs.Prelude as std
 use Rattle.std.specs.Prelude.{◌≡◌, Bool, List, ℕ, ◌<◌, eqb, length, get_or}
 use Rattle.std.proofs.Math.Option.{Option}
 use Rattle.rules.specs.Plan.{no_state, optional}
@@ -18,3 +19,8 @@ pub record Numbers (ms : List ℕ) (n : ℕ) (f : ℕ → Option ℕ) : Type 0 w
 pub record Only (n : ℕ) (test : ℕ → Bool) (r : ℕ) : Type 0 where
   pub low : (r ≡ no_state → ⊥) → r < n
   pub at : (t : ℕ) → t < n → test t ≡ eqb t r
+
+-- the same where the code may answer that there is none
+abbrev pub OnlyOne : ℕ → (ℕ → Bool) → std.Option ℕ → Type 0
+OnlyOne n test std.None = Only n test no_state
+OnlyOne n test (std.Some r) = (r < n) × Only n test r

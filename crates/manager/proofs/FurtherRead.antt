@@ -1,10 +1,6 @@
 -- A plan that is read, and what a call then asks of the ledger: what an answer tells, and the outcome of a call by it. Each goes by the two
 -- cases of the reading and the two of the refusal. Assumes nothing.
-use mathlib.Core.Path.{◌≡◌, refl, sym, ◌∙◌}
-use mathlib.Core.Logic.{◌⊎◌, inl, inr}
-use mathlib.Core.List.{List}
-use Prim.Native.Nat.{ℕ, zero, suc}
-use native.Mathlib.Omega.{arith}
+use Rattle.std.proofs.Common.{◌≡◌, refl, sym, ◌∙◌, ◌⊎◌, inl, inr, List, ℕ, zero, suc, arith}
 use Rattle.rules.specs.declared.Counts.{Counts}
 use Rattle.rules.specs.Plan.{Plan, plan_of}
 use Rattle.rules.specs.Acceptance.{Reading, turned_back, accepted, read_plan}

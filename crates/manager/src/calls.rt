@@ -7,20 +7,18 @@ ghost use Rattle.manager.specs.Checked.{Span};
 use crate::{bits, verify};
 use ledger::layout::ENTRY_WIDTH;
 use ledger::{layout, track};
-use rules::{
-    BeginAnswer, Counts, EventAnswer, FireAnswer, PlanAnswer, ReadyAnswer, SignalAnswer, Terms,
-};
+use rules::{BeginAnswer, EventAnswer, FireAnswer, ReadyAnswer, SignalAnswer, Terms};
+use std::ops::Range;
 
 // Overwrites the ledger: roots forward in their first states and holding nothing, others asleep.
 pub fn begin(terms: Terms, plan: &[u8], ledger: &mut [u16]) -> BeginAnswer
     ensures { Meets (begin_outcome terms plan.now ledger.old) (begin_told result) ledger.new }
 {
     let mut firsts: [u16; 32] = [0; 32];
-    let answer = verify::read_lent(terms, plan, &ledger[..], &mut firsts);
-    match answer {
-        PlanAnswer::Refused(n) => BeginAnswer::Refused(n),
-        PlanAnswer::Accepted(c) => {
-            opening::begin::begin_all(terms, plan, c, &mut ledger[..], &firsts);
+    match verify::read_lent(terms, plan, ledger, &mut firsts) {
+        Err(refusal) => BeginAnswer::Refused(refusal.number()),
+        Ok(read) => {
+            opening::begin::begin_all(terms, &read, ledger, &firsts);
             BeginAnswer::Begun
         }
     }
@@ -41,21 +39,10 @@ pub fn event(
 {
     let mut opens = [false; 32];
     let mut firsts: [u16; 32] = [0; 32];
-    let answer = verify::verify(terms, plan, &ledger[..], &mut opens, &mut firsts);
-    match answer {
-        PlanAnswer::Refused(n) => EventAnswer::Refused(n),
-        PlanAnswer::Accepted(c) => {
-            event_step::event::event(
-                terms,
-                plan,
-                c,
-                &mut ledger[..],
-                event,
-                day,
-                society,
-                &opens,
-                &firsts,
-            )
+    match verify::verify(terms, plan, ledger, &mut opens, &mut firsts) {
+        Err(refusal) => EventAnswer::Refused(refusal.number()),
+        Ok(read) => {
+            event_step::event::event(terms, &read, ledger, event, day, society, &opens, &firsts)
         }
     }
 }
@@ -68,16 +55,9 @@ pub fn signal(terms: Terms, plan: &[u8], ledger: &mut [u16], society: u16) -> Si
 {
     let mut opens = [false; 32];
     let mut firsts: [u16; 32] = [0; 32];
-    let answer = verify::verify(terms, plan, &ledger[..], &mut opens, &mut firsts);
-    match answer {
-        PlanAnswer::Refused(n) => SignalAnswer::Refused(n),
-        PlanAnswer::Accepted(c) => withdrawal::signal::signal(
-            terms,
-            plan,
-            c,
-            &mut ledger[..],
-            society,
-        ),
+    match verify::verify(terms, plan, ledger, &mut opens, &mut firsts) {
+        Err(refusal) => SignalAnswer::Refused(refusal.number()),
+        Ok(read) => withdrawal::signal::signal(terms, &read, ledger, society),
     }
 }
 
@@ -89,20 +69,10 @@ pub fn fire(terms: Terms, plan: &[u8], ledger: &mut [u16], track: u16, society: 
 {
     let mut opens = [false; 32];
     let mut firsts: [u16; 32] = [0; 32];
-    let answer = verify::verify(terms, plan, &ledger[..], &mut opens, &mut firsts);
-    match answer {
-        PlanAnswer::Refused(n) => FireAnswer::Refused(n),
-        PlanAnswer::Accepted(c) => {
-            withdrawal::fire::fire(
-                terms,
-                plan,
-                c,
-                &mut ledger[..],
-                track,
-                society,
-                &opens,
-                &firsts,
-            )
+    match verify::verify(terms, plan, ledger, &mut opens, &mut firsts) {
+        Err(refusal) => FireAnswer::Refused(refusal.number()),
+        Ok(read) => {
+            withdrawal::fire::fire(terms, &read, ledger, track, society, &opens, &firsts)
         }
     }
 }
@@ -113,43 +83,31 @@ pub fn ready(terms: Terms, plan: &[u8], ledger: &mut [u16]) -> ReadyAnswer
 {
     let mut opens = [false; 32];
     let mut firsts: [u16; 32] = [0; 32];
-    let answer = verify::verify(terms, plan, &ledger[..], &mut opens, &mut firsts);
-    match answer {
-        PlanAnswer::Refused(n) => ReadyAnswer::Refused(n),
-        PlanAnswer::Accepted(c) => {
-            let bits = bits::ready_bits(terms, plan, c, &ledger[..], &opens);
+    match verify::verify(terms, plan, ledger, &mut opens, &mut firsts) {
+        Err(refusal) => ReadyAnswer::Refused(refusal.number()),
+        Ok(read) => {
+            let bits = bits::ready_bits(terms, &read, ledger, &opens);
             ReadyAnswer::Ready(bits)
         }
     }
 }
 
-// A part of the ledger, as numbers.
-#[derive(Clone, Copy)]
-struct Part {
-    from: usize,
-    to: usize,
-}
-
-// The part that holds a track's entries.
-fn part_of(terms: Terms, plan: &[u8], ledger: &[u16], track: u16) -> Part
-    ensures { Span terms plan.now ledger.now track result.from result.to }
+// The part that holds a track's entries, as the numbers of its words.
+fn part_of(terms: Terms, plan: &[u8], ledger: &[u16], track: u16) -> Range<usize>
+    ensures { Span terms plan.now ledger.now track result.start result.end }
 {
     let mut opens = [false; 32];
     let mut firsts: [u16; 32] = [0; 32];
-    let answer = verify::verify(terms, plan, ledger, &mut opens, &mut firsts);
-    match answer {
-        PlanAnswer::Refused(_) => Part { from: 0, to: 0 },
-        PlanAnswer::Accepted(c) => {
-            let t = layout::wide(track);
-            if c.tracks <= t {
-                return Part { from: 0, to: 0 };
+    match verify::verify(terms, plan, ledger, &mut opens, &mut firsts) {
+        Err(_) => 0..0,
+        Ok(read) => {
+            let t = usize::from(track);
+            if read.records.counts.tracks <= t {
+                return 0..0;
             }
             let k = track::track_at(terms, ledger, t);
             let from = layout::entry_place(terms, t, 0);
-            Part {
-                from: from,
-                to: from + ENTRY_WIDTH * layout::wide(k.count),
-            }
+            from..from + ENTRY_WIDTH * usize::from(k.count)
         }
     }
 }
@@ -159,7 +117,5 @@ pub fn entries<'a>(terms: Terms, plan: &[u8], ledger: &'a [u16], track: u16) -> 
     ensures { HandsBack terms plan.now ledger.now track ledger.entry.ref_ptr result.ref_ptr result.now ledger.now }
 {
     let part = part_of(terms, plan, ledger, track);
-    let from = part.from;
-    let to = part.to;
-    &ledger[from..to]
+    &ledger[part]
 }

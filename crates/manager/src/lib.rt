@@ -17,7 +17,7 @@ use rules::{BeginAnswer, EventAnswer, FireAnswer, ReadyAnswer, Setting, SignalAn
 pub fn begin(setting: Setting, plan: &[u8], ledger: &mut [u16]) -> BeginAnswer
     ensures { Meets (begin_outcome (terms_of setting) plan.now ledger.old) (begin_told result) ledger.new }
 {
-    calls::begin(terms_of(setting), plan, &mut ledger[..])
+    calls::begin(terms_of(setting), plan, ledger)
 }
 
 // Moves each forward track without an open scope that the society may move and that has a transition for the event on that day, then closes,
@@ -33,14 +33,7 @@ pub fn event(
     ensures { Meets (event_outcome (terms_of setting) plan.now ledger.old
         (record { event = event; day = day; society = society })) (event_told result) ledger.new }
 {
-    calls::event(
-        terms_of(setting),
-        plan,
-        &mut ledger[..],
-        event,
-        day,
-        society,
-    )
+    calls::event(terms_of(setting), plan, ledger, event, day, society)
 }
 
 // Turns every forward track that the society may turn to undoing, puts to sleep the scopes that then have nothing to take back, and finishes
@@ -49,7 +42,7 @@ pub fn signal(setting: Setting, plan: &[u8], ledger: &mut [u16], society: u16) -
     ensures { Meets (signal_outcome (terms_of setting) plan.now ledger.old (record { society = society }))
         (signal_told result) ledger.new }
 {
-    calls::signal(terms_of(setting), plan, &mut ledger[..], society)
+    calls::signal(terms_of(setting), plan, ledger, society)
 }
 
 // Fires a named track that the society may fire: its newest entry is removed, a deviation is entered, scopes with nothing left are put to sleep,
@@ -64,14 +57,14 @@ pub fn fire(
     ensures { Meets (fire_outcome (terms_of setting) plan.now ledger.old
         (record { track = track; society = society })) (fire_told result) ledger.new }
 {
-    calls::fire(terms_of(setting), plan, &mut ledger[..], track, society)
+    calls::fire(terms_of(setting), plan, ledger, track, society)
 }
 
 // A number with bit n set exactly if track n may be fired.
 pub fn ready(setting: Setting, plan: &[u8], ledger: &mut [u16]) -> ReadyAnswer
     ensures { Meets (ready_outcome (terms_of setting) plan.now ledger.old) (ready_told result) ledger.new }
 {
-    calls::ready(terms_of(setting), plan, &mut ledger[..])
+    calls::ready(terms_of(setting), plan, ledger)
 }
 
 // The part of the ledger that holds a track's entries: those held, and no unused pairs. Only an empty part may lie anywhere.

@@ -1,11 +1,5 @@
 -- Who wakes: a track's figure is worked out when its host's track, whose number is lower, has its own. Assumes nothing.
-use mathlib.Core.Path.{◌≡◌, sym, ap, ◌∙◌}
-use mathlib.Core.Bool.{Bool, true, false, ◌&&◌}
-use mathlib.Core.List.{List}
-use Prim.Native.Nat.{ℕ, ◌<◌}
-use lib.Dec.{eqb}
-use lib.ListN.{get_or}
-use borrow.Author.Tests.{eq-eqb, ne_eqb}
+use Rattle.std.proofs.Common.{◌≡◌, sym, ap, ◌∙◌, Bool, true, false, ◌&&◌, List, ℕ, ◌<◌, eqb, get_or, eq-eqb, ne_eqb}
 use Rattle.rules.specs.declared.Counts.{Counts}
 use Rattle.rules.specs.Plan.{Plan, plan_of, no_state, optional, host_word, owner, first_state}
 use Rattle.rules.specs.Opening.{wakes_in, wakes}

@@ -12,11 +12,11 @@ pub fn put_mode(terms: Terms, c: Counts, ledger: &mut [u16], t: usize, m: Mode, 
     requires { Tidy terms ledger.old c.tracks × (t < c.tracks) }
     ensures { ledger.new ≡ with_configuration terms c ledger.old t (with_mode m s (ledger_of terms c ledger.old t)) }
 {
-    let k = reading::track(terms, c, &ledger[..], t);
+    let k = reading::track(terms, c, ledger, t);
     let next = Track {
         mode: m,
         state: s,
         count: k.count,
     };
-    track::put_track(terms, &mut ledger[..], t, next);
+    track::put_track(terms, ledger, t, next);
 }

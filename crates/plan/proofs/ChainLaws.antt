@@ -1,17 +1,18 @@
 -- Numbers chained by a key: those that a chain leaves out have another key, and the chains grow by one number. Assumes nothing.
-use mathlib.Core.Path.{◌≡◌, refl, sym, ap, ◌∙◌}
-use mathlib.Core.Bool.{Bool, true, false, cond}
-use mathlib.Core.Logic.{⊎_elim}
-use mathlib.Core.List.{List}
-use Prim.Native.Nat.{ℕ, zero, suc, ◌+◌, ◌<◌, ◌≤◌}
-use native.Mathlib.Numerals.{add-one}
-use native.Mathlib.Nat.{not-suc-le-zero, eq-or-lt_of_le}
-use native.Mathlib.Omega.{arith}
-use lib.ListN.{get_or, set, replicate, length-replicate, length-set, get_or-replicate}
-use lib.Seq.{get_or-set_same, get_or-set_other}
-use lib.Dec.{eqb}
-use borrow.Author.Tests.{eqb-true, eqb-false}
-use Rattle.plan.specs.Chain.{last_below, has, Chained, ChainOf, Heads}
+use Rattle.std.proofs.Common.{◌≡◌, refl, sym, ap, ◌∙◌, Bool, true, false, cond, inl, inr, ⊎_elim, List, ℕ, zero, suc, ◌+◌, ◌<◌, ◌≤◌, add-one, not-suc-le-zero, eq-or-lt_of_le, arith, get_or, set, replicate, length-set, get_or-set_same, get_or-set_other, eqb, ltb, eqb-true, ltb-true, ltb-false, eq-eqb}
+use Rattle.std.proofs.Math.ListN.{length-replicate, get_or-replicate}
+use borrow.Author.Tests.{eqb-false}
+use Rattle.rules.proofs.Tests.{look, clash}
+use Rattle.plan.specs.Chain as Chain
+use Rattle.plan.specs.Chain.{last_below, has, ChainOf, Heads}
+use Rattle.plan.specs.Chains.{item_of, cell_of}
+use Rattle.plan.specs.Passes.{Last}
+use Rattle.plan.proofs.ForestLaws.{Chained, chained_add}
+
+-- a cell and the item that it tells of
+pub cell_item : (z : ℕ) → cell_of (item_of z) ≡ z
+cell_item zero = refl
+cell_item (suc k) = refl
 
 pub last_most : (n : ℕ) (f : ℕ → Bool) → last_below n f ≤ n
 unfolding last_below
@@ -52,7 +53,7 @@ module _ (key : ℕ → ℕ) (n : ℕ) where
   head_most x k head next h l = rw (h.last k l) (last_most x (has key k))
 
   pub heads_none : (head next : List ℕ) → head ≡ replicate n 0 → next ≡ replicate 256 0 → Heads key n 0 head next
-  unfolding last_below Chained
+  unfolding last_below Chain.Chained
   heads_none head next h e =
       rw (h, e)
       (record {
@@ -68,7 +69,7 @@ module _ (key : ℕ → ℕ) (n : ℕ) where
 
   pub heads_more : (x k : ℕ) (head next : List ℕ) → x < 256 → k < n → k ≡ key x → Heads key n x head next
       → Heads key n (x + 1) (set head k (x + 1)) (set next x (get_or head k 0))
-  unfolding last_below Chained has
+  unfolding last_below Chain.Chained has
   heads_more x k head next lx lk e h =
       record {
         heads = length-set head k (x + 1) ∙ h.heads;
@@ -96,3 +97,53 @@ module _ (key : ℕ → ℕ) (n : ℕ) where
           ∙ rw (w, e))
           (λ (v : y < x). get_or-set_other next x y (get_or head k 0) 0 (λ (w : y ≡ x). absurd (omega arith)) ∙ h.chained y v)
           (eq-or-lt_of_le (let m : y ≤ x = omega arith in m))
+
+-- numbers in the chains of their keys
+module _ (key : ℕ → ℕ) where
+  pub keyed : (x k : ℕ) → k ≡ key x → has key k x ≡ true
+  unfolding has
+  keyed x k e = eq-eqb (key x) k (sym e)
+
+  pub one_key : (x k : ℕ) → k ≡ key x → (j : ℕ) → has key j x ≡ true → j ≡ k
+  unfolding has
+  one_key x k e j h = sym (eqb-true (key x) j h) ∙ sym e
+
+  pub keyed_add : (keys items x k : ℕ) (last before : List ℕ) → k < keys → x < items → k ≡ key x → Chained (has key) keys x items last before
+      → Chained (has key) keys (x + 1) items (set last k (x + 1)) (set before x (get_or last k 0))
+  keyed_add keys items x k last before lk lx e w = chained_add (has key) keys x items k last before lk lx (keyed x k e) (one_key x k e) w
+
+-- the last number below n is told as by the walk over all of them
+pub last_is : (n : ℕ) (f : ℕ → Bool) (y : ℕ) → Last n f y → y ≡ last_below n f
+last_is n f y w = go y (last_below n f) refl refl
+  where
+    go : (a b : ℕ) → a ≡ y → b ≡ last_below n f → y ≡ last_below n f
+    go zero zero e d = sym e ∙ d
+    go zero (suc z) e d =
+        let m = last_most n f in
+        clash (last_passes n f z (sym d)) (w.none_after z (omega arith) (omega arith))
+    go (suc k) zero e d =
+        let m = w.within in
+        clash (w.passes k (sym e)) (last_skips n f k (omega arith) (omega arith))
+    go (suc k) (suc z) e d =
+        let m = w.within in
+        let o = last_most n f in
+        elim (look (ltb k z)) [
+          | inl q ↦ let l = ltb-true k z q in clash (last_passes n f z (sym d)) (w.none_after z (omega arith) (omega arith))
+          | inr q ↦
+              let l = ltb-false k z q in
+              ⊎_elim (λ (i : z ≡ k). sym e ∙ ap suc (sym i) ∙ d)
+              (λ (i : z < k). clash (w.passes k (sym e)) (last_skips n f k (omega arith) (omega arith))) (eq-or-lt_of_le l)
+        ]
+
+-- so the chains by a key are heads and links
+pub heads_from : (key : ℕ → ℕ) (keys n : ℕ) (last before : List ℕ) → Chained (has key) keys n 256 last before → ((y : ℕ) → y < n → key y < keys)
+    → Heads key keys n last before
+unfolding Chain.Chained
+heads_from key keys n last before w low =
+    record {
+      heads = w.owners_length;
+      nexts = w.members_length;
+      keys = low;
+      last = λ k l. last_is n (has key k) (get_or last k 0) (w.chains.ends.at k l);
+      chained = λ y l. last_is y (has key (key y)) (get_or before y 0) (w.chains.links (key y) y l (keyed key y (key y) refl));
+    }

@@ -1,7 +1,5 @@
 -- The fields of the plan that bytes hold: a record's fields by its number are the words at its place. Assumes nothing.
-use mathlib.Core.Path.{◌≡◌, sym, ap, ◌∙◌}
-use mathlib.Core.List.{List}
-use Prim.Native.Nat.{ℕ, ◌+◌, ◌<◌}
+use Rattle.std.proofs.Common.{◌≡◌, sym, ap, ◌∙◌, List, ℕ, ◌+◌, ◌<◌}
 use Rattle.rules.specs.declared.Counts.{Counts}
 use Rattle.rules.specs.Signed.{joined}
 use Rattle.rules.specs.Record.{word, day_at}

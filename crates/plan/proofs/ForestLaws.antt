@@ -1,15 +1,9 @@
 -- A plan's forest in chains, in the words that the code reads: a track more stands in its host's scope, a state that hosts a track stands with
 -- its own track, and a walk along the chains has a track's height and a state's reach. Assumes nothing.
-use mathlib.Core.Path.{◌≡◌, refl, sym, ap, ◌∙◌}
-use mathlib.Core.Logic.{◌⊎◌, inl, inr}
-use mathlib.Core.Bool.{Bool, true, false, cond, not, ◌&&◌, and-false}
-use mathlib.Core.List.{List}
-use Prim.Native.Nat.{ℕ, zero, suc, ◌+◌, ◌-◌, ◌<◌, ◌≤◌}
-use native.Mathlib.Numerals.{add-one}
-use native.Mathlib.Omega.{arith}
-use lib.Dec.{eqb, ltb}
-use lib.ListN.{length, get_or, set, replicate, length-set, length-replicate}
-use borrow.Author.Tests.{ne_eqb, eqb-true, eq-eqb}
+use Rattle.std.proofs.Common.{◌≡◌, refl, sym, ap, ◌∙◌, ◌⊎◌, inl, inr, Bool, true, false, cond, ◌&&◌, List, ℕ, zero, suc, ◌+◌, ◌-◌, ◌<◌, ◌≤◌, add-one, arith, ltb, length, get_or, set, replicate, length-set, eqb-true, eq-eqb}
+use Rattle.std.proofs.Math.Bool.{and-false}
+use Rattle.std.proofs.Math.ListN.{length-replicate}
+use Rattle.std.specs.Option.{is_some}
 use Rattle.rules.specs.declared.Counts.{Counts}
 use Rattle.rules.specs.Fold.{some_below, greatest_below}
 use Rattle.rules.specs.Plan.{Plan, plan_of, track_count, state_count, no_state, host_word, owner, is_in, is_state_of, is_hosting, reach_by, height_to}
@@ -18,6 +12,7 @@ use Rattle.rules.proofs.Tests.{look, and_holds, and_both}
 use Rattle.rules.proofs.Folds.{some_at, some_find, some_none, some_not, greatest_same, greatest_le}
 use Rattle.rules.proofs.Heights.{reaches_by, is_high_root, height_suc, hosted_by, in_host, owner_is, nine_levels, roots_decide}
 use Rattle.plan.specs.Passes.{slots, state_slots, is_host_of, Last, Chains}
+use Rattle.plan.specs.Chains.{item_of}
 use Rattle.plan.specs.Holds.{Holds}
 use Rattle.plan.proofs.FieldLaws.{track_count_lem, state_count_lem}
 use Rattle.plan.proofs.Hosting.{in_root, in_hosted, within}
@@ -68,21 +63,12 @@ module _ (p : Plan) where
   pub one_host : (t h : ℕ) → h ≡ host_word p t → (h ≡ no_state → ⊥) → (s : ℕ) → is_in p s t ≡ true → s ≡ h
   one_host t h e n s i = sym (e ∙ eqb-true (host_word p t) s (sym (in_hosted p s t (λ q. n (e ∙ q))) ∙ i))
 
-  -- the scope of a state by its last track
-  pub empty_scope : (n s y : ℕ) → n ≡ track_count p → Last n (is_in p s) y → y ≡ 0 → is_hosting p s ≡ false
+  -- a state hosts a track if its scope has a last one
+  pub scope_some : (n s y : ℕ) → n ≡ track_count p → Last n (is_in p s) y → is_some (item_of y) ≡ is_hosting p s
   unfolding is_hosting
-  empty_scope n s y e w z =
-      rw (← e) (some_none n (is_in p s) (λ t l. w.none_after t (omega arith) l))
-
-  pub some_scope : (n s y : ℕ) → n ≡ track_count p → Last n (is_in p s) y → (y ≡ 0 → ⊥) → is_hosting p s ≡ true
-  unfolding is_hosting
-  some_scope n s zero e w z = absurd (z refl)
-  some_scope n s (suc t) e w z =
-      let l = w.within in rw (← e) (some_at n (is_in p s) t (omega arith) (w.passes t refl))
-
-  pub by_scope : (n s y : ℕ) → n ≡ track_count p → Last n (is_in p s) y → not (eqb y 0) ≡ is_hosting p s
-  by_scope n s zero e w = sym (empty_scope n s 0 e w refl)
-  by_scope n s (suc t) e w = let h : suc t ≡ 0 → ⊥ = λ z. absurd (omega arith) in rw (ne_eqb (suc t) 0 h) (sym (some_scope n s (suc t) e w h))
+  scope_some n s zero e w = rw (← e) (sym (some_none n (is_in p s) (λ t l. w.none_after t (omega arith) l)))
+  scope_some n s (suc t) e w =
+      let l = w.within in rw (← e) (sym (some_at n (is_in p s) t (omega arith) (w.passes t refl)))
 
   pub no_host : (s : ℕ) → is_hosting p s ≡ false → (t : ℕ) → is_host_of p t s ≡ false
   unfolding is_host_of

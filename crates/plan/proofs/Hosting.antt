@@ -1,10 +1,6 @@
 -- The tests of a plan by the words of its records: a host word of 65535 is a root's, any other names the hosting state. Assumes nothing.
-use mathlib.Core.Path.{◌≡◌, refl, ap, ◌∙◌}
-use mathlib.Core.Bool.{Bool, true, false}
-use mathlib.Core.Option.{none, some}
-use Prim.Native.Nat.{ℕ, ◌<◌, ◌≤◌}
-use lib.Dec.{eqb}
-use borrow.Author.Tests.{eq-eqb, ne_eqb, lt-ltb, le-ltb}
+use Rattle.std.proofs.Common.{◌≡◌, refl, ap, ◌∙◌, Bool, true, false, ℕ, ◌<◌, ◌≤◌, eqb, eq-eqb, ne_eqb, lt-ltb, le-ltb}
+use Rattle.std.proofs.Math.Option.{none, some}
 use Rattle.rules.specs.Plan.{Plan, state_count, no_state, optional, host_word, host, owner, is_root, is_state_of, is_in}
 
 module _ (p : Plan) where

@@ -1,16 +1,8 @@
 -- Numbers chained by whose they are: a number more is its owner's last, and a walk along a chain meets every member, so that the greatest value
 -- of the members is the greatest met so far and of those left. Assumes nothing.
-use mathlib.Core.Path.{◌≡◌, refl, sym, ap, ◌∙◌, subst}
-use mathlib.Core.Logic.{inl, inr, ⊎_elim}
-use mathlib.Core.Bool.{Bool, true, false, cond}
-use mathlib.Core.List.{List}
-use Prim.Native.Nat.{ℕ, zero, suc, ◌+◌, ◌-◌, ◌<◌, ◌≤◌, max}
-use native.Mathlib.Nat.{not-suc-le-zero, eq-or-lt_of_le}
-use native.Mathlib.Omega.{arith}
-use lib.Dec.{eqb}
-use lib.ListN.{length, get_or, set, replicate, get_or-replicate}
-use lib.Seq.{get_or-set_same, get_or-set_other}
-use borrow.Author.Tests.{eqb-true, eqb-false}
+use Rattle.std.proofs.Common.{◌≡◌, refl, sym, ap, ◌∙◌, subst, inl, inr, ⊎_elim, Bool, true, false, cond, List, ℕ, zero, suc, ◌+◌, ◌-◌, ◌<◌, ◌≤◌, max, not-suc-le-zero, eq-or-lt_of_le, arith, eqb, length, get_or, set, replicate, get_or-set_same, get_or-set_other, eqb-true}
+use Rattle.std.proofs.Math.ListN.{get_or-replicate}
+use borrow.Author.Tests.{eqb-false}
 use Rattle.rules.specs.Fold.{greatest_below}
 use Rattle.rules.proofs.Tests.{look, clash, refuted}
 use Rattle.plan.specs.Passes.{Last, Chains}
@@ -157,3 +149,10 @@ walk_next is_of owners a n last before g best (suc y) v m w e k h b =
     let u = k.within in
     walk_on (is_of a) g n best (suc y) v m _ e k h b
     (subst (λ z. Last z (is_of a) (get_or before z 0)) (sym q) (w.links a y (omega arith) (k.member y refl)))
+
+-- the same of a member by its number
+pub walk_item : (is_of : ℕ → ℕ → Bool) (owners a n : ℕ) (last before : List ℕ) (g : ℕ → ℕ) (best k v m : ℕ) → Chains is_of owners n last before
+    → Walk (is_of a) g n best (suc k) → v ≡ g k → m ≡ max best v → Step (is_of a) g n m (suc k) (get_or before k 0)
+walk_item is_of owners a n last before g best k v m w h e b =
+    let q : suc k - 1 ≡ k = omega arith in
+    rw q at (walk_next is_of owners a n last before g best (suc k) v m w (λ z. absurd (omega (arith, z))) h (e ∙ ap g (sym q)) b)

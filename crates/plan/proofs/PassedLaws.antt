@@ -1,11 +1,6 @@
 -- What refusals 9 and 10 leave known where they passed, and the reader's figures in the words that the code reads. Assumes nothing.
-use mathlib.Core.Path.{◌≡◌, sym, ap, ◌∙◌}
-use mathlib.Core.Bool.{false}
-use mathlib.Core.List.{List}
-use mathlib.Core.Option.{some}
-use Prim.Native.Nat.{ℕ, ◌<◌}
-use native.Mathlib.Omega.{arith}
-use lib.ListN.{get_or}
+use Rattle.std.proofs.Common.{◌≡◌, sym, ap, ◌∙◌, false, List, ℕ, ◌<◌, arith, get_or}
+use Rattle.std.proofs.Math.Option.{some}
 use Rattle.rules.specs.declared.Counts.{Counts}
 use Rattle.rules.specs.Fold.{some_below}
 use Rattle.rules.specs.Plan.{Plan, plan_of, state_count, no_state, host_word, owner, first, first_state}

@@ -1,9 +1,6 @@
 -- Loops that look for a number that passes a test: what holds after one more failure, at a success and at the end. Assumes nothing.
-use mathlib.Core.Path.{◌≡◌, ◌∙◌}
-use mathlib.Core.Bool.{Bool, true, false}
-use mathlib.Core.Option.{none, some}
-use Prim.Native.Nat.{ℕ, ◌+◌, ◌<◌, ◌≤◌}
-use native.Mathlib.Omega.{arith}
+use Rattle.std.proofs.Common.{◌≡◌, ◌∙◌, Bool, true, false, ℕ, ◌+◌, ◌<◌, ◌≤◌, arith}
+use Rattle.std.proofs.Math.Option.{none, some}
 use Rattle.rules.specs.Fold.{some_below, first_below}
 use Rattle.rules.proofs.Folds.{some_more, first_more_here, first_stays}
 

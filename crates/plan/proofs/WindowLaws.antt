@@ -1,11 +1,6 @@
 -- A day and a window, as the code compares them; and how long an accepted plan is at most, since its windows are no more than its transitions
 -- and its grants no more than 64. Assumes nothing.
-use mathlib.Core.Path.{◌≡◌}
-use mathlib.Core.Bool.{true, false}
-use mathlib.Core.List.{List}
-use Prim.Native.Nat.{ℕ, ◌<◌, ◌≤◌}
-use native.Mathlib.Omega.{arith}
-use lib.ListN.{length}
+use Rattle.std.proofs.Common.{◌≡◌, true, false, List, ℕ, ◌<◌, ◌≤◌, arith, length}
 use lib.Signed.{mag, le_z}
 use Rattle.rules.specs.Names.{Day}
 use Rattle.rules.specs.declared.Counts.{Counts}

@@ -1,74 +1,57 @@
 // Figures that the reader keeps for each track or state, each by one pass over the records.
-ghost use Rattle.std.specs.Prelude.{◌≡◌, false, replicate};
+ghost use Rattle.std.specs.Prelude.{◌≡◌, false};
+ghost use Rattle.plan.specs.Plans.{plan_in};
 ghost use Rattle.rules.specs.Fold.{some_below};
-ghost use Rattle.rules.specs.Plan.{plan_of, is_in};
+ghost use Rattle.rules.specs.Plan.{is_in};
 ghost use Rattle.rules.specs.Acceptance.{bad_state, bad_host};
-ghost use Rattle.plan.specs.Holds.{Holds};
 ghost use Rattle.plan.specs.Passes.{first_marks, is_host_of, Ends, Chains};
 
-use crate::fields::{NO_STATE, host_word, track_of};
-use rules::Counts;
+use crate::Records;
+use crate::chains::KeyChains;
+use crate::fields::NO_STATE;
 
 // The first state of each track, 65535 where it has none: a state is its track's first if none was met before it. Every state's track
 // exists, as 9 has it.
-pub fn first_states(plan: &[u8], c: Counts) -> [u16; 32]
-    requires { Holds plan.now c × (some_below c.states (bad_state (plan_of plan.now c)) ≡ false) }
-    ensures { result ≡ first_marks (plan_of plan.now c) c.states }
+pub fn first_states(records: &Records) -> [u16; 32]
+    requires { some_below records.now.counts.states (bad_state (plan_in records.now)) ≡ false }
+    ensures { result ≡ first_marks (plan_in records.now) records.now.counts.states }
 {
     let mut firsts = [NO_STATE; 32];
-    let states = c.states;
-    let mut s: usize = 0;
-    while s < states {
-        let t = track_of(plan, c, s) as usize;
+    for s in 0..records.counts.states {
+        let t = usize::from(records.track_of(s));
         if firsts[t] == NO_STATE {
             firsts[t] = s as u16;
         }
-        s += 1;
     }
     firsts
 }
 
-// Chains the tracks of each scope: for each state the last track that it hosts, for each track the one before it with the same host. Each is
-// told by one more than its number, and 0 is the end. Every host is a state, as 10 has it.
-pub fn chain_tracks(plan: &[u8], c: Counts, last: &mut [u8; 128], before: &mut [u8; 32])
-    requires { Holds plan.now c × (some_below c.tracks (bad_host (plan_of plan.now c)) ≡ false)
-        × (last.old ≡ replicate 128 0) × (before.old ≡ replicate 32 0) }
-    ensures { Chains (is_in (plan_of plan.now c)) 128 c.tracks last.new before.new }
+// The tracks of each scope, by the state that hosts them. Every host is a state, as 10 has it.
+pub fn chain_tracks(records: &Records) -> KeyChains<128, 32>
+    requires { some_below records.now.counts.tracks (bad_host (plan_in records.now)) ≡ false }
+    ensures { Chains (is_in (plan_in records.now)) 128 records.now.counts.tracks result.last result.before }
 {
-    let tracks = c.tracks;
-    let mut t: usize = 0;
-    while t < tracks {
-        let h = host_word(plan, c, t);
+    let mut scopes = KeyChains::new();
+    for t in 0..records.counts.tracks {
+        let h = records.host_word(t);
         if h != NO_STATE {
-            let s = h as usize;
-            before[t] = last[s];
-            last[s] = (t + 1) as u8;
+            scopes.add(usize::from(h), t);
         }
-        t += 1;
     }
+    scopes
 }
 
-// Chains the hosting states of each track: for each track its last one, for each of them the one before it of the same track, told as above.
-// Every host is a state of a track, as 10 has it; `scopes` has the last track that each state hosts.
-pub fn chain_states(
-    plan: &[u8],
-    c: Counts,
-    scopes: &[u8; 128],
-    last: &mut [u8; 32],
-    before: &mut [u8; 128],
-)
-    requires { Holds plan.now c × (some_below c.tracks (bad_host (plan_of plan.now c)) ≡ false)
-        × Ends (is_in (plan_of plan.now c)) 128 c.tracks scopes.now × (last.old ≡ replicate 32 0) × (before.old ≡ replicate 128 0) }
-    ensures { Chains (is_host_of (plan_of plan.now c)) 32 c.states last.new before.new }
+// The hosting states of each track. Every host is a state of a track, as 10 has it; `scopes` has the tracks that each state hosts.
+pub fn chain_states(records: &Records, scopes: &KeyChains<128, 32>) -> KeyChains<32, 128>
+    requires { (some_below records.now.counts.tracks (bad_host (plan_in records.now)) ≡ false)
+        × Ends (is_in (plan_in records.now)) 128 records.now.counts.tracks scopes.now.last }
+    ensures { Chains (is_host_of (plan_in records.now)) 32 records.now.counts.states result.last result.before }
 {
-    let states = c.states;
-    let mut s: usize = 0;
-    while s < states {
-        if scopes[s] != 0 {
-            let t = track_of(plan, c, s) as usize;
-            before[s] = last[t];
-            last[t] = (s + 1) as u8;
+    let mut hosts = KeyChains::new();
+    for s in 0..records.counts.states {
+        if scopes.last(s).is_some() {
+            hosts.add(usize::from(records.track_of(s)), s);
         }
-        s += 1;
     }
+    hosts
 }

@@ -1,12 +1,12 @@
 // The windows of a plan: the transition that each restricts, and its first and last day.
 ghost use Rattle.std.specs.Prelude.{◌≡◌, ◌+◌, ◌<◌, ◌≤◌, length};
-ghost use Rattle.rules.specs.Plan.{plan_of, window, window_record, is_within};
-ghost use Rattle.plan.specs.Holds.{Holds};
+ghost use Rattle.rules.specs.Plan.{window, window_record, is_within};
+ghost use Rattle.plan.specs.Plans.{plan_in};
 
+use crate::Records;
 use crate::fields::{
     STATE_LENGTH, TRACK_LENGTH, TRANSITION_LENGTH, WINDOW_LENGTH, day_at, word_at,
 };
-use rules::Counts;
 
 // Where a window's fields start in its record, after the length and the kind.
 const WINDOW_TRANSITION: usize = 4;
@@ -15,50 +15,51 @@ const WINDOW_FIRST: usize = 6;
 
 const WINDOW_LAST: usize = 10;
 
-// Where a window's record starts.
-fn window_place(plan: &[u8], c: Counts, w: usize) -> usize
-    requires { Holds plan.now c × (w < c.windows) }
-    ensures { (result ≡ window_record c w) × (result + 14 ≤ length plan.now) }
-{
-    let windows_from = TRACK_LENGTH * c.tracks
-        + STATE_LENGTH * c.states
-        + TRANSITION_LENGTH * c.transitions;
-    windows_from + WINDOW_LENGTH * w
-}
-
-// The transition that a window restricts.
-pub fn window_transition(plan: &[u8], c: Counts, w: usize) -> u16
-    requires { Holds plan.now c × (w < c.windows) }
-    ensures { result ≡ (window (plan_of plan.now c) w).transition }
-{
-    word_at(plan, window_place(plan, c, w) + WINDOW_TRANSITION)
-}
-
-// A window's first day.
-pub fn first_day(plan: &[u8], c: Counts, w: usize) -> i32
-    requires { Holds plan.now c × (w < c.windows) }
-    ensures { result ≡ (window (plan_of plan.now c) w).first }
-{
-    day_at(plan, window_place(plan, c, w) + WINDOW_FIRST)
-}
-
-// A window's last day, which it has too.
-pub fn last_day(plan: &[u8], c: Counts, w: usize) -> i32
-    requires { Holds plan.now c × (w < c.windows) }
-    ensures { result ≡ (window (plan_of plan.now c) w).last }
-{
-    day_at(plan, window_place(plan, c, w) + WINDOW_LAST)
-}
-
-// Whether a day is one of a window's.
-pub fn is_within(plan: &[u8], c: Counts, w: usize, day: i32) -> bool
-    requires { Holds plan.now c × (w < c.windows) }
-    ensures { result ≡ is_within (window (plan_of plan.now c) w) day }
-{
-    let first = first_day(plan, c, w);
-    if first <= day {
-        let last = last_day(plan, c, w);
-        return day <= last;
+impl Records<'_> {
+    // Where a window's record starts.
+    #[tactic(auto, unfolding(rules::specs::Plan::window_record, rules::specs::Plan::transition_record, rules::specs::Plan::state_record, rules::specs::Plan::track_record, rules::specs::Record::length_of))]
+    fn window_place(&self, w: usize) -> usize
+        requires { w < self.now.counts.windows }
+        ensures { (result ≡ window_record self.now.counts w) × (result + 14 ≤ length self.now.bytes.now) }
+    {
+        let windows_from = TRACK_LENGTH * self.counts.tracks
+            + STATE_LENGTH * self.counts.states
+            + TRANSITION_LENGTH * self.counts.transitions;
+        windows_from + WINDOW_LENGTH * w
     }
-    false
+
+    // The transition that a window restricts.
+    #[tactic(auto, using(crate::proofs::FieldLaws::named_at))]
+    pub fn window_transition(&self, w: usize) -> u16
+        requires { w < self.now.counts.windows }
+        ensures { result ≡ (window (plan_in self.now) w).transition }
+    {
+        word_at(self.bytes, self.window_place(w) + WINDOW_TRANSITION)
+    }
+
+    // A window's first day.
+    #[tactic(auto, using(crate::proofs::FieldLaws::first_day_at))]
+    pub fn first_day(&self, w: usize) -> i32
+        requires { w < self.now.counts.windows }
+        ensures { result ≡ (window (plan_in self.now) w).first }
+    {
+        day_at(self.bytes, self.window_place(w) + WINDOW_FIRST)
+    }
+
+    // A window's last day, which it has too.
+    #[tactic(auto, using(crate::proofs::FieldLaws::last_day_at))]
+    pub fn last_day(&self, w: usize) -> i32
+        requires { w < self.now.counts.windows }
+        ensures { result ≡ (window (plan_in self.now) w).last }
+    {
+        day_at(self.bytes, self.window_place(w) + WINDOW_LAST)
+    }
+
+    // Whether a day is one of a window's.
+    pub fn is_within(&self, w: usize, day: i32) -> bool
+        requires { w < self.now.counts.windows }
+        ensures { result ≡ is_within (window (plan_in self.now) w) day }
+    {
+        self.first_day(w) <= day && day <= self.last_day(w)
+    }
 }

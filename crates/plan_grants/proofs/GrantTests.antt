@@ -1,15 +1,8 @@
 -- The test of refusal 27, part by part, in the order in which the code looks at a grant. Two grants have one pair exactly if they have one number,
 -- and where there are more than 64 grants the 65th is bad. Assumes nothing.
-use mathlib.Core.Path.{◌≡◌, refl, sym, ◌∙◌}
-use mathlib.Core.Logic.{⊎_elim}
-use mathlib.Core.Bool.{Bool, true, false, not, ◌&&◌, ◌||◌, or-false}
-use mathlib.Core.List.{List}
-use Prim.Native.Nat.{ℕ, ◌+◌, ◌<◌, ◌≤◌}
-use native.Mathlib.Omega.{arith}
-use lib.ListN.{length, get_or, set, replicate, length-set, length-replicate}
-use lib.Seq.{get_or-set_same, get_or-set_other}
-use lib.Dec.{eqb, leb, ltb}
-use borrow.Author.Tests.{eqb-true, eqb-false, le-leb, lt-leb, lt-ltb, le-ltb, eq-eqb}
+use Rattle.std.proofs.Common.{◌≡◌, refl, sym, ◌∙◌, ⊎_elim, Bool, true, false, not, ◌&&◌, ◌||◌, List, ℕ, ◌+◌, ◌<◌, ◌≤◌, arith, length, get_or, set, replicate, length-set, get_or-set_same, get_or-set_other, eqb, leb, ltb, eqb-true, le-leb, eq-eqb}
+use Rattle.std.proofs.Math.ListN.{length-replicate}
+use borrow.Author.Tests.{eqb-false, lt-leb}
 use Rattle.rules.specs.Fold.{some_below}
 use Rattle.rules.specs.Plan.{Plan, track_count, grant, is_root}
 use Rattle.rules.specs.Acceptance.{most_grants, most_rights, names_no_root, repeats_pair, bad_grant}
@@ -20,14 +13,6 @@ use Rattle.plan_grants.specs.Pairs.{Pair, is_among}
 -- the rights are no sum of 1 to 7
 unfoldable pub rights_bad : ℕ → Bool
 rights_bad rights = eqb rights 0 || ltb most_rights rights
-
-pub above_most : (rights : ℕ) → 7 < rights → rights_bad rights ≡ true
-unfolding rights_bad
-above_most rights l = or_right (eqb rights 0) (ltb most_rights rights) (lt-ltb 7 rights l)
-
-pub by_none : (rights : ℕ) → rights ≤ 7 → rights_bad rights ≡ eqb rights 0
-unfolding rights_bad
-by_none rights l = rw (le-ltb 7 rights l) (or-false (eqb rights 0))
 
 -- a search of the list, r being whether the number is among those looked at
 module _ (l : List ℕ) (x : ℕ) where

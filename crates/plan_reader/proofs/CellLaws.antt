@@ -1,22 +1,16 @@
 -- Transitions with one source and one event have one key, so a walk along the chain of x meets every earlier transition with the source and the
 -- event of x, if there is one. Assumes nothing.
-use mathlib.Core.Path.{◌≡◌, refl, ap, ◌∙◌}
-use mathlib.Core.Bool.{Bool, true, false, ◌&&◌, and-false}
-use mathlib.Core.Logic.{⊎_elim}
-use mathlib.Core.List.{List}
-use Prim.Native.Nat.{ℕ, zero, suc, ◌+◌, ◌*◌, ◌-◌, ◌%◌, ◌<◌, ◌≤◌}
-use native.Mathlib.Nat.{eq-or-lt_of_le}
-use native.Mathlib.Omega.{arith}
-use lib.ListN.{get_or}
-use lib.Dec.{eqb, ltb}
-use borrow.Author.Tests.{eqb-true, eqb-false, ltb-true, ltb-false, eq-eqb, ne_eqb}
+use Rattle.std.proofs.Common.{◌≡◌, refl, sym, ◌∙◌, Bool, true, false, ◌&&◌, ⊎_elim, List, ℕ, suc, ◌+◌, ◌*◌, ◌%◌, ◌<◌, ◌≤◌, eq-or-lt_of_le, arith, get_or, eqb, ltb, eqb-true, ltb-true, ltb-false, eq-eqb, ne_eqb}
+use Rattle.std.proofs.Math.Bool.{and-false}
+use borrow.Author.Tests.{eqb-false}
 use Rattle.rules.specs.Fold.{some_below}
 use Rattle.rules.specs.Plan.{Plan, transition}
 use Rattle.rules.specs.Acceptance.{repeats_event}
 use Rattle.rules.proofs.Tests.{look, and_not}
 use Rattle.rules.proofs.Folds.{some_none}
-use Rattle.plan.specs.Chain.{last_below, has, Chained, ChainOf, cell}
-use Rattle.plan.proofs.ChainLaws.{last_most, last_passes, last_skips}
+use Rattle.plan.specs.Chain.{has, cell}
+use Rattle.plan.specs.Passes.{Last, Chains}
+use Rattle.plan.proofs.ChainLaws.{keyed}
 use Rattle.plan_reader.specs.Keys.{Step}
 
 module _ (p : Plan) where
@@ -41,11 +35,11 @@ module _ (p : Plan) where
   other_event x y h = rw (ne_eqb _ _ h) (and-false (eqb (transition p y).source (transition p x).source))
 
   -- told by source and event as one number
-  pub same_step : (x y a b : ℕ) → Step p x a → Step p y b → b ≡ a → shares x y ≡ true
+  same_step : (x y a b : ℕ) → Step p x a → Step p y b → b ≡ a → shares x y ≡ true
   same_step x y a b s r e =
       let h = s.number in let k = r.number in let m = s.source in let n = r.source in shared x y (omega arith) (omega arith)
 
-  pub other_step : (x y a b : ℕ) → Step p x a → Step p y b → (b ≡ a → ⊥) → shares x y ≡ false
+  other_step : (x y a b : ℕ) → Step p x a → Step p y b → (b ≡ a → ⊥) → shares x y ≡ false
   unfolding shares
   other_step x y a b s r e =
       and_not _ _
@@ -55,6 +49,11 @@ module _ (p : Plan) where
       let m = s.number in
       let n = r.number in
       e (omega arith))
+
+  pub by_step : (x y a b : ℕ) → Step p x a → Step p y b → eqb b a ≡ shares x y
+  by_step x y a b s r =
+      ⊎_elim (λ (q : eqb b a ≡ true). q ∙ sym (same_step x y a b s r (eqb-true b a q)))
+      (λ (q : eqb b a ≡ false). q ∙ sym (other_step x y a b s r (eqb-false b a q))) (look (eqb b a))
 
   pub cell_at : (x s e : ℕ) → s ≡ (transition p x).source → e ≡ (transition p x).event → (2 * s + e) % 256 ≡ cell p x
   unfolding cell
@@ -81,18 +80,18 @@ module _ (p : Plan) where
     pub behind : (z : ℕ) → y ≤ z → z < x → shares x z ≡ false
     pub same : (z : ℕ) → y ≡ suc z → cell p z ≡ cell p x
 
-  walk_at : (x m : ℕ) → m ≤ x → ((z : ℕ) → m ≤ z → z < x → shares x z ≡ false) → Walk x (last_below m (has (cell p) (cell p x)))
-  walk_at x m l h =
+  walk_at : (x m y : ℕ) → m ≤ x → ((z : ℕ) → m ≤ z → z < x → shares x z ≡ false) → Last m (has (cell p) (cell p x)) y → Walk x y
+  walk_at x m y l h w =
       record {
-        within = let q = last_most m (has (cell p) (cell p x)) in omega arith;
+        within = let q = w.within in omega arith;
         behind = λ z a b.
-            ⊎_elim (λ (k : ltb z m ≡ true). other_cell x z (last_skips m (has (cell p) (cell p x)) z a (ltb-true z m k)))
+            ⊎_elim (λ (k : ltb z m ≡ true). other_cell x z (w.none_after z a (ltb-true z m k)))
             (λ (k : ltb z m ≡ false). h z (ltb-false z m k) b) (look (ltb z m));
-        same = λ z e. unfold has in eqb-true _ _ (last_passes m (has (cell p) (cell p x)) z e);
+        same = λ z e. unfold has in eqb-true _ _ (w.passes z e);
       }
 
-  pub walk_start : (x y : ℕ) (next : List ℕ) → ChainOf (cell p) x y next → Walk x y
-  walk_start x y next c = rw c.start (walk_at x x (omega arith) (λ z a b. absurd (omega arith)))
+  pub walk_start : (x y : ℕ) → Last x (has (cell p) (cell p x)) y → Walk x y
+  walk_start x y = walk_at x x y (omega arith) (λ z a b. absurd (omega arith))
 
   pub walk_end : (x y : ℕ) → y ≡ 0 → Walk x y → repeats_event p x ≡ false
   walk_end x y e w = repeats_some x ∙ some_none x (shares x) (λ k lt. w.behind k (omega arith) lt)
@@ -102,22 +101,16 @@ module _ (p : Plan) where
     pub walk : Walk x n
     pub lower : n < y
 
-  pub walk_on : (x y n : ℕ) (next : List ℕ) → (y ≡ 0 → ⊥) → Walk x y → ((transition p (y - 1)).event ≡ (transition p x).event → ⊥)
-      → Chained (cell p) x next → n ≡ get_or next (y - 1) 0 → Onward x y n
-  unfolding Chained
-  walk_on x zero n next z w h c e = absurd (z refl)
-  walk_on x (suc y) n next z w h c e =
+  pub walk_on : (x y : ℕ) (last before : List ℕ) → Walk x (suc y) → ((transition p y).event ≡ (transition p x).event → ⊥)
+      → Chains (has (cell p)) 256 x last before → Onward x (suc y) (get_or before y 0)
+  walk_on x y last before w h c =
       let i = w.within in
-      let q : suc y - 1 ≡ y = omega arith in
-      let f : (transition p y).event ≡ (transition p x).event → ⊥ = λ k. h (rw q k) in
-      let m : n ≡ last_below y (has (cell p) (cell p x)) =
-      e ∙ rw q (c y (omega arith)) ∙ ap (λ (s : ℕ). last_below y (has (cell p) s)) (w.same y refl) in
-      let l = last_most y (has (cell p) (cell p x)) in
+      let l = c.links (cell p x) y (omega arith) (keyed (cell p) y (cell p x) (sym (w.same y refl))) in
+      let b = l.within in
       record {
         walk =
-            rw m
-            (walk_at x y (omega arith)
+            walk_at x y _ (omega arith)
             (λ v a b.
-            ⊎_elim (λ (k : y ≡ v). rw (← k) (other_event x y f)) (λ (k : y < v). w.behind v k b) (eq-or-lt_of_le a)));
+            ⊎_elim (λ (k : y ≡ v). rw (← k) (other_event x y h)) (λ (k : y < v). w.behind v k b) (eq-or-lt_of_le a)) l;
         lower = omega arith;
       }

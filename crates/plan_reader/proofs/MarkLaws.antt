@@ -1,24 +1,17 @@
 -- Events marked group by group, along the chain of a group: a mark that stands already tells a later transition with that source and event, and
 -- a chain whose marks were all new has no two with one event. In a group, the place of an event tells it. Assumes nothing.
-use mathlib.Core.Path.{◌≡◌, refl, sym, ap, ◌∙◌}
-use mathlib.Core.Bool.{true, false}
-use mathlib.Core.Logic.{⊎_elim}
-use mathlib.Core.List.{List}
-use Prim.Native.Nat.{ℕ, zero, suc, ◌+◌, ◌-◌, ◌%◌, ◌<◌, ◌≤◌}
-use native.Mathlib.Nat.{eq-or-lt_of_le}
-use native.Mathlib.Omega.{arith}
-use lib.ListN.{length, get_or, set, replicate, length-replicate, length-set}
-use lib.Seq.{get_or-set_same, get_or-set_other}
-use lib.Dec.{eqb, ltb}
-use borrow.Author.Tests.{eqb-true, eqb-false, ltb-true, ltb-false}
+use Rattle.std.proofs.Common.{◌≡◌, refl, sym, ap, ◌∙◌, true, false, ⊎_elim, List, ℕ, zero, suc, ◌+◌, ◌%◌, ◌<◌, ◌≤◌, eq-or-lt_of_le, arith, length, get_or, set, replicate, length-set, get_or-set_same, get_or-set_other, eqb, ltb, eqb-true, ltb-true, ltb-false}
+use Rattle.std.proofs.Math.ListN.{length-replicate}
+use borrow.Author.Tests.{eqb-false}
 use Rattle.rules.specs.Fold.{some_below}
 use Rattle.rules.specs.Plan.{Plan, transition}
 use Rattle.rules.specs.Acceptance.{repeats_event}
 use Rattle.rules.proofs.Tests.{look}
 use Rattle.rules.proofs.Folds.{some_at, some_none}
-use Rattle.plan.specs.Chain.{last_below, has, Chained}
+use Rattle.plan.specs.Chain.{has}
+use Rattle.plan.specs.Passes.{Last, Chains}
 use Rattle.plan_reader.specs.Keys.{group}
-use Rattle.plan.proofs.ChainLaws.{last_most, last_passes, last_skips}
+use Rattle.plan.proofs.ChainLaws.{keyed}
 use Rattle.plan_reader.proofs.CellLaws.{shares, repeats_some, shared, other_key}
 
 -- what stands at every place of a list after one was set
@@ -88,88 +81,80 @@ module _ (p : Plan) (n : ℕ) where
       })
 
   -- between the links of a chain nothing is of its group
-  between : (g m z : ℕ) → last_below m (has (group p) g) ≤ z → z < m → group p z ≡ g → ⊥
+  between : (g m y z : ℕ) → Last m (has (group p) g) y → y ≤ z → z < m → group p z ≡ g → ⊥
   unfolding has
-  between g m z a b = eqb-false _ _ (last_skips m (has (group p) g) z a b)
+  between g m y z w a b = eqb-false _ _ (w.none_after z a b)
 
-  linked : (g m z : ℕ) → last_below m (has (group p) g) ≡ suc z → group p z ≡ g
+  linked : (g m y z : ℕ) → Last m (has (group p) g) y → y ≡ suc z → group p z ≡ g
   unfolding has
-  linked g m z e = eqb-true _ _ (last_passes m (has (group p) g) z e)
+  linked g m y z w e = eqb-true _ _ (w.passes z e)
 
-  pub mark_start : (g y : ℕ) (marks : List ℕ) → Done g marks → y ≡ last_below n (has (group p) g) → Marked g y marks
-  mark_start g y marks d e =
-      rw e
-      (record {
+  pub mark_start : (g y : ℕ) (marks : List ℕ) → Done g marks → Last n (has (group p) g) y → Marked g y marks
+  mark_start g y marks d w =
+      record {
         size = d.size;
         most = λ k. let q = d.most k in omega arith;
         done = d.apart;
-        within = last_most n (has (group p) g);
-        same = linked g n;
-        seen = λ z a b q. absurd (between g n z a b q);
+        within = w.within;
+        same = λ z. linked g n y z w;
+        seen = λ z a b q. absurd (between g n y z w a b q);
         told = λ k q. let m = d.most k in absurd (omega arith);
-        apart = λ z w a b l q. absurd (between g n z (let m : last_below n (has (group p) g) ≤ z = omega arith in m) l q);
-      })
+        apart = λ z v a b l q. absurd (between g n y z w (let m : y ≤ z = omega arith in m) l q);
+      }
 
-  pub mark_found : (g y e : ℕ) (marks : List ℕ) → (y ≡ 0 → ⊥) → Marked g y marks → e ≡ place (y - 1) → (transition p (y - 1)).event < 65536
+  pub mark_found : (g y e : ℕ) (marks : List ℕ) → Marked g (suc y) marks → e ≡ place y → (transition p y).event < 65536
       → get_or marks e 0 ≡ g + 1 → some_below n (repeats_event p) ≡ true
-  mark_found g zero e marks z m q b h = absurd (z refl)
-  mark_found g (suc y) e marks z m q b h =
-      let l : suc y - 1 ≡ y = omega arith in
+  mark_found g y e marks m q b h =
       let (x, a, k, f, o, t) = m.told e h in
       some_at n (repeats_event p) x k
-      (repeats_some p x ∙ some_at x (shares p x) y a (both x y t (rw l at b) (m.same y refl ∙ sym f) (sym (rw l at q) ∙ sym o)))
+      (repeats_some p x ∙ some_at x (shares p x) y a (both x y t b (m.same y refl ∙ sym f) (sym q ∙ sym o)))
 
   pub record Step (g y v : ℕ) (marks : List ℕ) : Type 0 where
     pub marked : Marked g v marks
     pub lower : v < y
 
-  pub mark_on : (g y e v : ℕ) (marks next : List ℕ) → (y ≡ 0 → ⊥) → Marked g y marks → e ≡ place (y - 1) → (transition p (y - 1)).event < 65536
-      → (get_or marks e 0 ≡ g + 1 → ⊥) → e < 4096 → Chained (group p) n next → v ≡ get_or next (y - 1) 0 → Step g y v (set marks e (g + 1))
-  unfolding Chained
-  mark_on g zero e v marks next z m f t h b c d = absurd (z refl)
-  mark_on g (suc y) e v marks next z m f t h b c d =
-      let q : suc y - 1 ≡ y = omega arith in
-      let o : e ≡ place y = rw q at f in
+  pub mark_on : (g y e : ℕ) (marks last before : List ℕ) → Marked g (suc y) marks → e ≡ place y → (transition p y).event < 65536
+      → (get_or marks e 0 ≡ g + 1 → ⊥) → e < 4096 → Chains (has (group p)) 2048 n last before → Step g (suc y) (get_or before y 0) (set marks e (g + 1))
+  mark_on g y e marks last before m o t h b c =
       let i = m.within in
-      let l : v ≡ last_below y (has (group p) g) =
-      d ∙ rw q (c y (omega arith)) ∙ ap (λ (k : ℕ). last_below y (has (group p) k)) (m.same y refl) in
-      let k = last_most y (has (group p) g) in
-      record { marked = rw (l, o) (on (rw o at h) (rw o at b) (rw q at t)); lower = omega arith }
+      let l = c.links g y (omega arith) (keyed (group p) y g (sym (m.same y refl))) in
+      let k = l.within in
+      record { marked = rw o (on l (rw o at h) (rw o at b) t); lower = omega arith }
     where
-      on : (get_or marks (place y) 0 ≡ g + 1 → ⊥) → place y < 4096 → (transition p y).event < 65536
-          → Marked g (last_below y (has (group p) g)) (set marks (place y) (g + 1))
-      on h b t =
+      on : {v : ℕ} → Last y (has (group p) g) v → (get_or marks (place y) 0 ≡ g + 1 → ⊥) → place y < 4096 → (transition p y).event < 65536
+          → Marked g v (set marks (place y) (g + 1))
+      on {v} w h b t =
           let i = m.within in
           let j = m.size in
           let r : place y < length marks = omega arith in
-          let k = last_most y (has (group p) g) in
+          let k = w.within in
           record {
             size = length-set marks (place y) (g + 1) ∙ m.size;
             most = set_all (λ w. w ≤ g + 1) marks (place y) (g + 1) r (omega arith) m.most;
             done = m.done;
             within = omega arith;
-            same = linked g y;
+            same = λ z. linked g y v z w;
             seen = λ x a t u.
-                ⊎_elim (λ (q : ltb x y ≡ true). absurd (between g y x a (ltb-true x y q) u))
+                ⊎_elim (λ (q : ltb x y ≡ true). absurd (between g y v x w a (ltb-true x y q) u))
                 (λ (q : ltb x y ≡ false).
-                ⊎_elim (λ (w : y ≡ x). rw (← w) (get_or-set_same marks (place y) (g + 1) 0 r))
-                (λ (w : y < x). set_keeps marks (place y) (g + 1) (place x) r (m.seen x w t u)) (eq-or-lt_of_le (ltb-false x y q)))
+                ⊎_elim (λ (f : y ≡ x). rw (← f) (get_or-set_same marks (place y) (g + 1) 0 r))
+                (λ (f : y < x). set_keeps marks (place y) (g + 1) (place x) r (m.seen x f t u)) (eq-or-lt_of_le (ltb-false x y q)))
                 (look (ltb x y));
             told = λ d u.
                 ⊎_elim (λ (q : eqb d (place y) ≡ true). (y, k, i, m.same y refl, sym (eqb-true d _ q), t))
                 (λ (q : eqb d (place y) ≡ false).
                 let (x, a, f, o, s, e) = m.told d (sym (get_or-set_other marks (place y) d (g + 1) 0 (eqb-false d _ q)) ∙ u) in
-                (x, (let l : last_below y (has (group p) g) ≤ x = omega arith in l), f, o, s, e))
+                (x, (let l : v ≤ x = omega arith in l), f, o, s, e))
                 (look (eqb d (place y)));
-            apart = λ x w a t u d.
-                ⊎_elim (λ (q : ltb w y ≡ true). other_group x w (λ f. between g y w a (ltb-true w y q) (f ∙ d)))
-                (λ (q : ltb w y ≡ false).
+            apart = λ x z a t u d.
+                ⊎_elim (λ (q : ltb z y ≡ true). other_group x z (λ f. between g y v z w a (ltb-true z y q) (f ∙ d)))
+                (λ (q : ltb z y ≡ false).
                 ⊎_elim
-                (λ (f : y ≡ w).
-                let v : y < x = omega arith in
-                rw (← f) (other_place x y (λ (o : place y ≡ place x). h (ap (λ (b : ℕ). get_or marks b 0) o ∙ m.seen x v u d))))
-                (λ (f : y < w). m.apart x w f t u d) (eq-or-lt_of_le (ltb-false w y q)))
-                (look (ltb w y));
+                (λ (f : y ≡ z).
+                let e : y < x = omega arith in
+                rw (← f) (other_place x y (λ (o : place y ≡ place x). h (ap (λ (b : ℕ). get_or marks b 0) o ∙ m.seen x e u d))))
+                (λ (f : y < z). m.apart x z f t u d) (eq-or-lt_of_le (ltb-false z y q)))
+                (look (ltb z y));
           }
 
   pub mark_end : (g y : ℕ) (marks : List ℕ) → y ≡ 0 → Marked g y marks → Done (g + 1) marks

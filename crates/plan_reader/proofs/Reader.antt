@@ -1,10 +1,6 @@
 -- The reading of a plan, in the reader's steps: the scan, then refusals 8 to 16, 25 and 27 in order. An accepted plan stands in its bytes.
 -- Assumes nothing.
-use mathlib.Core.Path.{◌≡◌, refl, ap, ◌∙◌}
-use mathlib.Core.Bool.{cond}
-use mathlib.Core.List.{List}
-use Prim.Native.Nat.{ℕ, zero, suc}
-use native.Mathlib.Omega.{arith}
+use Rattle.std.proofs.Common.{◌≡◌, refl, ap, ◌∙◌, cond, List, ℕ, zero, suc, arith}
 use Rattle.rules.specs.declared.Counts.{Counts}
 use Rattle.rules.specs.Fold.{some_below, first_refusal}
 use Rattle.rules.specs.Record.{Scan, refused, counted, scan}

@@ -1,20 +1,12 @@
 -- Runs of like records: where the kinds rise and the limits allow it, each record of a run passes, so the scan from after a run is the scan from
 -- before it, by induction on its length; and a run of each kind with the end record after them is counted. Assumes nothing.
-use mathlib.Core.Path.{◌≡◌, refl, sym, ◌∙◌}
-use mathlib.Core.Bool.{Bool, true, false, cond, ◌||◌}
-use mathlib.Core.Logic.{⊎_elim}
-use mathlib.Core.List.{List}
-use Prim.Native.Nat.{ℕ, zero, suc, ◌+◌, ◌*◌, ◌-◌, ◌/◌, ◌<◌, ◌≤◌}
-use native.Mathlib.Nat.{eq-or-lt_of_le, not-suc-le-zero, mul-suc, mul-le-mul_left, div-add-mod}
-use native.Mathlib.Omega.{arith}
-use lib.ListN.{length}
-use lib.Dec.{eqb, ltb}
-use borrow.Author.Tests.{le-ltb, ne_eqb}
+use Rattle.std.proofs.Common.{◌≡◌, refl, sym, ◌∙◌, Bool, true, false, cond, ⊎_elim, List, ℕ, zero, suc, ◌+◌, ◌*◌, ◌-◌, ◌/◌, ◌<◌, ◌≤◌, eq-or-lt_of_le, not-suc-le-zero, mul-suc, mul-le-mul_left, arith, eqb}
+use Rattle.std.proofs.Math.Nat.{div-add-mod}
 use Rattle.rules.specs.declared.Counts.{Counts}
 use Rattle.rules.specs.Record.{length_of, rank_of, most_of, count_of, one_more, no_counts, end_kind, judge_record, counted, scan}
 use Rattle.plan_scan.specs.Scanned.{Stands}
 use Rattle.plan_scan.specs.RecordRuns.{Whole, Run, InRuns, EndsAfter}
-use Rattle.plan_scan.proofs.RecordTable.{in_words, table_0, table_0_end}
+use Rattle.plan_scan.proofs.RecordTable.{passes}
 use Rattle.plan_scan.proofs.Scanning.{scan_rest, start_stands, rest_start, rest_end, next}
 
 -- with so many more records of a kind
@@ -73,14 +65,10 @@ with_grants : (c : Counts) → c ≡ more_of (counts c.tracks c.states c.transit
 unfolding more_of
 with_grants c = more_counts _ _ _ _ _ _ _ _ _ _ (omega arith) (omega arith) (omega arith) (omega arith) (omega arith)
 
-pub run_place : (size at n here : ℕ) → here ≡ at + size * n → here + size ≡ at + size * (n + 1)
-run_place size at n here e = let q = mul-suc size n in omega arith
-
--- where more records have room from a place on, the next one ends within the bytes
-pub run_fits : (size at bytes room n here : ℕ) → at ≤ bytes → room ≤ (bytes - at) / size → n < room → here ≡ at + size * n → here + size ≤ bytes
-run_fits size at bytes room n here l r h e =
-    let q : size * (n + 1) ≤ size * ((bytes - at) / size) = mul-le-mul_left size (omega arith) in
-    omega (arith, div-add-mod (bytes - at) size, run_place size at n here e)
+-- as many records as there is room for from a place on end within the bytes
+pub run_fits : (size at bytes n : ℕ) → at ≤ bytes → n ≤ (bytes - at) / size → at + size * n ≤ bytes
+run_fits size at bytes n l r =
+    let q : size * n ≤ size * ((bytes - at) / size) = mul-le-mul_left size r in omega (arith, div-add-mod (bytes - at) size)
 
 pub head_parts : (a b s k : ℕ) → a < 65536 → s < 65536 → a + 65536 * b ≡ s + 65536 * k → (a ≡ s) × (b ≡ k)
 head_parts a b s k l m e = (omega arith, omega arith)
@@ -96,26 +84,13 @@ module _ (bs : List ℕ) where
   run_more kind at n here r e w i l =
       ⊎_elim (λ (q : i ≡ n). rw (q, ← e) w) (λ (q : i < n). r i q) (eq-or-lt_of_le (let m : i ≤ n = omega arith in m))
 
-  -- a record of a kind that does not fall
-  passes : (at last : ℕ) (c : Counts) (kind : ℕ) → Whole bs kind at → rank_of last ≤ rank_of kind → 4 ≤ length_of kind → (kind ≡ end_kind → ⊥)
-      → count_of c kind < most_of kind → judge_record bs at last c ≡ 0
-  passes at last c kind w r l n m =
-      let f = w.fits in
-      let u : false ≡ (eqb (length_of kind) 0 || ltb (rank_of kind) (rank_of last)) =
-      rw (ne_eqb (length_of kind) 0 (λ (z : length_of kind ≡ 0). absurd (omega arith)), le-ltb (rank_of kind) (rank_of last) r) refl in
-      in_words bs at last c false kind (length_of kind) (length_of kind) (most_of kind) (count_of c kind) (sym w.sort) refl u (sym w.long) refl refl
-      ∙ table_0 (length bs) at false kind (length_of kind) (length_of kind) (most_of kind) (count_of c kind) (omega arith) refl refl f m n
-
   -- an end record as the last
   end_passes : (c : Counts) (last : ℕ) → rank_of last ≤ 5 → EndsAfter bs c
       → judge_record bs (6 * c.tracks + 10 * c.states + 14 * c.transitions + 14 * c.windows + 10 * c.grants) last c ≡ 0
   unfolding length_of rank_of most_of count_of
   end_passes c last r e =
-      let at = 6 * c.tracks + 10 * c.states + 14 * c.transitions + 14 * c.windows + 10 * c.grants in
       let n = e.last in
-      let u : false ≡ (eqb (length_of end_kind) 0 || ltb (rank_of end_kind) (rank_of last)) = rw (le-ltb (rank_of end_kind) (rank_of last) (omega arith)) refl in
-      in_words bs at last c false end_kind 4 4 1 0 (sym e.end.sort) refl u (sym e.end.long) refl refl
-      ∙ table_0_end (length bs) at false end_kind 4 4 1 0 (omega arith) refl refl (omega arith) (omega arith) refl (omega arith)
+      passes bs _ last c end_kind e.end.sort (omega arith) (λ z. absurd (omega (arith, z))) (omega arith) e.end.long (omega arith) (omega arith) (λ q. omega arith)
 
   -- where the scan stands after some runs, the last of them of a kind of so low a rank
   record At (at rank : ℕ) (c : Counts) : Type 0 where
@@ -139,7 +114,8 @@ module _ (bs : List ℕ) where
       let p : at + length_of kind * 0 ≡ at = omega arith in
       let w : Whole bs kind at = rw p at (r 0 (omega arith)) in
       let i = s.rises in
-      let j = passes at s.last c kind w (omega arith) l e (rw (more_none c kind) at (m 0 (omega arith))) in
+      let g = w.fits in
+      let j = passes bs at s.last c kind w.sort (omega arith) (λ z. absurd (omega (arith, z))) (omega arith) w.long g (rw (more_none c kind) at (m 0 (omega arith))) (λ z. absurd (e z)) in
       let x = next bs at s.last c kind (length_of kind) (one_more c kind) j s.stands (sym w.sort) e refl refl in
       let o : Run bs kind (at + length_of kind) n = (λ i b. rw (← further i) at (r (suc i) (omega arith))) in
       let k : Room (one_more c kind) kind n = (λ i b. rw (more_first c kind i) (m (suc i) (omega arith))) in

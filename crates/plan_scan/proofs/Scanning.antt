@@ -1,13 +1,7 @@
 -- The scan without its count of visits: a record that passes leaves the scan as it was from the next place on, so the visits never run out.
 -- What was counted is within the limits, and is all that the bytes have. Assumes nothing.
-use mathlib.Core.Path.{◌≡◌, refl, sym, ap, ◌∙◌}
-use mathlib.Core.Bool.{Bool, true, false, not, ◌&&◌, ◌||◌}
-use mathlib.Core.List.{List}
-use Prim.Native.Nat.{ℕ, zero, suc, ◌+◌, ◌-◌, ◌<◌, ◌≤◌}
-use native.Mathlib.Omega.{arith}
-use lib.ListN.{length}
-use lib.Dec.{eqb, ltb, leb}
-use borrow.Author.Tests.{eqb-true, eqb-false, ltb-false, leb-false, lt-ltb, eq-eqb, ne_eqb, not-false}
+use Rattle.std.proofs.Common.{◌≡◌, refl, sym, ap, ◌∙◌, Bool, true, false, not, ◌&&◌, ◌||◌, List, ℕ, zero, suc, ◌+◌, ◌-◌, ◌<◌, ◌≤◌, arith, length, eqb, ltb, leb, eqb-true, ltb-false, leb-false, lt-ltb, eq-eqb, ne_eqb}
+use borrow.Author.Tests.{eqb-false, not-false}
 use Rattle.rules.specs.declared.Counts.{Counts}
 use Rattle.rules.specs.Fold.{first_refusal}
 use Rattle.rules.specs.Record.{size_at, kind_at, length_of, rank_of, most_of, count_of, one_more, no_counts, end_kind, judge_record, Scan, refused, counted, scan_from, scan}

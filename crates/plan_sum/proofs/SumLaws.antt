@@ -1,8 +1,8 @@
 -- The numbers from a place on, one, two or three of them taken off; and the sum as the loop makes it, of what is added so far and what is ahead in
 -- the four quarters. Keeping the former modulo 2 ^ 64 changes nothing, since 65,536 divides that. Assumes nothing.
 use Rattle.std.proofs.Common.{◌≡◌, ℕ, suc, ◌+◌, ◌*◌, ◌%◌, ◌^◌, ◌<◌, ◌≤◌, List, length, get_or, drop, ap, subst, add-one, arith, drop-cons}
-use native.Mathlib.Numerals.{add-two}
-use lib.Seq.{drop-length}
+use Rattle.std.proofs.Math.Numerals.{add-two}
+use Rattle.std.proofs.Math.Seq.{drop-length}
 use Rattle.rules.specs.Record.{word}
 use Rattle.rules.specs.Leading.{numbers_total, plan_sum}
 

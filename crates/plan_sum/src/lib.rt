@@ -9,7 +9,7 @@ ghost use Rattle.rules.specs.Leading.{numbers_total, plan_sum};
 fn number(low: u8, high: u8) -> u64
     ensures { (result ≡ low + 256 * high) × (result < 65536) }
 {
-    low as u64 + 256 * (high as u64)
+    u64::from(low) + 256 * u64::from(high)
 }
 
 // The numbers of a round's eight bytes, added up: one from each quarter of the plan. The next round's numbers stand right behind them, so that the
@@ -41,9 +41,10 @@ fn unpaired(plan: &[u8], at: usize) -> u64
     ensures { (result ≡ numbers_total (drop at plan.now)) × (result < 65536) }
 {
     if at < plan.len() {
-        return number(plan[at], 0);
+        number(plan[at], 0)
+    } else {
+        0
     }
-    0
 }
 
 // The numbers of a last 2, 4 or 6 bytes, or of none, added up with a byte behind them.
@@ -76,9 +77,9 @@ pub fn sum(plan: &[u8]) -> u16
     let mut sum: u64 = 0;
     let mut at: usize = 0;
     while at < quarter {
-        sum = std::num::wrapping_add_u64(sum, round(plan, quarter, at));
+        sum = sum.wrapping_add(round(plan, quarter, at));
         at += 2;
     }
-    let all = std::num::wrapping_add_u64(sum, last(plan, 4 * quarter));
+    let all = sum.wrapping_add(last(plan, 4 * quarter));
     (all % 65536) as u16
 }

@@ -1,16 +1,10 @@
 -- The test of refusal 25, part by part, in the order in which the code looks at a window, and the marks of the transitions that windows name.
 -- Assumes nothing.
-use mathlib.Core.Path.{◌≡◌, refl, sym, ap, ◌∙◌}
-use mathlib.Core.Logic.{⊎_elim}
-use mathlib.Core.Bool.{Bool, true, false, not, ◌||◌, or-false}
-use mathlib.Core.List.{List}
-use Prim.Native.Nat.{ℕ, zero, suc, ◌+◌, ◌<◌, ◌≤◌}
-use native.Mathlib.Omega.{arith}
-use lib.ListN.{length, get_or, set, replicate, length-set, length-replicate}
-use lib.Seq.{get_or-set_same, get_or-set_other}
-use lib.Dec.{eqb, leb}
+use Rattle.std.proofs.Common.{◌≡◌, refl, sym, ◌∙◌, ⊎_elim, Bool, true, false, not, ◌||◌, List, ℕ, zero, suc, ◌+◌, ◌<◌, ◌≤◌, arith, length, get_or, set, replicate, length-set, get_or-set_same, get_or-set_other, eqb, leb, eqb-true, le-leb, eq-eqb, ne_eqb}
+use Rattle.std.proofs.Math.Bool.{or-false}
+use Rattle.std.proofs.Math.ListN.{length-replicate}
 use lib.Signed.{mag, lt_z}
-use borrow.Author.Tests.{eqb-true, eqb-false, le-leb, lt-leb, eq-eqb, ne_eqb, not-true, not-false}
+use borrow.Author.Tests.{eqb-false, lt-leb}
 use Rattle.rules.specs.Names.{Day}
 use Rattle.rules.specs.Fold.{some_below}
 use Rattle.rules.specs.Day.{is_day}
@@ -18,25 +12,11 @@ use Rattle.rules.specs.Plan.{Plan, transition_count, window}
 use Rattle.rules.specs.Acceptance.{repeats_window, bad_window}
 use Rattle.rules.proofs.Tests.{look, or_right}
 use Rattle.rules.proofs.Folds.{some_more}
-use Rattle.signed.proofs.Integers.{rd, read_back, read_lt}
+use Rattle.signed.proofs.Integers.{rd, read_back}
 
 -- the days of a window
 unfoldable pub days_bad : Day → Day → Bool
 days_bad first last = lt_z last first || not (is_day first) || not (is_day last)
-
-module _ (first last : Day) (h : mag first < 2147483648) (k : mag last < 2147483648) where
-  pub ends_early : lt_z (rd last) (rd first) ≡ true → days_bad first last ≡ true
-  unfolding days_bad
-  ends_early t = rw (sym (read_lt last first k h) ∙ t)
-
-  module _ (t : lt_z (rd last) (rd first) ≡ false) (r : Bool) (e : r ≡ is_day (rd first)) where
-    pub first_out : not r ≡ true → days_bad first last ≡ true
-    unfolding days_bad
-    first_out g = rw (sym (read_lt last first k h) ∙ t, ap is_day (sym (read_back first h)) ∙ sym e ∙ not-true r g)
-
-    pub by_last : (s : Bool) → s ≡ is_day (rd last) → not r ≡ false → days_bad first last ≡ not s
-    unfolding days_bad
-    by_last s f g = rw (sym (read_lt last first k h) ∙ t, ap is_day (sym (read_back first h)) ∙ sym e ∙ not-false r g, ap is_day (sym (read_back last k)) ∙ sym f)
 
 module _ (p : Plan) where
   -- a window names the transition x

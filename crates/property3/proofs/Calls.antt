@@ -1,9 +1,6 @@
 -- Lists of calls as the code made them: of each call nothing is told but the reading of its own contract. They are histories, so property 3 and
 -- the bound on firings hold of them. Assumes nothing.
-use mathlib.Core.Path.{◌≡◌, subst}
-use mathlib.Core.Bool.{true}
-use mathlib.Core.List.{List, [], ◌∷◌}
-use Prim.Native.Nat.{ℕ, ◌*◌, ◌≤◌}
+use Rattle.std.proofs.Common.{◌≡◌, subst, true, List, [], ◌∷◌, ℕ, ◌*◌, ◌≤◌}
 use contract.Lifetimes.{Lfts}
 use denote.Triple.Clauses.{AtExit}
 use borrow.Fn.Kinds.{ended_of}

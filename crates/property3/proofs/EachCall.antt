@@ -1,10 +1,5 @@
 -- The calls made one after the other: what is done so far, with the reference run of the calls left, is the whole. Assumes nothing.
-use mathlib.Core.Path.{◌≡◌, refl, sym, ap, ap₂, ◌∙◌}
-use mathlib.Core.List.{List, [], ◌∷◌, ◌++◌, append_assoc, append-nil}
-use Prim.Native.Nat.{ℕ, suc, ◌+◌, ◌*◌, ◌/◌, ◌≤◌, ◌<◌}
-use native.Mathlib.Omega.{arith}
-use lib.ListN.{length, take, drop, get_or, length-drop, length-append, take-append-drop}
-use lib.Seq.{drop-cons, drop-drop, take_at, drop_at, length-take-le}
+use Rattle.std.proofs.Common.{◌≡◌, refl, sym, ap, ap₂, ◌∙◌, List, [], ◌∷◌, ◌++◌, append_assoc, append-nil, ℕ, suc, ◌+◌, ◌*◌, ◌/◌, ◌≤◌, ◌<◌, arith, length, take, drop, get_or, length-drop, length-append, take-append-drop, drop-cons, drop-drop, take_at, drop_at, length-take-le}
 use Rattle.rules.specs.Signed.{joined}
 use Rattle.rules.specs.Call.{Call, call_outcome}
 use Rattle.rules.specs.ReferenceRun.{words_from, answers_from}

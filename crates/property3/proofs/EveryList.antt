@@ -1,7 +1,5 @@
 -- Every list of calls has a history, from any words: what the rules answer to a call is an answer that the call can give. Assumes nothing.
-use mathlib.Core.Path.{◌≡◌, refl}
-use mathlib.Core.List.{List, [], ◌∷◌}
-use Prim.Native.Nat.{ℕ}
+use Rattle.std.proofs.Common.{◌≡◌, refl, List, [], ◌∷◌, ℕ}
 use Rattle.rules.specs.declared.EventAnswer.{EventAnswer}
 use Rattle.rules.specs.declared.SignalAnswer.{SignalAnswer}
 use Rattle.rules.specs.declared.FireAnswer.{FireAnswer}

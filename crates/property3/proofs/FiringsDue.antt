@@ -1,8 +1,6 @@
 -- What is known of a call of ready and of a call of entries, by their own promises: what ready answered is the outcome by the rules, and what entries handed
 -- back is the part by the rules. The theorems on the firings still due, which take both, are in FiringsExactly. Assumes nothing.
-use mathlib.Core.Path.{◌≡◌, sym, ap, ap₂, ◌∙◌}
-use mathlib.Core.List.{List, [], ◌∷◌}
-use Prim.Native.Nat.{ℕ}
+use Rattle.std.proofs.Common.{◌≡◌, sym, ap, ap₂, ◌∙◌, List, [], ◌∷◌, ℕ}
 use contract.Lifetimes.{Lfts}
 use denote.Triple.Clauses.{AtExit}
 use borrow.Fn.Kinds.{ended_of}

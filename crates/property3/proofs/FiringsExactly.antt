@@ -2,15 +2,11 @@
 -- a list of firings, each of them done, after which ready answers 0, has as many as entries were held, and there is such a list. "After a signal that
 -- turns every forward track" the entries are those that were held before it. Of each call nothing is told but its own promise: so words and answers are
 -- those of the reference run, and of that it is proved. Assumes nothing.
-use mathlib.Core.Path.{◌≡◌, sym, ap, ◌∙◌, subst}
-use mathlib.Core.Bool.{true}
-use mathlib.Core.List.{List, [], ◌∷◌}
-use Prim.Native.Nat.{ℕ, ◌+◌, ◌*◌, ◌<◌}
+use Rattle.std.proofs.Common.{◌≡◌, sym, ap, ◌∙◌, subst, true, List, [], ◌∷◌, ℕ, ◌+◌, ◌*◌, ◌<◌, length}
 use contract.Lifetimes.{Lfts}
 use denote.Triple.Clauses.{AtExit}
 use borrow.Fn.Kinds.{ended_of}
 use borrow.Fn.World.{ArgsD, ResD}
-use lib.ListN.{length}
 use Rattle.rules.specs.declared.Counts.{Counts}
 use Rattle.rules.specs.declared.BeginAnswer.TheVariants.{Begun}
 use Rattle.rules.specs.declared.SignalAnswer.TheVariants.{Turned}

@@ -1,9 +1,6 @@
 -- The claim about the books at the free books alone gives it at all books: there is a map from the free books to any others that keeps changes
 -- and retractions. So `SmallProperty3` and `Property3` say the same. Assumes nothing.
-use mathlib.Core.Path.{◌≡◌, refl, sym, ap, ◌∙◌}
-use mathlib.Core.Bool.{true}
-use mathlib.Core.List.{List, [], ◌∷◌}
-use Prim.Native.Nat.{ℕ}
+use Rattle.std.proofs.Common.{◌≡◌, refl, sym, ap, ◌∙◌, true, List, [], ◌∷◌, ℕ}
 use Rattle.rules.specs.Plan.{Plan, track_count, transition, replacement}
 use Rattle.rules.specs.Ledger.{Ledger, ledger_at}
 use Rattle.rules.specs.Call.{Answer, refusal, done, Call, event, signal, fire, begin_outcome, call_outcome}

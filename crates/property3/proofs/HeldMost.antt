@@ -1,15 +1,11 @@
 -- "No history, whatever its days and rights, makes the track hold more", of calls as the code made them: after a begin that answered `Begun` and any
 -- calls under its plan, which has no deviation and no cycle, each track holds `largest` entries at most, which is the figure that the call on the plan
 -- alone shows, and what entries hands back of it has two words for each of them at most. The calls' own promises make the words those of the reference run, and of that it is proved. Assumes nothing.
-use mathlib.Core.Path.{◌≡◌, sym, ap, ap₂, ◌∙◌, subst}
-use mathlib.Core.List.{List}
-use Prim.Native.Nat.{ℕ, ◌*◌, ◌<◌, ◌≤◌}
-use native.Mathlib.Omega.{arith}
+use Rattle.std.proofs.Common.{◌≡◌, sym, ap, ap₂, ◌∙◌, subst, List, ℕ, ◌*◌, ◌<◌, ◌≤◌, arith, length, get_or}
 use contract.Lifetimes.{Lfts}
 use denote.Triple.Clauses.{AtExit}
 use borrow.Fn.Kinds.{ended_of}
 use borrow.Fn.World.{ArgsD, ResD}
-use lib.ListN.{length, get_or}
 use Rattle.rules.specs.declared.Counts.{Counts}
 use Rattle.rules.specs.declared.Terms.{Terms}
 use Rattle.rules.specs.declared.BeginAnswer.TheVariants.{Begun}

@@ -1,10 +1,7 @@
 -- Isolation, of calls as the code made them: two lists of calls after one begin that answered `Begun`, whose calls of one society are the same,
 -- gave that society the same answers; and ready and entries, called on what both left, give the same bits and the same parts under its roots. The
 -- calls' own promises make words and answers those of the reference run, and of that it is proved. Assumes nothing.
-use mathlib.Core.Path.{◌≡◌, sym, ap, ap₂, ◌∙◌, subst}
-use mathlib.Core.Bool.{true, false}
-use mathlib.Core.List.{List}
-use Prim.Native.Nat.{ℕ}
+use Rattle.std.proofs.Common.{◌≡◌, sym, ap, ap₂, ◌∙◌, subst, true, false, List, ℕ}
 use contract.Lifetimes.{Lfts}
 use denote.Triple.Clauses.{AtExit}
 use borrow.Fn.Kinds.{ended_of}

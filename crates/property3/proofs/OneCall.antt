@@ -1,20 +1,14 @@
--- One call: its own promise with its answer encoded, and the three words of the answer stored. Assumes nothing.
-use mathlib.Core.Path.{◌≡◌, refl, ap, ◌∙◌, subst}
-use mathlib.Core.List.{List, [], ◌∷◌, ◌++◌}
-use Prim.Native.Nat.{ℕ, zero, suc, ◌+◌, ◌≤◌}
-use native.Mathlib.Nat.{suc-add}
-use native.Mathlib.Omega.{arith}
-use lib.ListN.{length, take, drop, set}
-use borrow.Author.Tests.{ne_eqb, eq-eqb}
-use mir.Syntax.{w32}
-use mir.Val.{SFits, to_z, of_z}
+-- One call: its own promise with its answer encoded, and which call it is by the kind. Assumes nothing.
+use Rattle.std.proofs.Common.{inl, inr, ◌≡◌, ap, ◌∙◌, subst, List, ℕ, eqb, w32, SFits, to_z, of_z}
 use mir.ValLaws.{to_z-of_z}
 use Rattle.rules.specs.Names.{Day}
-use Rattle.rules.specs.Call.{Answer, Outcome, call_outcome, event_outcome, signal_outcome, fire_outcome, Meets}
+use Rattle.rules.specs.Call.{Answer, Outcome, Call, event, signal, fire, call_outcome, event_outcome, signal_outcome, fire_outcome, Meets}
 use Rattle.property3.specs.declared.EncodedAnswer.{EncodedAnswer}
 use Rattle.rules.specs.declared.Terms.{Terms}
-use Rattle.rules.specs.Journal.{event_kind, signal_kind}
-use Rattle.property3.specs.Encoding.{decoded_call, encoded_answer, encoded_words, CallMade}
+use Rattle.rules.proofs.Tests.{look}
+use Rattle.property3.specs.declared.Kind.{Kind}
+use Rattle.property3.specs.declared.Kind.TheVariants.{Signal, Fire, Event}
+use Rattle.property3.specs.Encoding.{kind_read, decoded_call, encoded_answer, encoded_words, CallMade}
 
 pub encoded : (o : Outcome) (told : Answer) (t : EncodedAnswer) (ws : List ℕ) → Meets o told ws → encoded_words t ≡ encoded_answer told → CallMade o t ws
 encoded o told t ws m e = record { answered = e ∙ ap encoded_answer m.answered; left = m.left }
@@ -30,27 +24,35 @@ module _ (terms : Terms) (bs ws : List ℕ) (t : EncodedAnswer) (ws' : List ℕ)
   on_read kind x o d e m = subst (λ z. CallMade (call_outcome terms bs ws (decoded_call kind x z o)) t ws') (to_z-of_z w32 day f ∙ e) m
 
 -- by the kind
+call_of : Kind → ℕ → Day → ℕ → Call
+call_of Event x day o = event (record { event = x; day = day; society = o })
+call_of Signal x day o = signal (record { society = o })
+call_of Fire x day o = fire (record { track = x; society = o })
+
+read_call : (kind x : ℕ) (day : Day) (o : ℕ) → decoded_call kind x day o ≡ call_of (kind_read kind) x day o
+unfolding decoded_call call_of
+read_call kind x day o =
+    elim (look (eqb kind 20)) [
+      | inl e ↦ rw e
+      | inr e ↦ elim (look (eqb kind 17)) [ inl f ↦ rw (e, f) | inr f ↦ rw (e, f) ]
+    ]
+
 module _ (terms : Terms) (bs ws : List ℕ) (kind x : ℕ) (day : Day) (o : ℕ) (t : EncodedAnswer) (ws' : List ℕ) where
-  pub made_event : kind ≡ event_kind → CallMade (event_outcome terms bs ws (record { event = x; day = day; society = o })) t ws'
+  made : (k : Kind) → k ≡ kind_read kind → CallMade (call_outcome terms bs ws (call_of k x day o)) t ws'
       → CallMade (call_outcome terms bs ws (decoded_call kind x day o)) t ws'
-  unfolding event_outcome decoded_call
-  made_event e m = rw (eq-eqb kind 20 e, decoded_call) m
+  made k e m = rw (read_call kind x day o, ← e) m
 
-  pub made_signal : (kind ≡ event_kind → ⊥) → kind ≡ signal_kind → CallMade (signal_outcome terms bs ws (record { society = o })) t ws'
+  pub made_event : Event ≡ kind_read kind → CallMade (event_outcome terms bs ws (record { event = x; day = day; society = o })) t ws'
       → CallMade (call_outcome terms bs ws (decoded_call kind x day o)) t ws'
-  unfolding signal_outcome decoded_call
-  made_signal e f m = rw (ne_eqb kind 20 e, eq-eqb kind 17 f, decoded_call) m
+  unfolding event_outcome call_of
+  made_event e m = made Event e m
 
-  pub made_fire : (kind ≡ event_kind → ⊥) → (kind ≡ signal_kind → ⊥) → CallMade (fire_outcome terms bs ws (record { track = x; society = o })) t ws'
+  pub made_signal : Signal ≡ kind_read kind → CallMade (signal_outcome terms bs ws (record { society = o })) t ws'
       → CallMade (call_outcome terms bs ws (decoded_call kind x day o)) t ws'
-  unfolding fire_outcome decoded_call
-  made_fire e f m = rw (ne_eqb kind 20 e, ne_eqb kind 17 f, decoded_call) m
+  unfolding signal_outcome call_of
+  made_signal e m = made Signal e m
 
--- three words stored one by one
-pub stored : (out : List ℕ) (at a b d : ℕ) → at + 3 ≤ length out
-    → set (set (set out at a) (at + 1) b) (at + 2) d ≡ take at out ++ (a ∷ b ∷ d ∷ drop (at + 3) out)
-stored [] at a b d h = absurd (omega arith)
-stored (x ∷ []) zero a b d h = absurd (omega arith)
-stored (x ∷ y ∷ []) zero a b d h = absurd (omega arith)
-stored (x ∷ y ∷ z ∷ out) zero a b d h = refl
-stored (x ∷ out) (suc at) a b d h = rw (suc-add at 1, suc-add at 2, suc-add at 3) (ap (λ (l : List ℕ). x ∷ l) (stored out at a b d (omega arith)))
+  pub made_fire : Fire ≡ kind_read kind → CallMade (fire_outcome terms bs ws (record { track = x; society = o })) t ws'
+      → CallMade (call_outcome terms bs ws (decoded_call kind x day o)) t ws'
+  unfolding fire_outcome call_of
+  made_fire e m = made Fire e m

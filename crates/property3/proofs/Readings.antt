@@ -1,8 +1,6 @@
 -- Each call's contract, as the checker reads it off the source of `manager`, says what `call_outcome` says: its answer as the paper tells it, and
 -- every lent word. Weaken a contract there, and its line here is refused. Assumes nothing.
-use mathlib.Core.Path.{sym, subst}
-use mathlib.Core.List.{List}
-use Prim.Native.Nat.{ℕ}
+use Rattle.std.proofs.Common.{sym, subst, List, ℕ}
 use contract.Lifetimes.{Lfts}
 use denote.Triple.Clauses.{AtExit}
 use borrow.Fn.Kinds.{ended_of}

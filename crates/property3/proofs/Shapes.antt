@@ -1,7 +1,5 @@
 -- What the rules answer to a call is a refusal or as many figures as that call has. Assumes nothing.
-use mathlib.Core.Path.{◌≡◌, refl}
-use mathlib.Core.List.{List, ◌++◌}
-use Prim.Native.Nat.{ℕ, zero, suc}
+use Rattle.std.proofs.Common.{◌≡◌, refl, List, ◌++◌, ℕ, zero, suc}
 use Rattle.rules.specs.Fold.{first_refusal}
 use Rattle.rules.specs.Plan.{Plan, track_count, plan_of}
 use Rattle.rules.specs.Acceptance.{Reading, turned_back, accepted, read_plan}

@@ -1,11 +1,5 @@
 -- What `run_calls` promises, in each of its three cases: no room, a begin refused, a begin accepted. Assumes nothing.
-use mathlib.Core.Path.{◌≡◌, refl, sym, ap, ◌∙◌}
-use mathlib.Core.Logic.{◌⊎◌, inl, inr}
-use mathlib.Core.List.{List, [], ◌++◌}
-use Prim.Native.Nat.{ℕ, zero, suc, ◌/◌, ◌≤◌, ◌<◌}
-use native.Mathlib.Omega.{arith}
-use lib.ListN.{length, drop}
-use borrow.Author.Tests.{ltb-true, ltb-false}
+use Rattle.std.proofs.Common.{◌≡◌, refl, sym, ap, ◌∙◌, ◌⊎◌, inl, inr, List, [], ◌++◌, ℕ, zero, suc, ◌/◌, ◌≤◌, ◌<◌, arith, length, drop, ltb-true, ltb-false}
 use Rattle.rules.proofs.Tests.{look}
 use Rattle.rules.specs.declared.BeginAnswer.{BeginAnswer}
 use Rattle.rules.specs.declared.BeginAnswer.TheVariants as begin

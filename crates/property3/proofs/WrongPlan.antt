@@ -1,8 +1,6 @@
 -- Calls under the wrong plan, as the code made them: after a begin that answered `Begun` and any calls under its plan, a call under a plan that
 -- differs in length or in sum, with no more tracks, is answered 24 and leaves every word; entries hands back the empty part. Assumes nothing.
-use mathlib.Core.Path.{◌≡◌, sym, ap, ap₂, ◌∙◌, subst}
-use mathlib.Core.List.{List, [], ◌∷◌}
-use Prim.Native.Nat.{ℕ, ◌≤◌}
+use Rattle.std.proofs.Common.{◌≡◌, sym, ap, ap₂, ◌∙◌, subst, List, [], ◌∷◌, ℕ, ◌≤◌}
 use contract.Lifetimes.{Lfts}
 use denote.Triple.Clauses.{AtExit}
 use borrow.Fn.Kinds.{ended_of}

@@ -6,6 +6,8 @@ use Rattle.rules.specs.Call.{Answer, refusal, done, Outcome, Call, event, signal
 use Rattle.rules.specs.Journal.{event_kind, signal_kind, fire_kind}
 use Rattle.rules.specs.Isolation.{society_of}
 use Rattle.property3.specs.declared.EncodedAnswer.{EncodedAnswer}
+use Rattle.property3.specs.declared.Kind.{Kind}
+use Rattle.property3.specs.declared.Kind.TheVariants.{Signal, Fire, Event}
 
 -- A call is its kind, the journal's, its argument, an event's or a track's, an event's day, low word first, and the society; 0 stands where there is
 -- no argument or day.
@@ -27,6 +29,10 @@ day_of (fire a) = pos 0
 unfoldable pub encoded_calls : List Call → List ℕ
 encoded_calls [] = []
 encoded_calls (c ∷ cs) = kind_of c ∷ argument_of c ∷ low_word (day_of c) ∷ high_word (day_of c) ∷ society_of c ∷ encoded_calls cs
+
+-- the kind that a word stands for: one that is neither an event's nor a signal's is a firing's
+abbrev pub kind_read : ℕ → Kind
+kind_read word = cond (eqb word event_kind) Event (cond (eqb word signal_kind) Signal Fire)
 
 -- and back: a kind that is neither an event's nor a signal's is a firing
 unfoldable pub decoded_call : ℕ → ℕ → Day → Society → Call

@@ -2,9 +2,10 @@
 // list. A call is five words, its kind as in a journal, its argument, an event's day and the society; its answer is three.
 #![tactic(auto)]
 
-ghost use Rattle.std.specs.Prelude.{◌≡◌, ◌++◌, ◌+◌, ◌≤◌, length, take, drop};
+ghost use Rattle.std.specs.Prelude.{◌≡◌, [], ◌∷◌, ◌++◌, ◌+◌, ◌≤◌, length, take, drop};
 ghost use Rattle.rules.specs.Call.{call_outcome, event_outcome, signal_outcome, fire_outcome};
-ghost use Rattle.property3.specs.Encoding.{decoded_call, encoded_words, answer_room, CallMade};
+ghost use Rattle.rules.specs.Answers.{event_told, signal_told, fire_told};
+ghost use Rattle.property3.specs.Encoding.{kind_read, decoded_call, encoded_answer, encoded_words, answer_room, CallMade};
 ghost use Rattle.property3.specs.CallsRun.{CallsMade, CallsRun};
 
 use rules::{BeginAnswer, EventAnswer, FireAnswer, SignalAnswer, Terms};
@@ -14,12 +15,28 @@ pub const CALL_WIDTH: usize = 5;
 
 pub const ANSWER_WIDTH: usize = 3;
 
-// The journal's kinds. A kind that is neither an event's nor a signal's is a firing.
-pub const EVENT: u16 = 20;
+// What a call is, told by the journal's kinds.
+#[derive(Clone, Copy, PartialEq, Eq)]
+pub enum Kind {
+    Signal = 17,
+    Fire = 18,
+    Event = 20,
+}
 
-pub const SIGNAL: u16 = 17;
+// A word that is neither an event's nor a signal's is a firing's.
+impl From<u16> for Kind {
+    ghost from_gives = { λ word kind. kind ≡ kind_read word };
 
-pub const FIRE: u16 = 18;
+    fn from(word: u16) -> Kind {
+        if word == Kind::Event as u16 {
+            return Kind::Event;
+        }
+        if word == Kind::Signal as u16 {
+            return Kind::Signal;
+        }
+        Kind::Fire
+    }
+}
 
 // The begin was accepted and the calls were made; or the begin's refusal; or too few words for the answers, and nothing was done.
 #[derive(Clone, Copy)]
@@ -37,13 +54,62 @@ struct EncodedAnswer {
     second: u16,
 }
 
-fn encoded_refusal(n: u8) -> EncodedAnswer
-    ensures { result ≡ record { refusal = n; first = 0; second = 0 } }
+// A refusal without figures, and figures without a refusal.
+#[tactic(auto, unfolding(crate::specs::Encoding::encoded_words))]
+fn refused(n: u8) -> EncodedAnswer
+    ensures { encoded_words result ≡ n ∷ 0 ∷ 0 ∷ [] }
 {
     EncodedAnswer {
-        refusal: n as u16,
+        refusal: u16::from(n),
         first: 0,
         second: 0,
+    }
+}
+
+#[tactic(auto, unfolding(crate::specs::Encoding::encoded_words))]
+fn accepted(first: u16, second: u16) -> EncodedAnswer
+    ensures { encoded_words result ≡ 0 ∷ first ∷ second ∷ [] }
+{
+    EncodedAnswer {
+        refusal: 0,
+        first,
+        second,
+    }
+}
+
+impl From<EventAnswer> for EncodedAnswer {
+    ghost from_gives = { λ answer told. encoded_words told ≡ encoded_answer (event_told answer) };
+
+    #[tactic(auto, unfolding(crate::specs::Encoding::encoded_answer, rules::specs::Answers::event_told))]
+    fn from(answer: EventAnswer) -> EncodedAnswer {
+        match answer {
+            EventAnswer::Refused(n) => refused(n),
+            EventAnswer::Moved(moved, closed) => accepted(moved, closed),
+        }
+    }
+}
+
+impl From<SignalAnswer> for EncodedAnswer {
+    ghost from_gives = { λ answer told. encoded_words told ≡ encoded_answer (signal_told answer) };
+
+    #[tactic(auto, unfolding(crate::specs::Encoding::encoded_answer, rules::specs::Answers::signal_told))]
+    fn from(answer: SignalAnswer) -> EncodedAnswer {
+        match answer {
+            SignalAnswer::Refused(n) => refused(n),
+            SignalAnswer::Turned(turned) => accepted(turned, 0),
+        }
+    }
+}
+
+impl From<FireAnswer> for EncodedAnswer {
+    ghost from_gives = { λ answer told. encoded_words told ≡ encoded_answer (fire_told answer) };
+
+    #[tactic(auto, unfolding(crate::specs::Encoding::encoded_answer, rules::specs::Answers::fire_told))]
+    fn from(answer: FireAnswer) -> EncodedAnswer {
+        match answer {
+            FireAnswer::Refused(n) => refused(n),
+            FireAnswer::Fired(code, deviation) => accepted(code, deviation),
+        }
     }
 }
 
@@ -58,29 +124,15 @@ fn make_event(
     ensures { CallMade (event_outcome terms plan.now ledger.old (record { event = name; day = day; society = society }))
         result ledger.new }
 {
-    let answer = manager::calls::event(terms, plan, &mut ledger[..], name, day, society);
-    match answer {
-        EventAnswer::Refused(n) => encoded_refusal(n),
-        EventAnswer::Moved(moved, closed) => EncodedAnswer {
-            refusal: 0,
-            first: moved,
-            second: closed,
-        },
-    }
+    let answer = manager::calls::event(terms, plan, ledger, name, day, society);
+    EncodedAnswer::from(answer)
 }
 
 fn make_signal(terms: Terms, plan: &[u8], ledger: &mut [u16], society: u16) -> EncodedAnswer
     ensures { CallMade (signal_outcome terms plan.now ledger.old (record { society = society })) result ledger.new }
 {
-    let answer = manager::calls::signal(terms, plan, &mut ledger[..], society);
-    match answer {
-        SignalAnswer::Refused(n) => encoded_refusal(n),
-        SignalAnswer::Turned(turned) => EncodedAnswer {
-            refusal: 0,
-            first: turned,
-            second: 0,
-        },
-    }
+    let answer = manager::calls::signal(terms, plan, ledger, society);
+    EncodedAnswer::from(answer)
 }
 
 fn make_fire(
@@ -93,15 +145,8 @@ fn make_fire(
     ensures { CallMade (fire_outcome terms plan.now ledger.old (record { track = track; society = society }))
         result ledger.new }
 {
-    let answer = manager::calls::fire(terms, plan, &mut ledger[..], track, society);
-    match answer {
-        FireAnswer::Refused(n) => encoded_refusal(n),
-        FireAnswer::Fired(code, deviation) => EncodedAnswer {
-            refusal: 0,
-            first: code,
-            second: deviation,
-        },
-    }
+    let answer = manager::calls::fire(terms, plan, ledger, track, society);
+    EncodedAnswer::from(answer)
 }
 
 // Makes the call that a kind, an argument, a day and a society stand for.
@@ -116,22 +161,20 @@ fn make_call(
 ) -> EncodedAnswer
     ensures { CallMade (call_outcome terms plan.now ledger.old (decoded_call kind argument day society)) result ledger.new }
 {
-    if kind == EVENT {
-        return make_event(terms, plan, &mut ledger[..], argument, day, society);
+    match Kind::from(kind) {
+        Kind::Event => make_event(terms, plan, ledger, argument, day, society),
+        Kind::Signal => make_signal(terms, plan, ledger, society),
+        Kind::Fire => make_fire(terms, plan, ledger, argument, society),
     }
-    if kind == SIGNAL {
-        return make_signal(terms, plan, &mut ledger[..], society);
-    }
-    make_fire(terms, plan, &mut ledger[..], argument, society)
 }
 
+#[tactic(auto, unfolding(crate::specs::Encoding::encoded_words))]
 fn write_answer(answers: &mut [u16], at: usize, told: EncodedAnswer)
     requires { at + 3 ≤ length answers.old }
     ensures { answers.new ≡ take at answers.old ++ (encoded_words told ++ drop (at + 3) answers.old) }
 {
-    answers[at] = told.refusal;
-    answers[at + 1] = told.first;
-    answers[at + 2] = told.second;
+    let words = [told.refusal, told.first, told.second];
+    answers[at..at + ANSWER_WIDTH].copy_from_slice(&words);
 }
 
 // Makes the calls, one after the other, and writes their answers.
@@ -140,18 +183,15 @@ fn make_calls(terms: Terms, plan: &[u8], ledger: &mut [u16], calls: &[u16], answ
     ensures { CallsMade terms plan.now ledger.old calls.now answers.old
         ledger.new answers.new }
 {
-    let count = calls.len() / CALL_WIDTH;
-    let mut i: usize = 0;
-    while i < count {
+    for i in 0..calls.len() / CALL_WIDTH {
         let kind = calls[CALL_WIDTH * i];
         let argument = calls[CALL_WIDTH * i + 1];
         let low = calls[CALL_WIDTH * i + 2];
         let high = calls[CALL_WIDTH * i + 3];
         let day = words::join(low, high);
         let society = calls[CALL_WIDTH * i + 4];
-        let told = make_call(terms, plan, &mut ledger[..], kind, argument, day, society);
-        write_answer(&mut answers[..], ANSWER_WIDTH * i, told);
-        i += 1;
+        let told = make_call(terms, plan, ledger, kind, argument, day, society);
+        write_answer(answers, ANSWER_WIDTH * i, told);
     }
 }
 
@@ -169,11 +209,10 @@ pub fn run_calls(
     if answers.len() / ANSWER_WIDTH < calls.len() / CALL_WIDTH {
         return CallsAnswer::NoRoom;
     }
-    let answer = manager::calls::begin(terms, plan, &mut ledger[..]);
-    match answer {
+    match manager::calls::begin(terms, plan, ledger) {
         BeginAnswer::Refused(n) => CallsAnswer::Refused(n),
         BeginAnswer::Begun => {
-            make_calls(terms, plan, &mut ledger[..], calls, &mut answers[..]);
+            make_calls(terms, plan, ledger, calls, answers);
             CallsAnswer::Begun
         }
     }

@@ -1,8 +1,6 @@
 -- A checked ledger stays checked: begin and every call leave words that hold a day and a ledger of the rules, and those pass the checks.
 -- Assumes nothing.
-use mathlib.Core.Path.{◌≡◌, sym, ap, ◌∙◌, subst}
-use mathlib.Core.List.{List, []}
-use Prim.Native.Nat.{ℕ}
+use Rattle.std.proofs.Common.{◌≡◌, sym, ap, ◌∙◌, subst, List, [], ℕ}
 use Rattle.rules.specs.declared.Counts.{Counts}
 use Rattle.rules.specs.Names.{Day}
 use Rattle.rules.specs.declared.Terms.{Terms}

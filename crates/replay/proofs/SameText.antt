@@ -1,8 +1,6 @@
 -- The text does not depend on the words beyond the plan's tracks: two ledgers that hold the same are answered alike, and hold the same
 -- after each call. Assumes nothing.
-use mathlib.Core.Path.{◌≡◌, refl, sym, ap, ◌∙◌}
-use mathlib.Core.List.{List, ◌++◌}
-use Prim.Native.Nat.{ℕ, zero, suc, ◌+◌}
+use Rattle.std.proofs.Common.{◌≡◌, refl, sym, ap, ◌∙◌, List, ◌++◌, ℕ, zero, suc, ◌+◌}
 use Rattle.rules.specs.declared.Counts.{Counts}
 use Rattle.rules.specs.Names.{Day}
 use Rattle.rules.specs.declared.Terms.{Terms}

@@ -1,5 +1,5 @@
 -- What one record does: its call's words, its line, its figures in the tally. Assumes nothing.
-use Rattle.std.specs.Prelude.{◌≡◌, Bool, true, false, cond, List, ◌++◌, ℕ, ◌+◌, ◌*◌, ◌<◌, ◌≤◌, ◌^◌, length}
+use Rattle.std.specs.Prelude.{◌≡◌, Bool, true, false, cond, ◌++◌, ℕ, ◌+◌, ◌*◌, ◌<◌, ◌≤◌, ◌^◌, length}
 use Rattle.rules.specs.Names.{Bytes, Words, Place}
 use Rattle.rules.specs.declared.Counts.{Counts}
 use Rattle.rules.specs.Fold.{sum_below}
@@ -12,6 +12,7 @@ use Rattle.lookup.specs.Figures.{Figures}
 use Rattle.transition_index.specs.Indexed.{Indexed}
 use Rattle.journal.specs.Records.{call_of}
 use Rattle.journal.specs.Writing.{Wrote, Lined, line_room}
+use Rattle.replay.specs.declared.carry_out.PlanTables.{PlanTables}
 use Rattle.replay.specs.declared.carry_out.Progress.{Progress}
 use Rattle.rules.specs.declared.Terms.{Terms}
 
@@ -26,9 +27,9 @@ pub record Prepared (terms : Terms) (bs : Bytes) (c : Counts) (ws : Words) (out 
   pub few : from.tally.fired + 1 < 2 ^ 32
 
 -- What is read of the plan once: the first state of each track, and the index of its transitions.
-pub record Tables (bs : Bytes) (c : Counts) (firsts head next : List ℕ) : Type 0 where
-  pub started : Figures 0 firsts c.tracks (first_state (plan_of bs c))
-  pub indexed : Indexed bs c head next
+pub record Tables (bs : Bytes) (c : Counts) (t : PlanTables) : Type 0 where
+  pub started : Figures 0 t.firsts c.tracks (first_state (plan_of bs c))
+  pub indexed : Indexed bs c t.index.chains.last t.index.chains.before
 
 -- The place is reached, and the tally has n firings more and the ledger's entries.
 pub record CameTo (terms : Terms) (c : Counts) (ws : Words) (from : Progress) (end : Place) (n : ℕ) (next : Progress) : Type 0 where

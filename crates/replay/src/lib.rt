@@ -6,7 +6,7 @@ pub mod records;
 
 ghost use Rattle.std.specs.Prelude.{◌≡◌, ◌+◌, ◌*◌, ◌≤◌, length};
 ghost use Rattle.rules.specs.Transcript.{most_bytes};
-ghost use Rattle.ledger.specs.Ladder.{Lent};
+ghost use Rattle.ledger.specs.Ladder.{IsLent};
 ghost use Rattle.replay.specs.Runs.{text_room, run_outcome, Ran, RanPlan};
 
 use crate::records::run_records;
@@ -14,7 +14,8 @@ use journal::lines::{plan_line, refusal_line};
 use ledger::layout;
 use ledger::setting::MAIN_TRACK_WIDTH;
 use opening::firsts;
-use rules::{Counts, PlanAnswer, Terms};
+use plan::Plan;
+use rules::{Refusal, Terms};
 
 // The most bytes of a plan or a journal.
 pub const MOST_BYTES: usize = 32768;
@@ -53,29 +54,19 @@ pub fn text_room(journal: &[u8]) -> usize
 // Begins, and writes the lines of an accepted plan. Answers how many bytes were written.
 fn run_plan(
     terms: Terms,
-    plan: &[u8],
-    c: Counts,
+    plan: &Plan,
     journal: &[u8],
     ledger: &mut [u16],
     output: &mut [u8],
 ) -> usize
-    requires { Lent terms plan.now c ledger.old × (length journal.now ≤ most_bytes) × (6 * length journal.now + 72 ≤ length output.old) }
-    ensures { RanPlan terms plan.now journal.now c
+    requires { IsLent terms plan.now.records ledger.old × (length journal.now ≤ most_bytes) × (6 * length journal.now + 72 ≤ length output.old) }
+    ensures { RanPlan terms plan.now.records.bytes.now journal.now plan.now.records.counts
         ledger.old output.old ledger.new output.new result }
 {
-    let start = plan_line(&mut output[..], 0, c);
-    let firsts = firsts::first_states(plan, c);
-    opening::begin::begin_all(terms, plan, c, &mut ledger[..], &firsts);
-    run_records(
-        terms,
-        plan,
-        c,
-        journal,
-        &mut ledger[..],
-        &mut output[..],
-        start,
-        &firsts,
-    )
+    let start = plan_line(output, 0, plan.records.counts);
+    let firsts = firsts::first_states(plan);
+    opening::begin::begin_all(terms, plan, ledger, &firsts);
+    run_records(terms, plan, journal, ledger, output, start, &firsts)
 }
 
 // Writes the text of a plan and a journal into the output. Where the output or the ledger is too small, nothing is written.
@@ -93,21 +84,17 @@ pub fn run(
     if output.len() < room {
         return RunAnswer::TooSmall(room);
     }
-    if !layout::has_room(terms, &ledger[..], MOST_TRACKS) {
+    if !layout::has_room(terms, ledger, MOST_TRACKS) {
         return RunAnswer::ShortLedger;
     }
     if MOST_BYTES < plan.len() {
-        return RunAnswer::Written(refusal_line(&mut output[..], 0, 1));
+        return RunAnswer::Written(refusal_line(output, 0, Refusal::TooLong as u8));
     }
     if MOST_BYTES < journal.len() {
-        return RunAnswer::Written(refusal_line(&mut output[..], 0, 1));
+        return RunAnswer::Written(refusal_line(output, 0, Refusal::TooLong as u8));
     }
-    let answer = plan_reader::read_plan(plan);
-    match answer {
-        PlanAnswer::Refused(n) => RunAnswer::Written(refusal_line(&mut output[..], 0, n)),
-        PlanAnswer::Accepted(c) => {
-            let n = run_plan(terms, plan, c, journal, &mut ledger[..], &mut output[..]);
-            RunAnswer::Written(n)
-        }
+    match plan_reader::read(plan) {
+        Err(refusal) => RunAnswer::Written(refusal_line(output, 0, refusal.number())),
+        Ok(read) => RunAnswer::Written(run_plan(terms, &read, journal, ledger, output)),
     }
 }

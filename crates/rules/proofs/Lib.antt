@@ -3,6 +3,7 @@ pub mod SettingLaws
 pub mod Tests
 pub mod Modes
 pub mod Folds
+pub mod Ranges
 pub mod Counting
 pub mod Windows
 pub mod Grants

@@ -1,5 +1,6 @@
 -- Document 01, as the requests amend it, as definitions in its order: the plan file, the ledger, what each call does, refusals, the program, property 3, isolation, the largest number of entries, the firings still due.
 pub mod Names
+pub mod Refusals
 pub mod Fold
 pub mod Signed
 pub mod Day

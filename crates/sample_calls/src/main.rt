@@ -2,15 +2,21 @@
 // its two figures.
 #![tactic(auto)]
 
-ghost use Rattle.std.specs.Prelude.{◌≡◌, ◌<◌, ◌≤◌, IfOk, length, take};
+ghost use Rattle.std.specs.Prelude.{◌≡◌, ◌≤◌, IfOk, length, take};
 
 use ledger::layout::LEADING_WORDS;
 use ledger::setting::{MAIN_TRACK_WIDTH, terms_of};
-use property3::{ANSWER_WIDTH, CALL_WIDTH, CallsAnswer, EVENT, FIRE, SIGNAL};
+use property3::{ANSWER_WIDTH, CALL_WIDTH, CallsAnswer, Kind};
 use rules::{Limit, Setting};
 use std::io::{self, Read};
 
 const COUNT: usize = 8;
+
+const EVENT: u16 = Kind::Event as u16;
+
+const SIGNAL: u16 = Kind::Signal as u16;
+
+const FIRE: u16 = Kind::Fire as u16;
 
 // "Journal: events 10, 11, 12, signal, four times kind 19", each event on day 0 and each call by society 1: the firings that kind 19 comes to; the last is refused.
 const CALLS: [u16; CALL_WIDTH * COUNT] = [
@@ -40,21 +46,9 @@ fn read_full<R: Read>(reader: &mut R, buffer: &mut [u8]) -> io::Result<usize>
     Ok(done)
 }
 
-fn print_word(rt: &impl Print, n: u16, end: &str) -> io::Result<()> {
-    print!(rt; "{n}{end}")
-}
-
-fn print_answer(rt: &impl Print, answers: &[u16; ANSWER_WIDTH * COUNT], i: usize) -> io::Result<()>
-    requires { i < 8 }
-{
-    print_word(rt, answers[ANSWER_WIDTH * i], " ")?;
-    print_word(rt, answers[ANSWER_WIDTH * i + 1], " ")?;
-    print_word(rt, answers[ANSWER_WIDTH * i + 2], "\n")
-}
-
-fn print_answers(rt: &impl Print, answers: &[u16; ANSWER_WIDTH * COUNT]) -> io::Result<()> {
-    for i in 0..COUNT {
-        print_answer(rt, answers, i)?;
+fn print_answers(rt: &impl Print, answers: &[u16]) -> io::Result<()> {
+    for words in answers.chunks_exact(ANSWER_WIDTH) {
+        println!(rt; "{} {} {}", words[0], words[1], words[2])?;
     }
     Ok(())
 }
@@ -71,9 +65,8 @@ fn main(rt: HostRuntime) -> io::Result<()> {
         &CALLS,
         &mut answers,
     );
-    match answer {
-        CallsAnswer::Begun => print_answers(&rt, &answers),
-        CallsAnswer::Refused(_) => Ok(()),
-        CallsAnswer::NoRoom => Ok(()),
+    if let CallsAnswer::Begun = answer {
+        print_answers(&rt, &answers)?;
     }
+    Ok(())
 }

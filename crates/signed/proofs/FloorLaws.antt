@@ -1,20 +1,11 @@
 -- Division rounded toward zero, as the machine has it, made into division rounded down: where the remainder is below zero, the quotient is one
 -- less and the divisor is added to the remainder. Below zero, -(a + 1) is divided by dividing a + 1, whose quotient and remainder are those of a
 -- but for one step. Assumes nothing.
-use mathlib.Core.Path.{◌≡◌, refl, sym, ap, ◌∙◌}
-use mathlib.Core.Logic.{◌⊎◌, inl, inr}
-use mathlib.Core.Bool.{Bool, true, false}
-use Prim.Native.Nat.{ℕ, zero, suc, ◌+◌, ◌-◌, ◌*◌, ◌/◌, ◌%◌, ◌<◌, ◌≤◌}
-use native.Mathlib.Nat.{div-add-mod', mod-lt, div-le_self, suc-mul, add-mul, div-lt_iff_lt-mul, add-mul-div_right, add-mul-mod_self_right}
-use native.Mathlib.Decide.{dec_lt}
-use native.Mathlib.Omega.{arith}
-use lib.Arith.{digits_div, digits_mod}
-use lib.Dec.{T, ltb}
-use lib.IntN.{ℤ, pos, negsuc, neg_ℤ, nat_abs, ◌+ℤ◌, ◌-ℤ◌, ◌*ℤ◌}
-use lib.Signed.{mag, mag_rem, lt_z, quot_z, rem_z, ◌<ℤ◌}
-use borrow.Author.Tests.{le-ltb, lt-ltb, ltb-true}
-use mir.Syntax.{w32}
-use mir.Val.{SFits, of_z}
+use Rattle.std.proofs.Common.{◌≡◌, refl, sym, ap, ◌∙◌, ◌⊎◌, inl, inr, Bool, true, false, ℕ, zero, suc, ◌+◌, ◌-◌, ◌*◌, ◌/◌, ◌%◌, ◌<◌, ◌≤◌, div-add-mod', mod-lt, div-le_self, suc-mul, add-mul, div-lt_iff_lt-mul, arith, T, ltb, ℤ, pos, negsuc, neg_ℤ, nat_abs, ◌+ℤ◌, ◌-ℤ◌, ◌*ℤ◌, ◌<ℤ◌, le-ltb, lt-ltb, ltb-true, w32, SFits, of_z}
+use Rattle.std.proofs.Math.Nat.{add-mul-div_right, add-mul-mod_self_right}
+use Rattle.std.proofs.Math.Decide.{dec_lt}
+use Rattle.std.proofs.Math.Arith.{digits_div, digits_mod}
+use lib.Signed.{mag, mag_rem, lt_z, quot_z, rem_z}
 use mir.ValLaws.{to_z-of_z}
 use Rattle.rules.proofs.Tests.{clash}
 use Rattle.signed.specs.Floor.{times, rest}

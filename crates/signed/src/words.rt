@@ -6,21 +6,14 @@ ghost use Rattle.rules.specs.Signed.{bits_of, joined, low_word, high_word};
 pub fn join(low: u16, high: u16) -> i32
     ensures { result ≡ joined low high }
 {
-    let bits = low as u32 + 65536 * high as u32;
-    if bits < 2147483648 {
-        return bits as i32;
-    }
-    -1 - (4294967295 - bits) as i32
+    (u32::from(low) + 65536 * u32::from(high)).cast_signed()
 }
 
 // A number's 32 bits.
 pub fn bits_of(z: i32) -> u32
     ensures { result ≡ bits_of z }
 {
-    if z < 0 {
-        return 4294967295 - (-1 - z) as u32;
-    }
-    z as u32
+    z.cast_unsigned()
 }
 
 pub fn low_word(z: i32) -> u16

@@ -1,20 +1,13 @@
 -- Scopes by their marks: a visit sets the marks of the state that hosts the track, so after all visits a mark tells whether some track in
 -- the scope passes its test; every track in a scope passes a test where none fails it. Assumes nothing.
-use mathlib.Core.Path.{◌≡◌, refl, sym, ap, ap₂, subst, ◌∙◌}
-use mathlib.Core.Logic.{inl, inr}
-use mathlib.Core.Bool.{Bool, true, false, not, ◌&&◌, ◌||◌, or-false, not-not}
-use mathlib.Core.List.{List}
-use mathlib.Core.Option.{none, some}
-use Prim.Native.Nat.{ℕ, ◌+◌, ◌<◌}
-use native.Mathlib.Omega.{arith}
-use lib.Dec.{eqb}
-use lib.ListN.{get_or, set, replicate, length-set, length-replicate, get_or-replicate}
-use lib.Seq.{get_or-set_same, get_or-set_other}
-use borrow.Author.Tests.{eqb-true, eqb-false}
+use Rattle.std.proofs.Common.{◌≡◌, refl, sym, ap, ap₂, ◌∙◌, inl, inr, Bool, true, false, not, ◌&&◌, ◌||◌, List, ℕ, ◌+◌, ◌<◌, arith, eqb, get_or, set, replicate, length-set, get_or-set_same, get_or-set_other, eqb-true}
+use Rattle.std.proofs.Math.Bool.{or-false, not-not}
+use Rattle.std.proofs.Math.ListN.{length-replicate, get_or-replicate}
+use borrow.Author.Tests.{eqb-false}
 use Rattle.rules.specs.declared.Counts.{Counts}
 use Rattle.rules.specs.declared.Track.{Track}
 use Rattle.rules.specs.Fold.{some_below}
-use Rattle.rules.specs.Plan.{Plan, plan_of, track_count, no_state, host_word, host, is_in, is_final, every_in, some_in}
+use Rattle.rules.specs.Plan.{Plan, plan_of, track_count, no_state, host_word, is_in, is_final, every_in, some_in}
 use Rattle.rules.specs.Ledger.{Ledger, is_awake, is_forward, is_undoing}
 use Rattle.rules.specs.Scope.{is_open, has_open_scope, is_bare}
 use Rattle.rules.specs.Event.{is_closing}
@@ -29,73 +22,102 @@ use Rattle.ledger.specs.Ladder.{Accepts}
 use Rattle.ledger.specs.Words.{track_of}
 use Rattle.ledger.proofs.ReadTracks.{empty_count}
 use Rattle.lookup.proofs.Facts.{host_is, host_low}
-use Rattle.soundness.specs.Parts.{Scoped, Marked, sound_scope}
+use Rattle.soundness.specs.Parts.{Marked, mark_at, sound_scope, well_marked}
+use Rattle.soundness.specs.declared.scopes.ScopeMark.{ScopeMark}
 use Rattle.soundness.proofs.Clauses.{not_some}
 
 -- a host's mark is among those that there are
 pub slot : (bs : List ℕ) (c : Counts) (t h : ℕ) → Accepts bs c → h ≡ host_word (plan_of bs c) t → (h ≡ no_state → ⊥) → h < state_slots
 slot bs c t h a e n = let b = a.holds.states in omega (arith, host_low bs c t h a e n)
 
--- One mark for each scope.
-module _ (p : Plan) (f : ℕ → Bool) where
-  scoped_none : Scoped p f 0 (replicate state_slots false)
-  unfolding some_below
-  scoped_none = record { size = length-replicate state_slots false; at = λ s b. get_or-replicate state_slots s false false b }
+module _ (p : Plan) (s t : ℕ) (f : ℕ → Bool) where
+  -- a track that is not in the scope leaves its mark, one in it may set it
+  some_left : is_in p s t ≡ false → some_below (t + 1) (λ u. is_in p s u && f u) ≡ some_below t (λ u. is_in p s u && f u)
+  some_left i = some_more t (λ u. is_in p s u && f u) ∙ rw i (or-false _)
 
-  module _ (t : ℕ) (ms : List Bool) (m : Scoped p f t ms) where
-    scoped_root : host p t ≡ none → Scoped p f (t + 1) ms
-    unfolding is_in
-    scoped_root e = record { size = m.size; at = λ s b. m.at s b ∙ sym (some_more t (λ u. is_in p s u && f u) ∙ rw (e, is_in) (or-false _)) }
-
-    scoped_hosted : (h : ℕ) (v : Bool) → host p t ≡ some h → h < state_slots → v ≡ f t → Scoped p f (t + 1) (set ms h (get_or ms h false || v))
-    unfolding is_in
-    scoped_hosted h v e l g =
-        record {
-          size = length-set ms h (get_or ms h false || v) ∙ m.size;
-          at = λ s b.
-              elim (look (eqb h s)) [
-                | inl q ↦
-                    subst (λ s. get_or (set ms h (get_or ms h false || v)) s false ≡ some_below (t + 1) (λ u. is_in p s u && f u)) (eqb-true h s q)
-                    (get_or-set_same ms h _ false (omega (arith, m.size)) ∙ ap₂ (λ a b. a || b) (m.at h l) g
-                    ∙ sym (some_more t (λ u. is_in p h u && f u) ∙ rw (host_in p h t e)))
-                | inr q ↦
-                    get_or-set_other ms h s _ false (λ z. eqb-false h s q (sym z)) ∙ m.at s b
-                    ∙ sym (some_more t (λ u. is_in p s u && f u) ∙ rw (e, is_in, q) (or-false _))
-              ];
-        }
+  some_joined : is_in p s t ≡ true → {a v : Bool} → a ≡ some_below t (λ u. is_in p s u && f u) → v ≡ f t → (a || v) ≡ some_below (t + 1) (λ u. is_in p s u && f u)
+  some_joined i e g = ap₂ (λ a b. a || b) e g ∙ sym (some_more t (λ u. is_in p s u && f u) ∙ rw i)
 
 module _ (p : Plan) (l : Ledger) where
-  pub marked_none :
-      Marked p l 0 (replicate state_slots false) (replicate state_slots false) (replicate state_slots false) (replicate state_slots false)
-  marked_none =
-      record { awake_marks = scoped_none p _; asleep_marks = scoped_none p _; unfinished_marks = scoped_none p _; busy_marks = scoped_none p _ }
+  abbrev awake : ℕ → Bool
+  awake t = is_awake (l t).mode
 
-  module _ (t : ℕ) {a z u b : List Bool} (m : Marked p l t a z u b) {h : ℕ} (e : h ≡ host_word p t) where
-    pub marked_root : h ≡ no_state → Marked p l (t + 1) a z u b
-    marked_root n =
-        let r = host_none p t (sym e ∙ n) in
-        record {
-          awake_marks = scoped_root p _ t a m.awake_marks r;
-          asleep_marks = scoped_root p _ t z m.asleep_marks r;
-          unfinished_marks = scoped_root p _ t u m.unfinished_marks r;
-          busy_marks = scoped_root p _ t b m.busy_marks r;
+  abbrev asleep : ℕ → Bool
+  asleep t = not (is_awake (l t).mode)
+
+  abbrev unfinished : ℕ → Bool
+  unfinished t = not (is_forward (l t).mode && is_final p (l t).state)
+
+  abbrev busy : ℕ → Bool
+  busy t = not (is_bare p l t)
+
+  -- a mark with nothing set is that of no track
+  pub marked_none : {d : ScopeMark} → (d.awake ≡ false) × ((d.asleep ≡ false) × ((d.unfinished ≡ false) × (d.busy ≡ false))) → Marked p l 0 (replicate state_slots d)
+  unfolding some_below
+  marked_none {d} e =
+      record {
+        size = length-replicate state_slots d;
+        at = λ s x b. get_or-replicate state_slots s d x b ∙ λ i. record { awake = e.0 i; asleep = e.1.0 i; unfinished = e.1.1.0 i; busy = e.1.1.1 i };
+      }
+
+  module _ (t : ℕ) where
+    mark_left : (s : ℕ) → is_in p s t ≡ false → mark_at p l (t + 1) s ≡ mark_at p l t s
+    mark_left s i =
+        λ x. record {
+          awake = some_left p s t awake i x;
+          asleep = some_left p s t asleep i x;
+          unfinished = some_left p s t unfinished i x;
+          busy = some_left p s t busy i x;
         }
 
-    -- k is the track as read; what was asked of it
-    pub marked_hosted : {k : Track} {is-awake done bare inner : Bool} → (h ≡ no_state → ⊥) → h < state_slots → k ≡ track_of (l t)
-        → is-awake ≡ is_awake k.mode → done ≡ (is_forward k.mode && is_final p k.state)
-        → bare ≡ (is_undoing k.mode && eqb k.count 0 && not inner) → inner ≡ has_open_scope p l t
-        → Marked p l (t + 1) (set a h (get_or a h false || is-awake)) (set z h (get_or z h false || not is-awake))
-        (set u h (get_or u h false || not done)) (set b h (get_or b h false || not bare))
-    unfolding track_of is_bare
-    marked_hosted n low i f g x y =
-        let r = host_is p t h e n in
-        record {
-          awake_marks = scoped_hosted p _ t a m.awake_marks h _ r low (rw (f, i));
-          asleep_marks = scoped_hosted p _ t z m.asleep_marks h _ r low (rw (f, i));
-          unfinished_marks = scoped_hosted p _ t u m.unfinished_marks h _ r low (rw (g, i));
-          busy_marks = scoped_hosted p _ t b m.busy_marks h _ r low (rw (x, i, y, empty_count));
-        }
+    module _ {ms : List ScopeMark} (m : Marked p l t ms) {h : ℕ} (e : h ≡ host_word p t) where
+      pub marked_root : h ≡ no_state → Marked p l (t + 1) ms
+      unfolding is_in
+      marked_root n =
+          let r = host_none p t (sym e ∙ n) in
+          record { size = m.size; at = λ s d b. m.at s d b ∙ sym (mark_left s (rw (r, is_in))) }
+
+      -- what was asked of the track, and d the mark before
+      module _ {a done bare : Bool} (d : ScopeMark) (f : a ≡ is_awake (l t).mode) (g : done ≡ (is_forward (l t).mode && is_final p (l t).state)) (x : bare ≡ is_bare p l t)
+          (in-h : is_in p h t ≡ true) (old : d ≡ mark_at p l t h) where
+        joined_mark : record { awake = d.awake || a; asleep = d.asleep || not a; unfinished = d.unfinished || not done; busy = d.busy || not bare } ≡ mark_at p l (t + 1) h
+        joined_mark =
+            λ i. record {
+              awake = some_joined p h t awake in-h (ap (λ (m : ScopeMark). m.awake) old) f i;
+              asleep = some_joined p h t asleep in-h (ap (λ (m : ScopeMark). m.asleep) old) (ap not f) i;
+              unfinished = some_joined p h t unfinished in-h (ap (λ (m : ScopeMark). m.unfinished) old) (ap not g) i;
+              busy = some_joined p h t busy in-h (ap (λ (m : ScopeMark). m.busy) old) (ap not x) i;
+            }
+
+      -- k is the track as read; what was asked of it
+      pub marked_hosted : {k : Track} {a done bare inner : Bool} (d : ScopeMark) → (h ≡ no_state → ⊥) → h < state_slots → k ≡ track_of (l t)
+          → a ≡ is_awake k.mode → done ≡ (is_forward k.mode && is_final p k.state)
+          → bare ≡ (is_undoing k.mode && eqb k.count 0 && not inner) → inner ≡ has_open_scope p l t
+          → Marked p l (t + 1)
+          (set ms h (record {
+            awake = (get_or ms h d).awake || a;
+            asleep = (get_or ms h d).asleep || not a;
+            unfinished = (get_or ms h d).unfinished || not done;
+            busy = (get_or ms h d).busy || not bare;
+          }))
+      unfolding track_of is_bare is_in
+      marked_hosted {a} {done} {bare} d n low i f g x y =
+          let r = host_is p t h e n in
+          let joined = joined_mark {a = a} {done = done} {bare = bare} (get_or ms h d) (rw (f, i)) (rw (g, i)) (rw (x, i, y, empty_count)) (host_in p h t r) (m.at h d low) in
+          let old = get_or ms h d in
+          let new : ScopeMark =
+          record { awake = old.awake || a; asleep = old.asleep || not a; unfinished = old.unfinished || not done; busy = old.busy || not bare } in
+          record {
+            size = length-set ms h new ∙ m.size;
+            at = λ s d' b.
+                elim (look (eqb h s)) [
+                  | inl q ↦
+                      let same = eqb-true h s q in
+                      ap (λ s. get_or (set ms h new) s d') (sym same) ∙ get_or-set_same ms h new d' (omega (arith, m.size)) ∙ joined ∙ ap (mark_at p l (t + 1)) same
+                  | inr q ↦
+                      get_or-set_other ms h s new d' (λ z. eqb-false h s q (sym z)) ∙ m.at s d' b ∙ sym (mark_left s (rw (r, is_in, q)))
+                ];
+          }
 
   -- every track in a scope passes, or some fails
   every_some : (s : ℕ) (f g : ℕ → Bool) → ((t : ℕ) → f t ≡ not (g t)) → every_in p s f ≡ not (some_in p s g)
@@ -116,20 +138,19 @@ module _ (p : Plan) (l : Ledger) where
   judged true false true false = refl
   judged true false false b = refl
 
-  -- what is asked of a scope, by its marks
-  pub scope_asked : {a z u b : List Bool} (s n : ℕ) → n ≡ track_count p → Marked p l n a z u b → s < state_slots
-      → (not (get_or a s false) || ((not (get_or z s false) && get_or u s false) && get_or b s false)) ≡ sound_scope p l s
+  -- what is asked of a scope, by its mark
+  pub scope_asked : {ms : List ScopeMark} (s n : ℕ) (d : ScopeMark) → n ≡ track_count p → Marked p l n ms → s < state_slots
+      → well_marked (get_or ms s d) ≡ sound_scope p l s
   unfolding sound_scope is_whole is_closing is_abandoning is_open some_in
-  scope_asked {a} {z} {u} {b} s n e k low =
-      let m : Marked p l (track_count p) a z u b = rw e at k in
-      rw (
-        none_fails (λ t. is_awake (l t).mode) z m.asleep_marks,
+  scope_asked s n d e m low =
+      ap well_marked (m.at s d low ∙ ap (λ n. mark_at p l n s) e)
+      ∙ rw (
+        none_fails (λ t. is_awake (l t).mode),
         every_some s (λ t. not (is_awake (l t).mode)) (λ t. is_awake (l t).mode) (λ t. refl),
-        none_fails (λ t. is_forward (l t).mode && is_final p (l t).state) u m.unfinished_marks,
-        none_fails (is_bare p l) b m.busy_marks,
-        sym (m.awake_marks.at s low),
+        none_fails (λ t. is_forward (l t).mode && is_final p (l t).state),
+        none_fails (is_bare p l),
       )
-      (judged (get_or a s false) (get_or z s false) (get_or u s false) (get_or b s false))
+      (judged _ _ _ _)
     where
-      none_fails : (f : ℕ → Bool) (ms : List Bool) → Scoped p (λ t. not (f t)) (track_count p) ms → every_in p s f ≡ not (get_or ms s false)
-      none_fails f ms k = every_some s f (λ t. not (f t)) (λ t. sym (not-not (f t))) ∙ ap not (sym (k.at s low))
+      none_fails : (f : ℕ → Bool) → every_in p s f ≡ not (some_in p s (λ t. not (f t)))
+      none_fails f = every_some s f (λ t. not (f t)) (λ t. sym (not-not (f t)))

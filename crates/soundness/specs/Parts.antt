@@ -13,12 +13,8 @@ use Rattle.rules.specs.Signal.{is_abandoning}
 use Rattle.rules.specs.Soundness.{every_held, good_deviation, is_whole, is_hosted_well}
 use Rattle.plan.specs.Passes.{state_slots}
 use Rattle.ledger.specs.Ladder.{ledger_of}
+use Rattle.soundness.specs.declared.scopes.ScopeMark.{ScopeMark}
 use Rattle.lookup.specs.Figures.{Figures}
-
--- for each state whether a track below n that is in its scope passes the test
-pub record Scoped (p : Plan) (f : ℕ → Bool) (n : ℕ) (ms : List Bool) : Type 0 where
-  pub size : length ms ≡ state_slots
-  pub at : (s : ℕ) → s < state_slots → get_or ms s false ≡ some_below n (λ t. is_in p s t && f t)
 
 -- of an entry of the track t: the code is not 0, and the deviation is good
 unfoldable pub good_entry : Plan → ℕ → Entry → Bool
@@ -35,12 +31,27 @@ module _ (p : Plan) (l : Ledger) where
   unfoldable pub sound_scope : ℕ → Bool
   sound_scope s = is_whole p l s && not (is_closing p l s) && not (is_abandoning p l s)
 
-  -- by the tracks below n, for each state whether one in its scope is awake, asleep, not forward in a final state, not bare
-  pub record Marked (n : ℕ) (awake asleep unfinished busy : List Bool) : Type 0 where
-    pub awake_marks : Scoped p (λ t. is_awake (l t).mode) n awake
-    pub asleep_marks : Scoped p (λ t. not (is_awake (l t).mode)) n asleep
-    pub unfinished_marks : Scoped p (λ t. not (is_forward (l t).mode && is_final p (l t).state)) n unfinished
-    pub busy_marks : Scoped p (λ t. not (is_bare p l t)) n busy
+  -- a scope's mark, by the tracks below n: whether one in the scope is awake, asleep, not forward in a final state, not bare
+  abbrev some_scoped : ℕ → ℕ → (ℕ → Bool) → Bool
+  some_scoped n s f = some_below n (λ t. is_in p s t && f t)
+
+  abbrev pub mark_at : ℕ → ℕ → ScopeMark
+  mark_at n s =
+      record {
+        awake = some_scoped n s (λ t. is_awake (l t).mode);
+        asleep = some_scoped n s (λ t. not (is_awake (l t).mode));
+        unfinished = some_scoped n s (λ t. not (is_forward (l t).mode && is_final p (l t).state));
+        busy = some_scoped n s (λ t. not (is_bare p l t));
+      }
+
+  -- for each state the mark of the scope that it hosts
+  pub record Marked (n : ℕ) (ms : List ScopeMark) : Type 0 where
+    pub size : length ms ≡ state_slots
+    pub at : (s : ℕ) (d : ScopeMark) → s < state_slots → get_or ms s d ≡ mark_at n s
+
+-- what is asked of a scope, by its mark
+abbrev pub well_marked : ScopeMark → Bool
+well_marked m = not m.awake || (not m.asleep && m.unfinished && m.busy)
 
 -- of a ledger found sound that is not over, the tracks that have an open scope are marked
 abbrev pub OpensFound : (terms : Terms) → Bytes → Counts → Words → Bool → List Bool → Type 0

@@ -9,13 +9,7 @@ use plan::fields;
 pub fn timed_sum_by_eight(plan: &[u8]) -> u64
     ensures { result ≡ plan_sum plan.now }
 {
-    plan_sum::sum(plan) as u64
-}
-
-fn wide(x: u8) -> u16
-    ensures { result ≡ x }
-{
-    x as u16
+    u64::from(plan_sum::sum(plan))
 }
 
 pub fn timed_sum_by_two(plan: &[u8]) -> u64
@@ -24,11 +18,11 @@ pub fn timed_sum_by_two(plan: &[u8]) -> u64
     let mut sum: u16 = 0;
     let mut at: usize = 0;
     while 2 <= plan.len() - at {
-        sum = std::num::wrapping_add_u16(sum, fields::word_at(plan, at));
+        sum = sum.wrapping_add(fields::word_at(plan, at));
         at += 2;
     }
     if at < plan.len() {
-        return std::num::wrapping_add_u16(sum, wide(plan[at])) as u64;
+        return u64::from(sum.wrapping_add(u16::from(plan[at])));
     }
-    sum as u64
+    u64::from(sum)
 }

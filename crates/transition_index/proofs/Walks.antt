@@ -1,18 +1,10 @@
 -- A walk along the chain of a cell: what it left behind is no transition of that source for that event, and what it finds is the only one.
 -- Assumes nothing.
-use mathlib.Core.Path.{◌≡◌, refl, sym, ap, ◌∙◌}
-use mathlib.Core.Bool.{true, false}
-use mathlib.Core.Logic.{⊎_elim, inl, inr}
-use mathlib.Core.List.{List}
-use mathlib.Core.Option.{none, some}
-use Prim.Native.Nat.{ℕ, zero, suc, ◌-◌, ◌<◌, ◌≤◌}
-use native.Mathlib.Nat.{eq-or-lt_of_le}
-use native.Mathlib.Omega.{arith}
-use lib.ListN.{get_or}
-use lib.Dec.{eqb, ltb}
-use borrow.Author.Tests.{eqb-true, eqb-false, ltb-true, ltb-false, eq-eqb, ne_eqb}
+use Rattle.std.proofs.Common.{◌≡◌, refl, sym, ap, ◌∙◌, true, false, rules, ⊎_elim, inl, inr, List, ℕ, suc, ◌<◌, ◌≤◌, eq-or-lt_of_le, arith, get_or, eqb, ltb, eqb-true, ltb-true, ltb-false, eq-eqb, ne_eqb}
+use Rattle.std.proofs.Math.Option.{none, some}
+use borrow.Author.Tests.{eqb-false}
 use Rattle.rules.specs.declared.Counts.{Counts}
-use Rattle.rules.specs.Plan.{Plan, plan_of, no_state, optional, transition, transition_count, transition_for}
+use Rattle.rules.specs.Plan.{Plan, plan_of, transition, transition_count, transition_for}
 use Rattle.rules.proofs.Tests.{look, look_option, clash, and_holds, and_not}
 use Rattle.rules.proofs.Folds.{some_not, first_none}
 use Rattle.rules.proofs.Acceptance.{accepts, transition_for_lem}
@@ -25,6 +17,10 @@ use Rattle.transition_index.specs.Indexed.{is_for, cell_of, Indexed}
 pub cell_told : (p : Plan) (x s e : ℕ) → s ≡ (transition p x).source → e ≡ (transition p x).event → cell_of s e ≡ cell p x
 unfolding cell_of cell
 cell_told p x s e h k = rw (h, k)
+
+pub cell_low : (p : Plan) (x : ℕ) → cell p x < 256
+unfolding cell
+cell_low p x = search rules
 
 module _ (p : Plan) (s e : ℕ) where
   for_told : (x : ℕ) → is_for p s e x ≡ true → ((transition p x).source ≡ s) × ((transition p x).event ≡ e)
@@ -77,27 +73,24 @@ module _ (p : Plan) (s e : ℕ) where
     pub walk : Walk n m
     pub lower : m < y
 
-  pub walk_on : (n y m : ℕ) (next : List ℕ) → (y ≡ 0 → ⊥) → Walk n y → is_for p s e (y - 1) ≡ false → Chained (cell p) n next → m ≡ get_or next (y - 1) 0 → Next n y m
+  pub walk_on : (n k : ℕ) (before : List ℕ) → Walk n (suc k) → is_for p s e k ≡ false → Chained (cell p) n before → Next n (suc k) (get_or before k 0)
   unfolding Chained
-  walk_on n zero m next z w h c i = absurd (z refl)
-  walk_on n (suc y) m next z w h c i =
+  walk_on n k before w h c =
       let l = w.within in
-      let q : suc y - 1 ≡ y = omega arith in
-      let f : is_for p s e y ≡ false = rw q at h in
-      let k : m ≡ last_below y (has (cell p) (cell_of s e)) =
-      i ∙ rw q (c y (omega arith)) ∙ ap (λ (j : ℕ). last_below y (has (cell p) j)) (w.same y refl) in
-      let t = last_most y (has (cell p) (cell_of s e)) in
+      let q : get_or before k 0 ≡ last_below k (has (cell p) (cell_of s e)) =
+      c k (omega arith) ∙ ap (λ (j : ℕ). last_below k (has (cell p) j)) (w.same k refl) in
+      let t = last_most k (has (cell p) (cell_of s e)) in
       record {
         walk =
-            rw k
-            (walk_at n y (omega arith)
-            (λ v a b. ⊎_elim (λ (g : y ≡ v). rw (← g) f) (λ (g : y < v). w.behind v g b) (eq-or-lt_of_le a)));
-        lower = omega arith;
+            rw q
+            (walk_at n k (omega arith)
+            (λ v a b. ⊎_elim (λ (g : k ≡ v). rw (← g) h) (λ (g : k < v). w.behind v g b) (eq-or-lt_of_le a)));
+        lower = rw q (omega arith);
       }
 
 module _ (bs : List ℕ) (c : Counts) (s e : ℕ) where
-  pub walk_start : (head next : List ℕ) → Indexed bs c head next → (k : ℕ) → k ≡ cell_of s e → k < 256 → Walk (plan_of bs c) s e c.transitions (get_or head k 0)
-  walk_start head next h k i l =
+  pub walk_start : (last before : List ℕ) → Indexed bs c last before → (k : ℕ) → k ≡ cell_of s e → k < 256 → Walk (plan_of bs c) s e c.transitions (get_or last k 0)
+  walk_start last before h k i l =
       rw (h.last k l, i) (walk_at (plan_of bs c) s e c.transitions c.transitions (omega arith) (λ z a b. absurd (omega arith)))
 
   -- nothing was found
@@ -112,8 +105,7 @@ module _ (bs : List ℕ) (c : Counts) (s e : ℕ) where
       ]
 
   -- what was found is the only one
-  pub one_found : Accepts bs c → (x : ℕ) → x < c.transitions → is_for (plan_of bs c) s e x ≡ true → optional x ≡ transition_for (plan_of bs c) s e
-  unfolding optional no_state
+  pub one_found : Accepts bs c → (x : ℕ) → x < c.transitions → is_for (plan_of bs c) s e x ≡ true → some x ≡ transition_for (plan_of bs c) s e
   one_found g x n f =
       let m : x < transition_count (plan_of bs c) = rw transition_count_lem n in
       elim (look_option (transition_for (plan_of bs c) s e)) [
@@ -122,5 +114,5 @@ module _ (bs : List ℕ) (c : Counts) (s e : ℕ) where
             let (l, a, b) = transition_for_lem (plan_of bs c) s e z h in
             let (d, k) = for_told (plan_of bs c) s e x f in
             let i = g.holds.transitions in
-            rw (h, ne_eqb x 65535 (λ q. absurd (omega arith))) (ap some ((accepts bs c g.read).deterministic x z m l (d ∙ sym a) (k ∙ sym b)))
+            rw h (ap some ((accepts bs c g.read).deterministic x z m l (d ∙ sym a) (k ∙ sym b)))
       ]

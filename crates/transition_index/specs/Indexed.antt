@@ -1,5 +1,6 @@
 -- The chains by which the transition of a state for an event is found. Assumes nothing.
-use Rattle.std.specs.Prelude.{Bool, ◌&&◌, List, ℕ, ◌+◌, ◌*◌, ◌%◌, eqb}
+use Rattle.std.specs.Prelude.{Bool, ◌&&◌, List, ℕ, ◌+◌, ◌*◌, ◌%◌, Option, Some, None, eqb}
+use Rattle.std.proofs.Math.Option as rule
 use Rattle.rules.specs.Names.{Bytes, StateNumber, TransitionNumber, EventNumber}
 use Rattle.rules.specs.declared.Counts.{Counts}
 use Rattle.rules.specs.Plan.{Plan, plan_of, transition}
@@ -15,4 +16,9 @@ cell_of s e = (2 * s + e) % 256
 
 -- every transition is in the chain of its cell
 abbrev pub Indexed : Bytes → Counts → List ℕ → List ℕ → Type 0
-Indexed bs c head next = Heads (cell (plan_of bs c)) 256 c.transitions head next
+Indexed bs c last before = Heads (cell (plan_of bs c)) 256 c.transitions last before
+
+-- what the code may or may not answer, as the rules have it
+abbrev pub optioned : Option ℕ → rule.Option ℕ
+optioned None = rule.none
+optioned (Some x) = rule.some x

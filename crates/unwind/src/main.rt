@@ -95,9 +95,8 @@ fn load(rt: &(impl Files + Eprint + AllocGlobal), buffer: &mut [u8]) -> usize
 
 // The text on standard output.
 fn print(rt: &(impl Print + Eprint + AllocGlobal), text: &[u8]) {
-    match rt.write_all(text) {
-        Ok(()) => {}
-        Err(error) => complain(rt, "standard output", error),
+    if let Err(error) = rt.write_all(text) {
+        complain(rt, "standard output", error);
     }
 }
 
@@ -116,11 +115,7 @@ fn main(rt: HostRuntime) {
         &mut ledger,
         &mut text,
     );
-    match answer {
-        RunAnswer::Written(written) => {
-            print(&rt, &text[..written]);
-        }
-        RunAnswer::TooSmall(_) => {}
-        RunAnswer::ShortLedger => {}
+    if let RunAnswer::Written(written) = answer {
+        print(&rt, &text[..written]);
     }
 }

@@ -1,15 +1,8 @@
 -- Abandoning as the code takes it: each branch of a climb is a case of one scope's going to sleep, and afterwards one pass over the tracks
 -- writes the ledger with the scopes asleep that are not left open. Assumes nothing.
-use mathlib.Core.Path.{◌≡◌, sym, ap, ◌∙◌, subst}
-use mathlib.Core.Logic.{inl, inr}
-use mathlib.Core.Bool.{Bool, true, false, not, ◌&&◌}
-use mathlib.Core.List.{List}
-use mathlib.Core.Option.{some}
-use Prim.Native.Nat.{ℕ, ◌+◌, ◌-◌, ◌<◌, ◌≤◌}
-use native.Mathlib.Omega.{arith}
-use lib.Dec.{eqb}
-use lib.ListN.{length, get_or, set}
-use borrow.Author.Tests.{not-true, not-false, eqb-true, eqb-false}
+use Rattle.std.proofs.Common.{◌≡◌, sym, ap, ◌∙◌, subst, inl, inr, Bool, true, false, ◌&&◌, List, ℕ, ◌+◌, ◌-◌, ◌<◌, ◌≤◌, arith, eqb, length, get_or, set, eqb-true}
+use Rattle.std.proofs.Math.Option.{some}
+use borrow.Author.Tests.{eqb-false}
 use Rattle.rules.specs.declared.Counts.{Counts}
 use Rattle.rules.specs.Plan.{Plan, plan_of, track_count, no_state, host, owner}
 use Rattle.rules.specs.Ledger.{Configuration, Ledger, is_awake, is_undoing, is_empty, written}
@@ -48,10 +41,10 @@ module _ (terms : Terms) (bs : List ℕ) (c : Counts) (acc : Accepts bs c) (ws :
   step = record { accepted = plan_facts bs c acc; few = few_tracks bs c acc; blank = (holds terms c ws o).blank; due = due }
 
   module _ {r : Bool} (f : r ≡ (is_undoing (l t).mode && is_empty (l t).held)) where
-    pub climb_busy : not r ≡ true → Climbed p l x (record { opens = set x.opens t false; busy = x.busy }) t
-    climb_busy n = step_busy step (sym f ∙ not-true r n)
+    pub climb_busy : r ≡ false → Climbed p l x (record { opens = set x.opens t false; busy = x.busy }) t
+    climb_busy n = step_busy step (sym f ∙ n)
 
-    module _ (n : not r ≡ false) {u : ℕ} (g : u ≡ host_track p t) where
+    module _ (n : r ≡ true) {u : ℕ} (g : u ≡ host_track p t) where
       pub climb_root : u ≡ no_state → Climbed p l x (record { opens = set x.opens t false; busy = x.busy }) t
       climb_root z = step_root step (no_host_track bs c t acc (sym g ∙ z))
 
@@ -60,7 +53,7 @@ module _ (terms : Terms) (bs : List ℕ) (c : Counts) (acc : Accepts bs c) (ws :
         at = let (h, e, q) = host_of_track p t (λ y. z (g ∙ y)) in (h, e, q ∙ sym g)
 
         back : (is_undoing (l t).mode && is_empty (l t).held) ≡ true
-        back = sym f ∙ not-false r n
+        back = sym f ∙ n
 
         pub climb_lower : u < t
         climb_lower = subst (λ v. v < t) at.2 ((plan_facts bs c acc).lower t at.0 at.1)
@@ -131,9 +124,9 @@ module _ (terms : Terms) (bs : List ℕ) (c : Counts) (acc : Accepts bs c) (ws :
   unfolding keeping
   as_it_is e = kept_track terms c ws o t (kept_by (plan_of bs c) opens t (ledger_of terms c ws t)) e
 
-  pub leave_asleep : not r ≡ true → Left ws
+  pub leave_asleep : r ≡ false → Left ws
   leave_asleep n =
-      let z = (holds terms c ws o).blank t (sym f ∙ not-true r n) in
+      let z = (holds terms c ws o).blank t (sym f ∙ n) in
       as_it_is (keep_sleeping (plan_of bs c) opens (ledger_of terms c ws) t z ∙ sym z)
 
   module _ {u : ℕ} (g : u ≡ host_track (plan_of bs c) t) where

@@ -1,17 +1,11 @@
 -- One scope goes to sleep, in figures. The scope of a track whose busy tracks are none is due, and with its mark taken the figures are
 -- those of the ledger with that scope asleep: only the track itself can be busy no longer, so that only its own scope can come due.
 -- A climb is such steps, each to a lower track. Where nothing is due the ledger is the outcome of abandoning. Assumes nothing.
-use mathlib.Core.Path.{◌≡◌, refl, sym, ap, ap₂, ◌∙◌, subst, fun_ext}
-use mathlib.Core.Logic.{◌⊎◌, inl, inr, ⊎_elim}
-use mathlib.Core.Bool.{Bool, true, false, not, ◌&&◌, and-true}
-use mathlib.Core.List.{List}
-use mathlib.Core.Option.{none, some}
-use Prim.Native.Nat.{ℕ, ◌+◌, ◌-◌, ◌<◌, ◌≤◌}
-use native.Mathlib.Omega.{arith}
-use lib.Dec.{eqb}
-use lib.ListN.{length, get_or, set, length-set}
-use lib.Seq.{get_or-set_same, get_or-set_other}
-use borrow.Author.Tests.{eqb-true, eqb-false, not-true}
+use Rattle.std.proofs.Common.{◌≡◌, refl, sym, ap, ap₂, ◌∙◌, subst, ◌⊎◌, inl, inr, ⊎_elim, Bool, true, false, not, ◌&&◌, List, ℕ, ◌+◌, ◌-◌, ◌<◌, ◌≤◌, arith, eqb, length, get_or, set, length-set, get_or-set_same, get_or-set_other, eqb-true}
+use Rattle.std.proofs.Math.Path.{fun_ext}
+use Rattle.std.proofs.Math.Bool.{and-true}
+use Rattle.std.proofs.Math.Option.{none, some}
+use borrow.Author.Tests.{eqb-false, not-true}
 use Rattle.rules.specs.Plan.{Plan, track_count, host, owner, is_in, is_hosted_by, every_in}
 use Rattle.rules.specs.Ledger.{Configuration, Ledger, is_awake, is_undoing, is_empty, sleeping}
 use Rattle.rules.specs.Scope.{is_open, has_open_scope, is_bare}

@@ -1,16 +1,8 @@
 -- Busy tracks, as the code finds them, counted for each host's track by one pass over the tracks. Assumes nothing.
-use mathlib.Core.Path.{◌≡◌, refl, sym, ap, ◌∙◌, subst}
-use mathlib.Core.Logic.{inl, inr}
-use mathlib.Core.Bool.{Bool, true, false, cond, not, ◌&&◌}
-use mathlib.Core.List.{List}
-use mathlib.Core.Option.{Option, some}
-use Prim.Native.Nat.{ℕ, zero, suc, ◌+◌, ◌<◌, ◌≤◌}
-use native.Mathlib.Nat.{not-suc-le-zero}
-use native.Mathlib.Omega.{arith}
-use lib.Dec.{eqb}
-use lib.ListN.{length, get_or, set, replicate, length-set, length-replicate, get_or-replicate}
-use lib.Seq.{get_or-set_same, get_or-set_other}
-use borrow.Author.Tests.{eqb-true, eqb-false, not-true, not-false}
+use Rattle.std.proofs.Common.{◌≡◌, refl, sym, ap, ◌∙◌, subst, inl, inr, Bool, true, false, cond, not, ◌&&◌, List, ℕ, zero, suc, ◌+◌, ◌<◌, ◌≤◌, not-suc-le-zero, arith, eqb, length, get_or, set, replicate, length-set, get_or-set_same, get_or-set_other, eqb-true}
+use Rattle.std.proofs.Math.Option.{Option, some}
+use Rattle.std.proofs.Math.ListN.{length-replicate, get_or-replicate}
+use borrow.Author.Tests.{eqb-false}
 use Rattle.rules.specs.declared.Counts.{Counts}
 use Rattle.rules.specs.declared.Track.{Track}
 use Rattle.rules.specs.Fold.{count_below}
@@ -86,12 +78,12 @@ module _ (l : Ledger) (t : ℕ) {k : Track} (e : k ≡ track_of (l t)) {r : Bool
   undoes : is_undoing (l t).mode ≡ r
   undoes = ap is_undoing (sym (mode_as (l t) e)) ∙ sym f
 
-  pub back_not : not r ≡ true → false ≡ (is_undoing (l t).mode && is_empty (l t).held)
-  back_not n = let q = undoes ∙ not-true r n in rw q
+  pub back_not : r ≡ false → false ≡ (is_undoing (l t).mode && is_empty (l t).held)
+  back_not n = let q = undoes ∙ n in rw q
 
-  pub back_empty : not r ≡ false → eqb k.count 0 ≡ (is_undoing (l t).mode && is_empty (l t).held)
+  pub back_empty : r ≡ true → eqb k.count 0 ≡ (is_undoing (l t).mode && is_empty (l t).held)
   back_empty n =
-      let q = undoes ∙ not-false r n in
+      let q = undoes ∙ n in
       elim (look (eqb k.count 0)) [
         | inl z ↦ rw (q, z, empty_as (l t) e (eqb-true k.count 0 z))
         | inr z ↦ rw (q, z, held_as (l t) e (eqb-false k.count 0 z))
@@ -99,21 +91,21 @@ module _ (l : Ledger) (t : ℕ) {k : Track} (e : k ≡ track_of (l t)) {r : Bool
 
 -- asleep, not taken back, and taken back
 module _ (p : Plan) (l : Ledger) (t : ℕ) {r : Bool} (f : r ≡ is_awake (l t).mode) where
-  pub busy_asleep : not r ≡ true → false ≡ is_busy p l t
+  pub busy_asleep : r ≡ false → false ≡ is_busy p l t
   unfolding is_busy
-  busy_asleep n = let q = sym f ∙ not-true r n in rw q
+  busy_asleep n = let q = sym f ∙ n in rw q
 
-  module _ (n : not r ≡ false) {b : Bool} (g : b ≡ (is_undoing (l t).mode && is_empty (l t).held)) where
+  module _ (n : r ≡ true) {b : Bool} (g : b ≡ (is_undoing (l t).mode && is_empty (l t).held)) where
     awake : is_awake (l t).mode ≡ true
-    awake = sym f ∙ not-false r n
+    awake = sym f ∙ n
 
-    pub busy_holding : not b ≡ true → true ≡ is_busy p l t
+    pub busy_holding : b ≡ false → true ≡ is_busy p l t
     unfolding is_busy is_bare
-    busy_holding k = let q = sym g ∙ not-true b k in rw (awake, q)
+    busy_holding k = let q = sym g ∙ k in rw (awake, q)
 
-    pub busy_open : not b ≡ false → {o : Bool} → o ≡ has_open_scope p l t → o ≡ is_busy p l t
+    pub busy_open : b ≡ true → {o : Bool} → o ≡ has_open_scope p l t → o ≡ is_busy p l t
     unfolding is_busy is_bare
-    busy_open k {o} h = let q = sym g ∙ not-false b k in rw (awake, q, ← h) (go o)
+    busy_open k {o} h = let q = sym g ∙ k in rw (awake, q, ← h) (go o)
       where
         go : (o : Bool) → o ≡ not (not o)
         go true = refl
@@ -160,10 +152,10 @@ module _ (bs : List ℕ) (c : Counts) (acc : Accepts bs c) (l : Ledger) (opens :
       not_added : ((u : ℕ) → (is_hosted_by p u t && is_busy p l t) ≡ false) → Counted p l opens busy (t + 1)
       not_added h = count_next busy k.busy_size (λ u. let q = h u in rw q (omega arith))
 
-      pub count_idle : not b ≡ true → Counted p l opens busy (t + 1)
-      count_idle n = not_added (λ u. and_not (is_hosted_by p u t) (is_busy p l t) (λ i j. clash (f ∙ j) (not-true b n)))
+      pub count_idle : b ≡ false → Counted p l opens busy (t + 1)
+      count_idle n = not_added (λ u. and_not (is_hosted_by p u t) (is_busy p l t) (λ i j. clash (f ∙ j) n))
 
-      module _ (n : not b ≡ false) {v : ℕ} (g : v ≡ host_track p t) where
+      module _ (n : b ≡ true) {v : ℕ} (g : v ≡ host_track p t) where
         pub count_root : v ≡ no_state → Counted p l opens busy (t + 1)
         count_root z =
             not_added
@@ -187,7 +179,7 @@ module _ (bs : List ℕ) (c : Counts) (acc : Accepts bs c) (l : Ledger) (opens :
               let here : is_hosted_by p v t ≡ true = subst (λ a. is_hosted_by p a t ≡ true) w (host_by p t h e) in
               count_next (set busy v (get_or busy v 0 + 1)) (length-set busy v (get_or busy v 0 + 1) ∙ k.busy_size)
               (λ u.
-              set_figure busy v (get_or busy v 0 + 1) 0 added low (rw (here, ← f, not-false b n)) u
+              set_figure busy v (get_or busy v 0 + 1) 0 added low (rw (here, ← f, n)) u
               (λ y.
               let q : is_hosted_by p u t ≡ false =
               refuted (is_hosted_by p u t) (λ j. let (r, d, a) = by_host p u t j in y (sym a ∙ ap (owner p) (same_host d e) ∙ w)) in

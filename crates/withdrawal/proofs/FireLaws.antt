@@ -1,11 +1,7 @@
 -- What may be fired, and what a firing leaves as it was: the other tracks, and those that wake were asleep. Assumes nothing.
-use mathlib.Core.Path.{◌≡◌, sym, ap, ◌∙◌, subst}
-use mathlib.Core.Logic.{inl, inr}
-use mathlib.Core.Bool.{true, false, not, ◌&&◌}
-use mathlib.Core.Option.{Option, none, some}
-use Prim.Native.Nat.{ℕ, ◌<◌}
-use lib.Dec.{eqb, ltb}
-use borrow.Author.Tests.{eqb-true, eqb-false, ne_eqb, not-true, ltb-true}
+use Rattle.std.proofs.Common.{◌≡◌, sym, ap, ◌∙◌, subst, inl, inr, true, false, not, ◌&&◌, ℕ, ◌<◌, eqb, ltb, eqb-true, ne_eqb, ltb-true}
+use Rattle.std.proofs.Math.Option.{Option, none, some}
+use borrow.Author.Tests.{eqb-false, not-true}
 use Rattle.rules.specs.Plan.{Plan, track_count, host, owner, is_hosted_by, first_state}
 use Rattle.rules.specs.Ledger.{Ledger, is_awake, is_undoing, is_empty}
 use Rattle.rules.specs.Scope.{has_open_scope}

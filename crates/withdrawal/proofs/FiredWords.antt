@@ -1,14 +1,7 @@
 -- A firing in words: the newest entry read and removed, the ledger after it, and what the call answers. Assumes nothing.
-use mathlib.Core.Path.{◌≡◌, refl, sym, ap, ◌∙◌, subst}
-use mathlib.Core.Logic.{inl, inr}
-use mathlib.Core.Bool.{Bool, true, false, not}
-use mathlib.Core.List.{List, [], ◌∷◌}
-use mathlib.Core.Option.{Option, none}
-use Prim.Native.Nat.{ℕ, suc, ◌+◌, ◌*◌, ◌-◌, ◌<◌, ◌≤◌}
-use native.Mathlib.Omega.{arith}
-use lib.Dec.{eqb, ltb}
-use lib.ListN.{length, get_or}
-use borrow.Author.Tests.{eqb-true, eqb-false, eq-eqb, lt-ltb, le-ltb, not-true, not-false}
+use Rattle.std.proofs.Common.{◌≡◌, refl, sym, ap, ◌∙◌, subst, inl, inr, Bool, true, false, not, List, [], ◌∷◌, ℕ, suc, ◌+◌, ◌*◌, ◌-◌, ◌<◌, ◌≤◌, arith, eqb, ltb, length, get_or, eqb-true, eq-eqb, lt-ltb, le-ltb}
+use Rattle.std.proofs.Math.Option.{Option, none}
+use borrow.Author.Tests.{eqb-false}
 use Rattle.rules.specs.declared.Counts.{Counts}
 use Rattle.rules.specs.declared.Track.{Track}
 use Rattle.rules.specs.declared.Terms.{Terms}
@@ -136,14 +129,14 @@ module _ (terms : Terms) {bs : List ℕ} {c : Counts} {ws : List ℕ} (g : Check
       fire_lacks n = refused_call terms bs c ws g (fire asked) 27 (rw (going_on h, sym l ∙ n))
 
       module _ (i : k ≡ false) {q : Bool} (f : q ≡ may_fire (plan_of bs c) (ledger_of terms c ws) t) where
-        pub fire_not : not q ≡ true → Meets (fire_outcome terms bs ws asked) (refusal 22) ws
+        pub fire_not : q ≡ false → Meets (fire_outcome terms bs ws asked) (refusal 22) ws
         unfolding fire_outcome call_refusal call_refusals first_refusal
         fire_not n =
-            let m : may_fire (plan_of bs c) (ledger_of terms c ws) t ≡ false = sym f ∙ not-true q n in
+            let m : may_fire (plan_of bs c) (ledger_of terms c ws) t ≡ false = sym f ∙ n in
             refused_call terms bs c ws g (fire asked) 21 (rw (going_on h, sym l ∙ i, m))
 
-        pub fireable : not q ≡ false → Fireable terms bs c ws t society
-        fireable n = record { checked = g; not_over_lem = going_on h; by_right = sym l ∙ i; may = sym f ∙ not-false q n }
+        pub fireable : q ≡ true → Fireable terms bs c ws t society
+        fireable n = record { checked = g; not_over_lem = going_on h; by_right = sym l ∙ i; may = sym f ∙ n }
 
 -- 28, as the code asks it: of a track beyond the plan's it is not asked
 module _ (bs : List ℕ) (c : Counts) (t society : ℕ) where

@@ -1,9 +1,6 @@
 -- What a call answers once the checks of plan and ledger are passed: the first of its own refusals, or its figures and the ledger after it.
 -- Assumes nothing.
-use mathlib.Core.Path.{◌≡◌, sym, ap, ◌∙◌, subst}
-use mathlib.Core.Bool.{Bool, true, false, not, ◌&&◌}
-use mathlib.Core.List.{List, [], ◌∷◌, ◌++◌}
-use Prim.Native.Nat.{ℕ, suc}
+use Rattle.std.proofs.Common.{◌≡◌, sym, ap, ◌∙◌, subst, Bool, true, false, ◌&&◌, List, [], ◌∷◌, ◌++◌, ℕ, suc}
 use Rattle.rules.specs.declared.Counts.{Counts}
 use Rattle.rules.specs.declared.Terms.{Terms}
 use Rattle.rules.specs.Fold.{count_below, first_refusal}
@@ -86,7 +83,7 @@ module _ (terms : Terms) (bs : List ℕ) (c : Counts) (ws : List ℕ) (g : Check
     unfolding signal_outcome call_refusal call_refusals first_refusal
     signal_over o = refused_call (signal asked) 19 (rw o)
 
-    pub signal_lacks : is_over p (ledger_of terms c ws) ≡ false → {h : Bool} → h ≡ holds_somewhere p signal_right society → not h ≡ true
+    pub signal_lacks : is_over p (ledger_of terms c ws) ≡ false → {h : Bool} → h ≡ holds_somewhere p signal_right society → h ≡ false
         → Meets (signal_outcome terms bs ws asked) (refusal 28) ws
     unfolding signal_outcome call_refusal call_refusals first_refusal
     signal_lacks o k n = refused_call (signal asked) 27 (rw (o, ← k, n))
@@ -98,7 +95,7 @@ module _ (terms : Terms) (bs : List ℕ) (c : Counts) (ws : List ℕ) (g : Check
     turned_nested n d =
         subst (Nested p) (sym (read_back terms c ws orderly turned_all stored d)) (nested_turned p (ledger_of terms c ws) (live_of_going terms bs c ws (going n)) society)
 
-    pub signal_done : {n : ℕ} {vs us : List ℕ} → is_over p (ledger_of terms c ws) ≡ false → {h : Bool} → h ≡ holds_somewhere p signal_right society → not h ≡ false
+    pub signal_done : {n : ℕ} {vs us : List ℕ} → is_over p (ledger_of terms c ws) ≡ false → {h : Bool} → h ≡ holds_somewhere p signal_right society → h ≡ true
         → n ≡ count_below c.tracks (λ t. is_permitted p signal_right society t && is_forward (ledger_of terms c ws t).mode)
         → vs ≡ written terms c.tracks turned_all ws
         → us ≡ written terms c.tracks (finished p (abandoned p (ledger_of terms c vs))) vs

@@ -1,13 +1,9 @@
 -- Scopes are nested where abandoning starts: on a live ledger, after turning, and after a firing. What a firing opens it opens as a whole
 -- and below hosts that enter or wake; what was open before has its host as it was, since a track that may be fired has no open scope.
 -- Assumes nothing.
-use mathlib.Core.Path.{◌≡◌, sym, ap, ◌∙◌, subst}
-use mathlib.Core.Logic.{◌⊎◌, inl, inr, ⊎_elim}
-use mathlib.Core.Bool.{Bool, true, false}
-use mathlib.Core.Option.{Option, none, some}
-use Prim.Native.Nat.{ℕ}
-use lib.Dec.{eqb}
-use borrow.Author.Tests.{eqb-true, eqb-false}
+use Rattle.std.proofs.Common.{◌≡◌, sym, ap, ◌∙◌, subst, ◌⊎◌, inl, inr, ⊎_elim, Bool, true, false, ℕ, eqb, eqb-true}
+use Rattle.std.proofs.Math.Option.{Option, none, some}
+use borrow.Author.Tests.{eqb-false}
 use Rattle.rules.specs.Plan.{Plan, host, owner, first_state, is_hosted_by}
 use Rattle.rules.specs.Rights.{signal_right, is_permitted}
 use Rattle.rules.specs.Ledger.{Configuration, Ledger, is_awake}

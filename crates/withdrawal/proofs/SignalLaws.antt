@@ -1,7 +1,6 @@
 -- Turning keeps every track awake or asleep as it was, its state, and what it holds, and so does a signal of those that it may not turn.
 -- Assumes nothing.
-use mathlib.Core.Path.{◌≡◌, refl}
-use mathlib.Core.Bool.{Bool, true, false}
+use Rattle.std.proofs.Common.{◌≡◌, refl, Bool, true, false}
 use Rattle.rules.specs.declared.Mode.{Mode}
 use Rattle.rules.specs.declared.Mode.TheVariants.{Asleep, Forward, Undoing}
 use Rattle.rules.specs.Ledger.{Configuration, is_awake, is_forward, sleeping}

@@ -1,11 +1,5 @@
 -- One track's visit in a pass, as the code takes it: each branch is a case of the definition. Assumes nothing.
-use mathlib.Core.Path.{◌≡◌, refl, sym, ap, ◌∙◌}
-use mathlib.Core.Bool.{Bool, true, false, cond, not, ◌&&◌}
-use mathlib.Core.List.{List}
-use Prim.Native.Nat.{ℕ, ◌+◌, ◌≤◌}
-use native.Mathlib.Omega.{arith}
-use lib.ListN.{length}
-use borrow.Author.Tests.{not-true, not-false}
+use Rattle.std.proofs.Common.{◌≡◌, refl, sym, ap, ◌∙◌, Bool, true, false, cond, ◌&&◌, List, ℕ, ◌+◌, ◌≤◌, arith, length}
 use Rattle.rules.specs.declared.Counts.{Counts}
 use Rattle.rules.specs.declared.Mode.TheVariants.{Undoing}
 use Rattle.rules.specs.declared.Track.{Track}
@@ -32,30 +26,30 @@ module _ (terms : Terms) (c : Counts) (ws : List ℕ) (o : Tidy terms ws c.track
     unfolding track_of
     ahead = ap (λ (x : Track). is_forward x.mode) (sym e) ∙ sym f
 
-    pub turn_not : not r ≡ true
-        → (◌≡◌ {A = ℕ} 0 (cond (is_forward (ledger_of terms c ws t).mode) 1 0)) × (ws ≡ with_configuration terms c ws t (turned_track (ledger_of terms c ws t)))
+    pub turn_not : r ≡ false
+        → (false ≡ is_forward (ledger_of terms c ws t).mode) × (ws ≡ with_configuration terms c ws t (turned_track (ledger_of terms c ws t)))
     unfolding turned_track
     turn_not n =
-        let a : is_forward (ledger_of terms c ws t).mode ≡ false = ahead ∙ not-true r n in
+        let a : is_forward (ledger_of terms c ws t).mode ≡ false = ahead ∙ n in
         (rw a, kept_track terms c ws o t (turned_track (ledger_of terms c ws t)) (rw a))
 
-    pub turn_done : not r ≡ false → {vs : List ℕ} → vs ≡ with_configuration terms c ws t (with_mode Undoing k.state (ledger_of terms c ws t))
-        → (◌≡◌ {A = ℕ} 1 (cond (is_forward (ledger_of terms c ws t).mode) 1 0)) × (vs ≡ with_configuration terms c ws t (turned_track (ledger_of terms c ws t)))
+    pub turn_done : r ≡ true → {vs : List ℕ} → vs ≡ with_configuration terms c ws t (with_mode Undoing k.state (ledger_of terms c ws t))
+        → (true ≡ is_forward (ledger_of terms c ws t).mode) × (vs ≡ with_configuration terms c ws t (turned_track (ledger_of terms c ws t)))
     unfolding turned_track with_mode track_of
     turn_done n d =
-        let a : is_forward (ledger_of terms c ws t).mode ≡ true = ahead ∙ not-false r n in
+        let a : is_forward (ledger_of terms c ws t).mode ≡ true = ahead ∙ n in
         let s : k.state ≡ (ledger_of terms c ws t).state = ap (λ (x : Track). x.state) e in
         (rw a, d ∙ ap (λ (z : ℕ). with_configuration terms c ws t (record { mode = Undoing; state = z; held = (ledger_of terms c ws t).held })) s ∙ (rw a))
 
   -- one that may not be turned, and one that may
-  pub turn_barred : (may : Bool) → not may ≡ true
-      → (◌≡◌ {A = ℕ} 0 (cond (may && is_forward (ledger_of terms c ws t).mode) 1 0)) × (ws ≡ with_configuration terms c ws t (turned_if may (ledger_of terms c ws t)))
-  turn_barred may n = rw (not-true may n) (refl, kept_track terms c ws o t (ledger_of terms c ws t) refl)
+  pub turn_barred : (may : Bool) → may ≡ false
+      → (false ≡ (may && is_forward (ledger_of terms c ws t).mode)) × (ws ≡ with_configuration terms c ws t (turned_if may (ledger_of terms c ws t)))
+  turn_barred may n = rw n (refl, kept_track terms c ws o t (ledger_of terms c ws t) refl)
 
-  pub turn_may : (may : Bool) → not may ≡ false → {n : ℕ} {vs : List ℕ}
-      → (n ≡ cond (is_forward (ledger_of terms c ws t).mode) 1 0) × (vs ≡ with_configuration terms c ws t (turned_track (ledger_of terms c ws t)))
-      → (n ≡ cond (may && is_forward (ledger_of terms c ws t).mode) 1 0) × (vs ≡ with_configuration terms c ws t (turned_if may (ledger_of terms c ws t)))
-  turn_may may n h = rw (not-false may n) h
+  pub turn_may : (may : Bool) → may ≡ true → {b : Bool} {vs : List ℕ}
+      → (b ≡ is_forward (ledger_of terms c ws t).mode) × (vs ≡ with_configuration terms c ws t (turned_track (ledger_of terms c ws t)))
+      → (b ≡ (may && is_forward (ledger_of terms c ws t).mode)) × (vs ≡ with_configuration terms c ws t (turned_if may (ledger_of terms c ws t)))
+  turn_may may n h = rw n h
 
 -- the passes write what the words can hold
 module _ (terms : Terms) (p : Plan) (society : ℕ) (c : Counts) (ws : List ℕ) (o : Tidy terms ws c.tracks) where
@@ -101,6 +95,6 @@ module _ (terms : Terms) (p : Plan) (society : ℕ) (c : Counts) (ws : List ℕ)
     turning_end h = pass_end terms c ws o (λ t x. turned_if (may t) x) turning_fits i b e h
 
   -- one more track counted
-  pub turn_count : (t : ℕ) {q : Bool} → q ≡ may t → {n r : ℕ} {x : Configuration} → x ≡ l t → n ≡ count_below t turns
-      → r ≡ cond (q && is_forward x.mode) 1 0 → n + r ≡ count_below (t + 1) turns
+  pub turn_count : (t : ℕ) {q : Bool} → q ≡ may t → {n : ℕ} {r : Bool} {x : Configuration} → x ≡ l t → n ≡ count_below t turns
+      → r ≡ (q && is_forward x.mode) → n + cond r 1 0 ≡ count_below (t + 1) turns
   turn_count t {q} k {n} {r} {x} e f g = rw (f, g, e, k) (sym (count_more t turns))

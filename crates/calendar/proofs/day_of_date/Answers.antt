@@ -1,7 +1,5 @@
 -- A date that there is has the day counted, and any other is turned back. Assumes nothing.
-use mathlib.Core.Path.{sym, ap, ◌∙◌}
-use lib.IntN.{ℤ}
-use mir.Syntax.{w32}
+use Rattle.std.proofs.Common.{sym, ap, ◌∙◌, ℤ, w32}
 use mir.ValLaws.{to_z-of_z}
 use Rattle.rules.specs.Answers.{day_told}
 use Rattle.rules.specs.Conversion.{found}
@@ -21,6 +19,6 @@ returns-then-is_date c =
     ap (λ (z : ℤ). found (rd z)) c.day_of.ensures
     ∙ ap found (to_z-of_z w32 _ (day_fits _ (day_number_lem _ h).0)) ∙ sym (day_of_date_lem _ h)
 
-pub returns : goal.returns
+pub returns-else-is_date : goal.returns-else-is_date
 unfolding day_told
-returns c = sym (no_day_of_date _ (sym c.is_date.ensures ∙ c.if-is_date.false))
+returns-else-is_date c = sym (no_day_of_date _ (sym c.is_date.ensures ∙ c.if-is_date.false))

@@ -1,7 +1,5 @@
 -- A root, an asleep track, or its host's mark: the cases of the definition. Assumes nothing.
-use Rattle.std.proofs.Common.{not}
-use Rattle.std.proofs.Common.{ap}
-use native.Mathlib.Omega.{arith}
+use Rattle.std.proofs.Common.{not, ap, arith}
 use Rattle.rules.specs.Plan.{no_state}
 use Rattle.lookup.proofs.Facts.{host_track_low}
 use Rattle.event_writing.proofs.OneTrack.{closed_root, closed_asleep, closed_awake}
@@ -9,7 +7,7 @@ use Rattle.event_writing.proofs.is_closed.Goals as goal
 
 pub returns-then-u : goal.returns-then-u
 unfolding no_state
-returns-then-u c = closed_root _ _ _ _ _ _ c.host_track-u.ensures c.requires.0 c.if-u.true
+returns-then-u c = closed_root _ _ _ _ _ _ c.host_track-u.ensures c.args.plan.now.accepted c.if-u.true
 
 pub returns-then-not-is_awake : goal.returns-then-not-is_awake
 unfolding no_state
@@ -18,8 +16,8 @@ returns-then-not-is_awake c = closed_asleep _ _ _ _ _ _ c.host_track-u.ensures c
 pub bounds-closing-u : goal.bounds-closing-u
 unfolding no_state
 bounds-closing-u c =
-    let k = host_track_low _ _ _ _ c.requires.0 c.host_track-u.ensures c.if-u.false in
-    let n = c.requires.0.holds.tracks in
+    let k = host_track_low _ _ _ _ c.args.plan.now.accepted c.host_track-u.ensures c.if-u.false in
+    let n = c.args.plan.now.accepted.holds.tracks in
     omega arith
 
 pub returns : goal.returns

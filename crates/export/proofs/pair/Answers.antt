@@ -1,8 +1,8 @@
--- Two figures of 16 bits, at bits 16 and 32, stay below 2 to the 48. Assumes nothing.
-use Rattle.export.specs.Packed.{bit16, bit32}
-use borrow.Author.Rules.{rules}
+-- Three figures, of which the third is 0. Assumes nothing.
+use Rattle.std.proofs.Common.{arith}
+use Rattle.export.specs.Packed.{bit16, bit32, bit48}
 use Rattle.export.proofs.pair.Goals as goal
 
-pub overflow_add-result : goal.overflow_add-result
-unfolding bit16 bit32
-overflow_add-result c = search rules
+pub returns : goal.returns
+unfolding bit16 bit32 bit48
+returns c = omega arith

@@ -1,5 +1,5 @@
 -- The conversion's own promise, its answer packed case by case. Assumes nothing.
-use mathlib.Core.Path.{sym, ap, ◌∙◌}
+use Rattle.std.proofs.Common.{ap, ◌∙◌}
 use Rattle.rules.specs.Conversion.{date_of_day}
 use Rattle.rules.specs.Answers.{date_told}
 use Rattle.signed.proofs.Integers.{read_back}
@@ -8,14 +8,8 @@ use Rattle.export.proofs.retraction_date_of_day.Goals as goal
 
 pub returns-in-Refused : goal.returns-in-Refused
 unfolding date_told packed_date
-returns-in-Refused c =
-    c.at_bit0.ensures
-    ∙ (sym (ap (λ x. packed_date (date_told x)) c.in-Refused.is)
-    ∙ ap packed_date (c.date_of_day-answer.ensures ∙ ap date_of_day (read_back _ c.ranges.day.sfits)))
+returns-in-Refused c = c.from.ensures ∙ ap packed_date (c.in-Refused.ensures ∙ ap date_of_day (read_back _ c.ranges.day.sfits))
 
 pub returns-in-On : goal.returns-in-On
 unfolding date_told packed_date
-returns-in-On c =
-    c.triple.ensures
-    ∙ (sym (ap (λ x. packed_date (date_told x)) c.in-On.is)
-    ∙ ap packed_date (c.date_of_day-answer.ensures ∙ ap date_of_day (read_back _ c.ranges.day.sfits)))
+returns-in-On c = c.triple.ensures ∙ ap packed_date (c.in-On.ensures ∙ ap date_of_day (read_back _ c.ranges.day.sfits))

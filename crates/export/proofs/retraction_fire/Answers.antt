@@ -1,5 +1,5 @@
 -- The call's own promise, its answer packed case by case. Assumes nothing.
-use mathlib.Core.Path.{sym, ap, ◌∙◌}
+use Rattle.std.proofs.Common.{sym}
 use Rattle.rules.specs.Answers.{fire_told}
 use Rattle.export.specs.Packed.{packed}
 use Rattle.export.proofs.Packing.{packs}
@@ -7,8 +7,8 @@ use Rattle.export.proofs.retraction_fire.Goals as goal
 
 pub returns-in-Refused : goal.returns-in-Refused
 unfolding fire_told packed
-returns-in-Refused c = rw (sym c.setting_of.ensures) (packs _ _ _ _ _ c.fire-answer.ensures (c.at_bit0.ensures ∙ sym (ap (λ x. packed (fire_told x)) c.in-Refused.is)))
+returns-in-Refused c = rw (sym c.setting_of.ensures) (packs _ _ _ _ _ c.in-Refused.ensures c.from.ensures)
 
 pub returns-in-Fired : goal.returns-in-Fired
 unfolding fire_told packed
-returns-in-Fired c = rw (sym c.setting_of.ensures) (packs _ _ _ _ _ c.fire-answer.ensures (c.pair.ensures ∙ sym (ap (λ x. packed (fire_told x)) c.in-Fired.is)))
+returns-in-Fired c = rw (sym c.setting_of.ensures) (packs _ _ _ _ _ c.in-Fired.ensures c.pair.ensures)

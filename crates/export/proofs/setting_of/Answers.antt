@@ -1,6 +1,5 @@
 -- By bit 0. Assumes nothing.
-use mathlib.Core.Path.{refl}
-use borrow.Author.Tests.{eq-eqb, ne_eqb}
+use Rattle.std.proofs.Common.{refl, eq-eqb, ne_eqb}
 use Rattle.export.specs.Options.{setting_of}
 use Rattle.export.proofs.setting_of.Goals as goal
 

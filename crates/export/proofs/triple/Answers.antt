@@ -1,5 +1,5 @@
 -- Three figures of 16 bits: each has room in its own. Assumes nothing.
-use native.Mathlib.Omega.{arith}
+use Rattle.std.proofs.Common.{arith}
 use Rattle.export.specs.Packed.{bit16, bit32, bit48}
 use Rattle.export.proofs.triple.Goals as goal
 

@@ -1,5 +1,5 @@
 -- The call at the terms that the setting comes to. Assumes nothing.
-use mathlib.Core.Path.{sym}
+use Rattle.std.proofs.Common.{sym}
 use Rattle.signed.proofs.Integers.{read_back}
 use Rattle.manager.proofs.Checks.{on_day}
 use Rattle.manager.proofs.event.Goals as goal

@@ -1,5 +1,5 @@
 -- The call at the terms that the setting comes to. Assumes nothing.
-use mathlib.Core.Path.{sym}
+use Rattle.std.proofs.Common.{sym}
 use Rattle.manager.proofs.fire.Goals as goal
 
 pub returns : goal.returns

@@ -1,12 +1,12 @@
 use Rattle.plan_grants.proofs.GrantTests.{among_none, among_more, among_all}
-use borrow.Author.Rules.{rules}
+use Rattle.std.proofs.Common.{rules}
 use Rattle.plan_grants.proofs.is_among.Goals as goal
 
 pub loop-i-init : goal.loop-i-init
-loop-i-init c = (search rules, among_none _ _)
+loop-i-init c = among_none _ _
 
 pub loop-i-preserved : goal.loop-i-preserved
-loop-i-preserved c = (search rules, among_more _ _ _ c.loop-i.invariant.1)
+loop-i-preserved c = among_more _ _ _ c.loop-i.invariant
 
 pub returns : goal.returns
-returns c = among_all _ _ _ _ (search rules) (search rules) c.loop-i.invariant.1
+returns c = among_all _ _ _ _ (search rules) (search rules) c.loop-i.invariant

@@ -1,15 +1,14 @@
-use mathlib.Core.Path.{sym, ◌∙◌}
+use Rattle.std.proofs.Common.{sym, ◌∙◌, rules}
 use Rattle.rules.proofs.Folds.{some_at}
 use Rattle.plan.proofs.Searches.{none_all}
 use Rattle.plan_grants.proofs.GrantTests.{rights_bad, seen_none, too_many, no_root, wrong_rights, met_before, seen_more}
-use borrow.Author.Rules.{rules}
 use Rattle.plan_grants.proofs.some_bad_grant.Goals as goal
 
-pub returns-then-grants-gt-MOST_GRANTS : goal.returns-then-grants-gt-MOST_GRANTS
-returns-then-grants-gt-MOST_GRANTS c = sym (too_many _ _ (search rules))
+pub returns-then-records-gt-MOST_GRANTS : goal.returns-then-records-gt-MOST_GRANTS
+returns-then-records-gt-MOST_GRANTS c = sym (too_many _ _ (search rules))
 
 pub loop-g-init : goal.loop-g-init
-loop-g-init c = (search rules, seen_none _)
+loop-g-init c = seen_none _
 
 pub returns-then-names_no_root : goal.returns-then-names_no_root
 returns-then-names_no_root c = sym (some_at _ _ c.loop-g.g (search rules) (no_root _ _ (sym c.names_no_root.ensures ∙ c.if-names_no_root.true)))
@@ -27,7 +26,7 @@ returns-then-is_among c =
     let r = sym c.names_no_root.ensures ∙ c.if-names_no_root.false in
     let s = sym c.bad_rights.ensures ∙ c.if-bad_rights.false in
     sym (some_at _ _ i.g (search rules)
-    (met_before _ _ r s _ i.invariant.1 _ c.pair_of-pair.ensures (sym c.is_among.ensures ∙ c.if-is_among.true)))
+    (met_before _ _ r s _ i.invariant _ c.pair_of-pair.ensures (sym c.is_among.ensures ∙ c.if-is_among.true)))
 
 pub loop-g-preserved : goal.loop-g-preserved
 unfolding rights_bad
@@ -35,7 +34,7 @@ loop-g-preserved c =
     let i = c.loop-g in
     let r = sym c.names_no_root.ensures ∙ c.if-names_no_root.false in
     let s = sym c.bad_rights.ensures ∙ c.if-bad_rights.false in
-    (search rules, seen_more _ _ r s _ i.invariant.1 _ c.pair_of-pair.ensures (search rules) (sym c.is_among.ensures ∙ c.if-is_among.false))
+    seen_more _ _ r s _ i.invariant _ c.pair_of-pair.ensures (search rules) (sym c.is_among.ensures ∙ c.if-is_among.false)
 
 pub returns : goal.returns
-returns c = sym (none_all _ _ _ (search rules) (search rules) c.loop-g.invariant.1.fit)
+returns c = sym (none_all _ _ _ (search rules) (search rules) c.loop-g.invariant.fit)

@@ -1,6 +1,6 @@
 -- Where the tracks pass, each return knows that the tests before it in what is left of the table failed and that its own holds.
 -- Assumes nothing.
-use mathlib.Core.Path.{sym, ◌∙◌}
+use Rattle.std.proofs.Common.{sym, ◌∙◌}
 use Rattle.plan_reader.proofs.Reader.{then_transitions}
 use Rattle.plan_reader.proofs.judge_transitions.Goals as goal
 
@@ -9,7 +9,7 @@ returns-then-some_bad_transition c =
     sym (then_transitions _ _ _ _ c.requires ∙ rw (sym c.some_bad_transition.ensures ∙ c.if-some_bad_transition.true))
 
 pub some_bad_deviation-requires : goal.some_bad_deviation-requires
-some_bad_deviation-requires c = (c.requires.holds, c.requires.states, sym c.some_bad_transition.ensures ∙ c.if-some_bad_transition.false)
+some_bad_deviation-requires c = (c.requires.states, sym c.some_bad_transition.ensures ∙ c.if-some_bad_transition.false)
 
 pub returns-then-some_bad_deviation : goal.returns-then-some_bad_deviation
 returns-then-some_bad_deviation c =
@@ -19,7 +19,7 @@ returns-then-some_bad_deviation c =
     ))
 
 pub some_repeated_event-requires : goal.some_repeated_event-requires
-some_repeated_event-requires c = (c.requires.holds, sym c.some_bad_transition.ensures ∙ c.if-some_bad_transition.false)
+some_repeated_event-requires c = sym c.some_bad_transition.ensures ∙ c.if-some_bad_transition.false
 
 pub returns-then-some_repeated_event : goal.returns-then-some_repeated_event
 returns-then-some_repeated_event c =

@@ -1,4 +1,4 @@
-use Rattle.std.proofs.Common.{arith}
+use Rattle.std.proofs.Common.{refl, arith}
 use Rattle.plan_sum.proofs.SumLaws.{adds_none, adds_round, adds_last}
 use Rattle.plan_sum.proofs.sum.Goals as goal
 
@@ -9,7 +9,7 @@ pub loop-at-preserved : goal.loop-at-preserved
 loop-at-preserved c = (
   omega arith,
   omega arith,
-  adds_round _ _ _ _ c.wrapping_add_u64-sum.ensures.value c.round.ensures (omega arith) (omega arith) c.loop-at.invariant.2,
+  adds_round _ _ _ _ refl c.round-sum.ensures (omega arith) (omega arith) c.loop-at.invariant.2,
 )
 
 pub returns : goal.returns

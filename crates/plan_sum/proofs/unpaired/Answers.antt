@@ -7,5 +7,5 @@ pub returns-then-at-plan : goal.returns-then-at-plan
 returns-then-at-plan c =
     (omega (arith, total_last c.args.plan.now c.args.at (omega arith) (omega arith)), c.number.ensures.1)
 
-pub returns : goal.returns
-returns c = (sym (total_none _ _ c.requires.0 c.if-at-plan.false), omega arith)
+pub returns-else-at-plan : goal.returns-else-at-plan
+returns-else-at-plan c = (sym (total_none _ _ c.requires.0 c.if-at-plan.false), omega arith)

@@ -1,6 +1,4 @@
-use mathlib.Core.Path.{refl}
-use native.Mathlib.Omega.{arith}
-use borrow.Author.Rules.{rules}
+use Rattle.std.proofs.Common.{refl, arith, rules}
 use Rattle.property3.specs.Encoding.{answer_room}
 use Rattle.property3.proofs.OneCall.{on_read}
 use Rattle.property3.proofs.EachCall.{underway_start, underway_next, underway_done}

@@ -1,8 +1,7 @@
 -- Begin leaves a checked ledger, and the records' lines follow the plan's. Assumes nothing.
-use native.Mathlib.Omega.{arith}
+use Rattle.std.proofs.Common.{arith, rules}
 use Rattle.replay.proofs.Keeping.{begun_checked}
 use Rattle.replay.proofs.WholeText.{ran_after, ran_begun}
-use borrow.Author.Rules.{rules}
 use Rattle.replay.proofs.run_plan.Goals as goal
 
 pub run_records-requires : goal.run_records-requires

@@ -1,5 +1,5 @@
 -- By the test. Assumes nothing.
-use borrow.Author.Tests.{lt-ltb, le-ltb}
+use Rattle.std.proofs.Common.{lt-ltb, le-ltb}
 use Rattle.replay.specs.Runs.{text_room}
 use Rattle.replay.proofs.text_room.Goals as goal
 

@@ -1,11 +1,8 @@
--- The invariant: the transitions so far are chained by their cell. The measure is those left. Assumes nothing.
-use Prim.Native.Nat.{◌≤◌, ◌-◌}
-use Rattle.rules.specs.Plan.{plan_of}
-use Rattle.plan.specs.Chain.{cell, Heads}
+-- The invariant: the transitions so far are chained by their cell. Assumes nothing.
+use Rattle.plan.specs.Plans.{plan_in}
+use Rattle.plan.specs.Chain.{has, cell}
+use Rattle.plan.proofs.ForestLaws.{Chained}
 use Rattle.transition_index.proofs.index.Given as goal
 
 abbrev pub invariant-loop-x : goal.invariant-loop-x
-invariant-loop-x l = (l.x ≤ l.transitions) × Heads (cell (plan_of l.plan l.c)) 256 l.x l.head l.next
-
-abbrev pub decreases-loop-x : goal.decreases-loop-x
-decreases-loop-x l = l.transitions - l.x
+invariant-loop-x l = Chained (has (cell (plan_in l.records))) 256 l.x 256 l.chains.last l.chains.before

@@ -1,5 +1,5 @@
 -- The days to the year from March on and of it before the month, but for those before its January. Assumes nothing.
-use native.Mathlib.Omega.{arith}
+use Rattle.std.proofs.Common.{arith}
 use Rattle.calendar.proofs.MonthLaws.{march_bounds, from_march, days_fit}
 use Rattle.calendar.proofs.counting.before_month.Goals as goal
 

@@ -1,5 +1,5 @@
 -- The days before the month and before the day make up the days to the date. Assumes nothing.
-use native.Mathlib.Omega.{arith}
+use Rattle.std.proofs.Common.{arith}
 use Rattle.calendar.proofs.DateLaws.{real_of}
 use Rattle.calendar.proofs.DayLaws.{counted}
 use Rattle.calendar.proofs.counting.days_to.Goals as goal
@@ -14,4 +14,4 @@ pub overflow_add-result : goal.overflow_add-result
 overflow_add-result c = omega (arith, counted c.args.date _ c.requires c.before_month.ensures)
 
 pub returns : goal.returns
-returns c = counted c.args.date _ c.requires c.before_month.ensures
+returns c = rw c.from.ensures (counted c.args.date _ c.requires c.before_month.ensures)

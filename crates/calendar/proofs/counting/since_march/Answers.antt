@@ -1,7 +1,7 @@
 -- Each month's days since March, which are without February's. Assumes nothing.
-use native.Mathlib.Omega.{arith}
+use Rattle.std.proofs.Common.{arith}
 use Rattle.rules.specs.Calendar.{in_months}
-use Rattle.calendar.proofs.MonthLaws.{since_late, since_early, NoneOf, is_february}
+use Rattle.calendar.proofs.MonthLaws.{since_late, since_early}
 use Rattle.calendar.proofs.counting.since_march.Goals as goal
 
 pub returns-in-3 : goal.returns-in-3
@@ -49,8 +49,5 @@ unfolding in_months
 returns-in-1 c = since_early _ 1 _ c.in-1.is (omega arith) (λ y. omega arith)
 
 pub returns-in_default : goal.returns-in_default
-unfolding in_months NoneOf
-returns-in_default c =
-    let p = c.requires in
-    let n = c.in_default.in_default-own.rest in
-    since_early _ 2 _ (is_february _ p.0 p.1 n.0 n.1) (omega arith) (λ y. omega arith)
+unfolding in_months
+returns-in_default c = since_early _ 2 _ (omega arith) (omega arith) (λ y. omega arith)

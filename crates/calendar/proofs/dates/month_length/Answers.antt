@@ -1,5 +1,5 @@
 -- February, by its year; the months of 30 days; the others. Assumes nothing.
-use mathlib.Core.Path.{sym, ◌∙◌}
+use Rattle.std.proofs.Common.{sym, ◌∙◌, rules}
 use Rattle.calendar.proofs.YearLaws.{february_leap, february_plain}
 use Rattle.calendar.proofs.MonthLaws.{month_february, month_30, month_31}
 use Rattle.calendar.proofs.dates.month_length.Goals as goal
@@ -16,4 +16,4 @@ pub returns-in-4 : goal.returns-in-4
 returns-in-4 c = month_30 _ _ c.in-4.is
 
 pub returns-in_default : goal.returns-in_default
-returns-in_default c = month_31 _ _ c.requires.0 c.requires.1 c.in_default.in_default-own.rest.0.1 c.in_default.in_default-own.rest.1
+returns-in_default c = month_31 _ _ c.requires.0 c.requires.1 (search rules) (search rules)

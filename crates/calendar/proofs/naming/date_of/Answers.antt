@@ -1,8 +1,5 @@
 -- The century, the year and the month make up the date. Assumes nothing.
-use mathlib.Core.Path.{sym, ap, ◌∙◌}
-use native.Mathlib.Omega.{arith}
-use lib.IntN.{ℤ}
-use mir.Syntax.{w32}
+use Rattle.std.proofs.Common.{sym, ap, ◌∙◌, arith, ℤ, w32}
 use mir.ValLaws.{to_z-of_z}
 use Rattle.rules.specs.Calendar.{date_after}
 use Rattle.rules.specs.Conversion.{days_since}

@@ -1,9 +1,7 @@
-use mathlib.Core.Path.{◌≡◌, sym, ◌∙◌}
-use mathlib.Core.Bool.{Bool, false, and-true}
-use mathlib.Core.List.{List}
-use mathlib.Core.Option.{Option}
-use Prim.Native.Nat.{ℕ}
-use native.Mathlib.Omega.{arith}
+use Rattle.plan.specs.Plans.{plan_in}
+use Rattle.std.proofs.Common.{◌≡◌, sym, ◌∙◌, Bool, false, List, ℕ, arith}
+use Rattle.std.proofs.Math.Bool.{and-true}
+use Rattle.std.proofs.Math.Option.{Option}
 use Rattle.rules.specs.declared.Counts.{Counts}
 use Rattle.rules.specs.Fold.{every_below}
 use Rattle.rules.specs.Plan.{plan_of, no_state}
@@ -29,8 +27,7 @@ module _ (bs : List ℕ) (c : Counts) (l : Ledger) (goes : ℕ → Option ℕ) {
 
 pub loop-t-init : goal.loop-t-init
 loop-t-init c =
-    let a = c.args in
-    (omega arith, at_first a.plan.now a.c (ledger_of _ a.c a.ledger.now) _ c.requires.2)
+    at_first c.args.plan.now.records.bytes.now c.args.plan.now.records.counts (ledger_of _ c.args.plan.now.records.counts c.args.ledger.now) _ c.requires.2
 
 pub bounds-closing-u : goal.bounds-closing-u
 unfolding no_state
@@ -42,19 +39,15 @@ bounds-closing-u c =
 pub loop-t-preserved : goal.loop-t-preserved
 unfolding no_state
 loop-t-preserved c =
-    let m = c.loop-t.invariant.1 in
+    let m = c.loop-t.invariant in
     let few = c.requires.0.checked.lent.room.few in
     let o = c.kept_open-u.ensures in
-    let a = c.args in
-    let g = closes_more (plan_of a.plan.now a.c) (ledger_of _ a.c a.ledger.now) (moves_of a.taken.now a.c.tracks) c.loop-t.t in (
-      omega arith,
-      elim c.if-u.branch [
-        | goal.then-u w ↦ rw w.closing-is (visit_one m few o false _ (λ u b. g u) w.if-u.true)
-        | goal.else-u w ↦ rw w.closing-is (visit_none m few o false _ (λ u b. g u) w.if-u.false)
-      ],
-    )
+    let g = closes_more (plan_in c.args.plan.now.records) (ledger_of _ c.args.plan.now.records.counts c.args.ledger.now) (moves_of c.args.taken.now c.args.plan.now.records.counts.tracks) c.loop-t.t in
+    elim c.if-u.branch [
+      | goal.then-u w ↦ rw w.closing-is (visit_one m few o false _ (λ u b. g u) w.if-u.true)
+      | goal.else-u w ↦ rw w.closing-is (visit_none m few o false _ (λ u b. g u) w.if-u.false)
+    ]
 
 pub returns : goal.returns
 returns c =
-    let a = c.args in
-    at_last a.plan.now a.c (ledger_of _ a.c a.ledger.now) _ (omega arith) c.loop-t.invariant.1
+    at_last c.args.plan.now.records.bytes.now c.args.plan.now.records.counts (ledger_of _ c.args.plan.now.records.counts c.args.ledger.now) _ (omega arith) c.loop-t.invariant

@@ -1,6 +1,5 @@
 -- Forward or not; then the state that it is in, or its transition's destination. Assumes nothing.
-use Rattle.std.proofs.Common.{not}
-use Rattle.std.proofs.Common.{ap}
+use Rattle.std.proofs.Common.{not, ap}
 use Rattle.rules.specs.Plan.{no_state}
 use Rattle.event_choice.specs.Next.{ends_by}
 use Rattle.ledger.proofs.Branches.{and_stops, and_goes}
@@ -17,13 +16,12 @@ returns-then-x-eq-NO_STATE c = and_goes c.is_forward.ensures (ap not c.if-not-is
 
 pub destination_of-d-requires : goal.destination_of-d-requires
 unfolding no_state
-destination_of-d-requires c = (c.requires.0.holds, c.requires.2 c.if-x-eq-NO_STATE.false)
+destination_of-d-requires c = c.requires.1 c.if-x-eq-NO_STATE.false
 
 pub is_final-requires-2 : goal.is_final-requires-2
 unfolding no_state
 is_final-requires-2 c =
-    let a = c.requires in
-    (a.0.holds, destination_low _ _ a.0 (a.2 c.if-x-eq-NO_STATE.false) c.destination_of-d.ensures)
+    destination_low _ _ c.args.plan.now.accepted (c.requires.1 c.if-x-eq-NO_STATE.false) c.destination_of-d.ensures
 
 pub returns : goal.returns
 unfolding ends_by no_state

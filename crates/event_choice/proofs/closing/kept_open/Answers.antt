@@ -1,7 +1,7 @@
 -- Asleep, or forward in a final state next, or else its host's track's. Assumes nothing.
-use Rattle.std.proofs.Common.{not}
-use mathlib.Core.Path.{sym, ap, ◌∙◌}
-use Rattle.rules.specs.Plan.{plan_of, no_state}
+use Rattle.plan.specs.Plans.{plan_in}
+use Rattle.std.proofs.Common.{not, sym, ap, ◌∙◌}
+use Rattle.rules.specs.Plan.{no_state}
 use Rattle.rules.specs.Ledger.{is_awake}
 use Rattle.ledger.specs.Ladder.{ledger_of}
 use Rattle.ledger.proofs.Branches.{holds, fails}
@@ -19,16 +19,15 @@ returns-then-not-is_awake c =
 pub ends-requires : goal.ends-requires
 unfolding no_state
 ends-requires c =
-    let a = c.requires in
-    (a.0.checked.lent.accepts, state_low _ _ _ _ _ a.0 a.2 c.track-k.ensures, a.1.low _ a.2)
+    (state_low _ _ _ _ _ c.requires.0 c.requires.2 c.track-k.ensures, c.requires.1.low _ c.requires.2)
 
 pub returns-then-ends : goal.returns-then-ends
 unfolding no_state
 returns-then-ends c =
-    let l = ledger_of _ c.args.c c.args.ledger.now in
+    let l = ledger_of _ c.args.plan.now.records.counts c.args.ledger.now in
     host_unless _ _ _ c.requires.0.checked.lent.accepts
     (ending_leaves (is_awake (l c.args.t).mode)
-    (sym (ends_read c.args.terms (plan_of c.args.plan.now c.args.c) l c.args.taken.now _ c.args.t c.requires.2 c.track-k.ensures c.ends.ensures)
+    (sym (ends_read c.args.terms (plan_in c.args.plan.now.records) l c.args.taken.now _ c.args.t c.requires.2 c.track-k.ensures c.ends.ensures)
     ∙ c.if-ends.true))
 
 pub returns : goal.returns
@@ -36,4 +35,4 @@ returns c =
     let k = c.track-k.ensures in
     host_if _ _ _ c.requires.0.checked.lent.accepts c.host_track.ensures
     (staying_keeps (holds (c.is_awake.ensures ∙ ap is_awake (mode_as _ k)) (ap not c.if-not-is_awake.false))
-    (sym (ends_read c.args.terms (plan_of c.args.plan.now c.args.c) (ledger_of _ c.args.c c.args.ledger.now) _ _ _ c.requires.2 k c.ends.ensures) ∙ c.if-ends.false))
+    (sym (ends_read c.args.terms (plan_in c.args.plan.now.records) (ledger_of _ c.args.plan.now.records.counts c.args.ledger.now) _ _ _ c.requires.2 k c.ends.ensures) ∙ c.if-ends.false))

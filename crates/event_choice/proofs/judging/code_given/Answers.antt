@@ -1,13 +1,12 @@
 -- Its transition's code, none, or its state's replacement. Assumes nothing.
-use Rattle.std.proofs.Common.{not}
-use Rattle.std.proofs.Common.{ap}
+use Rattle.std.proofs.Common.{not, ap}
 use Rattle.rules.specs.Plan.{no_state}
 use Rattle.event_choice.proofs.Visits.{code_moved, code_none, code_replaced}
 use Rattle.event_choice.proofs.judging.code_given.Goals as goal
 
 pub code_of-requires : goal.code_of-requires
 unfolding no_state
-code_of-requires c = (c.requires.0.holds, c.requires.2 c.if-x-ne-NO_STATE.true)
+code_of-requires c = c.requires.1 c.if-x-ne-NO_STATE.true
 
 pub returns-then-x-ne-NO_STATE : goal.returns-then-x-ne-NO_STATE
 unfolding no_state

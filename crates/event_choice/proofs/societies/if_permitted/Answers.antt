@@ -1,5 +1,5 @@
 -- By the mark. Assumes nothing.
-use mathlib.Core.Path.{refl, sym, ◌∙◌}
+use Rattle.std.proofs.Common.{refl, sym, ◌∙◌}
 use Rattle.rules.specs.Plan.{no_state}
 use Rattle.event_choice.proofs.Visits.{word_none}
 use Rattle.event_choice.proofs.societies.if_permitted.Goals as goal

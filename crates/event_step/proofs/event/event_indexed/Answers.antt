@@ -1,26 +1,18 @@
--- The first refusal, or the choice and what it does: a sound ledger that is not over is going. Assumes nothing.
-use mathlib.Core.Path.{sym, ◌∙◌}
-use Rattle.signed.proofs.Integers.{read_back}
-use Rattle.event_choice.proofs.Choosing.{same_arguments}
-use Rattle.event_step.proofs.Answering.{asked_of, choice_day, early_passed, event_refused, going_of, event_going}
+-- The first refusal, or the step: a sound ledger that is not over is going. Assumes nothing.
+use Rattle.std.proofs.Common.{sym, refl}
+use Rattle.event_step.proofs.Answering.{early_passed, event_refused, going_of, event_going}
 use Rattle.event_step.proofs.event.event_indexed.Goals as goal
 
-pub returns-then-refusal-ne0 : goal.returns-then-refusal-ne0
-returns-then-refusal-ne0 c = event_refused _ _ _ _ c.requires.0 _ _ (asked_of _ _ _ c.args.event c.args.society (read_back _ c.ranges.day.sfits) c.refusal_of-refusal.ensures) c.if-refusal-ne0.true
+pub returns-in-Err : goal.returns-in-Err
+returns-in-Err c = event_refused _ _ _ _ c.requires.0 _ c.number.ensures c.in-Err.is c.refusal_of.ensures
 
-pub choose_indexed-choice-requires : goal.choose_indexed-choice-requires
-choose_indexed-choice-requires c =
-    let a = c.requires in
-    (going_of _ _ _ _ a.0 _ (sym c.refusal_of-refusal.ensures ∙ c.if-refusal-ne0.false), c.open_scopes-opens.ensures, a.2)
+pub taken_from-any-requires : goal.taken_from-any-requires
+taken_from-any-requires c = (c.requires.0.lent, c.requires.2, c.open_scopes-opens.ensures)
 
-pub go_on-requires : goal.go_on-requires
-go_on-requires c =
-    let a = c.requires in
-    let z = sym c.refusal_of-refusal.ensures ∙ c.if-refusal-ne0.false in
-    let h = c.choose_indexed-choice.ensures in
-    (going_of _ _ _ _ a.0 _ z, h.0, c.open_scopes-opens.ensures, a.1, choice_day c.choose_indexed-choice.result h.1 (early_passed _ _ _ _ z).0)
+pub step-requires : goal.step-requires
+step-requires c =
+    let z = sym c.in_default.ensures in
+    (going_of _ _ _ _ c.requires.0 _ z, c.taken_from-any.ensures, c.open_scopes-opens.ensures, c.requires.1, (early_passed _ _ _ _ z).0)
 
 pub returns : goal.returns
-returns c =
-    event_going _ _ _ _ c.requires.0 _ (sym (asked_of _ _ _ c.args.event c.args.society (read_back _ c.ranges.day.sfits) c.refusal_of-refusal.ensures) ∙ c.if-refusal-ne0.false) _ _ _
-    (c.choose_indexed-choice.ensures.1 ∙ same_arguments c.args.event c.args.society (read_back _ c.ranges.day.sfits)) c.go_on.ensures
+returns c = event_going _ _ _ _ c.requires.0 _ (sym c.in_default.ensures) _ _ _ refl c.step.ensures

@@ -1,6 +1,5 @@
 -- Out of range, or before the last accepted day. Assumes nothing.
-use Rattle.std.proofs.Common.{not}
-use Rattle.std.proofs.Common.{ap}
+use Rattle.std.proofs.Common.{not, ap}
 use Rattle.event_step.proofs.Answering.{no_day, day_order}
 use Rattle.event_step.proofs.event.is_bad_day.Goals as goal
 

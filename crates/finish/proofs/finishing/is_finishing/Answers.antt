@@ -1,16 +1,13 @@
-use mathlib.Core.Path.{refl, ap}
-use mathlib.Core.Bool.{not}
-use native.Mathlib.Omega.{arith}
+use Rattle.std.proofs.Common.{refl, ap, not, arith}
 use Rattle.rules.specs.Fold.{every_below, some_below}
 use Rattle.ledger.specs.Ladder.{ledger_of}
 use Rattle.ledger.proofs.Loops.{every_next, some_visit}
 use Rattle.finish.proofs.Roots.{done_asked, ended_asked, stops, visited}
-use borrow.Author.Rules.{rules}
 use Rattle.finish.proofs.finishing.is_finishing.Goals as goal
 
 pub loop-t-init : goal.loop-t-init
 unfolding every_below some_below
-loop-t-init c = (omega arith, refl, refl)
+loop-t-init c = (refl, refl)
 
 pub returns-then-root-ended : goal.returns-then-root-ended
 returns-then-root-ended c =
@@ -26,10 +23,9 @@ loop-t-preserved c =
     let root = c.is_root-root.ensures in
     let ended = c.is_ended-ended.ensures in
     let open-scope = c.requires.1.at _ c.loop-t-test.true in (
-      search rules,
-      every_next _ _ inv.1 (done_asked _ _ _ read root ended c.is_bare-bare.ensures open-scope) (ap not c.if-root-ended.false),
-      some_visit _ _ inv.2 (ended_asked _ (ledger_of _ _ _) _ read root ended),
+      every_next _ _ inv.0 (done_asked _ _ _ read root ended c.is_bare-bare.ensures open-scope) (ap not c.if-root-ended.false),
+      some_visit _ _ inv.1 (ended_asked _ (ledger_of _ _ _) _ read root ended),
     )
 
 pub returns : goal.returns
-returns c = let inv = c.loop-t.invariant in visited _ _ _ _ inv.1 inv.2 inv.0 (omega arith)
+returns c = let inv = c.loop-t.invariant in visited _ _ _ _ inv.0 inv.1 c.loop-t.auto.t-end (omega arith)

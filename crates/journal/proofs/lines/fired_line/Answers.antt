@@ -1,8 +1,7 @@
 -- The head, two more fields, and the newline. Assumes nothing.
 use Rattle.journal.proofs.LineText.{lined_three}
 use Rattle.rules.specs.Text.{decimal}
-use native.Mathlib.Omega.{arith}
-use borrow.Author.Rules.{rules}
+use Rattle.std.proofs.Common.{arith, rules}
 use Rattle.journal.proofs.Written.{retold, wrote_then}
 use Rattle.rules.specs.Text.{ascii, decimal}
 use Rattle.rules.specs.Transcript.{done_line, deviation_text}

@@ -1,8 +1,7 @@
 -- A line of three numbers. Assumes nothing.
 use Rattle.journal.proofs.LineText.{lined_three}
 use Rattle.rules.specs.Text.{decimal}
-use native.Mathlib.Omega.{arith}
-use borrow.Author.Rules.{rules}
+use Rattle.std.proofs.Common.{arith, rules}
 use Rattle.rules.specs.Text.{ascii}
 use Rattle.rules.specs.Transcript.{plan_line}
 use Rattle.journal.proofs.LineText.{digits_word}

@@ -1,5 +1,5 @@
 -- The space, then the deviation. Assumes nothing.
-use borrow.Author.Rules.{rules}
+use Rattle.std.proofs.Common.{rules}
 use Rattle.journal.proofs.Written.{wrote_then}
 use Rattle.rules.specs.Text.{ascii}
 use Rattle.journal.proofs.lines.put_deviation_field.Goals as goal

@@ -1,5 +1,5 @@
 -- The name, then the field. Assumes nothing.
-use borrow.Author.Rules.{rules}
+use Rattle.std.proofs.Common.{rules}
 use Rattle.journal.proofs.Written.{wrote_then}
 use Rattle.journal.proofs.lines.put_head.Goals as goal
 

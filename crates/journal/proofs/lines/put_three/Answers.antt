@@ -1,6 +1,5 @@
 -- The head, two more fields, and the newline. Assumes nothing.
-use native.Mathlib.Omega.{arith}
-use borrow.Author.Rules.{rules}
+use Rattle.std.proofs.Common.{arith, rules}
 use Rattle.journal.proofs.Written.{retold, wrote_then}
 use Rattle.rules.specs.Text.{ascii, decimal}
 use Rattle.journal.proofs.LineText.{line_three, length-head_lem, length-field_lem}

@@ -1,7 +1,7 @@
 -- A line of one number. Assumes nothing.
 use Rattle.journal.proofs.LineText.{lined_one}
 use Rattle.rules.specs.Text.{decimal}
-use native.Mathlib.Omega.{arith}
+use Rattle.std.proofs.Common.{arith}
 use Rattle.rules.specs.Text.{ascii}
 use Rattle.rules.specs.Transcript.{refusal_line}
 use Rattle.journal.proofs.LineText.{digits_byte}

@@ -1,10 +1,9 @@
 -- By the answer's case: a line of one number, or the refusal's. Assumes nothing.
-use native.Mathlib.Omega.{arith}
+use Rattle.std.proofs.Common.{arith, rules}
 use Rattle.rules.specs.Text.{ascii, decimal}
 use Rattle.rules.specs.Transcript.{call_line, done_line}
 use Rattle.rules.specs.Answers.{signal_told}
 use Rattle.journal.proofs.LineText.{lined_one, digits_word}
-use borrow.Author.Rules.{rules}
 use Rattle.journal.proofs.lines.signal_line.Goals as goal
 
 pub put_one-requires : goal.put_one-requires

@@ -1,50 +1,45 @@
 -- By the kind: every record has a first field, and the society is the last one. Assumes nothing.
-use mathlib.Core.Path.{◌≡◌}
-use Prim.Native.Nat.{◌+◌}
-use native.Mathlib.Omega.{arith}
+use Rattle.std.proofs.Common.{◌≡◌, ◌+◌, arith}
 use Rattle.rules.specs.Record.{day_at}
 use Rattle.rules.specs.Journal.{journal_length, society_at, record_of}
-use Rattle.journal.proofs.Records.{lowest_kind, first_field}
+use Rattle.journal.specs.Records.{kind_number}
+use Rattle.journal.proofs.Records.{first_field}
 use Rattle.journal.proofs.record.whole_at.Goals as goal
+
+pub word_at-first-requires : goal.word_at-first-requires
+word_at-first-requires c = omega (arith, c.requires, first_field c.args.kind)
 
 pub word_at-requires : goal.word_at-requires
 unfolding journal_length
-word_at-requires c = let e : journal_length c.args.kind ≡ 12 = rw c.if-kind-eq-EVENT.true in omega (arith, c.requires.0)
+word_at-requires c = let e : journal_length (kind_number c.args.kind) ≡ 8 = rw c.in-Fire.is in omega (arith, c.requires)
 
-pub word_at-requires-then-kind-eq-EVENT : goal.word_at-requires-then-kind-eq-EVENT
+pub word_at-requires-in-Event : goal.word_at-requires-in-Event
 unfolding journal_length
-word_at-requires-then-kind-eq-EVENT c = let e : journal_length c.args.kind ≡ 12 = rw c.if-kind-eq-EVENT.true in omega (arith, c.requires.0)
+word_at-requires-in-Event c = let e : journal_length (kind_number c.args.kind) ≡ 12 = rw c.in-Event.is in omega (arith, c.requires)
 
-pub word_at-requires-then-kind-eq-EVENT-2 : goal.word_at-requires-then-kind-eq-EVENT-2
+pub word_at-requires-in-Event-2 : goal.word_at-requires-in-Event-2
 unfolding journal_length
-word_at-requires-then-kind-eq-EVENT-2 c = let e : journal_length c.args.kind ≡ 12 = rw c.if-kind-eq-EVENT.true in omega (arith, c.requires.0)
+word_at-requires-in-Event-2 c = let e : journal_length (kind_number c.args.kind) ≡ 12 = rw c.in-Event.is in omega (arith, c.requires)
 
-pub word_at-requires-then-kind-eq-EVENT-3 : goal.word_at-requires-then-kind-eq-EVENT-3
+pub word_at-requires-in-Event-3 : goal.word_at-requires-in-Event-3
 unfolding journal_length
-word_at-requires-then-kind-eq-EVENT-3 c = let e : journal_length c.args.kind ≡ 12 = rw c.if-kind-eq-EVENT.true in omega (arith, c.requires.0)
+word_at-requires-in-Event-3 c = let e : journal_length (kind_number c.args.kind) ≡ 12 = rw c.in-Event.is in omega (arith, c.requires)
 
-pub returns-then-kind-eq-EVENT : goal.returns-then-kind-eq-EVENT
+pub returns-in-Signal : goal.returns-in-Signal
+unfolding record_of society_at journal_length
+returns-in-Signal c = rw (c.in-Signal.is, c.word_at-first.ensures)
+
+pub returns-in-Fire : goal.returns-in-Fire
+unfolding record_of society_at journal_length
+returns-in-Fire c = rw (c.in-Fire.is, c.word_at-first.ensures, c.word_at.ensures)
+
+pub returns-in-FireLowest : goal.returns-in-FireLowest
+unfolding record_of society_at journal_length
+returns-in-FireLowest c = rw (c.in-FireLowest.is, c.word_at-first.ensures)
+
+pub returns-in-Event : goal.returns-in-Event
 unfolding record_of day_at society_at journal_length
-returns-then-kind-eq-EVENT c =
+returns-in-Event c =
     let a = c.args in
     let e : a.at + 8 ≡ a.at + 6 + 2 = omega arith in
-    rw (c.if-kind-eq-EVENT.true, c.word_at.ensures, c.word_at-then-kind-eq-EVENT.ensures, c.word_at-then-kind-eq-EVENT-2.ensures, c.word_at-then-kind-eq-EVENT-3.ensures, e)
-
-pub word_at-first-requires : goal.word_at-first-requires
-word_at-first-requires c = let p = c.requires in omega (arith, p.0, first_field _ p.1)
-
-pub returns-then-kind-eq-SIGNAL : goal.returns-then-kind-eq-SIGNAL
-unfolding record_of society_at journal_length
-returns-then-kind-eq-SIGNAL c = rw (c.if-kind-eq-SIGNAL.true, c.word_at-first.ensures)
-
-pub word_at-requires-then-kind-eq-FIRE : goal.word_at-requires-then-kind-eq-FIRE
-unfolding journal_length
-word_at-requires-then-kind-eq-FIRE c = let e : journal_length c.args.kind ≡ 8 = rw c.if-kind-eq-FIRE.true in omega (arith, c.requires.0)
-
-pub returns-then-kind-eq-FIRE : goal.returns-then-kind-eq-FIRE
-unfolding record_of society_at journal_length
-returns-then-kind-eq-FIRE c = rw (c.if-kind-eq-FIRE.true, c.word_at-first.ensures, c.word_at-then-kind-eq-FIRE.ensures)
-
-pub returns : goal.returns
-unfolding record_of society_at journal_length
-returns c = rw (lowest_kind _ c.requires.1 c.if-kind-eq-EVENT.false c.if-kind-eq-SIGNAL.false c.if-kind-eq-FIRE.false, c.word_at-first.ensures)
+    rw (c.in-Event.is, c.word_at-first.ensures, c.word_at-in-Event.ensures, c.word_at-in-Event-2.ensures, c.word_at-in-Event-3.ensures, e)

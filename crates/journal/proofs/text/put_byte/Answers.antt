@@ -1,6 +1,5 @@
 -- One store is the text of one byte. Assumes nothing.
-use mathlib.Core.Path.{refl}
-use borrow.Author.Rules.{rules}
+use Rattle.std.proofs.Common.{refl, rules}
 use Rattle.journal.proofs.Written.{written_byte}
 use Rattle.journal.proofs.text.put_byte.Goals as goal
 

@@ -1,7 +1,5 @@
 -- The deviation's text is one of two. Assumes nothing.
-use mathlib.Core.Path.{sym, ap}
-use native.Mathlib.Omega.{arith}
-use lib.ListN.{length}
+use Rattle.std.proofs.Common.{sym, ap, arith, length}
 use Rattle.journal.proofs.LineText.{deviation_none, deviation_some}
 use Rattle.journal.proofs.Written.{retold}
 use Rattle.journal.proofs.text.put_deviation.Goals as goal

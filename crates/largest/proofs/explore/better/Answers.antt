@@ -1,5 +1,5 @@
 -- The two tests are those of the definition. Assumes nothing.
-use borrow.Author.Tests.{eq-eqb, ne_eqb, lt-ltb, le-ltb}
+use Rattle.std.proofs.Common.{eq-eqb, ne_eqb, lt-ltb, le-ltb}
 use Rattle.largest.specs.Table.{better_of}
 use Rattle.largest.proofs.explore.better.Goals as goal
 

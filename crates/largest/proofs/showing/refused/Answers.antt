@@ -1,5 +1,5 @@
 -- Each word as it is written. Assumes nothing.
-use mathlib.Core.Path.{refl}
+use Rattle.std.proofs.Common.{refl}
 use Rattle.rules.specs.Answers.{largest_told}
 use Rattle.rules.specs.Largest.{no_transition, padded}
 use Rattle.largest.proofs.showing.refused.Goals as goal

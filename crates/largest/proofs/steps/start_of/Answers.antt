@@ -1,24 +1,11 @@
-use mathlib.Core.Path.{◌≡◌, refl, ◌∙◌}
-use native.Mathlib.Omega.{arith}
-use Rattle.rules.specs.Largest.{joined}
-use Rattle.largest.proofs.LaidLaws.{start_more, length_at}
-use borrow.Author.Rules.{rules}
+-- At most 32 lengths of 16 bits each. Assumes nothing.
+use Rattle.std.proofs.Common.{take, arith, rules, tests}
+use Rattle.std.proofs.lemmas.Iterator.{YieldsList-from_slice}
+use Rattle.std.proofs.lemmas.Iterator.Adapters.{fits_from_length, at_most_from_yields_List}
+use Rattle.std.proofs.lemmas.List.{length-take}
 use Rattle.largest.proofs.steps.start_of.Goals as goal
 
-pub loop-u-init : goal.loop-u-init
-unfolding joined
-loop-u-init c = (search rules, search rules, λ path e. refl)
-
-pub loop-u-preserved : goal.loop-u-preserved
-loop-u-preserved c =
-    let w = c.loop-u.invariant in
-    let k = c.wide-at.ensures in (
-      search rules,
-      search rules,
-      λ path e. start_more path _ _ _ (w.2 path e) (k.0 ∙ length_at path _ _ e (search rules)),
-    )
-
-pub returns : goal.returns
-returns c =
-    let e : c.loop-u.u ≡ c.args.t = omega arith in
-    (rw e at c.loop-u.invariant.1, λ path q. rw e at (c.loop-u.invariant.2 path q))
+pub sum-requires-clause-fits : goal.sum-requires-clause-fits
+sum-requires-clause-fits c =
+    fits_from_length _ _ 32 _ (at_most_from_yields_List (YieldsList-from_slice (take c.args.t c.args.lengths.now) cc) (omega (arith, length-take c.args.t c.args.lengths.now)))
+    c.map.ensures.closure (omega arith) (λ x r q k. search (rules, tests))

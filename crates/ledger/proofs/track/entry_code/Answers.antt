@@ -1,22 +1,7 @@
--- The entry's first word lies within the track's room. Assumes nothing.
-use Rattle.rules.specs.Layout.{head_words, entry_width, track_width, entries_place}
-use Rattle.rules.specs.Ledger.{entry_at}
-use Rattle.ledger.specs.Words.{entry_place}
-use borrow.Author.Rules.{rules}
+-- The code of the entry read. Assumes nothing.
+use Rattle.std.proofs.Common.{ap}
+use Rattle.rules.specs.Ledger.{Entry}
 use Rattle.ledger.proofs.track.entry_code.Goals as goal
 
 pub returns : goal.returns
-unfolding entry_at entry_place
-returns c = rw c.entry_place-at.ensures
-
-pub entry_place-at-requires : goal.entry_place-at-requires
-unfolding entries_place track_width head_words entry_width
-entry_place-at-requires c = search rules
-
-pub offset_bounds-ledger-at : goal.offset_bounds-ledger-at
-unfolding entries_place track_width head_words entry_width
-offset_bounds-ledger-at c = search rules
-
-pub bounds-ledger-at : goal.bounds-ledger-at
-unfolding entries_place track_width head_words entry_width
-bounds-ledger-at c = search rules
+returns c = ap (λ (e : Entry). e.code) c.entry_at.ensures

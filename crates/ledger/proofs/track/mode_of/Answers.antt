@@ -1,12 +1,13 @@
 -- The word is 0, 1, or neither. Assumes nothing.
+use Rattle.std.proofs.Common.{rules}
 use Rattle.ledger.proofs.Words.{mode_zero, mode_one, mode_more}
 use Rattle.ledger.proofs.track.mode_of.Goals as goal
 
-pub returns-then-w-eq0 : goal.returns-then-w-eq0
-returns-then-w-eq0 c = mode_zero _ c.if-w-eq0.true
+pub returns-in-0 : goal.returns-in-0
+returns-in-0 c = mode_zero _ c.in-0.is
 
-pub returns-then-w-eq1 : goal.returns-then-w-eq1
-returns-then-w-eq1 c = mode_one _ c.if-w-eq1.true
+pub returns-in-1 : goal.returns-in-1
+returns-in-1 c = mode_one _ c.in-1.is
 
-pub returns : goal.returns
-returns c = mode_more _ c.if-w-eq0.false c.if-w-eq1.false
+pub returns-in_default : goal.returns-in_default
+returns-in_default c = search (rules, mode_more)

@@ -1,43 +1,10 @@
 -- After t visits a track is marked if one of the tracks below t is awake in its scope. Assumes nothing.
-use mathlib.Core.Path.{◌≡◌, refl, sym, ◌∙◌}
-use mathlib.Core.Bool.{Bool, true, false, cond, ◌&&◌, ◌||◌}
-use mathlib.Core.List.{List}
-use Prim.Native.Nat.{ℕ, ◌+◌, ◌≤◌, ◌-◌}
-use Rattle.rules.specs.declared.Counts.{Counts}
-use Rattle.rules.specs.Fold.{some_below}
-use Rattle.rules.specs.Plan.{Plan, plan_of, is_hosted_by}
-use Rattle.rules.specs.Ledger.{Ledger, is_awake}
-use Rattle.rules.specs.Scope.{has_open_scope}
-use Rattle.rules.proofs.Folds.{some_more}
-use Rattle.plan.proofs.FieldLaws.{track_count_lem}
+use Rattle.plan.specs.Plans.{plan_in}
+use Rattle.std.proofs.Common.{false}
 use Rattle.ledger.specs.Ladder.{ledger_of}
 use Rattle.lookup.specs.Figures.{Figures}
+use Rattle.lookup.proofs.Inside.{some_inside}
 use Rattle.lookup.proofs.opens.open_scopes.Given as goal
 
--- a track is in the open scope of u, and some track below n is
-abbrev is_inside : Plan → Ledger → ℕ → ℕ → Bool
-is_inside p l u t = is_hosted_by p u t && is_awake (l t).mode
-
-abbrev some_inside : Plan → Ledger → ℕ → ℕ → Bool
-some_inside p l n u = some_below n (is_inside p l u)
-
-next : (p : Plan) (l : Ledger) (n u : ℕ) → cond (is_inside p l u n) true (some_inside p l n u) ≡ some_inside p l (n + 1) u
-next p l n u = or-last (is_inside p l u n) (some_inside p l n u) ∙ sym (some_more n (is_inside p l u))
-  where
-    or-last : (a b : Bool) → cond a true b ≡ (b || a)
-    or-last true true = refl
-    or-last true false = refl
-    or-last false true = refl
-    or-last false false = refl
-
--- all tracks together
-all_inside : (bs : List ℕ) (c : Counts) (l : Ledger) {n : ℕ} {ms : List Bool} → n ≡ c.tracks → Figures false ms c.tracks (some_inside (plan_of bs c) l n)
-    → Figures false ms c.tracks (has_open_scope (plan_of bs c) l)
-unfolding has_open_scope
-all_inside bs c l e m = rw (e ∙ sym (track_count_lem bs c)) at m
-
 abbrev pub invariant-loop-t : goal.invariant-loop-t
-invariant-loop-t l = (l.t ≤ l.c.tracks) × Figures false l.opens l.c.tracks (some_inside (plan_of l.plan l.c) (ledger_of l.terms l.c l.ledger) l.t)
-
-abbrev pub decreases-loop-t : goal.decreases-loop-t
-decreases-loop-t l = l.c.tracks - l.t
+invariant-loop-t l = Figures false l.opens l.plan.records.counts.tracks (some_inside (plan_in l.plan.records) (ledger_of l.terms l.plan.records.counts l.ledger) l.t)

@@ -1,8 +1,8 @@
 -- The mode read is the ledger's. Assumes nothing.
-use mathlib.Core.Path.{ap, ◌∙◌}
+use Rattle.std.proofs.Common.{ap, ◌∙◌}
 use Rattle.rules.specs.Ledger.{is_awake}
 use Rattle.ledger.proofs.ReadTracks.{mode_as}
 use Rattle.lookup.proofs.reading.is_awake.Goals as goal
 
 pub returns : goal.returns
-returns c = c.is_awake.ensures ∙ ap is_awake (mode_as _ c.track-k.ensures)
+returns c = c.is_awake.ensures ∙ ap is_awake (mode_as _ c.track.ensures)

@@ -1,5 +1,5 @@
 -- A track's words are those of the ledger that the words hold. Assumes nothing.
-use mathlib.Core.Path.{◌∙◌}
+use Rattle.std.proofs.Common.{◌∙◌}
 use Rattle.ledger.proofs.Words.{in_room}
 use Rattle.lookup.proofs.Facts.{track_read}
 use Rattle.lookup.proofs.reading.track.Goals as goal

@@ -1,6 +1,5 @@
 -- The mode and the count read are the track's, the mark says whether it has an open scope. Assumes nothing.
-use Rattle.std.proofs.Common.{not}
-use mathlib.Core.Path.{ap, ◌∙◌}
+use Rattle.std.proofs.Common.{not, ap, ◌∙◌}
 use Rattle.rules.specs.Ledger.{is_undoing}
 use Rattle.ledger.proofs.Branches.{holds, fails}
 use Rattle.ledger.proofs.ReadTracks.{mode_as, empty_as, held_as}
@@ -21,6 +20,5 @@ returns-then-k-eq0 c =
 pub returns : goal.returns
 returns c =
     let k = c.track-k.ensures in
-    let pre = c.requires in
-    fire_free _ _ _ _ pre.1 (holds (c.is_undoing.ensures ∙ ap is_undoing (mode_as _ k)) (ap not c.if-not-is_undoing.false))
-    (held_as _ k c.if-k-eq0.false) (pre.2.at _ pre.1)
+    fire_free _ _ _ _ c.requires.1 (holds (c.is_undoing.ensures ∙ ap is_undoing (mode_as _ k)) (ap not c.if-not-is_undoing.false))
+    (held_as _ k c.if-k-eq0.false) (c.requires.2.at _ c.requires.1)

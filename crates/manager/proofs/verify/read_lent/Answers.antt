@@ -1,23 +1,37 @@
 -- The reading of the plan, and 17 where it is accepted. Assumes nothing.
-use Rattle.std.proofs.Common.{not}
-use mathlib.Core.Path.{sym, ap, ◌∙◌}
-use Rattle.rules.specs.Answers.{plan_told}
-use Rattle.plan_reader.proofs.Reader.{accepted_holds}
+use Rattle.std.proofs.Common.{◌≡◌, not, ap, ◌∙◌}
+use Rattle.std.proofs.lemmas.Result.{err_from_is_err_and}
+use Rattle.opening.proofs.FirstStates.{first_figures}
+use Rattle.rules.specs.declared.Counts.{Counts}
+use Rattle.rules.specs.Acceptance.{accepted}
+use Rattle.manager.proofs.FurtherRead.{reading_clash}
 use Rattle.manager.proofs.Checks.{short, roomy, lent_refused, lent_short, lent_accepted}
 use Rattle.manager.proofs.verify.read_lent.Goals as goal
 
-pub has_room-requires : goal.has_room-requires
-unfolding plan_told
-has_room-requires c = (accepted_holds _ _ (sym c.read_plan_with-answer.ensures.0 ∙ ap plan_told c.in-Accepted.is)).tracks
+same : (a b : Counts) → accepted a ≡ accepted b → a ≡ b
+same a b e = cc
 
-pub returns-then-not-has_room : goal.returns-then-not-has_room
-unfolding plan_told
-returns-then-not-has_room c = (lent_short _ _ _ _ (sym (ap plan_told c.in-Accepted.is) ∙ c.read_plan_with-answer.ensures.0) (short _ _ _ _ c.has_room.ensures (ap not c.if-not-has_room.true)), λ k e. c.read_plan_with-answer.ensures.1 k (c.read_plan_with-answer.ensures.0 ∙ e))
+pub returns-in_err-read-clause-told : goal.returns-in_err-read-clause-told
+returns-in_err-read-clause-told c =
+    let p = err_from_is_err_and c.from_residual.result c.from_residual.ensures.1 in
+    rw (p.1, p.2) (lent_refused _ _ _ _ c.in_err-read.ensures.reading)
 
-pub returns-in-Refused : goal.returns-in-Refused
-unfolding plan_told
-returns-in-Refused c = (lent_refused _ _ _ _ (sym (ap plan_told c.in-Refused.is) ∙ c.read_plan_with-answer.ensures.0), λ k e. c.read_plan_with-answer.ensures.1 k (c.read_plan_with-answer.ensures.0 ∙ e))
+pub returns-then-not-has_room-clause-told : goal.returns-then-not-has_room-clause-told
+returns-then-not-has_room-clause-told c = lent_short _ _ _ _ c.in_ok-read.ensures.reading (short _ _ _ _ c.has_room.ensures (ap not c.if-not-has_room.true))
 
-pub returns-else-not-has_room : goal.returns-else-not-has_room
-unfolding plan_told
-returns-else-not-has_room c = (lent_accepted _ _ _ _ (sym (ap plan_told c.in-Accepted.is) ∙ c.read_plan_with-answer.ensures.0) (roomy _ _ _ _ c.has_room.ensures (ap not c.if-not-has_room.false)), λ k e. c.read_plan_with-answer.ensures.1 k (c.read_plan_with-answer.ensures.0 ∙ e))
+pub returns-clause-told : goal.returns-clause-told
+returns-clause-told c = lent_accepted _ _ _ _ c.in_ok-read.ensures.reading (roomy _ _ _ _ c.has_room.ensures (ap not c.if-not-has_room.false))
+
+pub returns-clause-firsts : goal.returns-clause-firsts
+returns-clause-firsts c = first_figures _ _ c.in_ok-read.read.accepted c.in_ok-read.ensures.firsts
+
+pub returns-in_err-read-clause-found : goal.returns-in_err-read-clause-found
+returns-in_err-read-clause-found c k e = reading_clash c.in_err-read.ensures.reading e
+
+pub returns-then-not-has_room-clause-found : goal.returns-then-not-has_room-clause-found
+returns-then-not-has_room-clause-found c k e =
+    rw (← same _ k (c.in_ok-read.ensures.reading ∙ e), ← c.in_ok-read.ensures.bytes) c.in_ok-read.ensures.firsts
+
+pub returns-clause-found : goal.returns-clause-found
+returns-clause-found c k e =
+    rw (← same _ k (c.in_ok-read.ensures.reading ∙ e), ← c.in_ok-read.ensures.bytes) c.in_ok-read.ensures.firsts

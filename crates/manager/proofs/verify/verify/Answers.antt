@@ -1,33 +1,31 @@
 -- The checks 2 to 17; where they pass, what 24 and 18 ask is found, and told in their order. Assumes nothing.
-use mathlib.Core.Bool.{not}
-use mathlib.Core.Path.{sym, ap, ◌∙◌}
-use Rattle.rules.specs.Answers.{plan_told}
+use Rattle.std.proofs.Common.{not, refl, ap}
+use Rattle.std.proofs.lemmas.Result.{err_from_is_err_and}
 use Rattle.ledger.proofs.Words.{leading_room}
-use Rattle.manager.proofs.FurtherRead.{reading_clash}
 use Rattle.manager.proofs.Checks.{lent_holds, checked_refused, checked_other, checked_unsound, checked_accepted, opens_found}
 use Rattle.manager.proofs.verify.verify.Goals as goal
 
+pub returns-in_err-read-clause-told : goal.returns-in_err-read-clause-told
+returns-in_err-read-clause-told c =
+    let p = err_from_is_err_and c.from_residual.result c.from_residual.ensures.1 in
+    rw (p.1, p.2) (checked_refused _ _ _ _ c.in_err-read.ensures.told)
+
 pub is_other-other-requires : goal.is_other-other-requires
-unfolding plan_told
-is_other-other-requires c =
-    leading_room (lent_holds _ _ _ _ (sym (ap plan_told c.in-Accepted.is) ∙ c.read_lent-answer.ensures.0)).room
+is_other-other-requires c = leading_room (lent_holds _ _ _ _ c.in_ok-read.ensures.told).room
 
 pub is_sound-sound-requires : goal.is_sound-sound-requires
-unfolding plan_told
-is_sound-sound-requires c = lent_holds _ _ _ _ (sym (ap plan_told c.in-Accepted.is) ∙ c.read_lent-answer.ensures.0)
+is_sound-sound-requires c = rw c.in_ok-read.ensures.bytes (lent_holds _ _ _ _ c.in_ok-read.ensures.told)
 
-pub returns-then-other : goal.returns-then-other
-unfolding plan_told
-returns-then-other c = let q = checked_other _ _ _ _ (sym (ap plan_told c.in-Accepted.is) ∙ c.read_lent-answer.ensures.0) c.is_other-other.ensures c.if-other.true in (q, λ k e. reading_clash q e, c.read_lent-answer.ensures.1)
+pub returns-then-other-clause-told : goal.returns-then-other-clause-told
+returns-then-other-clause-told c = checked_other _ _ _ _ c.in_ok-read.ensures.told c.is_other-other.ensures c.if-other.true
 
-pub returns-then-not-sound : goal.returns-then-not-sound
-unfolding plan_told
-returns-then-not-sound c = let q = checked_unsound _ _ _ _ (sym (ap plan_told c.in-Accepted.is) ∙ c.read_lent-answer.ensures.0) c.is_other-other.ensures c.if-other.false c.is_sound-sound.ensures.0 (ap not c.if-not-sound.true) in (q, λ k e. reading_clash q e, c.read_lent-answer.ensures.1)
+pub returns-then-not-sound-clause-told : goal.returns-then-not-sound-clause-told
+returns-then-not-sound-clause-told c =
+    checked_unsound _ _ _ _ c.in_ok-read.ensures.told c.is_other-other.ensures c.if-other.false (rw (← c.in_ok-read.ensures.bytes) c.is_sound-sound.ensures.0) (ap not c.if-not-sound.true)
 
-pub returns-in-Refused : goal.returns-in-Refused
-unfolding plan_told
-returns-in-Refused c = let q = checked_refused _ _ _ _ (sym (ap plan_told c.in-Refused.is) ∙ c.read_lent-answer.ensures.0) in (q, λ k e. reading_clash q e, c.read_lent-answer.ensures.1)
+pub returns-clause-told : goal.returns-clause-told
+returns-clause-told c =
+    checked_accepted _ _ _ _ c.in_ok-read.ensures.told c.is_other-other.ensures c.if-other.false (rw (← c.in_ok-read.ensures.bytes) c.is_sound-sound.ensures.0) (ap not c.if-not-sound.false)
 
-pub returns-else-not-sound : goal.returns-else-not-sound
-unfolding plan_told
-returns-else-not-sound c = let q = checked_accepted _ _ _ _ (sym (ap plan_told c.in-Accepted.is) ∙ c.read_lent-answer.ensures.0) c.is_other-other.ensures c.if-other.false c.is_sound-sound.ensures.0 (ap not c.if-not-sound.false) in (q, λ k e. opens_found _ _ _ (q ∙ e) (c.is_sound-sound.ensures.1 c.if-not-sound.false), c.read_lent-answer.ensures.1)
+pub returns-clause-scopes : goal.returns-clause-scopes
+returns-clause-scopes c = opens_found _ _ _ refl (c.is_sound-sound.ensures.1 c.if-not-sound.false)

@@ -1,6 +1,6 @@
 -- Stamped, the ledger has its room; asleep, its words are tidy and whatever wakes is asleep; the roots entered, they hold begin's ledger.
 -- Assumes nothing.
-use mathlib.Core.Path.{ap, ◌∙◌}
+use Rattle.std.proofs.Common.{ap, ◌∙◌}
 use Rattle.rules.specs.Ledger.{written}
 use Rattle.ledger.proofs.Words.{leading_room}
 use Rattle.opening.proofs.BeginLaws.{stamped_room, length-word_lem, begin_tidy, begin_sleepers, begin_done}
@@ -11,14 +11,12 @@ stamp-requires c = let a = c.requires.0 in (length-word_lem a.accepts, leading_r
 
 pub enter_all-requires : goal.enter_all-requires
 enter_all-requires c =
-    let a = c.requires in
-    let r = stamped_room _ _ _ a.0.room c.stamp.ensures in
+    let r = stamped_room _ _ _ c.requires.0.room c.stamp.ensures in
     let s = c.put_all_to_sleep.ensures in
-    (a.0.accepts, begin_tidy _ _ _ a.0.accepts _ r s, a.1, begin_sleepers _ _ _ a.0.accepts _ r s _)
+    (begin_tidy _ _ _ c.requires.0.accepts _ r s, c.requires.1, begin_sleepers _ _ _ c.requires.0.accepts _ r s _)
 
 pub returns : goal.returns
 returns c =
-    let a = c.requires in
-    let r = stamped_room _ _ _ a.0.room c.stamp.ensures in
-    begin_done _ _ _ a.0.accepts _ r c.put_all_to_sleep.ensures _ c.root_words-to.ensures c.enter_all.ensures
+    let r = stamped_room _ _ _ c.requires.0.room c.stamp.ensures in
+    begin_done _ _ _ c.requires.0.accepts _ r c.put_all_to_sleep.ensures _ c.root_words-to.ensures c.enter_all.ensures
     ∙ ap (written _ _ _) c.stamp.ensures

@@ -1,6 +1,5 @@
 -- A track enters a state, is left as it is, or wakes: what wakes was asleep and holds nothing. Assumes nothing.
-use Rattle.std.proofs.Common.{not}
-use Rattle.std.proofs.Common.{ap}
+use Rattle.std.proofs.Common.{not, ap}
 use borrow.Author.Tests.{not-true, not-false}
 use Rattle.rules.specs.Plan.{no_state}
 use Rattle.opening.proofs.EnteringLaws.{enter_state, enter_not, enter_first}

@@ -1,8 +1,8 @@
--- The low byte and 256 times the high byte: a byte is below 256, so the sum fits 16 bits. Assumes nothing.
+-- The low byte and 256 times the high byte. Assumes nothing.
 use Rattle.rules.specs.Record.{word}
-use borrow.Author.Rules.{rules}
+use Rattle.std.proofs.Common.{arith}
 use Rattle.plan.proofs.fields.word_at.Goals as goal
 
 pub returns : goal.returns
 unfolding word
-returns c = search rules
+returns c = omega (arith, c.from_le_bytes.ensures)

@@ -1,25 +1,21 @@
-use mathlib.Core.Path.{refl, sym, ◌∙◌}
+use Rattle.std.proofs.Common.{sym, ap, ◌∙◌}
+use Rattle.plan.specs.Chains.{cell_of}
+use Rattle.plan.proofs.ChainLaws.{cell_item}
 use Rattle.plan_reader.proofs.CellLaws.{walk_start, walk_end, walk_on}
-use borrow.Author.Rules.{rules}
 use Rattle.plan_reader.proofs.events.comparisons_left.Goals as goal
 
-pub loop-y-init : goal.loop-y-init
-loop-y-init c = walk_start _ _ _ _ c.requires.2
+pub loop-next-init : goal.loop-next-init
+loop-next-init c = walk_start _ _ _ c.requires.1
 
-pub returns-then-left-eq0 : goal.returns-then-left-eq0
-returns-then-left-eq0 c = λ h. absurd (h refl)
+pub loop-next-smaller : goal.loop-next-smaller
+loop-next-smaller c =
+    rw (c.in-Some.is, c.before-next.ensures, cell_item)
+    (walk_on _ _ _ _ _ (rw c.in-Some.is at c.loop-next.invariant) (λ e. c.if-event_of-event.false (c.event_of.ensures ∙ e ∙ sym c.event_of-event.ensures)) c.requires.2).lower
 
-pub returns-then-event_of-event : goal.returns-then-event_of-event
-returns-then-event_of-event c = λ h. absurd (h refl)
-
-pub overflow_cast-y : goal.overflow_cast-y
-overflow_cast-y c = let q = (walk_on _ _ _ _ _ c.loop-y-test.true c.loop-y.invariant (λ e. c.if-event_of-event.false (c.event_of.ensures ∙ e ∙ sym c.event_of-event.ensures)) c.requires.2.chained refl).walk.within in search rules
-
-pub loop-y-smaller : goal.loop-y-smaller
-loop-y-smaller c = (walk_on _ _ _ _ _ c.loop-y-test.true c.loop-y.invariant (λ e. c.if-event_of-event.false (c.event_of.ensures ∙ e ∙ sym c.event_of-event.ensures)) c.requires.2.chained refl).lower
-
-pub loop-y-preserved : goal.loop-y-preserved
-loop-y-preserved c = (walk_on _ _ _ _ _ c.loop-y-test.true c.loop-y.invariant (λ e. c.if-event_of-event.false (c.event_of.ensures ∙ e ∙ sym c.event_of-event.ensures)) c.requires.2.chained refl).walk
+pub loop-next-preserved : goal.loop-next-preserved
+loop-next-preserved c =
+    rw (c.before-next.ensures, cell_item)
+    (walk_on _ _ _ _ _ (rw c.in-Some.is at c.loop-next.invariant) (λ e. c.if-event_of-event.false (c.event_of.ensures ∙ e ∙ sym c.event_of-event.ensures)) c.requires.2).walk
 
 pub returns : goal.returns
-returns c = λ h. walk_end _ _ _ c.loop-y-test.false c.loop-y.invariant
+returns c = walk_end _ _ _ (ap cell_of c.in_default.is) c.loop-next.invariant

@@ -1,6 +1,6 @@
 -- Source and event give the group: there are 128 sources, and 16 times 4096 events. Assumes nothing.
 use Rattle.plan_reader.specs.Keys.{group}
-use borrow.Author.Rules.{rules}
+use Rattle.std.proofs.Common.{rules}
 use Rattle.plan_reader.proofs.events.group_of.Goals as goal
 
 pub returns : goal.returns

@@ -1,12 +1,14 @@
--- The invariant: the transitions so far are chained by their group. The measure is those left. Assumes nothing.
-use Prim.Native.Nat.{◌≤◌, ◌-◌}
-use Rattle.rules.specs.Plan.{plan_of}
-use Rattle.plan.specs.Chain.{Heads}
+-- The invariant: the transitions so far are chained by their group. Assumes nothing.
+use Rattle.plan.specs.Plans.{plan_in}
+use Rattle.std.proofs.Common.{ℕ, ◌<◌}
+use Rattle.plan.specs.Chain.{has}
+use Rattle.plan.proofs.ForestLaws.{Chained}
 use Rattle.plan_reader.specs.Keys.{group}
 use Rattle.plan_reader.proofs.events.in_groups.Given as goal
 
 abbrev pub invariant-loop-x : goal.invariant-loop-x
-invariant-loop-x l = (l.x ≤ l.transitions) × Heads (group (plan_of l.plan l.c)) 2048 l.x l.head l.next
-
-abbrev pub decreases-loop-x : goal.decreases-loop-x
-decreases-loop-x l = l.transitions - l.x
+invariant-loop-x l =
+    record {
+      chained : Chained (has (group (plan_in l.records))) 2048 l.x 256 l.groups.last l.groups.before;
+      keys : (y : ℕ) → y < l.x → group (plan_in l.records) y < 2048;
+    }

@@ -1,25 +1,20 @@
-use mathlib.Core.Path.{refl, sym}
+use Rattle.std.proofs.Common.{refl, sym, arith, rules}
 use Rattle.rules.specs.Fold.{some_below}
 use Rattle.plan.proofs.Searches.{none_more, none_all}
-use Rattle.plan.proofs.ChainLaws.{head_from, head_most, heads_none, heads_more}
-use borrow.Author.Rules.{rules}
+use Rattle.plan.proofs.ForestLaws.{chained_none}
+use Rattle.plan.proofs.ChainLaws.{keyed_add}
 use Rattle.plan_reader.proofs.events.some_chained_event.Goals as goal
 
 pub loop-x-init : goal.loop-x-init
 unfolding some_below
-loop-x-init c = (search rules, refl, heads_none _ _ _ _ refl refl)
-
-pub overflow_cast-from : goal.overflow_cast-from
-overflow_cast-from c = let q = head_most _ _ _ _ _ _ c.loop-x.invariant.2 c.cell_of-cell.ensures.1 in search rules
-
-pub comparisons_left-left-requires : goal.comparisons_left-left-requires
-comparisons_left-left-requires c = (search rules, search rules, head_from _ _ _ _ _ _ c.loop-x.invariant.2 c.cell_of-cell.ensures.1 c.cell_of-cell.ensures.0)
-
-pub returns-then-left-eq0 : goal.returns-then-left-eq0
-returns-then-left-eq0 c = c.some_marked_event.ensures
+loop-x-init c = (refl, rw (c.new-cells.ensures.0, c.new-cells.ensures.1) (chained_none _ 256 256))
 
 pub loop-x-preserved : goal.loop-x-preserved
-loop-x-preserved c = (search rules, none_more _ _ c.loop-x.invariant.1 (c.comparisons_left-left.ensures c.if-left-eq0.false), heads_more _ _ _ _ _ _ (search rules) c.cell_of-cell.ensures.1 c.cell_of-cell.ensures.0 c.loop-x.invariant.2)
+loop-x-preserved c =
+    let h = c.args.records.now.holds.transitions in (
+      none_more _ _ c.loop-x.invariant.0 c.in-Some.ensures,
+      rw (c.add.ensures.0, c.add.ensures.1) (keyed_add _ _ _ _ _ _ _ c.cell_of-cell.ensures.1 (omega arith) c.cell_of-cell.ensures.0 c.loop-x.invariant.1),
+    )
 
 pub returns : goal.returns
-returns c = sym (none_all _ _ _ (search rules) (search rules) c.loop-x.invariant.1)
+returns c = sym (none_all _ _ _ (search rules) (search rules) c.loop-x.invariant.0)

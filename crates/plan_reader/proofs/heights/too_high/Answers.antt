@@ -1,6 +1,6 @@
 -- Nine levels decide whether the height exceeds 8. Assumes nothing.
 use Rattle.plan.proofs.ForestLaws.{levels_decide}
-use borrow.Author.Rules.{rules}
+use Rattle.std.proofs.Common.{rules}
 use Rattle.plan_reader.proofs.heights.too_high.Goals as goal
 
 pub returns : goal.returns

@@ -1,14 +1,21 @@
 -- 65535 is beyond every state, so a first state within them is the track's own. Assumes nothing.
 use Rattle.rules.specs.Plan.{no_state}
-use mathlib.Core.Path.{sym, ◌∙◌}
+use Rattle.std.proofs.Common.{refl, sym, ◌∙◌, arith, le-leb, rules}
 use Rattle.plan.proofs.FieldLaws.{state_count_lem}
+use Rattle.plan.proofs.PassedLaws.{first_read}
 use Rattle.plan.proofs.RefusalTests.{first_lost, first_here}
-use borrow.Author.Rules.{rules}
 use Rattle.plan_reader.proofs.refusals.bad_first.Goals as goal
 
-pub returns-then-c-s : goal.returns-then-c-s
-returns-then-c-s c = sym (first_lost _ _ _ c.requires.1 (rw state_count_lem (search rules)))
+pub bounds-firsts-t : goal.bounds-firsts-t
+bounds-firsts-t c = let n = c.args.records.now.holds.tracks in omega arith
 
-pub returns : goal.returns
+pub returns-then-records-s : goal.returns-then-records-s
+returns-then-records-s c =
+    let f = c.from-s.ensures ∙ first_read _ _ c.args.records.now.holds c.requires.0 _ _ _ c.requires.2 c.requires.1 refl in
+    rw (le-leb _ _ c.if-records-s.true) (sym (first_lost _ _ _ f (rw state_count_lem (search rules))))
+
+pub returns-else-records-s : goal.returns-else-records-s
 unfolding no_state
-returns c = c.is_final.ensures ∙ sym (first_here _ _ _ c.requires.1 (rw state_count_lem (search rules)) (rw state_count_lem (search rules)))
+returns-else-records-s c =
+    let f = c.from-s.ensures ∙ first_read _ _ c.args.records.now.holds c.requires.0 _ _ _ c.requires.2 c.requires.1 refl in
+    c.is_final.ensures ∙ sym (first_here _ _ _ f (rw state_count_lem (search rules)) (rw state_count_lem (search rules)))

@@ -1,19 +1,18 @@
 -- A root passes; a hosted track's host must be a state, and its track lower. Assumes nothing.
-use mathlib.Core.Path.{sym}
+use Rattle.std.proofs.Common.{sym, le-leb, eq-eqb, rules}
 use Rattle.plan.proofs.FieldLaws.{state_count_lem}
 use Rattle.plan.proofs.RefusalTests.{host_root, host_lost, host_track_lem}
 use Rattle.rules.specs.Plan.{no_state}
-use borrow.Author.Rules.{rules}
 use Rattle.plan_reader.proofs.refusals.bad_host.Goals as goal
 
-pub returns-then-h : goal.returns-then-h
+pub returns-else-h : goal.returns-else-h
 unfolding no_state
-returns-then-h c = sym (host_root _ _ _ c.host_word-h.ensures c.if-h.true)
+returns-else-h c = rw (eq-eqb _ _ c.if-h.false) (sym (host_root _ _ _ c.host_word-h.ensures c.if-h.false))
 
-pub returns-then-c-s : goal.returns-then-c-s
+pub returns-then-records-s : goal.returns-then-records-s
 unfolding no_state
-returns-then-c-s c = sym (host_lost _ _ _ c.host_word-h.ensures c.if-h.false (rw state_count_lem (search rules)))
+returns-then-records-s c = rw (le-leb _ _ c.if-records-s.true) (sym (host_lost _ _ _ c.host_word-h.ensures c.if-h.true (rw state_count_lem (search rules))))
 
-pub returns : goal.returns
+pub returns-else-records-s : goal.returns-else-records-s
 unfolding no_state
-returns c = rw c.track_of.ensures (sym (host_track_lem _ _ _ c.host_word-h.ensures c.if-h.false (rw state_count_lem (search rules))))
+returns-else-records-s c = rw (c.from.ensures, c.track_of.ensures, c.from-s.ensures) (sym (host_track_lem _ _ _ c.host_word-h.ensures c.if-h.true (rw state_count_lem (search rules))))

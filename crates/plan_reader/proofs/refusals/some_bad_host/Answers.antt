@@ -1,19 +1,9 @@
-use mathlib.Core.Path.{refl, sym, ◌∙◌}
-use Rattle.rules.specs.Fold.{some_below}
-use Rattle.rules.proofs.Folds.{some_at}
-use Rattle.plan.proofs.Searches.{none_more, none_all}
-use borrow.Author.Rules.{rules}
+-- Some record meets the test if its closure finds one. Assumes nothing.
+use Rattle.plan.specs.Plans.{plan_in}
+use Rattle.std.proofs.Common.{rules, tests}
+use Rattle.rules.proofs.Ranges.{some_from_any}
+use Rattle.rules.specs.Acceptance.{bad_host}
 use Rattle.plan_reader.proofs.refusals.some_bad_host.Goals as goal
 
-pub loop-t-init : goal.loop-t-init
-unfolding some_below
-loop-t-init c = (search rules, refl)
-
-pub returns-then-bad_host : goal.returns-then-bad_host
-returns-then-bad_host c = sym (some_at _ _ c.loop-t.t (search rules) (sym c.bad_host.ensures ∙ c.if-bad_host.true))
-
-pub loop-t-preserved : goal.loop-t-preserved
-loop-t-preserved c = (search rules, none_more _ _ c.loop-t.invariant.1 (sym c.bad_host.ensures ∙ c.if-bad_host.false))
-
 pub returns : goal.returns
-returns c = sym (none_all _ _ _ (search rules) (search rules) c.loop-t.invariant.1)
+returns c = some_from_any (bad_host (plan_in c.args.records.now)) _ c.any.ensures.ran (λ s b q k. search (rules, tests))

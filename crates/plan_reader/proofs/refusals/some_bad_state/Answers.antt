@@ -1,19 +1,9 @@
-use mathlib.Core.Path.{refl, sym, ◌∙◌}
-use Rattle.rules.specs.Fold.{some_below}
-use Rattle.rules.proofs.Folds.{some_at}
-use Rattle.plan.proofs.Searches.{none_more, none_all}
-use borrow.Author.Rules.{rules}
+-- Some record meets the test if its closure finds one. Assumes nothing.
+use Rattle.plan.specs.Plans.{plan_in}
+use Rattle.std.proofs.Common.{rules, tests}
+use Rattle.rules.proofs.Ranges.{some_from_any}
+use Rattle.rules.specs.Acceptance.{bad_state}
 use Rattle.plan_reader.proofs.refusals.some_bad_state.Goals as goal
 
-pub loop-s-init : goal.loop-s-init
-unfolding some_below
-loop-s-init c = (search rules, refl)
-
-pub returns-then-bad_state : goal.returns-then-bad_state
-returns-then-bad_state c = sym (some_at _ _ c.loop-s.s (search rules) (sym c.bad_state.ensures ∙ c.if-bad_state.true))
-
-pub loop-s-preserved : goal.loop-s-preserved
-loop-s-preserved c = (search rules, none_more _ _ c.loop-s.invariant.1 (sym c.bad_state.ensures ∙ c.if-bad_state.false))
-
 pub returns : goal.returns
-returns c = sym (none_all _ _ _ (search rules) (search rules) c.loop-s.invariant.1)
+returns c = some_from_any (bad_state (plan_in c.args.records.now)) _ c.any.ensures.ran (λ s b q k. search (rules, tests))

@@ -1,19 +1,9 @@
-use mathlib.Core.Path.{refl, sym, ◌∙◌}
-use Rattle.rules.specs.Fold.{some_below}
-use Rattle.rules.proofs.Folds.{some_at}
-use Rattle.plan.proofs.Searches.{none_more, none_all}
-use borrow.Author.Rules.{rules}
+-- Some record meets the test if its closure finds one. Assumes nothing.
+use Rattle.plan.specs.Plans.{plan_in}
+use Rattle.std.proofs.Common.{rules, tests}
+use Rattle.rules.proofs.Ranges.{some_from_any}
+use Rattle.rules.specs.Acceptance.{bad_transition}
 use Rattle.plan_reader.proofs.refusals.some_bad_transition.Goals as goal
 
-pub loop-x-init : goal.loop-x-init
-unfolding some_below
-loop-x-init c = (search rules, refl)
-
-pub returns-then-bad_transition : goal.returns-then-bad_transition
-returns-then-bad_transition c = sym (some_at _ _ c.loop-x.x (search rules) (sym c.bad_transition.ensures ∙ c.if-bad_transition.true))
-
-pub loop-x-preserved : goal.loop-x-preserved
-loop-x-preserved c = (search rules, none_more _ _ c.loop-x.invariant.1 (sym c.bad_transition.ensures ∙ c.if-bad_transition.false))
-
 pub returns : goal.returns
-returns c = sym (none_all _ _ _ (search rules) (search rules) c.loop-x.invariant.1)
+returns c = some_from_any (bad_transition (plan_in c.args.records.now)) _ c.any.ensures.ran (λ s b q k. search (rules, tests))

@@ -1,54 +1,39 @@
--- The record's table of refusals, in the numbers read so far, has its first test that holds where the code returns. Assumes nothing.
-use mathlib.Core.Path.{refl, sym, ◌∙◌}
-use Rattle.rules.specs.Record.{kind_at, size_at}
-use Rattle.plan_scan.proofs.RecordTable.{in_words, table_2, table_3, table_4, table_5, table_6, table_7, table_0, table_0_end}
-use borrow.Author.Rules.{rules}
+-- The record's table of refusals has its first test that holds where the code returns. Assumes nothing.
+use Rattle.std.proofs.Common.{◌≡◌, sym, ◌∙◌, rules}
+use Rattle.rules.specs.Record.{kind_at, size_at, rank_of, end_kind}
+use Rattle.rules.proofs.Tests.{clash}
+use Rattle.plan_scan.specs.Kinds.{number_of}
+use Rattle.plan_scan.proofs.KindTables.{real, is_end, end_is}
+use Rattle.plan_scan.proofs.RecordTable.{wrong_length, cut_short, too_many, more_follows, passes}
 use Rattle.plan_scan.proofs.records.judge_record.Goals as goal
-
-pub returns-then-plan-at-lt4 : goal.returns-then-plan-at-lt4
-unfolding kind_at size_at
-returns-then-plan-at-lt4 c =
-    sym (in_words _ _ _ _ _ _ _ _ _ _ refl refl refl refl refl refl
-    ∙ table_2 _ _ _ _ _ _ _ _ (search rules))
-
-pub returns-then-unfit : goal.returns-then-unfit
-unfolding kind_at size_at
-returns-then-unfit c =
-    sym (in_words _ _ _ _ _ _ _ _ _ _ c.word_at-kind.ensures c.length_of-length.ensures c.is_unfit-unfit.ensures c.word_at-size.ensures refl refl
-    ∙ table_3 _ _ _ _ _ _ _ _ (search rules) (search rules))
+use Rattle.plan_scan.proofs.records.judge_record.Goals.{else-eq-via-then-eq+else-size-left, else-eq-via-else-eq}
 
 pub returns-then-size-length : goal.returns-then-size-length
-unfolding kind_at size_at
+unfolding kind_at size_at rank_of
 returns-then-size-length c =
-    sym (in_words _ _ _ _ _ _ _ _ _ _ c.word_at-kind.ensures c.length_of-length.ensures c.is_unfit-unfit.ensures c.word_at-size.ensures refl refl
-    ∙ table_4 _ _ _ _ _ _ _ _ (search rules) (search rules) c.if-size-length.true)
+    wrong_length _ _ _ _ (number_of c.in_ok-kind.kind) (search rules) (search rules) (real _) (search rules) (search rules)
 
-pub returns-then-plan-at : goal.returns-then-plan-at
-unfolding kind_at size_at
-returns-then-plan-at c =
-    sym (in_words _ _ _ _ _ _ _ _ _ _ c.word_at-kind.ensures c.length_of-length.ensures c.is_unfit-unfit.ensures c.word_at-size.ensures refl refl
-    ∙ table_5 _ _ _ _ _ _ _ _ (search rules) (search rules) (search rules) (search rules))
+pub returns-then-left-size : goal.returns-then-left-size
+unfolding kind_at size_at rank_of
+returns-then-left-size c =
+    cut_short _ _ _ _ (number_of c.in_ok-kind.kind) (search rules) (search rules) (real _) (search rules) (search rules) (search rules)
 
-pub returns-then-most_of-count_of : goal.returns-then-most_of-count_of
-unfolding kind_at size_at
-returns-then-most_of-count_of c =
-    sym (in_words _ _ _ _ _ _ _ _ _ _ c.word_at-kind.ensures c.length_of-length.ensures c.is_unfit-unfit.ensures c.word_at-size.ensures c.most_of.ensures c.count_of.ensures
-    ∙ table_6 _ _ _ _ _ _ _ _ (search rules) (search rules) (search rules) (search rules) (search rules))
+pub returns-then-most-count : goal.returns-then-most-count
+unfolding kind_at size_at rank_of
+returns-then-most-count c =
+    too_many _ _ _ _ (number_of c.in_ok-kind.kind) (search rules) (search rules) (real _) (search rules) (search rules) (search rules) (search rules)
 
-pub returns-then-kind-ne-END_KIND : goal.returns-then-kind-ne-END_KIND
-unfolding kind_at size_at
-returns-then-kind-ne-END_KIND c =
-    sym (in_words _ _ _ _ _ _ _ _ _ _ c.word_at-kind.ensures c.length_of-length.ensures c.is_unfit-unfit.ensures c.word_at-size.ensures c.most_of.ensures c.count_of.ensures
-    ∙ table_0 _ _ _ _ _ _ _ _ (search rules) (search rules) (search rules) (search rules) (search rules) c.if-kind-ne-END_KIND.true)
-
-pub returns-then-at-length : goal.returns-then-at-length
-unfolding kind_at size_at
-returns-then-at-length c =
-    sym (in_words _ _ _ _ _ _ _ _ _ _ c.word_at-kind.ensures c.length_of-length.ensures c.is_unfit-unfit.ensures c.word_at-size.ensures c.most_of.ensures c.count_of.ensures
-    ∙ table_7 _ _ _ _ _ _ _ _ (search rules) (search rules) (search rules) (search rules) (search rules) (search rules) (search rules))
+pub returns-then-size-left : goal.returns-then-size-left
+unfolding kind_at size_at rank_of
+returns-then-size-left c =
+    more_follows _ _ _ _ (number_of c.in_ok-kind.kind) (search rules) (search rules) (real _) (search rules) (search rules) (search rules) (search rules)
+    (is_end _ (sym c.eq.ensures ∙ c.if-eq.true)) (search rules)
 
 pub returns : goal.returns
-unfolding kind_at size_at
-returns c =
-    sym (in_words _ _ _ _ _ _ _ _ _ _ c.word_at-kind.ensures c.length_of-length.ensures c.is_unfit-unfit.ensures c.word_at-size.ensures c.most_of.ensures c.count_of.ensures
-    ∙ table_0_end _ _ _ _ _ _ _ _ (search rules) (search rules) (search rules) (search rules) (search rules) (search rules) (search rules))
+unfolding kind_at size_at rank_of
+returns c = (
+  passes _ _ _ _ (number_of c.in_ok-kind.kind) (search rules) (search rules) (real _) (search rules) (search rules) (search rules) (search rules)
+      (λ (e : number_of c.in_ok-kind.kind ≡ end_kind).
+      elim c.else-eq.branch [ else-eq-via-then-eq+else-size-left w ↦ search rules | else-eq-via-else-eq w ↦ clash (c.eq.ensures ∙ end_is _ e) w.if-eq.false ]),
+  search rules,
+)

@@ -1,42 +1,44 @@
-use mathlib.Core.Path.{sym, ◌∙◌}
-use Rattle.rules.specs.Record.{no_counts, kind_at}
-use Rattle.plan_scan.specs.Scanned.{scan_told}
-use Rattle.plan_scan.proofs.Scanning.{sane, start_stands, rest_start, rest_refused, rest_end, next}
-use borrow.Author.Rules.{rules}
+use Rattle.std.proofs.Common.{◌≡◌, refl, sym, ◌∙◌, rules}
+use Rattle.std.proofs.lemmas.Result.{err_from_is_err_and}
+use Rattle.rules.specs.Record.{no_counts, end_kind}
+use Rattle.plan_scan.specs.Kinds.{number_of}
+use Rattle.plan_scan.proofs.RefusalNumbers.{not_zero}
+use Rattle.plan_scan.proofs.KindTables.{is_end, end_is}
+use Rattle.plan_scan.proofs.Scanning.{start_stands, rest_start, rest_refused, rest_end, next}
+use Rattle.rules.proofs.Tests.{clash}
 use Rattle.plan_scan.proofs.records.scan_each.Goals as goal
 
-pub loop-k-init : goal.loop-k-init
+pub loop-kind-init : goal.loop-kind-init
 unfolding no_counts
-loop-k-init c = (start_stands _, rest_start _)
+loop-kind-init c = (start_stands _, rest_start _)
 
-pub returns-then-refusal-ne0 : goal.returns-then-refusal-ne0
-unfolding scan_told
-returns-then-refusal-ne0 c = sym (c.loop-k.invariant.1 ∙ rest_refused _ _ _ _ _ (sym c.judge_record-refusal.ensures) c.if-refusal-ne0.true)
+pub returns-in_err-kind : goal.returns-in_err-kind
+returns-in_err-kind c =
+    let p = err_from_is_err_and c.from_residual.result c.from_residual.ensures.1 in
+    rw (p.1, p.2) (sym (c.loop-kind.invariant.1 ∙ rest_refused _ _ _ _ _ c.in_err-kind.ensures (not_zero _)))
 
-pub overflow_add-at : goal.overflow_add-at
-overflow_add-at c = let q = (sane _ _ _ _ (sym c.judge_record-refusal.ensures ∙ c.if-refusal-ne0.false)).head in search rules
-
-pub word_at-kind-requires : goal.word_at-kind-requires
-word_at-kind-requires c = let q = (sane _ _ _ _ (sym c.judge_record-refusal.ensures ∙ c.if-refusal-ne0.false)).head in search rules
-
-pub returns-then-kind-eq-END_KIND : goal.returns-then-kind-eq-END_KIND
-unfolding scan_told kind_at
-returns-then-kind-eq-END_KIND c = sym (c.loop-k.invariant.1 ∙ rest_end _ _ _ _ (sym c.judge_record-refusal.ensures ∙ c.if-refusal-ne0.false) (sym c.word_at-kind.ensures ∙ c.if-kind-eq-END_KIND.true))
+pub returns-then-eq : goal.returns-then-eq
+returns-then-eq c =
+    let k = c.in_ok-kind.ensures in
+    sym (c.loop-kind.invariant.1 ∙ rest_end _ _ _ _ k.0 (k.1 ∙ is_end _ (sym c.eq.ensures ∙ c.if-eq.true)))
 
 pub overflow_add-k : goal.overflow_add-k
-unfolding kind_at
-overflow_add-k c = let q = (next _ _ _ _ _ _ _ (sym c.judge_record-refusal.ensures ∙ c.if-refusal-ne0.false) c.loop-k.invariant.0 c.word_at-kind.ensures c.if-kind-eq-END_KIND.false c.length_of.ensures c.one_more-more.ensures).stands.within in search rules
-
-pub loop-k-smaller : goal.loop-k-smaller
-unfolding kind_at
-loop-k-smaller c =
-    let n = next _ _ _ _ _ _ _ (sym c.judge_record-refusal.ensures ∙ c.if-refusal-ne0.false) c.loop-k.invariant.0 c.word_at-kind.ensures c.if-kind-eq-END_KIND.false c.length_of.ensures c.one_more-more.ensures in
-    let q = n.stands.within in
-    let r = n.further in
+overflow_add-k c =
+    let k = c.in_ok-kind.ensures in
+    let n = next _ _ _ _ _ _ _ k.0 c.loop-kind.invariant.0 (sym k.1) (λ (e : number_of c.in_ok-kind.kind ≡ end_kind). clash (c.eq.ensures ∙ end_is _ e) c.if-eq.false) c.length.ensures.0 refl in
+    let f = n.stands.within in
     search rules
 
-pub loop-k-preserved : goal.loop-k-preserved
-unfolding kind_at
-loop-k-preserved c =
-    let n = next _ _ _ _ _ _ _ (sym c.judge_record-refusal.ensures ∙ c.if-refusal-ne0.false) c.loop-k.invariant.0 c.word_at-kind.ensures c.if-kind-eq-END_KIND.false c.length_of.ensures c.one_more-more.ensures in
-    (n.stands, c.loop-k.invariant.1 ∙ n.rest)
+pub loop-kind-smaller : goal.loop-kind-smaller
+loop-kind-smaller c =
+    let k = c.in_ok-kind.ensures in
+    let n = next _ _ _ _ _ _ _ k.0 c.loop-kind.invariant.0 (sym k.1) (λ (e : number_of c.in_ok-kind.kind ≡ end_kind). clash (c.eq.ensures ∙ end_is _ e) c.if-eq.false) c.length.ensures.0 c.one_more.ensures in
+    let f = n.stands.within in
+    let g = n.further in
+    search rules
+
+pub loop-kind-preserved : goal.loop-kind-preserved
+loop-kind-preserved c =
+    let k = c.in_ok-kind.ensures in
+    let n = next _ _ _ _ _ _ _ k.0 c.loop-kind.invariant.0 (sym k.1) (λ (e : number_of c.in_ok-kind.kind ≡ end_kind). clash (c.eq.ensures ∙ end_is _ e) c.if-eq.false) c.length.ensures.0 c.one_more.ensures in
+    (n.stands, rw c.number.ensures (c.loop-kind.invariant.1 ∙ n.rest))

@@ -1,5 +1,5 @@
 -- Runs with the end record after them are what the scan counts. Assumes nothing.
-use mathlib.Core.Path.{sym}
+use Rattle.std.proofs.Common.{sym}
 use Rattle.plan_scan.specs.Scanned.{scan_told}
 use Rattle.plan_scan.proofs.RunLaws.{in_order}
 use Rattle.plan_scan.proofs.records.scan_records.Goals as goal

@@ -1,6 +1,6 @@
 -- A word is below 65536, so the two do not run into each other. Assumes nothing.
 use Rattle.rules.specs.Record.{size_at, kind_at}
-use borrow.Author.Rules.{rules}
+use Rattle.std.proofs.Common.{rules}
 use Rattle.plan_scan.proofs.runs.head_at.Goals as goal
 
 pub returns : goal.returns

@@ -1,5 +1,5 @@
 -- By the case; where the reading ends there is nothing to carry out. Assumes nothing.
-use mathlib.Core.Path.{◌∙◌}
+use Rattle.std.proofs.Common.{◌∙◌}
 use Rattle.signed.proofs.Integers.{read_back}
 use Rattle.replay.proofs.CarriedOut.{carried_on, ended_none, broken_none}
 use Rattle.replay.proofs.carry_out.carry_out.Goals as goal

@@ -1,9 +1,8 @@
 -- The step's promise, the line's and the tally's are the record's. Assumes nothing.
-use native.Mathlib.Omega.{arith}
+use Rattle.std.proofs.Common.{arith, rules}
 use Rattle.rules.specs.Answers.{fire_told}
 use Rattle.rules.specs.Call.{fire, fire_outcome}
 use Rattle.replay.proofs.CarriedOut.{carried_out, fires_one}
-use borrow.Author.Rules.{rules}
 use Rattle.replay.proofs.carry_out.carry_out_fire.Goals as goal
 
 pub fire-answer-requires : goal.fire-answer-requires

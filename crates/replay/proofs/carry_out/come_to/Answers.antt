@@ -1,7 +1,7 @@
 -- What the two callees promise. Assumes nothing.
-use mathlib.Core.Path.{refl, ap, ◌∙◌}
+use Rattle.std.proofs.Common.{refl, ap, ◌∙◌}
 use Rattle.journal.specs.declared.tally.Tally.{Tally}
 use Rattle.replay.proofs.carry_out.come_to.Goals as goal
 
 pub returns : goal.returns
-returns c = record { place = refl; fired = ap (λ (t : Tally). t.fired) c.advanced-after.ensures; held = ap (λ (t : Tally). t.held) c.advanced-after.ensures ∙ c.held_total-held.ensures }
+returns c = record { place = refl; fired = ap (λ (t : Tally). t.fired) c.advanced.ensures; held = ap (λ (t : Tally). t.held) c.advanced.ensures ∙ c.held_total-held.ensures }

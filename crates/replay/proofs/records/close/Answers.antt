@@ -1,6 +1,6 @@
 -- The refusal first where the record is broken, and the last line. Assumes nothing.
 use Rattle.replay.proofs.CarriedOut.{closed_broken, closed_whole}
-use borrow.Author.Rules.{rules}
+use Rattle.std.proofs.Common.{rules}
 use Rattle.replay.proofs.records.close.Goals as goal
 
 pub returns-then-is_broken : goal.returns-then-is_broken

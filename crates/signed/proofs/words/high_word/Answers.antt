@@ -1,7 +1,5 @@
 -- The high half of the bits. Assumes nothing.
-use mathlib.Core.Path.{ap, ◌∙◌}
-use Prim.Native.Nat.{ℕ, ◌/◌}
-use mir.Syntax.{w32}
+use Rattle.std.proofs.Common.{ap, ◌∙◌, ℕ, ◌/◌, w32}
 use mir.ValLaws.{to_z-of_z}
 use Rattle.rules.specs.Signed.{bits_of, high_word}
 use Rattle.signed.proofs.words.high_word.Goals as goal

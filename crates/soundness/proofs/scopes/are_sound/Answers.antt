@@ -1,17 +1,15 @@
-use mathlib.Core.Path.{refl, sym}
-use Rattle.rules.specs.Fold.{every_below}
+-- Every scope is asked by its mark. Assumes nothing.
+use Rattle.std.proofs.Common.{false, sym, ◌∙◌, arith, get_or, rules, tests}
+use Rattle.rules.proofs.Folds.{every_same}
+use Rattle.rules.proofs.Ranges.{every_from_all}
 use Rattle.plan.proofs.FieldLaws.{track_count_lem}
-use Rattle.ledger.proofs.Loops.{every_visit, every_done}
+use Rattle.soundness.specs.declared.scopes.ScopeMark.{ScopeMark}
+use Rattle.soundness.specs.Parts.{well_marked}
 use Rattle.soundness.proofs.Marks.{scope_asked}
-use borrow.Author.Rules.{rules}
 use Rattle.soundness.proofs.scopes.are_sound.Goals as goal
 
-pub loop-s-init : goal.loop-s-init
-unfolding every_below
-loop-s-init c = (search rules, λ l m. refl)
-
-pub loop-s-preserved : goal.loop-s-preserved
-loop-s-preserved c = (search rules, λ l m. every_visit _ _ (c.loop-s.invariant.1 l m) (scope_asked _ _ _ _ (sym (track_count_lem _ _)) m (search rules)))
-
 pub returns : goal.returns
-returns c = every_done _ _ _ (c.loop-s.invariant.1 _ c.mark_scopes-marks.ensures) (search rules) (search rules)
+returns c =
+    let none : ScopeMark = record { awake = false; asleep = false; unfinished = false; busy = false } in
+    every_from_all (λ s. well_marked (get_or c.mark_scopes-marks.result s none)) _ c.all.ensures.ran (λ s b q k. search (rules, tests))
+    ∙ every_same _ _ _ (λ s b. scope_asked _ _ s _ none (sym (track_count_lem _ _)) c.mark_scopes-marks.ensures (omega (arith, c.requires.0.accepts.holds.states)))

@@ -1,12 +1,8 @@
 -- The marks by the tracks visited. Assumes nothing.
-use Prim.Native.Nat.{◌-◌, ◌≤◌}
-use Rattle.rules.specs.Plan.{plan_of}
+use Rattle.plan.specs.Plans.{plan_in}
 use Rattle.ledger.specs.Ladder.{ledger_of}
 use Rattle.soundness.specs.Parts.{Marked}
 use Rattle.soundness.proofs.scopes.mark_scopes.Given as goal
 
 abbrev pub invariant-loop-t : goal.invariant-loop-t
-invariant-loop-t l = (l.t ≤ l.c.tracks) × Marked (plan_of l.plan l.c) (ledger_of l.terms l.c l.ledger) l.t l.awake l.asleep l.unfinished l.busy
-
-abbrev pub decreases-loop-t : goal.decreases-loop-t
-decreases-loop-t l = l.c.tracks - l.t
+invariant-loop-t l = Marked (plan_in l.plan.records) (ledger_of l.terms l.plan.records.counts l.ledger) l.t l.marks

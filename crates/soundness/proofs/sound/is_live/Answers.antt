@@ -7,4 +7,4 @@ pub returns : goal.returns
 returns c = live_asked _ _ _ c.are_sound-tracks.ensures c.is_finishing-finishing.ensures c.are_sound-scopes.ensures
 
 pub is_finishing-finishing-requires : goal.is_finishing-finishing-requires
-is_finishing-finishing-requires c = let a = c.requires in (a.0, all_known _ _ a.2)
+is_finishing-finishing-requires c = (c.requires.0, all_known _ _ c.requires.2)

@@ -1,7 +1,5 @@
 -- The day, the words, then over, then the clauses; the open scopes are found where they are asked. Assumes nothing.
-use Rattle.std.proofs.Common.{not}
-use Rattle.std.proofs.Common.{ap}
-use mathlib.Core.Path.{refl, ◌∙◌}
+use Rattle.std.proofs.Common.{not, ap, refl, ◌∙◌}
 use Rattle.rules.proofs.Tests.{clash}
 use Rattle.signed.proofs.Integers.{read_back}
 use Rattle.ledger.proofs.Branches.{holds}

@@ -1,15 +1,11 @@
-use mathlib.Core.Path.{refl}
-use Rattle.rules.specs.Fold.{every_below}
-use Rattle.ledger.proofs.Loops.{every_visit, every_done}
-use borrow.Author.Rules.{rules}
+-- Every track below the count of the tracks is asked. Assumes nothing.
+use Rattle.plan.specs.Plans.{plan_in}
+use Rattle.std.proofs.Common.{rules, tests}
+use Rattle.rules.proofs.Ranges.{every_from_all}
+use Rattle.ledger.specs.Ladder.{ledger_of}
+use Rattle.soundness.specs.Parts.{sound_track}
 use Rattle.soundness.proofs.tracks.are_sound.Goals as goal
 
-pub loop-t-init : goal.loop-t-init
-unfolding every_below
-loop-t-init c = (search rules, refl)
-
-pub loop-t-preserved : goal.loop-t-preserved
-loop-t-preserved c = (search rules, every_visit _ _ c.loop-t.invariant.1 c.is_sound-sound.ensures)
-
 pub returns : goal.returns
-returns c = every_done _ _ _ c.loop-t.invariant.1 (search rules) (search rules)
+returns c =
+    every_from_all (sound_track (plan_in c.args.plan.now.records) (ledger_of c.args.terms c.args.plan.now.records.counts c.args.ledger.now)) _ c.all.ensures.ran (λ t b q k. search (rules, tests))

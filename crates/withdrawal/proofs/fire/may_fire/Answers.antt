@@ -1,10 +1,7 @@
--- A track beyond the plan's may not be fired; of another, its words and the mark of its open scope decide. Assumes nothing.
-use native.Mathlib.Omega.{arith}
+-- A track beyond the plan's may not be fired. Assumes nothing.
+use Rattle.std.proofs.Common.{◌∙◌, le-ltb}
 use Rattle.withdrawal.proofs.FiredWords.{may_beyond}
 use Rattle.withdrawal.proofs.fire.may_fire.Goals as goal
 
-pub returns-then-c-t : goal.returns-then-c-t
-returns-then-c-t c = may_beyond _ _ _ _ _ (omega arith)
-
-pub returns : goal.returns
-returns c = c.is_ready.ensures
+pub returns-else-t-plan : goal.returns-else-t-plan
+returns-else-t-plan c = le-ltb _ _ c.if-t-plan.false ∙ may_beyond _ _ _ _ _ c.if-t-plan.false

@@ -1,8 +1,0 @@
--- The field is the word at its place in the transition's record. Assumes nothing.
-use mathlib.Core.Path.{sym, ◌∙◌}
-use Rattle.plan.proofs.FieldLaws.{source_at}
-use borrow.Author.Rules.{rules}
-use Rattle.plan.proofs.fields.source_of.Goals as goal
-
-pub returns : goal.returns
-returns c = c.transition_word.ensures ∙ sym (source_at _ _ _ (search rules))

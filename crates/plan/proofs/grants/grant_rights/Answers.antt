@@ -1,8 +1,0 @@
--- The field stands at its place in the grant's record. Assumes nothing.
-use mathlib.Core.Path.{◌∙◌}
-use Rattle.plan.proofs.FieldLaws.{rights_at}
-use borrow.Author.Rules.{rules}
-use Rattle.plan.proofs.grants.grant_rights.Goals as goal
-
-pub returns : goal.returns
-returns c = c.word_at.ensures ∙ rights_at _ _ _ (search rules) c.grant_place.ensures.0
