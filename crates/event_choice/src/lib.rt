@@ -15,11 +15,13 @@ ghost use Rattle.rules.specs.Scope.{has_open_scope};
 ghost use Rattle.rules.specs.Event.{move};
 ghost use Rattle.ledger.specs.Ladder.{IsGoing, ledger_of};
 ghost use Rattle.lookup.specs.Figures.{Figures, Numbers};
+ghost use Rattle.transition_index.specs.Indexed.{Indexed};
 ghost use Rattle.event_choice.specs.Next.{any_day_move};
 ghost use Rattle.event_choice.specs.Chosen.{told, arguments_of, Chosen};
 
 use plan::Plan;
 use rules::Terms;
+use transition_index::TransitionIndex;
 
 // What an event is given.
 #[derive(Clone, Copy)]
@@ -79,7 +81,7 @@ fn choose_by(
 }
 
 // What an event does, given which tracks have an open scope, and the transition that each takes for it on any day.
-pub fn choose(
+pub fn choose_from(
     terms: Terms,
     plan: &Plan,
     ledger: &[u16],
@@ -95,4 +97,32 @@ pub fn choose(
     let all = windows::taken_on(plan, asked.day, any);
     let taken = societies::taken_of(plan, asked.society, all);
     choose_by(terms, plan, ledger, asked, opens, &taken)
+}
+
+// What an event does, given which tracks have an open scope.
+pub fn choose(terms: Terms, plan: &Plan, ledger: &[u16], asked: Asked, opens: &[bool; 32]) -> Choice
+    requires { IsGoing terms plan.now.records ledger.now
+        × Figures false opens.now plan.now.records.counts.tracks (has_open_scope (plan_in plan.now.records) (ledger_of terms plan.now.records.counts ledger.now)) }
+    ensures { Chosen terms (plan_in plan.now.records) (ledger_of terms plan.now.records.counts ledger.now) result × (arguments_of result ≡ told asked) }
+{
+    let any = moving::taken_by(terms, plan, ledger, asked.event, opens);
+    choose_from(terms, plan, ledger, asked, opens, any)
+}
+
+// The same by an index of the transitions.
+pub fn choose_indexed(
+    terms: Terms,
+    plan: &Plan,
+    ledger: &[u16],
+    asked: Asked,
+    opens: &[bool; 32],
+    index: &TransitionIndex,
+) -> Choice
+    requires { IsGoing terms plan.now.records ledger.now
+        × Figures false opens.now plan.now.records.counts.tracks (has_open_scope (plan_in plan.now.records) (ledger_of terms plan.now.records.counts ledger.now))
+        × Indexed plan.now.records.bytes.now plan.now.records.counts index.now.chains.last index.now.chains.before }
+    ensures { Chosen terms (plan_in plan.now.records) (ledger_of terms plan.now.records.counts ledger.now) result × (arguments_of result ≡ told asked) }
+{
+    let any = indexed::taken_from(terms, plan, ledger, asked.event, opens, index);
+    choose_from(terms, plan, ledger, asked, opens, any)
 }

@@ -221,10 +221,6 @@ module _ (terms : Terms) (bs : List ℕ) (c : Counts) (ws : List ℕ) (h : Check
         subst (λ (y : Outcome). Meets y a v) (ap (going_outcome terms (plan_of bs c) ws) f ∙ sym s)
 
 -- the outcome of the arguments that the choice was made for
-pub going_as : (terms : Terms) (p : Plan) (ws : List ℕ) {x e : EventArguments} {a : Answer} {v : List ℕ} → x ≡ e → Meets (going_outcome terms p ws x) a v
-    → Meets (going_outcome terms p ws e) a v
-going_as terms p ws {a = a} {v = v} q = subst (λ y. Meets (going_outcome terms p ws y) a v) q
-
 -- an event's outcome on its day as it was given, where the machine reads it back
 pub on_day : (terms : Terms) (bs ws : List ℕ) (e o : ℕ) {x y : Day} {a : Answer} {v : List ℕ} → x ≡ y
     → Meets (event_outcome terms bs ws (record { event = e; day = x; society = o })) a v

@@ -10,14 +10,13 @@ ghost use Rattle.rules.specs.Call.{bad_day, Meets, event_outcome};
 ghost use Rattle.rules.specs.Answers.{event_told};
 ghost use Rattle.rules.specs.Refusals.{refusal_number};
 ghost use Rattle.ledger.specs.Ladder.{IsChecked, IsGoing, ledger_of};
-ghost use Rattle.lookup.specs.Figures.{Figures, Numbers};
+ghost use Rattle.lookup.specs.Figures.{Figures};
 ghost use Rattle.transition_index.specs.Indexed.{Indexed};
-ghost use Rattle.event_choice.specs.Next.{any_day_move};
 ghost use Rattle.event_choice.specs.Chosen.{told, arguments_of, Chosen};
 ghost use Rattle.event_step.specs.Outcome.{early_refusal, going_outcome};
 
 use calendar::dates::is_day;
-use event_choice::{Asked, Choice, indexed, moving};
+use event_choice::{Asked, Choice};
 use finish::finishing;
 use ledger::leading;
 use lookup::{opens, reading};
@@ -89,27 +88,6 @@ fn go_on(
     EventAnswer::Moved(choice.moved, choice.closed)
 }
 
-// An event that none of these turns back, given besides the transition that each track takes for it on any day.
-fn step(
-    terms: Terms,
-    plan: &Plan,
-    ledger: &mut [u16],
-    asked: Asked,
-    any: [u16; 32],
-    opens: &[bool; 32],
-    firsts: &[u16; 32],
-) -> EventAnswer
-    requires { IsGoing terms plan.now.records ledger.old
-        × Numbers any plan.now.records.counts.tracks (any_day_move (plan_in plan.now.records) (ledger_of terms plan.now.records.counts ledger.old) asked.event)
-        × Figures false opens.now plan.now.records.counts.tracks (has_open_scope (plan_in plan.now.records) (ledger_of terms plan.now.records.counts ledger.old))
-        × Figures 0 firsts.now plan.now.records.counts.tracks (first_state (plan_in plan.now.records))
-        × (is_day asked.day ≡ true) }
-    ensures { Meets (going_outcome terms (plan_in plan.now.records) ledger.old (told asked)) (event_told result) ledger.new }
-{
-    let choice = event_choice::choose(terms, plan, ledger, asked, opens, any);
-    go_on(terms, plan, ledger, choice, opens, firsts)
-}
-
 // An event under an accepted plan, on a sound ledger, given the first state of each track and, unless it is over, which have an open scope.
 pub fn event(
     terms: Terms,
@@ -136,8 +114,8 @@ pub fn event(
     if let Err(refusal) = refusal_of(terms, plan, ledger, asked) {
         return EventAnswer::Refused(refusal.number());
     }
-    let any = moving::taken_by(terms, plan, ledger, event, opens);
-    step(terms, plan, ledger, asked, any, opens, firsts)
+    let choice = event_choice::choose(terms, plan, ledger, asked, opens);
+    go_on(terms, plan, ledger, choice, opens, firsts)
 }
 
 // The same, given the first state of each track and an index of the transitions: who has many events makes them once. The open scopes
@@ -159,6 +137,6 @@ pub fn event_indexed(
         return EventAnswer::Refused(refusal.number());
     }
     let opens = opens::open_scopes(terms, plan, ledger);
-    let any = indexed::taken_from(terms, plan, ledger, asked.event, &opens, index);
-    step(terms, plan, ledger, asked, any, &opens, firsts)
+    let choice = event_choice::choose_indexed(terms, plan, ledger, asked, &opens, index);
+    go_on(terms, plan, ledger, choice, &opens, firsts)
 }

@@ -5,8 +5,8 @@ ghost use Rattle.plan.specs.Chains.{item_of};
 // In a cell an item is told by one more than its number, and 0 is the end.
 #[derive(Clone, Copy)]
 pub struct KeyChains<const KEYS: usize, const ITEMS: usize> {
-    last: [u16; KEYS],
-    before: [u16; ITEMS],
+    pub last: [u16; KEYS],
+    pub before: [u16; ITEMS],
 }
 
 fn item_of(cell: u16) -> Option<usize>

@@ -60,7 +60,7 @@ fn judge_plan(records: &Records, firsts: &mut [u16; 32]) -> Result<(), Refusal>
     ensures number { refusal_number result ≡ judge_plan (plan_in records.now) }
     ensures firsts { OnOk result (firsts.new ≡ first_marks (plan_in records.now) records.now.counts.states) }
 {
-    if no_track(records) {
+    if no_track(records.bytes, records.counts) {
         return Err(Refusal::NoTrack);
     }
     if some_bad_state(records) {

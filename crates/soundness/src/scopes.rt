@@ -15,11 +15,11 @@ use rules::Terms;
 
 // Of the tracks in a scope whether some is awake, asleep, not forward in a final state, not bare.
 #[derive(Clone, Copy, Default)]
-struct ScopeMark {
-    awake: bool,
-    asleep: bool,
-    unfinished: bool,
-    busy: bool,
+pub struct ScopeMark {
+    pub awake: bool,
+    pub asleep: bool,
+    pub unfinished: bool,
+    pub busy: bool,
 }
 
 impl ScopeMark {

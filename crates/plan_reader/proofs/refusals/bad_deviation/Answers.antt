@@ -1,8 +1,7 @@
 -- The test's parts in the order of the code: each return knows that the parts before it failed. Assumes nothing.
-use Rattle.std.proofs.Common.{not, refl, sym, ap, ◌∙◌, arith, rules}
+use Rattle.std.proofs.Common.{not, refl, sym, ap, ◌∙◌, arith}
 use Rattle.plan.proofs.FieldLaws.{state_count_lem}
 use Rattle.plan.proofs.RefusalTests.{no_deviation, deviation_lost, deviation_final, deviation_hosted, deviation_code, state_within}
-use Rattle.plan.proofs.RefusalTests.{mover_passed}
 use Rattle.rules.specs.Plan.{no_state, mover, owner}
 use borrow.Author.Tests.{not-true, not-false}
 use Rattle.plan_reader.proofs.refusals.bad_deviation.Goals as goal
@@ -16,7 +15,7 @@ unfolding no_state mover
 returns-then-not-is_state_of c = sym (deviation_lost _ _ _ _ (c.from-t.ensures ∙ c.track_of.ensures ∙ ap (owner _) (c.from.ensures ∙ c.source_of.ensures)) (c.from-s.ensures ∙ c.deviation_of-deviation.ensures) (λ e. c.if-deviation.false (sym c.from-s.ensures ∙ e)) (sym c.is_state_of.ensures ∙ not-true _ (ap not c.if-not-is_state_of.true)))
 
 pub track_of-requires : goal.track_of-requires
-track_of-requires c = let m = mover_passed _ _ c.requires.0 c.requires.1 _ c.requires.2 in let e = c.from.ensures ∙ c.source_of.ensures in omega (arith, e, m.0)
+track_of-requires c = let e = c.from.ensures ∙ c.source_of.ensures in omega (arith, e)
 
 pub is_final-requires : goal.is_final-requires
 is_final-requires c =
@@ -29,7 +28,7 @@ returns-then-is_final c = sym (deviation_final _ _ _ _ (c.from-t.ensures ∙ c.t
 
 pub is_root-requires : goal.is_root-requires
 unfolding mover
-is_root-requires c = let m = mover_passed _ _ c.requires.0 c.requires.1 _ c.requires.2 in rw (c.from-t.ensures, c.track_of.ensures, c.from.ensures, c.source_of.ensures) m.1
+is_root-requires c = rw (c.from-t.ensures, c.track_of.ensures, c.from.ensures, c.source_of.ensures) c.requires.2
 
 pub returns-then-not-is_root : goal.returns-then-not-is_root
 unfolding no_state mover

@@ -2,7 +2,7 @@
 use Rattle.std.proofs.Common.{arith}
 use Rattle.signed.proofs.Integers.{read_back}
 use Rattle.event_choice.proofs.DayMoves.{any_range, numbers_on, day_moves}
-use Rattle.event_choice.proofs.choose.Goals as goal
+use Rattle.event_choice.proofs.choose_from.Goals as goal
 
 pub taken_on-all-requires : goal.taken_on-all-requires
 taken_on-all-requires c =
