@@ -220,7 +220,6 @@ module _ (terms : Terms) (bs : List ℕ) (c : Counts) (ws : List ℕ) (h : Check
         let s : event_outcome terms bs ws e ≡ going_outcome terms (plan_of bs c) ws e = checked ∙ (rw z) in
         subst (λ (y : Outcome). Meets y a v) (ap (going_outcome terms (plan_of bs c) ws) f ∙ sym s)
 
--- the outcome of the arguments that the choice was made for
 -- an event's outcome on its day as it was given, where the machine reads it back
 pub on_day : (terms : Terms) (bs ws : List ℕ) (e o : ℕ) {x y : Day} {a : Answer} {v : List ℕ} → x ≡ y
     → Meets (event_outcome terms bs ws (record { event = e; day = x; society = o })) a v
